@@ -1,0 +1,8 @@
+-- What a message authentication code is computed of.
+use Rattle.std.specs.Prelude.{ℕ, List, map}
+use Rattle.std.specs.List.{concat}
+use Rattle.std.specs.Borrow.{Bor}
+
+-- the payloads, one after another
+abbrev pub joined : List (Bor (List ℕ)) → List ℕ
+joined payloads = concat (map (λ payload. payload.now) payloads)

@@ -1,0 +1,12 @@
+//! What every layer of the agent names: protocols, moments, packets, texts, errors, and who computes HMAC-SHA1.
+#![tactic(auto)]
+
+pub mod error;
+pub mod hmac_provider;
+pub mod proto;
+pub mod text;
+
+pub use error::{IceError, ParseFault, StunError};
+pub use hmac_provider::DefaultSha1HmacProvider;
+pub use proto::{Duration, Instant, Protocol, Sha1HmacProvider, SocketText, TcpType, Transmit};
+pub use text::Text;
