@@ -1,0 +1,197 @@
+//! Candidates: addresses at which an agent may be reached.
+ghost use Rattle.std.specs.Prelude.{◌≡◌, ◌++◌, codes, Some, IfOk, OnOk, OnErr, IsOkUnless};
+ghost use Rattle.std.specs.Option.{option_copied};
+ghost use Rattle.std.specs.Net.Socket.{socket_ip};
+ghost use Rattle.is_proto.specs.declared.error.IceError.TheVariants.{OutOfMemory};
+ghost use Rattle.std.specs.Net.Text.{ip_text};
+ghost use Rattle.is_candidate.specs.Refusals.{Says, Makes};
+ghost use Rattle.is_candidate.specs.Making.{ip_fault, host_candidate};
+
+pub mod address;
+pub mod equality;
+pub mod inner;
+pub mod kind;
+pub mod priority;
+
+use address::is_valid_ip;
+use is_proto::{IceError, Protocol, TcpType, Text};
+use kind::CandidateKind;
+use std::alloc::{AllocError, Global};
+use std::marker::Model;
+use std::net::{IpAddr, SocketAddr};
+
+/// An address at which an agent may be reached (RFC 8445, section 5.1). A host or relayed candidate is its own base.
+#[derive(Debug, Drop)]
+pub struct Candidate {
+    foundation: Option<Text>,
+    component: u16,
+    proto: Protocol,
+    given_priority: Option<u32>,
+    addr: SocketAddr,
+    given_base: Option<SocketAddr>,
+    kind: CandidateKind,
+    raddr: Option<SocketAddr>,
+    tcptype: Option<TcpType>,
+    ufrag: Option<Text>,
+    local: SocketAddr,
+    local_preference: Option<u16>,
+    discarded: bool,
+}
+
+impl Model for Candidate {
+    ghost use Rattle.is_candidate.specs.Candidates.{CandidateRecord};
+
+    ghost Value = { CandidateRecord };
+
+    ghost use Rattle.std.specs.Prelude.{◌≡◌, IsTrue, unwrap_or};
+    ghost use Rattle.is_candidate.specs.Kinds.{is_direct};
+
+    ghost view = { λ c. record {
+      foundation = c.foundation;
+      component = c.component;
+      proto = c.proto;
+      given_priority = c.given_priority;
+      addr = c.addr;
+      given_base = c.given_base;
+      kind = c.kind;
+      raddr = c.raddr;
+      tcptype = c.tcptype;
+      ufrag = c.ufrag;
+      local = c.local;
+      local_preference = c.local_preference;
+      discarded = c.discarded;
+    } };
+
+    ghost invariant = { λ c. IsTrue (is_direct c.kind) → unwrap_or c.given_base c.addr ≡ c.addr };
+}
+
+impl Candidate {
+    /// A host candidate: a socket on a local interface, of component 1.
+    ///
+    /// Refused with `BadCandidate` ("invalid ip IP") where the address is link-local IPv4, broadcast, multicast
+    /// or unspecified.
+    pub fn host(alloc: Global, addr: SocketAddr, proto: Protocol) -> Result<Candidate, IceError>
+        ensures { Makes (ip_fault (socket_ip addr)) (host_candidate addr proto) result }
+    {
+        let ip = addr.ip();
+        if !is_valid_ip(ip) {
+            return Err(invalid_ip(alloc, ip));
+        }
+        Ok(Candidate {
+            foundation: None,
+            component: 1,
+            proto,
+            given_priority: None,
+            addr,
+            given_base: Some(addr),
+            kind: CandidateKind::Host,
+            raddr: None,
+            tcptype: None,
+            ufrag: None,
+            local: addr,
+            local_preference: None,
+            discarded: false,
+        })
+    }
+
+    /// The address at which the candidate is reached.
+    pub fn addr(&self) -> SocketAddr
+        ensures { result ≡ self.now.addr }
+    {
+        self.addr
+    }
+
+    /// The address of the local interface: the address of a host, the base of a reflexive candidate, and the
+    /// address from which a relayed one was allocated. It is unspecified, with port 0, where a candidate of
+    /// another kind than host was signalled.
+    pub fn local(&self) -> SocketAddr
+        ensures { result ≡ self.now.local }
+    {
+        self.local
+    }
+
+    /// The transport protocol.
+    pub fn proto(&self) -> Protocol
+        ensures { result ≡ self.now.proto }
+    {
+        self.proto
+    }
+
+    /// Which side opens the connection of a TCP candidate (RFC 6544, section 4.5).
+    pub fn tcptype(&self) -> Option<TcpType>
+        ensures { result ≡ self.now.tcptype }
+    {
+        self.tcptype
+    }
+
+    /// How the candidate was found.
+    pub fn kind(&self) -> CandidateKind
+        ensures { result ≡ self.now.kind }
+    {
+        self.kind
+    }
+
+    /// The user fragment of the session that the candidate belongs to, where one is known.
+    pub fn ufrag(&self) -> Option<&str>
+        ensures { option_copied result ≡ self.now.ufrag }
+    {
+        match &self.ufrag {
+            Some(ufrag) => Some(ufrag.as_str()),
+            None => None,
+        }
+    }
+
+    /// Sets the user fragment. Refused for want of memory alone, and then the candidate is as it was.
+    pub fn set_ufrag(&mut self, alloc: Global, ufrag: &str) -> Result<(), IceError>
+        ensures ok { OnOk result (self.new ≡ record self.old { ufrag = Some ufrag.now }) }
+        ensures err { OnErr result (self.new ≡ self.old) }
+        ensures refusal { IsOkUnless result OutOfMemory }
+    {
+        self.ufrag = Some(Text::from_str(alloc, ufrag)?);
+        Ok(())
+    }
+}
+
+/// The refusal of an address, or want of memory for its message.
+fn invalid_ip(alloc: Global, ip: IpAddr) -> IceError
+    ensures { Says (codes "invalid ip " ++ ip_text ip) result }
+{
+    match format!(in alloc; "invalid ip {ip}") {
+        Ok(message) => IceError::BadCandidate(message),
+        Err(_) => IceError::OutOfMemory,
+    }
+}
+
+/// A copy is equal, discard mark and local preference included.
+impl Clone for Candidate {
+    ghost is_clone = { λ old copy. copy ≡ old };
+
+    fn clone(&self) -> Result<Candidate, AllocError> {
+        let foundation = copy_of(&self.foundation)?;
+        let ufrag = copy_of(&self.ufrag)?;
+        Ok(Candidate {
+            foundation,
+            component: self.component,
+            proto: self.proto,
+            given_priority: self.given_priority,
+            addr: self.addr,
+            given_base: self.given_base,
+            kind: self.kind,
+            raddr: self.raddr,
+            tcptype: self.tcptype,
+            ufrag,
+            local: self.local,
+            local_preference: self.local_preference,
+            discarded: self.discarded,
+        })
+    }
+}
+
+fn copy_of(text: &Option<Text>) -> Result<Option<Text>, AllocError>
+    ensures { IfOk result (λ t. t ≡ text.now) }
+{
+    match text {
+        Some(text) => Ok(Some(text.clone()?)),
+        None => Ok(None),
+    }
+}

@@ -1,0 +1,62 @@
+//! Tests of addresses and protocols.
+ghost use Rattle.std.specs.Prelude.{◌≡◌, ◌↔◌, IsTrue};
+ghost use Rattle.is_candidate.specs.Addresses.{protocol_number, same_protocol, same_address, same_version, unspecified_like, is_valid_ip};
+
+use is_proto::Protocol;
+use std::net::{IpAddr, Ipv4Addr, Ipv6Addr, SocketAddr, SocketAddrV4, SocketAddrV6};
+
+/// The number by which a foundation knows the protocol.
+pub(crate) fn protocol_number(proto: Protocol) -> u8
+    ensures { result ≡ protocol_number proto }
+{
+    match proto {
+        Protocol::Udp => 0,
+        Protocol::Tcp => 1,
+        Protocol::SslTcp => 2,
+        Protocol::Tls => 3,
+    }
+}
+
+pub fn same_protocol(a: Protocol, b: Protocol) -> bool
+    ensures { result ≡ same_protocol a b }
+{
+    protocol_number(a) == protocol_number(b)
+}
+
+/// Whether two addresses are equal in every part.
+pub fn same_address(a: SocketAddr, b: SocketAddr) -> bool
+    ensures test { result ≡ same_address a b }
+    ensures equal { IsTrue result ↔ (a ≡ b) }
+{
+    a == b
+}
+
+/// Whether two addresses have one IP version.
+pub fn same_version(a: SocketAddr, b: SocketAddr) -> bool
+    ensures { result ≡ same_version a b }
+{
+    a.is_ipv4() == b.is_ipv4()
+}
+
+/// The unspecified address of the same IP version, with port 0. Browsers write it in place of the related
+/// address, which is for diagnosis alone, so as not to tell of local addresses.
+pub(crate) fn unspecified_like(addr: SocketAddr) -> SocketAddr
+    ensures { result ≡ unspecified_like addr }
+{
+    match addr {
+        SocketAddr::V4(_) => SocketAddr::V4(SocketAddrV4::new(Ipv4Addr::UNSPECIFIED, 0)),
+        SocketAddr::V6(_) => SocketAddr::V6(SocketAddrV6::new(Ipv6Addr::UNSPECIFIED, 0, 0, 0)),
+    }
+}
+
+/// Whether the address may be a candidate's own.
+pub(crate) fn is_valid_ip(ip: IpAddr) -> bool
+    ensures { result ≡ is_valid_ip ip }
+{
+    match ip {
+        IpAddr::V4(ip) => {
+            !ip.is_link_local() && !ip.is_broadcast() && !ip.is_multicast() && !ip.is_unspecified()
+        }
+        IpAddr::V6(ip) => !ip.is_multicast() && !ip.is_unspecified(),
+    }
+}

@@ -1,0 +1,65 @@
+//! In what two candidates agree.
+ghost use Rattle.std.specs.Prelude.{◌≡◌};
+ghost use Rattle.is_candidate.specs.Addresses.{same_optional, same_address};
+ghost use Rattle.is_candidate.specs.Equality.{is_same_place, is_same_origin, is_equivalent, is_alike, is_temporary};
+
+use super::Candidate;
+use super::address::{same_address, same_protocol, same_version};
+use super::inner::{base, given_foundation};
+use super::kind::{CandidateKind, same_kind};
+use std::net::SocketAddr;
+
+/// The foundation of a remote candidate that a request brought, until signalling tells of it.
+pub const TEMPORARY_FOUNDATION: &str = "tmp_prflx";
+
+/// Whether two candidates are equal in address, base and protocol.
+pub fn is_same_place(a: &Candidate, b: &Candidate) -> bool
+    ensures { result ≡ is_same_place a.now b.now }
+{
+    same_address(a.addr, b.addr)
+        && same_address(base(a), base(b))
+        && same_protocol(a.proto, b.proto)
+}
+
+/// Whether two candidates are equal in kind and related address.
+pub fn is_same_origin(a: &Candidate, b: &Candidate) -> bool
+    ensures { result ≡ is_same_origin a.now b.now }
+{
+    same_kind(a.kind, b.kind) && same_related(a.raddr, b.raddr)
+}
+
+fn same_related(a: Option<SocketAddr>, b: Option<SocketAddr>) -> bool
+    ensures { result ≡ same_optional same_address a b }
+{
+    match (a, b) {
+        (Some(a), Some(b)) => same_address(a, b),
+        (None, None) => true,
+        _ => false,
+    }
+}
+
+/// Whether two candidates are equal in address, base, protocol, kind and related address.
+pub fn is_equivalent(a: &Candidate, b: &Candidate) -> bool
+    ensures { result ≡ is_equivalent a.now b.now }
+{
+    is_same_place(a, b) && is_same_origin(a, b)
+}
+
+/// Whether two candidates have one kind and one IP version, as local preferences count candidates.
+pub fn is_alike(a: &Candidate, b: &Candidate) -> bool
+    ensures { result ≡ is_alike a.now b.now }
+{
+    same_kind(a.kind, b.kind) && same_version(a.addr, b.addr)
+}
+
+/// Whether a request brought this remote candidate and signalling has not told of it yet.
+pub fn is_temporary(c: &Candidate) -> bool
+    ensures { result ≡ is_temporary c.now }
+{
+    match given_foundation(c) {
+        Some(foundation) => {
+            same_kind(c.kind, CandidateKind::PeerReflexive) && foundation == TEMPORARY_FOUNDATION
+        }
+        None => false,
+    }
+}

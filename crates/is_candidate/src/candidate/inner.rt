@@ -1,0 +1,110 @@
+//! What the agent asks of its candidates and changes in them, beyond what users see.
+ghost use Rattle.std.specs.Prelude.{◌≡◌, ◌≤◌, Some, None, true, false};
+ghost use Rattle.std.specs.Option.{option_copied};
+ghost use Rattle.is_candidate.specs.Candidates.{base_of, IsBased};
+ghost use Rattle.is_candidate.specs.Making.{peer_reflexive_candidate};
+
+use super::Candidate;
+use super::kind::CandidateKind;
+use is_proto::{Protocol, Text};
+use std::net::SocketAddr;
+
+/// A peer reflexive candidate of component 1: an address that a check found, with the priority that the check
+/// named. Its local address is its base.
+pub fn peer_reflexive(
+    foundation: Option<Text>,
+    proto: Protocol,
+    priority: u32,
+    addr: SocketAddr,
+    base: SocketAddr,
+    ufrag: Text,
+) -> Candidate
+    ensures { result ≡ peer_reflexive_candidate foundation proto priority addr base ufrag }
+{
+    Candidate {
+        foundation,
+        component: 1,
+        proto,
+        given_priority: Some(priority),
+        addr,
+        given_base: Some(base),
+        kind: CandidateKind::PeerReflexive,
+        raddr: None,
+        tcptype: None,
+        ufrag: Some(ufrag),
+        local: base,
+        local_preference: None,
+        discarded: false,
+    }
+}
+
+/// The base: where packets of the candidate are sent from. It is the address of a host or relayed candidate.
+pub fn base(c: &Candidate) -> SocketAddr
+    ensures base { result ≡ base_of c.now }
+    ensures based { IsBased c.now }
+{
+    match c.given_base {
+        Some(base) => base,
+        None => c.addr,
+    }
+}
+
+/// The related address.
+pub fn raddr(c: &Candidate) -> Option<SocketAddr>
+    ensures { result ≡ c.now.raddr }
+{
+    c.raddr
+}
+
+/// The foundation that the candidate was given, where it was given one.
+pub fn given_foundation(c: &Candidate) -> Option<&str>
+    ensures { option_copied result ≡ c.now.foundation }
+{
+    match &c.foundation {
+        Some(foundation) => Some(foundation.as_str()),
+        None => None,
+    }
+}
+
+/// The component: 1 but where a line named another.
+pub fn component(c: &Candidate) -> u16
+    ensures { result ≡ c.now.component }
+{
+    c.component
+}
+
+/// Whether the candidate was discarded.
+pub fn is_discarded(c: &Candidate) -> bool
+    ensures { result ≡ c.now.discarded }
+{
+    c.discarded
+}
+
+/// Marks the candidate as discarded.
+pub fn discard(c: &mut Candidate)
+    ensures { c.new ≡ record c.old { discarded = true } }
+{
+    c.discarded = true;
+}
+
+/// Takes the discard mark away.
+pub fn enable(c: &mut Candidate)
+    ensures { c.new ≡ record c.old { discarded = false } }
+{
+    c.discarded = false;
+}
+
+/// Sets the local preference.
+pub fn set_local_preference(c: &mut Candidate, preference: u32)
+    requires { preference ≤ 65535 }
+    ensures { c.new ≡ record c.old { local_preference = Some preference } }
+{
+    c.local_preference = Some(preference as u16);
+}
+
+/// Takes the user fragment away.
+pub fn clear_ufrag(c: &mut Candidate)
+    ensures { c.new ≡ record c.old { ufrag = None } }
+{
+    c.ufrag = None;
+}

@@ -1,0 +1,65 @@
+//! The priority of a candidate (RFC 8445, section 5.1.2).
+ghost use Rattle.std.specs.Prelude.{◌≡◌};
+ghost use Rattle.is_candidate.specs.Priorities.{type_preference, local_preference_of, formula, candidate_priority, check_priority};
+
+use super::Candidate;
+use super::kind::CandidateKind;
+use is_proto::Protocol;
+
+impl Candidate {
+    /// The priority: a given one as it is, else the recommended formula of RFC 8445, section 5.1.2.1, which stays
+    /// below 2^31.
+    pub fn prio(&self) -> u32
+        ensures { result ≡ candidate_priority self.now }
+    {
+        match self.given_priority {
+            Some(priority) => priority,
+            None => formula(self, self.kind),
+        }
+    }
+}
+
+/// What PRIORITY says in a check from this candidate: its priority, were it peer reflexive (RFC 8445,
+/// section 7.1.1).
+pub fn check_priority(c: &Candidate) -> u32
+    ensures { result ≡ check_priority c.now }
+{
+    match c.given_priority {
+        Some(priority) => priority,
+        None => formula(c, CandidateKind::PeerReflexive),
+    }
+}
+
+fn formula(c: &Candidate, kind: CandidateKind) -> u32
+    ensures { result ≡ formula kind c.now }
+{
+    type_preference(kind, c.proto) * 0x100_0000
+        + u32::from(local_preference(c)) * 0x100
+        + 256u32.saturating_sub(u32::from(c.component))
+}
+
+/// RFC 8445, section 5.1.2.2, and for other protocols than UDP the values of libwebrtc.
+fn type_preference(kind: CandidateKind, proto: Protocol) -> u32
+    ensures { result ≡ type_preference kind proto }
+{
+    match (kind, proto) {
+        (CandidateKind::Host, Protocol::Udp) => 126,
+        (CandidateKind::Host, _) => 90,
+        (CandidateKind::PeerReflexive, Protocol::Udp) => 110,
+        (CandidateKind::PeerReflexive, _) => 80,
+        (CandidateKind::ServerReflexive, _) => 100,
+        (CandidateKind::Relayed, Protocol::Udp) => 2,
+        (CandidateKind::Relayed, Protocol::Tcp) => 1,
+        (CandidateKind::Relayed, _) => 0,
+    }
+}
+
+fn local_preference(c: &Candidate) -> u16
+    ensures { result ≡ local_preference_of c.now }
+{
+    match c.local_preference {
+        Some(preference) => preference,
+        None if c.addr.is_ipv6() => 65535,
+        None => 65534,
+    }
+}

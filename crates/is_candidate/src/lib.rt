@@ -1,0 +1,12 @@
+//! ICE candidates (RFC 8445, section 5.1): what they are, their priorities, and their texts.
+#![tactic(auto)]
+
+pub mod candidate;
+pub mod preference;
+
+pub use candidate::Candidate;
+pub use candidate::kind::CandidateKind;
+pub use preference::{FnPreference, LocalPreference, PreferenceFunction, default_local_preference};
+
+#[cfg(test)]
+mod tests;

@@ -1,0 +1,96 @@
+//! The local preference of a candidate, by an object that the caller makes.
+ghost use Rattle.std.specs.Prelude.{◌≡◌, ◌≤◌, ℕ, min};
+ghost use Rattle.is_candidate.specs.Preferences.{default_preference, first_preference, crossing_of};
+ghost use Rattle.is_candidate.specs.declared.candidate.Candidate.{Candidate};
+
+use crate::candidate::Candidate;
+use crate::candidate::address::same_version;
+use crate::candidate::kind::CandidateKind;
+
+/// What gives local candidates their local preference (RFC 8445, section 5.1.2.1).
+pub trait LocalPreference: Drop {
+    /// The stated relation: the answers that the object may give on a candidate and a count.
+    ghost answers: { Self → Candidate → ℕ → ℕ → Type 0 };
+
+    /// The preference, at most 65535, of a candidate that `same_kind` local candidates of its kind and IP version
+    /// came before.
+    fn calculate(&self, c: &Candidate, same_kind: usize) -> u32
+        ensures stated { answers self.now c.now same_kind result }
+        ensures bounded { result ≤ 65535 };
+}
+
+/// A boxed object is a preference too: that of the object.
+impl LocalPreference for Box<dyn LocalPreference> {
+    ghost answers = { λ b. (LocalPreference-box b).answers b.value };
+
+    fn calculate(&self, c: &Candidate, same_kind: usize) -> u32 {
+        (**self).calculate(c, same_kind)
+    }
+}
+
+/// The preference where the caller sets none: 65535 for a host, 49151 for a peer reflexive, 32767 for a server
+/// reflexive and 16383 for a relayed candidate, less 1 for IPv4, less 2 for each candidate of its kind and IP
+/// version that came before, less 1000 for a relayed candidate whose local address has the other IP version. It
+/// stays at zero.
+pub fn default_local_preference(c: &Candidate, same_kind: usize) -> u32
+    ensures { result ≡ default_preference c.now same_kind }
+{
+    let version = if c.addr().is_ipv4() { 1 } else { 0 };
+    let taken = same_kind
+        .saturating_mul(2)
+        .saturating_add(version + crossing(c));
+    first_preference(c.kind()).saturating_sub(taken) as u32
+}
+
+fn first_preference(kind: CandidateKind) -> usize
+    ensures { result ≡ first_preference kind }
+{
+    match kind {
+        CandidateKind::Host => 65535,
+        CandidateKind::PeerReflexive => 49151,
+        CandidateKind::ServerReflexive => 32767,
+        CandidateKind::Relayed => 16383,
+    }
+}
+
+fn crossing(c: &Candidate) -> usize
+    ensures { result ≡ crossing_of c.now }
+{
+    if c.kind() == CandidateKind::Relayed && !same_version(c.local(), c.addr()) {
+        1000
+    } else {
+        0
+    }
+}
+
+/// A function of the caller's, as a value that may be asked about every candidate and count.
+pub trait PreferenceFunction: Drop {
+    /// The stated relation: the answers that the function may give.
+    ghost gives: { Self → Candidate → ℕ → ℕ → Type 0 };
+
+    fn call(&self, c: &Candidate, same_kind: usize) -> u32
+        ensures { gives self.now c.now same_kind result };
+}
+
+/// The preference by a function of the caller's, its answers cut to 65535.
+#[derive(Debug, Drop)]
+pub struct FnPreference<F> {
+    function: F,
+}
+
+impl<F: PreferenceFunction> FnPreference<F> {
+    /// The preference by this function.
+    pub fn new(function: F) -> FnPreference<F>
+        ensures { result.function ≡ function }
+    {
+        FnPreference { function }
+    }
+}
+
+impl<F: PreferenceFunction> LocalPreference for FnPreference<F> {
+    ghost answers = { λ p c n r. (answer : ℕ) × F.gives p.function c n answer × (r ≡ min answer 65535) };
+
+    fn calculate(&self, c: &Candidate, same_kind: usize) -> u32 {
+        self.function.call(c, same_kind).min(65535)
+    }
+}

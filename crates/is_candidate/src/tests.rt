@@ -1,0 +1,4 @@
+//! Candidates as a user meets them.
+
+mod making;
+mod preferences;

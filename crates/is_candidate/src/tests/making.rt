@@ -1,0 +1,53 @@
+//! Host and peer reflexive candidates.
+
+use crate::candidate::inner::{base, peer_reflexive};
+use crate::candidate::priority::check_priority;
+use crate::{Candidate, CandidateKind};
+use is_proto::{Protocol, Text};
+use std::net::SocketAddr;
+use std::test::Fail;
+
+#[test]
+fn a_host_has_the_recommended_priority(rt: HostRuntime) -> Result<(), Fail> {
+    let addr: SocketAddr = "1.2.3.4:9876".parse()?;
+    let host = Candidate::host(rt.alloc(), addr, Protocol::Udp)?;
+    // 126 * 2^24 + 65534 * 2^8 + 255, and 110 in place of 126 (RFC 8445, section 5.1.2.2)
+    assert_eq!(rt; host.prio(), 2130706175);
+    assert_eq!(rt; check_priority(&host), 1862270719);
+    assert_eq!(rt; base(&host), addr);
+    Ok(())
+}
+
+#[test]
+fn a_host_on_every_interface_is_refused(rt: HostRuntime) -> Result<(), Fail> {
+    let Err(refusal) = Candidate::host(rt.alloc(), "0.0.0.0:9876".parse()?, Protocol::Udp) else {
+        return Err(Fail::from("0.0.0.0 was taken"));
+    };
+    let said = format!(in rt.alloc(); "{refusal}")?;
+    assert_eq!(rt; said.as_str(), "ICE bad candidate: invalid ip 0.0.0.0");
+    Ok(())
+}
+
+#[test]
+fn a_peer_reflexive_candidate_keeps_the_priority_of_the_request(
+    rt: HostRuntime,
+) -> Result<(), Fail> {
+    let source: SocketAddr = "10.0.0.2:2000".parse()?;
+    let foundation = Text::from_str(rt.alloc(), "tmp_prflx")?;
+    let ufrag = Text::from_str(rt.alloc(), "p9KA")?;
+    let found = peer_reflexive(
+        Some(foundation),
+        Protocol::Udp,
+        1853824767,
+        source,
+        source,
+        ufrag,
+    );
+    let mut copy = found.clone()?;
+    copy.set_ufrag(rt.alloc(), "SQAt")?;
+    assert_eq!(rt; copy.prio(), 1853824767);
+    assert!(rt; copy.kind() == CandidateKind::PeerReflexive);
+    assert_eq!(rt; copy.ufrag(), Some("SQAt"));
+    assert_eq!(rt; found.ufrag(), Some("p9KA"));
+    Ok(())
+}
