@@ -1,0 +1,5 @@
+pub mod Priorities
+pub mod States
+pub mod Checks
+pub mod Pairs
+pub mod Order

@@ -1,0 +1,87 @@
+-- A candidate pair (RFC 8445, section 6.1.2), and what each operation makes of it. Moments and times are in nanoseconds.
+use Rattle.std.specs.Prelude.{ℕ, ◌-◌, ◌*◌, Bool, true, false, nat_lt, List, [], Option, Some, None}
+use Rattle.std.specs.Option.{option_map_or}
+use Rattle.is_proto.specs.Moments.{SECOND, counted}
+use Rattle.is_pair.specs.declared.pair.states.CheckState.{CheckState}
+use Rattle.is_pair.specs.declared.pair.states.CheckState.TheVariants.{Waiting, Succeeded}
+use Rattle.is_pair.specs.declared.pair.states.NominationState.{NominationState}
+use Rattle.is_pair.specs.declared.pair.states.NominationState.TheVariants.{None as Unnominated, Nominated, Success}
+use Rattle.is_pair.specs.States.{is_valid_state, is_nominated_state, state_from, nomination_from}
+use Rattle.is_pair.specs.Checks.{Check}
+
+pub record PairRecord : Type 0 where
+  pub number : ℕ
+  -- the places of its candidates in their lists
+  pub local : ℕ
+  pub remote : ℕ
+  -- as it was when the pair was formed, or set since
+  pub priority : ℕ
+  pub checks : List Check
+  pub nomination : NominationState
+  pub state : CheckState
+  -- the peer's checks: how many, and when the last one came
+  pub requests : ℕ
+  pub last_request : Option ℕ
+  -- answers, repeated ones too, and the time that they took in all
+  pub answers : ℕ
+  pub total_round_trip : ℕ
+  -- the next check's moment, once it was asked for
+  pub due : Option ℕ
+
+-- number, local place, remote place, priority
+abbrev pub new_pair : ℕ → ℕ → ℕ → ℕ → PairRecord
+new_pair number local remote priority = record {
+  number = number;
+  local = local;
+  remote = remote;
+  priority = priority;
+  checks = [];
+  nomination = Unnominated;
+  state = Waiting;
+  requests = 0;
+  last_request = None;
+  answers = 0;
+  total_round_trip = 0;
+  due = None;
+}
+
+abbrev pub is_valid : PairRecord → Bool
+is_valid p = is_valid_state p.state
+
+abbrev pub is_nominated : PairRecord → Bool
+is_nominated p = is_nominated_state p.nomination
+
+-- the peer's check came
+abbrev pub with_request : ℕ → PairRecord → PairRecord
+with_request now p = record p { requests = counted p.requests; last_request = Some now }
+
+-- nominated (RFC 8445, section 8.1.1), and at once with success where this is forced
+abbrev pub nominated : Bool → PairRecord → PairRecord
+nominated true p = record p { nomination = Success }
+nominated false p = record p { nomination = Nominated }
+
+-- valid with no check of its own, under ice-lite
+abbrev pub validated : PairRecord → PairRecord
+validated p = record p { state = Succeeded }
+
+-- what a pair takes of the one that it replaces
+abbrev pub with_success_of : PairRecord → PairRecord → PairRecord
+with_success_of other p = record p {
+  nomination = nomination_from other.nomination p.nomination;
+  state = state_from other.state p.state;
+}
+
+abbrev pub with_requests_of : PairRecord → PairRecord → PairRecord
+with_requests_of other p = record p { requests = other.requests; last_request = other.last_request }
+
+-- the next check's moment is to be asked for anew
+abbrev pub undue : PairRecord → PairRecord
+undue p = record p { due = None }
+
+-- whether a check of the peer's that came then is less than 15 s old
+abbrev pub is_recent : ℕ → ℕ → Bool
+is_recent now at = nat_lt (now - at) (15 * SECOND)
+
+-- under ice-lite a pair is given up once the peer was heard of, and no more
+abbrev pub is_lite_alive : ℕ → PairRecord → Bool
+is_lite_alive now p = option_map_or (is_recent now) p.last_request true

@@ -1,0 +1,59 @@
+-- The states of a pair and of its nomination, and what an event makes of them (RFC 8445, sections 6.1.2.6, 7.2.5.3 and 8.1.1).
+use Rattle.std.specs.Prelude.{Bool, true, false}
+use Rattle.is_pair.specs.declared.pair.states.CheckState.{CheckState}
+use Rattle.is_pair.specs.declared.pair.states.CheckState.TheVariants.{Waiting, InProgress, Succeeded}
+use Rattle.is_pair.specs.declared.pair.states.NominationState.{NominationState}
+use Rattle.is_pair.specs.declared.pair.states.NominationState.TheVariants.{None as Unnominated, Nominated, Attempt, Success}
+
+-- the pair is valid (RFC 8445, section 7.2.5.3.2)
+abbrev pub is_valid_state : CheckState → Bool
+is_valid_state Waiting = false
+is_valid_state InProgress = false
+is_valid_state Succeeded = true
+
+abbrev pub is_nominated_state : NominationState → Bool
+is_nominated_state Unnominated = false
+is_nominated_state Nominated = true
+is_nominated_state Attempt = true
+is_nominated_state Success = true
+
+-- once a check was sent
+
+abbrev pub state_once_sent : CheckState → CheckState
+state_once_sent Waiting = InProgress
+state_once_sent InProgress = InProgress
+state_once_sent Succeeded = Succeeded
+
+abbrev pub nomination_once_sent : NominationState → NominationState
+nomination_once_sent Unnominated = Unnominated
+nomination_once_sent Nominated = Attempt
+nomination_once_sent Attempt = Attempt
+nomination_once_sent Success = Success
+
+-- once a check was answered, by whether it was sent nominated
+
+abbrev pub state_once_answered : CheckState → CheckState
+state_once_answered Waiting = Waiting
+state_once_answered InProgress = Succeeded
+state_once_answered Succeeded = Succeeded
+
+abbrev pub nomination_once_answered : Bool → NominationState → NominationState
+nomination_once_answered true Unnominated = Unnominated
+nomination_once_answered true Nominated = Nominated
+nomination_once_answered true Attempt = Success
+nomination_once_answered true Success = Success
+nomination_once_answered false own = own
+
+-- what a pair takes from the one that it replaces: the other's, then its own
+
+abbrev pub state_from : CheckState → CheckState → CheckState
+state_from Waiting own = own
+state_from InProgress own = own
+state_from Succeeded own = Succeeded
+
+-- the nominating check in flight was the other's, so another one has to be sent
+abbrev pub nomination_from : NominationState → NominationState → NominationState
+nomination_from Unnominated own = own
+nomination_from Nominated own = Nominated
+nomination_from Attempt own = Nominated
+nomination_from Success own = Success

@@ -1,0 +1,55 @@
+//! One check that a pair sent.
+
+ghost use Rattle.std.specs.Prelude.{◌≡◌};
+
+use is_proto::Instant;
+use is_stun::stun::TransId;
+use std::marker::Model;
+
+/// One connectivity check that a pair sent, a Binding request, and its answer (RFC 8445, section 7.2).
+#[derive(Clone, Copy, Debug)]
+pub struct BindingAttempt {
+    /// Ties the answer to the request.
+    pub(crate) trans_id: TransId,
+    pub(crate) request_sent: Instant,
+    /// When the last answer came.
+    pub(crate) response_received: Option<Instant>,
+    /// Whether the pair was nominated.
+    pub(crate) nominated: bool,
+    /// The role that the agent had.
+    pub(crate) controlling: bool,
+}
+
+impl Model for BindingAttempt {
+    ghost use Rattle.std.specs.Prelude.{refl, Some, None};
+    ghost use Rattle.std.specs.Prelude.{option_map};
+    ghost use Rattle.is_pair.specs.Checks.{Check};
+
+    ghost Value = { Check };
+
+    ghost view = { λ a. record {
+      id = a.trans_id.0;
+      sent = a.request_sent.0;
+      answered = option_map (λ at. at.0) a.response_received;
+      nominated = a.nominated;
+      controlling = a.controlling;
+    } };
+
+    ghost inverse = { λ c. record {
+      trans_id = record { 0 = c.id };
+      request_sent = record { 0 = c.sent };
+      response_received = option_map (λ at. record { 0 = at }) c.answered;
+      nominated = c.nominated;
+      controlling = c.controlling;
+    } };
+}
+
+impl BindingAttempt {
+    /// Whether the agent was controlling when the check was sent. An answer of role conflict acts only where
+    /// this is still the agent's role.
+    pub fn controlling(&self) -> bool
+        ensures { result ≡ self.now.controlling }
+    {
+        self.controlling
+    }
+}
