@@ -1,9 +1,28 @@
-//! STUN as ICE uses it (RFC 8489, RFC 8445): transaction ids, the timing of checks, messages.
+//! STUN as ICE uses it (RFC 8489, RFC 8445): messages, transaction ids, the timing of checks.
 #![tactic(auto)]
 
+mod address;
+mod attributes;
+mod checks;
+mod crc;
+mod error_code;
+mod header;
+mod integrity;
+mod kinds;
+pub mod laws;
+mod message;
+mod message_writing;
+mod numbers;
+mod reading;
+mod rows;
+mod tlv;
 mod trans_id;
+mod writing;
 
 /// What the crate gives out, under the name that users know.
 pub mod stun {
+    pub use crate::attributes::Attributes;
+    pub use crate::header::{Class, Method};
+    pub use crate::message::{StunMessage, StunPacket};
     pub use crate::trans_id::TransId;
 }

@@ -1,0 +1,10 @@
+pub mod TlvLemmas
+pub mod TextLemmas
+pub mod WalkLemmas
+pub mod ReadsLemmas
+pub mod PutLemmas
+pub mod CrcLemmas
+pub mod RowLemmas
+pub mod WrittenLemmas
+pub mod LawLemmas
+pub mod AddressLemmas

@@ -1,0 +1,7 @@
+use Rattle.std.proofs.Common.{refl}
+use Rattle.std.specs.Net.Addr.{IsIpv4OfBits}
+use Rattle.is_stun.proofs.AddressLemmas.{ipv4_socket-is}
+use Rattle.is_stun.proofs.address.ipv4_socket.Goals as goal
+
+pub returns : goal.returns
+returns c = ipv4_socket-is c.args.bits c.args.port c.new.result c.from_bits.result c.from_bits.ensures c.new.ensures.ip c.new.ensures.port

@@ -1,0 +1,12 @@
+use Rattle.std.proofs.Common.{arith}
+use Rattle.is_stun.proofs.RowLemmas.{header_length}
+use Rattle.is_stun.specs.Header.{header}
+use Rattle.is_stun.proofs.PutLemmas.{Puts-then}
+use Rattle.is_stun.proofs.writing.put_header.Goals as goal
+
+pub returns-clause-text : goal.returns-clause-text
+unfolding header
+returns-clause-text c = Puts-then (Puts-then (Puts-then c.put_u16-at.ensures c.put_u16-at-2.ensures) c.put_u32-at.ensures) c.put.ensures
+
+pub returns-clause-end : goal.returns-clause-end
+returns-clause-end c = omega (arith, (returns-clause-text c).ends, header_length c.args.typ c.args.len c.args.id.now)

@@ -1,0 +1,7 @@
+-- A row as it lies in memory.
+use Rattle.std.specs.Option.{option_copied}
+use Rattle.is_stun.specs.declared.writing.Row.{Row as RawRow}
+use Rattle.is_stun.specs.Writing.{Row}
+
+abbrev pub row_view : RawRow → Row
+row_view r = record { code = r.code; value = option_copied r.value }

@@ -1,0 +1,174 @@
+-- The one way in which a message is written (RFC 8489, sections 5 and 14).
+use Rattle.std.specs.Prelude.{◌≡◌, ℕ, ◌+◌, ◌-◌, ◌<◌, ◌≤◌, Bool, true, false, not, ◌||◌, MatchOption, List, [], ◌∷◌, ◌++◌, length, take, drop, Option, Some, None, Result, Ok, Err, replicate, bit_xor, nat_lt, if◌then◌else◌}
+use Rattle.std.specs.List.{flat_map}
+use Rattle.std.specs.Option.{option_map, option_or}
+use Rattle.std.specs.Int.{w16, w32, w64, to_be_bytes}
+use Rattle.is_stun.specs.declared.numbers.TheConstants.{USERNAME, ICE_CONTROLLED, ICE_CONTROLLING, PRIORITY, XOR_MAPPED_ADDRESS, USE_CANDIDATE, DATA, XOR_RELAYED_ADDRESS, XOR_PEER_ADDRESS, CHANNEL_NUMBER, LIFETIME, REALM, NONCE, ERROR_CODE, SOFTWARE, NETWORK_COST, MESSAGE_INTEGRITY, FINGERPRINT, WRITTEN_TEXT_LIMIT, DATA_LIMIT, FINGERPRINT_MASK, HEADER_LEN}
+use Rattle.is_proto.specs.declared.error.StunError.{StunError}
+use Rattle.is_proto.specs.declared.error.StunError.TheVariants.{UnknownMethod, ValueTooLong, BadErrorCode, MessageTooLong, BufferTooShort}
+use Rattle.is_stun.specs.declared.header.Method.{Method}
+use Rattle.is_stun.specs.declared.header.Method.TheVariants.{Unknown}
+use Rattle.is_stun.specs.Address.{xor_address}
+use Rattle.is_stun.specs.ErrorCode.{error_value}
+use Rattle.is_stun.specs.Tlv.{padded_len}
+use Rattle.is_stun.specs.Crc.{crc32}
+use Rattle.is_stun.specs.Header.{header, class_bits, method_bits}
+use Rattle.is_stun.specs.Integrity.{signed_text}
+use Rattle.is_stun.specs.Message.{AttributesRecord, Message}
+
+-- ---- texts in a buffer
+
+-- the list with these bytes in place of those from at on
+unfoldable pub splice : List ℕ → ℕ → List ℕ → List ℕ
+splice xs at bytes = take at xs ++ (bytes ++ drop (at + length bytes) xs)
+
+-- the new list is the old one with the text from at to end
+pub record Puts (old new : List ℕ) (at end : ℕ) (text : List ℕ) : Type 0 where
+  pub bytes : new ≡ splice old at text
+  pub ends : end ≡ at + length text
+  pub fits : end ≤ length old
+
+-- ---- attributes
+
+-- type, length, value, and zeros up to a multiple of four
+unfoldable pub attribute : ℕ → List ℕ → List ℕ
+attribute code value =
+    to_be_bytes w16 code ++ to_be_bytes w16 (length value) ++ value ++ replicate (padded_len (length value) - length value) 0
+
+-- an attribute that is written, or none
+pub record Row : Type 0 where
+  pub code : ℕ
+  pub value : Option (List ℕ)
+
+abbrev pub row : ℕ → Option (List ℕ) → Row
+row code value = record { code = code; value = value }
+
+abbrev pub optional_attribute : ℕ → Option (List ℕ) → List ℕ
+optional_attribute code None = []
+optional_attribute code (Some value) = attribute code value
+
+abbrev pub row_text : Row → List ℕ
+row_text r = optional_attribute r.code r.value
+
+abbrev pub if_set : Bool → Option (List ℕ)
+if_set is_set = if is_set then Some [] else None
+
+-- the number, and two bytes that are kept for later use (RFC 8656, section 18.1)
+abbrev pub channel_value : ℕ → List ℕ
+channel_value number = to_be_bytes w16 number ++ (0 ∷ 0 ∷ [])
+
+abbrev pub network_cost_value : ℕ × ℕ → List ℕ
+network_cost_value cost = to_be_bytes w16 cost.0 ++ to_be_bytes w16 cost.1
+
+-- the attributes of a message in their order
+abbrev pub rows_of : List ℕ → AttributesRecord → List Row
+rows_of id attributes =
+    row USERNAME attributes.username
+    ∷ row ICE_CONTROLLED (option_map (to_be_bytes w64) attributes.ice_controlled)
+    ∷ row ICE_CONTROLLING (option_map (to_be_bytes w64) attributes.ice_controlling)
+    ∷ row PRIORITY (option_map (to_be_bytes w32) attributes.priority)
+    ∷ row XOR_MAPPED_ADDRESS (option_map (xor_address id) attributes.xor_mapped_address)
+    ∷ row USE_CANDIDATE (if_set attributes.use_candidate)
+    ∷ row DATA attributes.«data»
+    ∷ row XOR_RELAYED_ADDRESS (option_map (xor_address id) attributes.xor_relayed_address)
+    ∷ row XOR_PEER_ADDRESS (option_map (xor_address id) attributes.xor_peer_address)
+    ∷ row CHANNEL_NUMBER (option_map channel_value attributes.channel_number)
+    ∷ row LIFETIME (option_map (to_be_bytes w32) attributes.lifetime)
+    ∷ row REALM attributes.realm
+    ∷ row NONCE attributes.nonce
+    ∷ row ERROR_CODE (option_map error_value attributes.error_code)
+    ∷ row SOFTWARE attributes.software
+    ∷ row NETWORK_COST (option_map network_cost_value attributes.network_cost)
+    ∷ []
+
+unfoldable pub rows_text : List Row → List ℕ
+rows_text rows = flat_map row_text rows
+
+-- the length of a text, where it is within room
+abbrev pub IsLenWithin : Option ℕ → ℕ → List ℕ → Type 0
+IsLenWithin found room text = MatchOption found (room < length text) (λ n. (n ≡ length text) × (n ≤ room))
+
+-- ---- integrity and fingerprint
+
+-- the integrity behind a front, where a key is given (RFC 8489, section 14.5)
+abbrev pub integrity_text : (List ℕ → List ℕ → List ℕ) → Option (List ℕ) → ℕ → List ℕ → List ℕ
+integrity_text mac None len front = []
+integrity_text mac (Some key) len front = attribute MESSAGE_INTEGRITY (mac key (signed_text front len))
+
+-- the fingerprint of what stands before it (RFC 8489, section 14.7)
+abbrev pub fingerprint_text : List ℕ → List ℕ
+fingerprint_text bytes = attribute FINGERPRINT (to_be_bytes w32 (bit_xor (crc32 bytes) FINGERPRINT_MASK))
+
+abbrev pub integrity_len : Option (List ℕ) → ℕ
+integrity_len None = 0
+integrity_len (Some key) = 24
+
+-- what the header's length counts
+abbrev pub body_len : Option (List ℕ) → List Row → ℕ
+body_len key rows = length (rows_text rows) + integrity_len key + 8
+
+-- the header and the attributes of the rows
+unfoldable pub front_of : Option (List ℕ) → ℕ → List ℕ → List Row → List ℕ
+front_of key typ id rows = header typ (body_len key rows) id ++ rows_text rows
+
+unfoldable pub sealed_of : (List ℕ → List ℕ → List ℕ) → Option (List ℕ) → ℕ → List ℕ → List Row → List ℕ
+sealed_of mac key typ id rows =
+    let front = front_of key typ id rows in
+    front ++ integrity_text mac key (length (rows_text rows) + 24) front
+
+unfoldable pub written_rows : (List ℕ → List ℕ → List ℕ) → Option (List ℕ) → ℕ → List ℕ → List Row → List ℕ
+written_rows mac key typ id rows =
+    let sealed = sealed_of mac key typ id rows in
+    sealed ++ fingerprint_text sealed
+
+-- why rows are not written into so much room
+abbrev pub rows_refusal : Option (List ℕ) → ℕ → List Row → Option StunError
+rows_refusal key room rows =
+    if nat_lt 65535 (body_len key rows) then Some MessageTooLong
+    else if nat_lt room (HEADER_LEN + body_len key rows) then Some BufferTooShort
+    else None
+
+-- Either the bytes stand at the front of the buffer and the rest of it is untouched, or all of it is, and it is told why.
+abbrev pub WritesOr : Result ℕ StunError → List ℕ → List ℕ → Option StunError → List ℕ → Type 0
+WritesOr (Ok n) old new refusal written = (refusal ≡ None) × (n ≡ length written) × (new ≡ written ++ drop n old)
+WritesOr (Err e) old new refusal written = (refusal ≡ Some e) × (new ≡ old)
+
+-- ---- whole messages
+
+abbrev pub is_known : Method → Bool
+is_known Unknown = false
+is_known _ = true
+
+abbrev pub is_longer : ℕ → Option (List ℕ) → Bool
+is_longer limit None = false
+is_longer limit (Some value) = nat_lt limit (length value)
+
+-- a text of more than 128 bytes, or data whose length has no 16 bits
+abbrev pub has_long_value : AttributesRecord → Bool
+has_long_value a =
+    is_longer WRITTEN_TEXT_LIMIT a.username
+    || is_longer WRITTEN_TEXT_LIMIT a.realm
+    || is_longer WRITTEN_TEXT_LIMIT a.nonce
+    || is_longer WRITTEN_TEXT_LIMIT a.software
+    || is_longer WRITTEN_TEXT_LIMIT (option_map (λ e. e.1) a.error_code)
+    || is_longer DATA_LIMIT a.«data»
+
+abbrev pub is_bad_code : Option (ℕ × List ℕ) → Bool
+is_bad_code None = false
+is_bad_code (Some e) = nat_lt e.0 300 || nat_lt 699 e.0
+
+-- why a message is not written, whatever the room
+unfoldable pub value_refusal : Message → Option StunError
+value_refusal m =
+    if not (is_known m.method) then Some UnknownMethod
+    else if has_long_value m.attributes then Some ValueTooLong
+    else if is_bad_code m.attributes.error_code then Some BadErrorCode
+    else None
+
+-- why a message is not written: the first that applies
+unfoldable pub refusal : Option (List ℕ) → ℕ → Message → Option StunError
+refusal key room m = option_or (value_refusal m) (rows_refusal key room (rows_of m.id m.attributes))
+
+-- the bytes of a message
+unfoldable pub written : (List ℕ → List ℕ → List ℕ) → Option (List ℕ) → Message → List ℕ
+written mac key m = written_rows mac key (class_bits m.class + method_bits m.method) m.id (rows_of m.id m.attributes)

@@ -1,0 +1,139 @@
+//! The kinds of value that attributes have, and what can be wrong with one (RFC 8489, section 14).
+
+ghost use Rattle.std.specs.Prelude.{◌≡◌, ◌≤◌, length, drop};
+ghost use Rattle.std.specs.Int.{w32, w64};
+ghost use Rattle.std.specs.Option.{option_map};
+ghost use Rattle.is_stun.specs.Kinds.{text, number, bytes_of_len, error_code, channel_number, network_cost, value_fault};
+ghost use Rattle.is_stun.specs.Gives.{Gives};
+
+use crate::address::address_fault;
+use crate::numbers::{
+    CHANNEL_NUMBER, ERROR_CODE, FINGERPRINT, ICE_CONTROLLED, ICE_CONTROLLING, INTEGRITY_LEN,
+    LIFETIME, MESSAGE_INTEGRITY, NONCE, PRIORITY, REALM, SOFTWARE, TEXT_LIMIT, USE_CANDIDATE,
+    USERNAME, USERNAME_LIMIT, XOR_MAPPED_ADDRESS, XOR_PEER_ADDRESS, XOR_RELAYED_ADDRESS,
+};
+use is_proto::ParseFault;
+use std::str;
+
+pub(crate) fn text(limit: usize, value: &[u8]) -> Result<&str, ParseFault>
+    ensures { Gives (λ x. x.now) result (text limit value.now) }
+{
+    if value.len() > limit {
+        return Err(ParseFault::TextTooLong);
+    }
+    match str::from_utf8(value) {
+        Ok(text) => Ok(text),
+        Err(_) => Err(ParseFault::TextNotUtf8),
+    }
+}
+
+pub(crate) fn number32(value: &[u8], fault: ParseFault) -> Result<u32, ParseFault>
+    ensures { result ≡ number w32 fault value.now }
+{
+    match value {
+        [a, b, c, d] => Ok(u32::from_be_bytes([*a, *b, *c, *d])),
+        _ => Err(fault),
+    }
+}
+
+pub(crate) fn number64(value: &[u8], fault: ParseFault) -> Result<u64, ParseFault>
+    ensures { result ≡ number w64 fault value.now }
+{
+    match value {
+        [a, b, c, d, e, f, g, h] => Ok(u64::from_be_bytes([*a, *b, *c, *d, *e, *f, *g, *h])),
+        _ => Err(fault),
+    }
+}
+
+pub(crate) fn bytes_of_len(len: usize, value: &[u8], fault: ParseFault) -> Result<&[u8], ParseFault>
+    ensures { Gives (λ x. x.now) result (bytes_of_len len fault value.now) }
+{
+    if value.len() == len {
+        Ok(value)
+    } else {
+        Err(fault)
+    }
+}
+
+/// What follows the four bytes of an error code.
+fn behind_code(value: &[u8]) -> &[u8]
+    requires { 4 ≤ length value.now }
+    ensures { result.now ≡ drop 4 value.now }
+{
+    &value[4..]
+}
+
+/// A code of 300 to 699, and its reason (RFC 8489, section 14.8).
+#[tactic(auto, unfolding(crate::specs::Kinds::error_code))]
+pub(crate) fn error_code(value: &[u8]) -> Result<(u16, &str), ParseFault>
+    ensures { Gives (λ e. (e.0, e.1.now)) result (error_code value.now) }
+{
+    if value.len() < 4 {
+        return Err(ParseFault::ErrorCodeLength);
+    }
+    let class = value[2];
+    if !(value[0] == 0 && value[1] == 0 && class / 8 == 0) {
+        return Err(ParseFault::ErrorCodeTop);
+    }
+    if class < 3 || class > 6 {
+        return Err(ParseFault::ErrorClass);
+    }
+    match text(TEXT_LIMIT, behind_code(value)) {
+        Ok(reason) => Ok((100 * u16::from(class) + u16::from(value[3] % 100), reason)),
+        Err(fault) => Err(fault),
+    }
+}
+
+/// A channel number, in the first two of four bytes (RFC 8656, section 18.1).
+#[tactic(auto, unfolding(crate::specs::Kinds::channel_number))]
+pub(crate) fn channel_number(value: &[u8]) -> Result<u16, ParseFault>
+    ensures { result ≡ channel_number value.now }
+{
+    if value.len() != 4 {
+        return Err(ParseFault::ChannelLength);
+    }
+    let number = u16::from_be_bytes([value[0], value[1]]);
+    if number < 0x4000 || number > 0x7FFF {
+        return Err(ParseFault::ChannelRange);
+    }
+    Ok(number)
+}
+
+/// The id of a network and its cost, in four bytes.
+#[tactic(auto, unfolding(crate::specs::Kinds::network_cost))]
+pub(crate) fn network_cost(value: &[u8]) -> Option<(u16, u16)>
+    ensures { result ≡ network_cost value.now }
+{
+    if value.len() != 4 {
+        return None;
+    }
+    let network = u16::from_be_bytes([value[0], value[1]]);
+    let cost = u16::from_be_bytes([value[2], value[3]]);
+    Some((network, cost))
+}
+
+/// What is wrong with the value of an attribute of this type.
+#[tactic(auto, unfolding(crate::specs::Kinds::value_fault))]
+pub(crate) fn value_fault(code: u16, value: &[u8]) -> Option<ParseFault>
+    ensures { result ≡ value_fault code value.now }
+{
+    match code {
+        USERNAME => text(USERNAME_LIMIT, value).err(),
+        MESSAGE_INTEGRITY => bytes_of_len(INTEGRITY_LEN, value, ParseFault::IntegrityLength).err(),
+        ERROR_CODE => error_code(value).err(),
+        CHANNEL_NUMBER => channel_number(value).err(),
+        LIFETIME => number32(value, ParseFault::LifetimeLength).err(),
+        XOR_PEER_ADDRESS => address_fault(value),
+        REALM => text(TEXT_LIMIT, value).err(),
+        NONCE => text(TEXT_LIMIT, value).err(),
+        XOR_RELAYED_ADDRESS => address_fault(value),
+        XOR_MAPPED_ADDRESS => address_fault(value),
+        SOFTWARE => text(TEXT_LIMIT, value).err(),
+        PRIORITY => number32(value, ParseFault::PriorityLength).err(),
+        USE_CANDIDATE => bytes_of_len(0, value, ParseFault::UseCandidateLength).err(),
+        FINGERPRINT => number32(value, ParseFault::FingerprintLength).err(),
+        ICE_CONTROLLED => number64(value, ParseFault::ControlledLength).err(),
+        ICE_CONTROLLING => number64(value, ParseFault::ControllingLength).err(),
+        _ => None,
+    }
+}

@@ -1,0 +1,114 @@
+//! How messages are written.
+
+ghost use Rattle.std.specs.Prelude.{◌≡◌, length, map, IfNone};
+ghost use Rattle.std.specs.Option.{option_copied, option_map};
+ghost use Rattle.is_stun.specs.Writing.{WritesOr, is_longer, is_bad_code, has_long_value, value_refusal, refusal, written};
+ghost use Rattle.is_stun.specs.MessageView.{attributes_view, message_view};
+ghost use Rattle.is_stun.specs.ErrorCodeView.{error_view, WritableError};
+ghost use Rattle.is_stun.specs.RowView.{row_view};
+
+use crate::attributes::Attributes;
+use crate::header::Method;
+use crate::message::StunMessage;
+use crate::numbers::{DATA_LIMIT, WRITTEN_TEXT_LIMIT};
+use crate::rows::{Values, rows_of};
+use crate::writing::{Draft, write_draft};
+use is_proto::{Sha1HmacProvider, StunError};
+
+fn is_long_text(text: Option<&str>) -> bool
+    ensures { result ≡ is_longer WRITTEN_TEXT_LIMIT (option_copied text.entry) }
+{
+    match text {
+        Some(text) => text.len() > WRITTEN_TEXT_LIMIT,
+        None => false,
+    }
+}
+
+fn is_long_data(bytes: Option<&[u8]>) -> bool
+    ensures { result ≡ is_longer DATA_LIMIT (option_copied bytes.entry) }
+{
+    match bytes {
+        Some(bytes) => bytes.len() > DATA_LIMIT,
+        None => false,
+    }
+}
+
+fn is_long_reason(error: Option<(u16, &str)>) -> bool
+    ensures { result ≡ is_longer WRITTEN_TEXT_LIMIT (option_map (λ e. e.1) (error_view error.entry)) }
+{
+    match error {
+        Some((_, reason)) => reason.len() > WRITTEN_TEXT_LIMIT,
+        None => false,
+    }
+}
+
+fn is_bad_code(error: Option<(u16, &str)>) -> bool
+    ensures { result ≡ is_bad_code (error_view error.entry) }
+{
+    match error {
+        Some((code, _)) => code < 300 || code > 699,
+        None => false,
+    }
+}
+
+fn has_long_value(attrs: &Attributes<'_>) -> bool
+    ensures { result ≡ has_long_value (attributes_view attrs.now) }
+{
+    is_long_text(attrs.username)
+        || is_long_text(attrs.realm)
+        || is_long_text(attrs.nonce)
+        || is_long_text(attrs.software)
+        || is_long_reason(attrs.error_code)
+        || is_long_data(attrs.data)
+}
+
+/// Why a message is not written, whatever the room.
+#[tactic(auto, unfolding(crate::specs::Writing::value_refusal))]
+fn value_refusal(message: &StunMessage<'_>) -> Option<StunError>
+    ensures refusal { result ≡ value_refusal (message_view message.now) }
+    ensures writable { IfNone result (WritableError message.now.attrs.error_code) }
+{
+    if message.method == Method::Unknown {
+        return Some(StunError::UnknownMethod);
+    }
+    if has_long_value(&message.attrs) {
+        return Some(StunError::ValueTooLong);
+    }
+    if is_bad_code(message.attrs.error_code) {
+        return Some(StunError::BadErrorCode);
+    }
+    None
+}
+
+impl<'a> StunMessage<'a> {
+    /// Writes the message to the front of the buffer and tells its length: its attributes, then MESSAGE-INTEGRITY
+    /// where there is a password, then FINGERPRINT (RFC 8489, sections 5 and 14). The integrity and the fingerprint
+    /// that a message was read with are left out, and it takes no memory. A refusal leaves the buffer as it was,
+    /// and is the first of
+    /// - `UnknownMethod`: the method is `Unknown`;
+    /// - `ValueTooLong`: a user name, realm, nonce, software or reason of more than 128 bytes, or data of more
+    ///   than 65535;
+    /// - `BadErrorCode`: an error code outside 300 to 699;
+    /// - `MessageTooLong`: more than 65535 bytes would follow the header;
+    /// - `BufferTooShort`: the buffer does not hold the message.
+    pub fn to_bytes<H: Sha1HmacProvider>(
+        self,
+        password: Option<&[u8]>,
+        buf: &mut [u8],
+        provider: &H,
+    ) -> Result<usize, StunError>
+        ensures { WritesOr result buf.old buf.new (refusal (option_copied password.entry) (length buf.old) (message_view self.entry)) (written (H.mac provider.now) (option_copied password.entry) (message_view self.entry)) }
+    {
+        if let Some(error) = value_refusal(&self) {
+            return Err(error);
+        }
+        let values = Values::of(&self.attrs, &self.trans_id.0);
+        let rows = rows_of(&self.attrs, &values);
+        let draft = Draft {
+            typ: self.class.to_u16() + self.method.to_u16(),
+            id: &self.trans_id.0,
+            rows: &rows,
+        };
+        write_draft(&draft, password, buf, provider)
+    }
+}

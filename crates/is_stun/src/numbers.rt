@@ -1,0 +1,71 @@
+//! The numbers of the format (RFC 8489, sections 5, 14 and 18).
+
+/// Type, length, magic cookie and transaction id.
+pub(crate) const HEADER_LEN: usize = 20;
+
+pub(crate) const MAGIC: u32 = 0x2112_A442;
+
+/// What a port is xored with: the high half of the magic cookie.
+pub(crate) const PORT_MASK: u16 = 0x2112;
+
+/// What the CRC of a fingerprint is xored with.
+pub(crate) const FINGERPRINT_MASK: u32 = 0x5354_554E;
+
+/// The polynomial of CRC-32, its bits turned round.
+pub(crate) const CRC_POLYNOMIAL: u32 = 0xEDB8_8320;
+
+// The types of attributes.
+
+pub(crate) const USERNAME: u16 = 0x0006;
+
+pub(crate) const MESSAGE_INTEGRITY: u16 = 0x0008;
+
+pub(crate) const ERROR_CODE: u16 = 0x0009;
+
+pub(crate) const CHANNEL_NUMBER: u16 = 0x000C;
+
+pub(crate) const LIFETIME: u16 = 0x000D;
+
+pub(crate) const XOR_PEER_ADDRESS: u16 = 0x0012;
+
+pub(crate) const DATA: u16 = 0x0013;
+
+pub(crate) const REALM: u16 = 0x0014;
+
+pub(crate) const NONCE: u16 = 0x0015;
+
+pub(crate) const XOR_RELAYED_ADDRESS: u16 = 0x0016;
+
+pub(crate) const XOR_MAPPED_ADDRESS: u16 = 0x0020;
+
+/// SOFTWARE stands at 0x8022 in the registry; this number is what the attribute is read and written by here.
+pub(crate) const SOFTWARE: u16 = 0x0022;
+
+pub(crate) const PRIORITY: u16 = 0x0024;
+
+pub(crate) const USE_CANDIDATE: u16 = 0x0025;
+
+pub(crate) const FINGERPRINT: u16 = 0x8028;
+
+pub(crate) const ICE_CONTROLLED: u16 = 0x8029;
+
+pub(crate) const ICE_CONTROLLING: u16 = 0x802A;
+
+/// The cost of the sender's network, as WebRTC tells it.
+pub(crate) const NETWORK_COST: u16 = 0xC057;
+
+// The lengths of values, in bytes.
+
+/// The longest user name that is read.
+pub(crate) const USERNAME_LIMIT: usize = 513;
+
+/// The longest other text that is read.
+pub(crate) const TEXT_LIMIT: usize = 763;
+
+/// The longest text that is written.
+pub(crate) const WRITTEN_TEXT_LIMIT: usize = 128;
+
+/// The longest data that are written.
+pub(crate) const DATA_LIMIT: usize = 65535;
+
+pub(crate) const INTEGRITY_LEN: usize = 20;

@@ -1,0 +1,227 @@
+//! Writing into a buffer, with no memory taken.
+
+ghost use Rattle.std.specs.Prelude.{◌≡◌, ◌+◌, ◌-◌, ◌≤◌, ◌<◌, ◌^◌, length, map, replicate, take, MatchOption, Some, None, IfOk, OnOk, IfErr};
+ghost use Rattle.std.specs.Option.{option_copied};
+ghost use Rattle.std.specs.Int.{w16, w32, to_be_bytes};
+ghost use Rattle.is_stun.specs.Tlv.{padded_len, attribute_len};
+ghost use Rattle.is_stun.specs.Writing.{Puts, attribute, row_text, rows_text, IsLenWithin, integrity_len, body_len, integrity_text, fingerprint_text, rows_refusal, written_rows, WritesOr};
+ghost use Rattle.is_stun.specs.Header.{header};
+ghost use Rattle.is_stun.specs.RowView.{row_view};
+
+use crate::crc::crc32;
+use crate::integrity::mac_of_front;
+use crate::numbers::{FINGERPRINT, FINGERPRINT_MASK, HEADER_LEN, MAGIC, MESSAGE_INTEGRITY};
+use is_proto::{Sha1HmacProvider, StunError};
+
+/// Writes the bytes from a place on, and tells where they end.
+pub(crate) fn put(buf: &mut [u8], at: usize, bytes: &[u8]) -> usize
+    requires { at + length bytes.now ≤ length buf.old }
+    ensures { Puts buf.old buf.new at result bytes.now }
+{
+    let end = at + bytes.len();
+    buf[at..end].copy_from_slice(bytes);
+    end
+}
+
+fn put_u16(buf: &mut [u8], at: usize, number: u16) -> usize
+    requires { at + 2 ≤ length buf.old }
+    ensures { Puts buf.old buf.new at result (to_be_bytes w16 number) }
+{
+    put(buf, at, &number.to_be_bytes())
+}
+
+fn put_u32(buf: &mut [u8], at: usize, number: u32) -> usize
+    requires { at + 4 ≤ length buf.old }
+    ensures { Puts buf.old buf.new at result (to_be_bytes w32 number) }
+{
+    put(buf, at, &number.to_be_bytes())
+}
+
+/// Zeros behind a value, up to a multiple of four.
+fn put_padding(buf: &mut [u8], at: usize, len: usize) -> usize
+    requires room { at + (padded_len len - len) ≤ length buf.old }
+    requires short { len < 2 ^ 16 }
+    ensures { Puts buf.old buf.new at result (replicate (padded_len len - len) 0) }
+{
+    put(buf, at, &[0; 3][..(len + 3) / 4 * 4 - len])
+}
+
+fn put_attribute(buf: &mut [u8], at: usize, code: u16, value: &[u8]) -> usize
+    requires room { at + attribute_len (length value.now) ≤ length buf.old }
+    requires short { length value.now < 2 ^ 16 }
+    ensures text { Puts buf.old buf.new at result (attribute code value.now) }
+    ensures end { result ≡ at + attribute_len (length value.now) }
+{
+    let len = value.len();
+    let at = put_u16(buf, at, code);
+    let at = put_u16(buf, at, len as u16);
+    let at = put(buf, at, value);
+    put_padding(buf, at, len)
+}
+
+fn put_header(buf: &mut [u8], typ: u16, len: u16, id: &[u8; 12]) -> usize
+    requires { 20 ≤ length buf.old }
+    ensures text { Puts buf.old buf.new 0 result (header typ len id.now) }
+    ensures end { result ≡ 20 }
+{
+    let at = put_u16(buf, 0, typ);
+    let at = put_u16(buf, at, len);
+    let at = put_u32(buf, at, MAGIC);
+    put(buf, at, id)
+}
+
+/// An attribute that is written, or none.
+#[derive(Clone, Copy)]
+pub(crate) struct Row<'a> {
+    pub(crate) code: u16,
+    pub(crate) value: Option<&'a [u8]>,
+}
+
+/// The length of a row, where it is within the room.
+#[tactic(auto, using(crate::proofs::RowLemmas::row_length))]
+fn row_len(row: &Row<'_>, room: usize) -> Option<usize>
+    requires { room < 2 ^ 16 }
+    ensures { IsLenWithin result room (row_text (row_view row.now)) }
+{
+    let Some(value) = row.value else {
+        return Some(0);
+    };
+    if value.len() > room {
+        return None;
+    }
+    let len = 4 + (value.len() + 3) / 4 * 4;
+    if len > room { None } else { Some(len) }
+}
+
+fn rows_len(rows: &[Row<'_>], room: usize) -> Option<usize>
+    requires { room < 2 ^ 16 }
+    ensures { IsLenWithin result room (rows_text (map row_view rows.now)) }
+{
+    let mut len = 0;
+    for row in rows {
+        len += row_len(row, room - len)?;
+    }
+    Some(len)
+}
+
+#[tactic(auto, using(crate::proofs::RowLemmas::row_length))]
+fn put_row(buf: &mut [u8], at: usize, row: &Row<'_>) -> usize
+    requires room { at + length (row_text (row_view row.now)) ≤ length buf.old }
+    requires short { length (row_text (row_view row.now)) < 2 ^ 16 }
+    ensures { Puts buf.old buf.new at result (row_text (row_view row.now)) }
+{
+    match row.value {
+        Some(value) => put_attribute(buf, at, row.code, value),
+        None => at,
+    }
+}
+
+fn put_rows(buf: &mut [u8], at: usize, rows: &[Row<'_>]) -> usize
+    requires room { at + length (rows_text (map row_view rows.now)) ≤ length buf.old }
+    requires short { length (rows_text (map row_view rows.now)) < 2 ^ 16 }
+    ensures { Puts buf.old buf.new at result (rows_text (map row_view rows.now)) }
+{
+    let mut end = at;
+    for row in rows {
+        end = put_row(buf, end, row);
+    }
+    end
+}
+
+/// The integrity of what stands before a place, where there is a password.
+fn put_integrity<H: Sha1HmacProvider>(
+    buf: &mut [u8],
+    at: usize,
+    password: Option<&[u8]>,
+    provider: &H,
+) -> usize
+    requires room { at + integrity_len (option_copied password) ≤ length buf.old }
+    requires whole { 20 ≤ at }
+    requires short { at + integrity_len (option_copied password) < 2 ^ 16 + 12 }
+    ensures text { Puts buf.old buf.new at result (integrity_text (H.mac provider.now) (option_copied password.entry) (at + 4) (take at buf.old)) }
+    ensures end { result ≡ at + integrity_len (option_copied password.entry) }
+{
+    let Some(key) = password else {
+        return at;
+    };
+    let mac = mac_of_front(&buf[..at], (at + 4) as u16, key, provider);
+    put_attribute(buf, at, MESSAGE_INTEGRITY, &mac)
+}
+
+fn put_fingerprint(buf: &mut [u8], at: usize) -> usize
+    requires { at + 8 ≤ length buf.old }
+    ensures { Puts buf.old buf.new at result (fingerprint_text (take at buf.old)) }
+{
+    let value = crc32(&buf[..at]) ^ FINGERPRINT_MASK;
+    put_attribute(buf, at, FINGERPRINT, &value.to_be_bytes())
+}
+
+/// What a message of these rows is, but for its key.
+#[derive(Clone, Copy)]
+pub(crate) struct Draft<'a> {
+    pub(crate) typ: u16,
+    pub(crate) id: &'a [u8; 12],
+    pub(crate) rows: &'a [Row<'a>],
+}
+
+fn integrity_len(password: Option<&[u8]>) -> usize
+    ensures { result ≡ integrity_len (option_copied password.entry) }
+{
+    match password {
+        Some(_) => 24,
+        None => 0,
+    }
+}
+
+/// What the header's length counts, where the message may be written into so much room.
+fn body_len_within(
+    rows: &[Row<'_>],
+    password: Option<&[u8]>,
+    room: usize,
+) -> Result<usize, StunError>
+    ensures ok { IfOk result (λ n. (n ≡ body_len (option_copied password.entry) (map row_view rows.now)) × (n < 2 ^ 16) × (20 + n ≤ room)) }
+    ensures taken { OnOk result (rows_refusal (option_copied password.entry) room (map row_view rows.now) ≡ None) }
+    ensures refused { IfErr result (λ e. rows_refusal (option_copied password.entry) room (map row_view rows.now) ≡ Some e) }
+{
+    let integrity = integrity_len(password);
+    let Some(len) = rows_len(rows, 65535 - 8 - integrity) else {
+        return Err(StunError::MessageTooLong);
+    };
+    let body_len = len + integrity + 8;
+    if room < HEADER_LEN + body_len {
+        return Err(StunError::BufferTooShort);
+    }
+    Ok(body_len)
+}
+
+/// Writes a message that has room.
+fn write_within<H: Sha1HmacProvider>(
+    draft: &Draft<'_>,
+    len: usize,
+    password: Option<&[u8]>,
+    buf: &mut [u8],
+    provider: &H,
+) -> usize
+    requires is_len { len ≡ body_len (option_copied password) (map row_view draft.now.rows.now) }
+    requires short { len < 2 ^ 16 }
+    requires room { 20 + len ≤ length buf.old }
+    ensures { Puts buf.old buf.new 0 result (written_rows (H.mac provider.now) (option_copied password.entry) draft.now.typ draft.now.id.now (map row_view draft.now.rows.now)) }
+{
+    let at = put_header(buf, draft.typ, len as u16, draft.id);
+    let at = put_rows(buf, at, draft.rows);
+    let at = put_integrity(buf, at, password, provider);
+    put_fingerprint(buf, at)
+}
+
+/// Writes a message, or tells why it does not and leaves the buffer as it was.
+pub(crate) fn write_draft<H: Sha1HmacProvider>(
+    draft: &Draft<'_>,
+    password: Option<&[u8]>,
+    buf: &mut [u8],
+    provider: &H,
+) -> Result<usize, StunError>
+    ensures { WritesOr result buf.old buf.new (rows_refusal (option_copied password.entry) (length buf.old) (map row_view draft.now.rows.now)) (written_rows (H.mac provider.now) (option_copied password.entry) draft.now.typ draft.now.id.now (map row_view draft.now.rows.now)) }
+{
+    let body_len = body_len_within(draft.rows, password, buf.len())?;
+    Ok(write_within(draft, body_len, password, buf, provider))
+}
