@@ -118,11 +118,9 @@ impl XorAddress {
                 XorAddress::V4([0, 1, p0, p1, a, b, c, d])
             }
             SocketAddr::V6(address) => {
-                let [a, b, c, d, e, f, g, h, i, j, k, l, m, n, o, p] =
-                    (address.ip().to_bits() ^ mask_of(id)).to_be_bytes();
-                XorAddress::V6([
-                    0, 2, p0, p1, a, b, c, d, e, f, g, h, i, j, k, l, m, n, o, p,
-                ])
+                let [a, b, c, d, e, f, g, h, i, j, k, l, m, n, o, p] = (address.ip().to_bits()
+                    ^ mask_of(id)).to_be_bytes();
+                XorAddress::V6([0, 2, p0, p1, a, b, c, d, e, f, g, h, i, j, k, l, m, n, o, p])
             }
         }
     }

@@ -13,7 +13,9 @@ ghost use Rattle.is_stun.specs.Integrity.{before_integrity};
 ghost use Rattle.is_stun.specs.Reading.{last_of, value_in};
 
 use crate::address::address_in;
-use crate::kinds::{bytes_of_len, channel_number, error_code, network_cost, number32, number64, text};
+use crate::kinds::{
+    bytes_of_len, channel_number, error_code, network_cost, number32, number64, text,
+};
 use crate::numbers::{
     CHANNEL_NUMBER, DATA, ERROR_CODE, FINGERPRINT, ICE_CONTROLLED, ICE_CONTROLLING, LIFETIME,
     NETWORK_COST, NONCE, PRIORITY, REALM, SOFTWARE, TEXT_LIMIT, USE_CANDIDATE, USERNAME,

@@ -13,7 +13,7 @@ use crate::reading::first_integrity;
 use is_proto::Sha1HmacProvider;
 
 /// The MAC that a message was read with, and the bytes before it.
-#[derive(Clone, Copy)]
+#[derive(Clone, Copy, Debug)]
 pub(crate) struct Integrity<'a> {
     mac: &'a [u8],
     /// The message up to the integrity.

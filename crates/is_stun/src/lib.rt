@@ -1,6 +1,7 @@
 //! STUN as ICE uses it (RFC 8489, RFC 8445): messages, transaction ids, the timing of checks.
 #![tactic(auto)]
 
+mod accessors;
 mod address;
 mod attributes;
 mod checks;

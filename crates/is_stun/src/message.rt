@@ -14,7 +14,7 @@ use std::net::SocketAddr;
 
 /// A STUN message (RFC 8489, section 5): one that was read, over the bytes that it was read from, or one that
 /// was built and can be written. It takes no memory.
-#[derive(Clone, Copy)]
+#[derive(Clone, Copy, Debug)]
 pub struct StunMessage<'a> {
     pub(crate) method: Method,
     pub(crate) class: Class,
@@ -25,7 +25,7 @@ pub struct StunMessage<'a> {
 }
 
 /// A message, and how it came: over which protocol, from where, and to which local address.
-#[derive(Clone, Copy)]
+#[derive(Clone, Copy, Debug)]
 pub struct StunPacket<'a> {
     pub proto: Protocol,
     pub source: SocketAddr,

@@ -1,5 +1,3 @@
-use Rattle.std.proofs.Common.{refl}
-use Rattle.std.specs.Net.Addr.{IsIpv4OfBits}
 use Rattle.is_stun.proofs.AddressLemmas.{ipv4_socket-is}
 use Rattle.is_stun.proofs.address.ipv4_socket.Goals as goal
 
