@@ -5,4 +5,7 @@ pub mod Priorities
 pub mod Preferences
 pub mod Refusals
 pub mod Making
+pub mod Building
 pub mod Equality
+pub mod Foundations
+pub mod Sdp

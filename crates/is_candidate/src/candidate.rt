@@ -1,27 +1,26 @@
 //! Candidates: addresses at which an agent may be reached.
-ghost use Rattle.std.specs.Prelude.{◌≡◌, ◌++◌, codes, Some, IfOk, OnOk, OnErr, IsOkUnless};
+ghost use Rattle.std.specs.Prelude.{◌≡◌, Some, IfOk, OnOk, OnErr, IsOkUnless};
 ghost use Rattle.std.specs.Option.{option_copied};
-ghost use Rattle.std.specs.Net.Socket.{socket_ip};
 ghost use Rattle.is_proto.specs.declared.error.IceError.TheVariants.{OutOfMemory};
-ghost use Rattle.std.specs.Net.Text.{ip_text};
-ghost use Rattle.is_candidate.specs.Refusals.{Says, Makes};
-ghost use Rattle.is_candidate.specs.Making.{ip_fault, host_candidate};
 
 pub mod address;
+pub mod builder;
 pub mod equality;
+pub mod foundation;
 pub mod inner;
 pub mod kind;
+pub mod making;
 pub mod priority;
+pub mod sdp;
 
-use address::is_valid_ip;
 use is_proto::{IceError, Protocol, TcpType, Text};
 use kind::CandidateKind;
 use std::alloc::{AllocError, Global};
 use std::marker::Model;
-use std::net::{IpAddr, SocketAddr};
+use std::net::SocketAddr;
 
 /// An address at which an agent may be reached (RFC 8445, section 5.1). A host or relayed candidate is its own base.
-#[derive(Debug, Drop)]
+#[derive(Debug, PartialEq, Eq, Hash, Drop)]
 pub struct Candidate {
     foundation: Option<Text>,
     component: u16,
@@ -62,38 +61,26 @@ impl Model for Candidate {
       discarded = c.discarded;
     } };
 
+    ghost inverse = { λ c. record {
+      foundation = c.foundation;
+      component = c.component;
+      proto = c.proto;
+      given_priority = c.given_priority;
+      addr = c.addr;
+      given_base = c.given_base;
+      kind = c.kind;
+      raddr = c.raddr;
+      tcptype = c.tcptype;
+      ufrag = c.ufrag;
+      local = c.local;
+      local_preference = c.local_preference;
+      discarded = c.discarded;
+    } };
+
     ghost invariant = { λ c. IsTrue (is_direct c.kind) → unwrap_or c.given_base c.addr ≡ c.addr };
 }
 
 impl Candidate {
-    /// A host candidate: a socket on a local interface, of component 1.
-    ///
-    /// Refused with `BadCandidate` ("invalid ip IP") where the address is link-local IPv4, broadcast, multicast
-    /// or unspecified.
-    pub fn host(alloc: Global, addr: SocketAddr, proto: Protocol) -> Result<Candidate, IceError>
-        ensures { Makes (ip_fault (socket_ip addr)) (host_candidate addr proto) result }
-    {
-        let ip = addr.ip();
-        if !is_valid_ip(ip) {
-            return Err(invalid_ip(alloc, ip));
-        }
-        Ok(Candidate {
-            foundation: None,
-            component: 1,
-            proto,
-            given_priority: None,
-            addr,
-            given_base: Some(addr),
-            kind: CandidateKind::Host,
-            raddr: None,
-            tcptype: None,
-            ufrag: None,
-            local: addr,
-            local_preference: None,
-            discarded: false,
-        })
-    }
-
     /// The address at which the candidate is reached.
     pub fn addr(&self) -> SocketAddr
         ensures { result ≡ self.now.addr }
@@ -149,16 +136,6 @@ impl Candidate {
     {
         self.ufrag = Some(Text::from_str(alloc, ufrag)?);
         Ok(())
-    }
-}
-
-/// The refusal of an address, or want of memory for its message.
-fn invalid_ip(alloc: Global, ip: IpAddr) -> IceError
-    ensures { Says (codes "invalid ip " ++ ip_text ip) result }
-{
-    match format!(in alloc; "invalid ip {ip}") {
-        Ok(message) => IceError::BadCandidate(message),
-        Err(_) => IceError::OutOfMemory,
     }
 }
 

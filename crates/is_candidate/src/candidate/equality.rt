@@ -1,5 +1,6 @@
 //! In what two candidates agree.
-ghost use Rattle.std.specs.Prelude.{◌≡◌};
+ghost use Rattle.std.specs.Prelude.{◌≡◌, true};
+ghost use Rattle.is_candidate.specs.declared.candidate.Candidate.{Candidate};
 ghost use Rattle.is_candidate.specs.Addresses.{same_optional, same_address};
 ghost use Rattle.is_candidate.specs.Equality.{is_same_place, is_same_origin, is_equivalent, is_alike, is_temporary};
 
@@ -62,4 +63,17 @@ pub fn is_temporary(c: &Candidate) -> bool
         }
         None => false,
     }
+}
+
+/// Equal values feed a hasher alike, whatever their type.
+pub fn equal_values_hash_alike<T: std::hash::Hash>()
+    ensures { (a b : T) → T.eq a b ≡ true → T.hash_input a ≡ T.hash_input b }
+{}
+
+/// Equal candidates feed a hasher alike.
+pub fn equal_candidates_hash_alike()
+    ensures { (a b : Candidate) → ⟦<Candidate as PartialEq>⟧.eq a b ≡ true
+        → ⟦<Candidate as std::hash::Hash>⟧.hash_input a ≡ ⟦<Candidate as std::hash::Hash>⟧.hash_input b }
+{
+    equal_values_hash_alike::<Candidate>()
 }

@@ -2,41 +2,9 @@
 ghost use Rattle.std.specs.Prelude.{◌≡◌, ◌≤◌, Some, None, true, false};
 ghost use Rattle.std.specs.Option.{option_copied};
 ghost use Rattle.is_candidate.specs.Candidates.{base_of, IsBased};
-ghost use Rattle.is_candidate.specs.Making.{peer_reflexive_candidate};
 
 use super::Candidate;
-use super::kind::CandidateKind;
-use is_proto::{Protocol, Text};
 use std::net::SocketAddr;
-
-/// A peer reflexive candidate of component 1: an address that a check found, with the priority that the check
-/// named. Its local address is its base.
-pub fn peer_reflexive(
-    foundation: Option<Text>,
-    proto: Protocol,
-    priority: u32,
-    addr: SocketAddr,
-    base: SocketAddr,
-    ufrag: Text,
-) -> Candidate
-    ensures { result ≡ peer_reflexive_candidate foundation proto priority addr base ufrag }
-{
-    Candidate {
-        foundation,
-        component: 1,
-        proto,
-        given_priority: Some(priority),
-        addr,
-        given_base: Some(base),
-        kind: CandidateKind::PeerReflexive,
-        raddr: None,
-        tcptype: None,
-        ufrag: Some(ufrag),
-        local: base,
-        local_preference: None,
-        discarded: false,
-    }
-}
 
 /// The base: where packets of the candidate are sent from. It is the address of a host or relayed candidate.
 pub fn base(c: &Candidate) -> SocketAddr

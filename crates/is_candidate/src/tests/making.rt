@@ -1,9 +1,10 @@
 //! Host and peer reflexive candidates.
 
-use crate::candidate::inner::{base, peer_reflexive};
+use crate::candidate::inner::base;
+use crate::candidate::making::peer_reflexive;
 use crate::candidate::priority::check_priority;
 use crate::{Candidate, CandidateKind};
-use is_proto::{Protocol, Text};
+use is_proto::{Protocol, TcpType, Text};
 use std::net::SocketAddr;
 use std::test::Fail;
 
@@ -49,5 +50,29 @@ fn a_peer_reflexive_candidate_keeps_the_priority_of_the_request(
     assert!(rt; copy.kind() == CandidateKind::PeerReflexive);
     assert_eq!(rt; copy.ufrag(), Some("SQAt"));
     assert_eq!(rt; found.ufrag(), Some("p9KA"));
+    Ok(())
+}
+
+#[test]
+fn a_host_prints_with_its_foundation(rt: HostRuntime) -> Result<(), Fail> {
+    let host = Candidate::host(rt.alloc(), "1.2.3.4:9876".parse()?, Protocol::Udp)?;
+    let line = host.to_sdp_string(rt.alloc())?;
+    assert_eq!(rt;
+        line.as_str(),
+        "candidate:fffeff7eda4d42283a245a9 1 udp 2130706175 1.2.3.4 9876 typ host"
+    );
+    Ok(())
+}
+
+#[test]
+fn the_builder_makes_a_passive_host(rt: HostRuntime) -> Result<(), Fail> {
+    let host = Candidate::builder()
+        .tcp()
+        .host("192.168.1.1:12345".parse()?)
+        .tcptype(TcpType::Passive)
+        .build(rt.alloc())?;
+    // 90 * 2^24 + 65534 * 2^8 + 255
+    assert_eq!(rt; host.prio(), 1526726399);
+    assert!(rt; host.tcptype() == Some(TcpType::Passive));
     Ok(())
 }

@@ -1,0 +1,6 @@
+use Rattle.std.proofs.Common.{◌≡◌, take}
+use Rattle.is_candidate.specs.Foundations.{fnv_from}
+use Rattle.is_candidate.proofs.candidate.foundation.fnv_from.Given as goal
+
+abbrev pub invariant-loop-byte : goal.invariant-loop-byte
+invariant-loop-byte l = l.hash ≡ fnv_from l.start (take l.byte-index l.bytes)

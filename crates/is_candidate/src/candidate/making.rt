@@ -1,0 +1,231 @@
+//! The constructors.
+ghost use Rattle.std.specs.Prelude.{◌≡◌, ◌++◌, codes, IsTrue};
+ghost use Rattle.std.specs.Net.Socket.{socket_ip};
+ghost use Rattle.std.specs.Net.Text.{ip_text};
+ghost use Rattle.is_candidate.specs.Kinds.{is_direct};
+ghost use Rattle.is_candidate.specs.Making.{ip_fault, reflexive_fault, gathered, host_candidate, server_reflexive_candidate, relayed_candidate, signalled_candidate, peer_reflexive_candidate};
+ghost use Rattle.is_candidate.specs.Refusals.{Says, Makes};
+
+use super::Candidate;
+use super::address::{is_valid_ip, same_version, unspecified_like};
+use super::kind::CandidateKind;
+use is_proto::{IceError, Protocol, TcpType, Text};
+use std::alloc::Global;
+use std::net::{IpAddr, SocketAddr};
+
+impl Candidate {
+    /// A host candidate of component 1: a socket on a local interface.
+    ///
+    /// Refused with `BadCandidate` ("invalid ip IP") where the address is link-local IPv4, broadcast, multicast or
+    /// unspecified.
+    pub fn host(alloc: Global, addr: SocketAddr, proto: Protocol) -> Result<Candidate, IceError>
+        ensures { Makes (ip_fault (socket_ip addr)) (host_candidate addr proto None) result }
+    {
+        if !is_valid_ip(addr.ip()) {
+            return Err(invalid_ip(alloc, addr.ip()));
+        }
+        Ok(new_host(addr, proto, None))
+    }
+
+    /// A server reflexive candidate of component 1: the address `addr` of the local socket `base`, as a STUN server
+    /// sees it. Its local address is its base, its related address the unspecified one of the same IP version.
+    ///
+    /// Refused with `BadCandidate`, in this order: "invalid ip IP" where `addr` is link-local IPv4, broadcast, multicast
+    /// or unspecified; "addr and base are different IP versions".
+    pub fn server_reflexive(
+        alloc: Global,
+        addr: SocketAddr,
+        base: SocketAddr,
+        proto: Protocol,
+    ) -> Result<Candidate, IceError>
+        ensures { Makes (reflexive_fault addr base) (server_reflexive_candidate addr base proto None) result }
+    {
+        if !is_valid_ip(addr.ip()) {
+            return Err(invalid_ip(alloc, addr.ip()));
+        }
+        if !same_version(addr, base) {
+            return Err(mixed_versions(alloc));
+        }
+        Ok(new_server_reflexive(addr, base, proto, None))
+    }
+
+    /// A relayed candidate of component 1: the address `addr` that a TURN server allocated for a request from the
+    /// local address `local`. Its related address is the unspecified one of the same IP version.
+    ///
+    /// Refused with `BadCandidate` ("invalid ip IP") where `addr` is link-local IPv4, broadcast, multicast or
+    /// unspecified.
+    pub fn relayed(
+        alloc: Global,
+        addr: SocketAddr,
+        local: SocketAddr,
+        proto: Protocol,
+    ) -> Result<Candidate, IceError>
+        ensures { Makes (ip_fault (socket_ip addr)) (relayed_candidate addr local proto None) result }
+    {
+        if !is_valid_ip(addr.ip()) {
+            return Err(invalid_ip(alloc, addr.ip()));
+        }
+        Ok(new_relayed(addr, local, proto, None))
+    }
+
+    /// The candidate that a line tells of. Nothing is refused. Its base is its address; its local address is its
+    /// address for a host, else the unspecified one of the same IP version with port 0.
+    #[allow(clippy::too_many_arguments)]
+    pub fn from_parts(
+        foundation: Text,
+        component: u16,
+        proto: Protocol,
+        priority: u32,
+        addr: SocketAddr,
+        kind: CandidateKind,
+        raddr: Option<SocketAddr>,
+        tcptype: Option<TcpType>,
+        ufrag: Option<Text>,
+    ) -> Candidate
+        ensures { result ≡ signalled_candidate foundation component proto priority addr kind raddr tcptype ufrag }
+    {
+        let local = match kind {
+            CandidateKind::Host => addr,
+            _ => unspecified_like(addr),
+        };
+        Candidate {
+            foundation: Some(foundation),
+            component,
+            proto,
+            given_priority: Some(priority),
+            addr,
+            given_base: None,
+            kind,
+            raddr,
+            tcptype,
+            ufrag,
+            local,
+            local_preference: None,
+            discarded: false,
+        }
+    }
+}
+
+/// A peer reflexive candidate of component 1: an address that a check found, with the priority that the check
+/// named. Its local address is its base.
+pub fn peer_reflexive(
+    foundation: Option<Text>,
+    proto: Protocol,
+    priority: u32,
+    addr: SocketAddr,
+    base: SocketAddr,
+    ufrag: Text,
+) -> Candidate
+    ensures { result ≡ peer_reflexive_candidate foundation proto priority addr base ufrag }
+{
+    Candidate {
+        foundation,
+        component: 1,
+        proto,
+        given_priority: Some(priority),
+        addr,
+        given_base: Some(base),
+        kind: CandidateKind::PeerReflexive,
+        raddr: None,
+        tcptype: None,
+        ufrag: Some(ufrag),
+        local: base,
+        local_preference: None,
+        discarded: false,
+    }
+}
+
+pub(super) fn new_host(addr: SocketAddr, proto: Protocol, tcptype: Option<TcpType>) -> Candidate
+    ensures { result ≡ host_candidate addr proto tcptype }
+{
+    gathered(CandidateKind::Host, proto, addr, addr, addr, None, tcptype)
+}
+
+pub(super) fn new_server_reflexive(
+    addr: SocketAddr,
+    base: SocketAddr,
+    proto: Protocol,
+    tcptype: Option<TcpType>,
+) -> Candidate
+    ensures { result ≡ server_reflexive_candidate addr base proto tcptype }
+{
+    let raddr = Some(unspecified_like(addr));
+    gathered(
+        CandidateKind::ServerReflexive,
+        proto,
+        addr,
+        base,
+        base,
+        raddr,
+        tcptype,
+    )
+}
+
+pub(super) fn new_relayed(
+    addr: SocketAddr,
+    local: SocketAddr,
+    proto: Protocol,
+    tcptype: Option<TcpType>,
+) -> Candidate
+    ensures { result ≡ relayed_candidate addr local proto tcptype }
+{
+    let raddr = Some(unspecified_like(addr));
+    gathered(
+        CandidateKind::Relayed,
+        proto,
+        addr,
+        addr,
+        local,
+        raddr,
+        tcptype,
+    )
+}
+
+fn gathered(
+    kind: CandidateKind,
+    proto: Protocol,
+    addr: SocketAddr,
+    base: SocketAddr,
+    local: SocketAddr,
+    raddr: Option<SocketAddr>,
+    tcptype: Option<TcpType>,
+) -> Candidate
+    requires { IsTrue (is_direct kind) → base ≡ addr }
+    ensures { result ≡ gathered kind proto addr base local raddr tcptype }
+{
+    Candidate {
+        foundation: None,
+        component: 1,
+        proto,
+        given_priority: None,
+        addr,
+        given_base: Some(base),
+        kind,
+        raddr,
+        tcptype,
+        ufrag: None,
+        local,
+        local_preference: None,
+        discarded: false,
+    }
+}
+
+/// The refusal of an address, or want of memory for its message.
+fn invalid_ip(alloc: Global, ip: IpAddr) -> IceError
+    ensures { Says (codes "invalid ip " ++ ip_text ip) result }
+{
+    match format!(in alloc; "invalid ip {ip}") {
+        Ok(message) => IceError::BadCandidate(message),
+        Err(_) => IceError::OutOfMemory,
+    }
+}
+
+/// The refusal of two IP versions, or want of memory for its message.
+fn mixed_versions(alloc: Global) -> IceError
+    ensures { Says (codes "addr and base are different IP versions") result }
+{
+    match String::from_str(alloc, "addr and base are different IP versions") {
+        Ok(message) => IceError::BadCandidate(message),
+        Err(_) => IceError::OutOfMemory,
+    }
+}

@@ -1,0 +1,118 @@
+//! The line of a candidate (RFC 5245, section 15.1).
+ghost use Rattle.std.specs.Prelude.{◌≡◌, Some, IfOk, IsOkUnless, string_bytes};
+ghost use Rattle.is_proto.specs.declared.error.IceError.TheVariants.{OutOfMemory};
+ghost use Rattle.is_candidate.specs.Sdp.{front_text, place_text, related_text, role_text, fragment_text, sdp_text};
+
+use super::Candidate;
+use super::foundation::Foundation;
+use is_proto::{IceError, TcpType, Text};
+use std::alloc::Global;
+use std::fmt;
+use std::net::SocketAddr;
+
+impl Candidate {
+    /// The line of the candidate: `candidate:`, foundation, component, protocol, priority, address, port, `typ` and
+    /// kind, then `raddr` with `rport`, `tcptype` and `ufrag`, each where it is known.
+    pub fn to_sdp_string(&self, alloc: Global) -> Result<String, IceError>
+        ensures text { IfOk result (λ line. string_bytes line ≡ sdp_text self.now) }
+        ensures refusal { IsOkUnless result OutOfMemory }
+    {
+        Ok(format!(in alloc; "{self}")?)
+    }
+}
+
+/// The line, as `to_sdp_string` gives it.
+impl fmt::Display for Candidate {
+    ghost output = { λ c. Some (sdp_text c) };
+
+    fn fmt<W: fmt::Write>(&self, f: &mut fmt::Formatter<W>) -> fmt::Result {
+        let front = Front(self);
+        let place = Place(self);
+        let related = Related(self.raddr);
+        let role = Role(self.tcptype);
+        let fragment = Fragment(&self.ufrag);
+        write!(f, "{front}{place}{related}{role}{fragment}")
+    }
+}
+
+#[derive(Clone, Copy)]
+struct Front<'a>(&'a Candidate);
+
+impl fmt::Display for Front<'_> {
+    ghost output = { λ t. Some (front_text t.0.now) };
+
+    #[tactic(auto, unfolding(crate::specs::Sdp::front_text))]
+    fn fmt<W: fmt::Write>(&self, f: &mut fmt::Formatter<W>) -> fmt::Result {
+        let c = self.0;
+        let foundation = Foundation(c);
+        let component = c.component;
+        let proto = c.proto;
+        let priority = c.prio();
+        write!(f, "candidate:{foundation} {component} {proto} {priority}")
+    }
+}
+
+#[derive(Clone, Copy)]
+struct Place<'a>(&'a Candidate);
+
+impl fmt::Display for Place<'_> {
+    ghost output = { λ t. Some (place_text t.0.now) };
+
+    #[tactic(auto, unfolding(crate::specs::Sdp::place_text))]
+    fn fmt<W: fmt::Write>(&self, f: &mut fmt::Formatter<W>) -> fmt::Result {
+        let c = self.0;
+        let ip = c.addr.ip();
+        let port = c.addr.port();
+        let kind = c.kind;
+        write!(f, " {ip} {port} typ {kind}")
+    }
+}
+
+#[derive(Clone, Copy)]
+struct Related(Option<SocketAddr>);
+
+impl fmt::Display for Related {
+    ghost output = { λ t. Some (related_text t.0) };
+
+    #[tactic(auto, unfolding(crate::specs::Sdp::related_text))]
+    fn fmt<W: fmt::Write>(&self, f: &mut fmt::Formatter<W>) -> fmt::Result {
+        match self.0 {
+            Some(raddr) => {
+                let ip = raddr.ip();
+                let port = raddr.port();
+                write!(f, " raddr {ip} rport {port}")
+            }
+            None => Ok(()),
+        }
+    }
+}
+
+#[derive(Clone, Copy)]
+struct Role(Option<TcpType>);
+
+impl fmt::Display for Role {
+    ghost output = { λ t. Some (role_text t.0) };
+
+    #[tactic(auto, unfolding(crate::specs::Sdp::role_text))]
+    fn fmt<W: fmt::Write>(&self, f: &mut fmt::Formatter<W>) -> fmt::Result {
+        match self.0 {
+            Some(tcptype) => write!(f, " tcptype {tcptype}"),
+            None => Ok(()),
+        }
+    }
+}
+
+#[derive(Clone, Copy)]
+struct Fragment<'a>(&'a Option<Text>);
+
+impl fmt::Display for Fragment<'_> {
+    ghost output = { λ t. Some (fragment_text t.0.now) };
+
+    #[tactic(auto, unfolding(crate::specs::Sdp::fragment_text))]
+    fn fmt<W: fmt::Write>(&self, f: &mut fmt::Formatter<W>) -> fmt::Result {
+        match self.0 {
+            Some(ufrag) => write!(f, " ufrag {ufrag}"),
+            None => Ok(()),
+        }
+    }
+}
