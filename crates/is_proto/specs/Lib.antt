@@ -1,4 +1,5 @@
 pub mod Lists
+pub mod Reads
 pub mod Moments
 pub mod Words
 pub mod Sockets

@@ -1,5 +1,5 @@
 -- Moments and lengths of time, in whole nanoseconds, and counters. A difference below zero is zero, as `-` is.
-use Rattle.std.specs.Prelude.{ℕ, ◌+◌, ◌*◌, min}
+use Rattle.std.specs.Prelude.{ℕ, ◌+◌, min}
 
 -- the last moment, and the greatest counter
 abbrev pub MAX : ℕ

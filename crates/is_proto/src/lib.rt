@@ -3,6 +3,7 @@
 
 pub mod error;
 pub mod hmac_provider;
+pub mod laws;
 pub mod proto;
 pub mod text;
 
@@ -10,3 +11,6 @@ pub use error::{IceError, ParseFault, StunError};
 pub use hmac_provider::DefaultSha1HmacProvider;
 pub use proto::{Duration, Instant, Protocol, Sha1HmacProvider, SocketText, TcpType, Transmit};
 pub use text::Text;
+
+#[cfg(test)]
+mod tests;

@@ -84,6 +84,15 @@ impl Hash for Text {
     }
 }
 
+/// Takes no memory.
+impl From<Text> for String {
+    ghost from_gives = { λ text string. string_bytes string ≡ text };
+
+    fn from(text: Text) -> String {
+        text.into_string()
+    }
+}
+
 impl fmt::Display for Text {
     ghost output = { λ t. Some t };
 

@@ -1,0 +1,120 @@
+//! What holds of all values of a type. Each law is the contract of a function that does nothing; code whose proof needs
+//! a law calls its function.
+
+ghost use Rattle.std.specs.Prelude.{◌≡◌, ◌↔◌, ℕ, List, Option, Some, IsTrue, true};
+ghost use Rattle.std.specs.Cmp.{IsEquivalence, IsTotalOrder, Agrees};
+ghost use Rattle.std.specs.Ordering.{nat_cmp, is_eq};
+ghost use Rattle.is_proto.specs.Sockets.{ReadsSocketText, plain_socket_text, IsPlain};
+ghost use Rattle.is_proto.specs.Words.{protocol_word, tcp_type_word, ReadsProtocol, ReadsTcpType};
+
+use crate::error::{ParseFault, StunError};
+use crate::proto::{Duration, Instant, Protocol, SocketText, TcpType};
+use crate::text::Text;
+use std::hash::Hash;
+use std::net::IpAddr;
+
+/// What is printed of a protocol reads again as that protocol, and a text reads in one way.
+pub fn protocols_read_again()
+    ensures read_again { (p : Protocol) → ReadsProtocol (protocol_word p) (Some p) }
+    ensures one_reading { (text : List ℕ) (r s : Option Protocol)
+        → ReadsProtocol text r → ReadsProtocol text s → r ≡ s }
+{}
+
+/// What is printed of a TCP role reads again as that role, and a text reads in one way.
+pub fn tcp_types_read_again()
+    ensures read_again { (t : TcpType) → ReadsTcpType (tcp_type_word t) (Some t) }
+    ensures one_reading { (text : List ℕ) (r s : Option TcpType)
+        → ReadsTcpType text r → ReadsTcpType text s → r ≡ s }
+{}
+
+/// What is printed of an address reads again as that address, where it has no flow information and no scope. The
+/// body reads the parts whose types keep them in range, and does nothing with them.
+pub fn socket_text_reads_again(address: SocketText)
+    ensures { IsPlain address.0 → ReadsSocketText (plain_socket_text address.0) (Some address) }
+{
+    let _port = address.0.port();
+    match address.0.ip() {
+        IpAddr::V4(ip) => {
+            let _octets = ip.octets();
+        }
+        IpAddr::V6(ip) => {
+            let _segments = ip.segments();
+        }
+    }
+}
+
+/// A text reads as one address at most.
+pub fn socket_texts_read_in_one_way()
+    ensures { (text : List ℕ) (r s : Option SocketText)
+        → ReadsSocketText text r → ReadsSocketText text s → r ≡ s }
+{}
+
+/// Equal values feed a hasher alike, whatever their type.
+pub fn equal_values_hash_alike<T: Hash>()
+    ensures { (a b : T) → T.eq a b ≡ true → T.hash_input a ≡ T.hash_input b }
+{}
+
+/// An order is total, antisymmetric and transitive, `<` and its kin go by it, and equality is what it does not
+/// tell apart.
+pub fn orders_are_total<T: Ord>()
+    ensures total { IsTotalOrder T.cmp }
+    ensures one_order { Agrees T.partial_cmp T.cmp }
+    ensures agrees { (a b : T) → T.eq a b ≡ is_eq (T.cmp a b) }
+{}
+
+/// `==` tells every two protocols apart, and equal ones hash alike.
+pub fn protocols_are_keys()
+    ensures equal { (a b : Protocol) → IsTrue (⟦<Protocol as PartialEq>⟧.eq a b) ↔ (a ≡ b) }
+    ensures hashed { (a b : Protocol) → ⟦<Protocol as PartialEq>⟧.eq a b ≡ true
+        → ⟦<Protocol as Hash>⟧.hash_input a ≡ ⟦<Protocol as Hash>⟧.hash_input b }
+{
+    equal_values_hash_alike::<Protocol>()
+}
+
+/// `==` tells every two TCP roles apart, and equal ones hash alike.
+pub fn tcp_types_are_keys()
+    ensures equal { (a b : TcpType) → IsTrue (⟦<TcpType as PartialEq>⟧.eq a b) ↔ (a ≡ b) }
+    ensures hashed { (a b : TcpType) → ⟦<TcpType as PartialEq>⟧.eq a b ≡ true
+        → ⟦<TcpType as Hash>⟧.hash_input a ≡ ⟦<TcpType as Hash>⟧.hash_input b }
+{
+    equal_values_hash_alike::<TcpType>()
+}
+
+/// Texts are equal where their bytes are, equal ones hash alike, and a copy is equal.
+pub fn texts_are_keys()
+    ensures equal { (a b : Text) → IsTrue (⟦<Text as PartialEq>⟧.eq a b) ↔ (a ≡ b) }
+    ensures hashed { (a b : Text) → ⟦<Text as PartialEq>⟧.eq a b ≡ true
+        → ⟦<Text as Hash>⟧.hash_input a ≡ ⟦<Text as Hash>⟧.hash_input b }
+    ensures copied { (text copy : Text) → ⟦<Text as Clone>⟧.is_clone text copy → copy ≡ text }
+{
+    equal_values_hash_alike::<Text>()
+}
+
+/// `==` tells every two addresses apart, by flow information and scope too.
+pub fn socket_texts_are_compared()
+    ensures { (a b : SocketText) → IsTrue (⟦<SocketText as PartialEq>⟧.eq a b) ↔ (a ≡ b) }
+{}
+
+/// `==` tells every two faults apart, and every two refusals of a message.
+pub fn faults_are_compared()
+    ensures of_bytes { (a b : ParseFault) → IsTrue (⟦<ParseFault as PartialEq>⟧.eq a b) ↔ (a ≡ b) }
+    ensures of_messages { (a b : StunError) → IsTrue (⟦<StunError as PartialEq>⟧.eq a b) ↔ (a ≡ b) }
+{}
+
+/// Moments are ordered as their numbers, which is a total order.
+pub fn instants_are_ordered()
+    ensures by_number { (a b : Instant) → ⟦<Instant as Ord>⟧.cmp a b ≡ nat_cmp a.0 b.0 }
+    ensures total { IsTotalOrder ⟦<Instant as Ord>⟧.cmp }
+    ensures equal { (a b : Instant) → IsTrue (⟦<Instant as PartialEq>⟧.eq a b) ↔ (a ≡ b) }
+{
+    orders_are_total::<Instant>()
+}
+
+/// Lengths of time are ordered as their numbers, which is a total order.
+pub fn durations_are_ordered()
+    ensures by_number { (a b : Duration) → ⟦<Duration as Ord>⟧.cmp a b ≡ nat_cmp a.0 b.0 }
+    ensures total { IsTotalOrder ⟦<Duration as Ord>⟧.cmp }
+    ensures equal { (a b : Duration) → IsTrue (⟦<Duration as PartialEq>⟧.eq a b) ↔ (a ≡ b) }
+{
+    orders_are_total::<Duration>()
+}

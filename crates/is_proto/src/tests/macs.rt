@@ -1,0 +1,91 @@
+//! HMAC-SHA1 against published vectors.
+
+use crate::{DefaultSha1HmacProvider, Sha1HmacProvider};
+use std::alloc::{AllocError, Global};
+use std::fmt::Write;
+use std::test::Fail;
+
+/// The digest of the text under the key, in hexadecimal.
+fn mac(alloc: Global, key: &[u8], payloads: &[&[u8]]) -> Result<String, Fail> {
+    let mut text = String::new(alloc);
+    for byte in DefaultSha1HmacProvider.sha1_hmac(key, payloads) {
+        write!(text, "{byte:02x}")?;
+    }
+    Ok(text)
+}
+
+/// RFC 2202, section 3.
+#[test]
+fn test_cases_of_rfc_2202(rt: HostRuntime) -> Result<(), Fail> {
+    let counting: [u8; 25] = [
+        1, 2, 3, 4, 5, 6, 7, 8, 9, 10, 11, 12, 13, 14, 15, 16, 17, 18, 19, 20, 21, 22, 23, 24, 25,
+    ];
+    let cases: [(&[u8], &[u8], &str); 7] = [
+        (
+            &[0x0b; 20],
+            b"Hi There",
+            "b617318655057264e28bc0b6fb378c8ef146be00",
+        ),
+        (
+            b"Jefe",
+            b"what do ya want for nothing?",
+            "effcdf6ae5eb2fa2d27416d5f184df9c259a7c79",
+        ),
+        (
+            &[0xaa; 20],
+            &[0xdd; 50],
+            "125d7342b9ac11cd91a39af48aa17b4f63f175d3",
+        ),
+        (
+            &counting,
+            &[0xcd; 50],
+            "4c9007f4026250c6bc8414f9bf50c86c2d7235da",
+        ),
+        (
+            &[0x0c; 20],
+            b"Test With Truncation",
+            "4c1a03424b55e07fe7f27be1d58bb9324a9a5a04",
+        ),
+        (
+            &[0xaa; 80],
+            b"Test Using Larger Than Block-Size Key - Hash Key First",
+            "aa4ae5e15272d00e95705637ce8a3b55ed402112",
+        ),
+        (
+            &[0xaa; 80],
+            b"Test Using Larger Than Block-Size Key and Larger Than One Block-Size Data",
+            "e8e99d0f45237d786d6bbaa7965c7808bbff1a91",
+        ),
+    ];
+    for (key, text, want) in cases {
+        assert_eq!(rt; mac(rt.alloc(), key, &[text])?.as_str(), want);
+    }
+    Ok(())
+}
+
+/// A key as long as a block is taken as it is, and one byte more makes it a digest (values of Python's `hmac`).
+#[test]
+fn keys_about_the_length_of_a_block(rt: HostRuntime) -> Result<(), Fail> {
+    let block = mac(rt.alloc(), &[0xaa; 64], &[b"Hi There"])?;
+    assert_eq!(rt; block.as_str(), "e83ee1c362c86cc004df4f912a641c1bd844f36c");
+    let longer = mac(rt.alloc(), &[0xaa; 65], &[b"Hi There"])?;
+    assert_eq!(rt; longer.as_str(), "5c0fb63dc6aea0bed8fa2f8ea120a144e15cbd50");
+    let nothing = mac(rt.alloc(), b"", &[])?;
+    assert_eq!(rt;
+        nothing.as_str(),
+        "fbdb1d1b18aa6c08324b7d64b71fb76370690e1d"
+    );
+    Ok(())
+}
+
+/// Where a text is cut makes no difference.
+#[test]
+fn payloads_are_joined(rt: HostRuntime) -> Result<(), Fail> {
+    let cut = mac(
+        rt.alloc(),
+        b"Jefe",
+        &[b"what do ", b"ya want", b"", b" for nothing?"],
+    )?;
+    assert_eq!(rt; cut.as_str(), "effcdf6ae5eb2fa2d27416d5f184df9c259a7c79");
+    Ok(())
+}
