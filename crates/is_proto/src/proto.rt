@@ -1,6 +1,6 @@
 //! What the caller hands in and gets: protocols, address texts, moments, packets, and the provider of HMAC-SHA1.
 
-ghost use Rattle.std.specs.Prelude.{◌≡◌, ◌+◌, ◌-◌, ◌*◌, ◌/◌, ◌<◌, ℕ, List, min, Some, MatchOption};
+ghost use Rattle.std.specs.Prelude.{◌≡◌, ◌+◌, ◌-◌, ◌*◌, ◌/◌, ◌<◌, ◌≤◌, ℕ, List, min, Some, MatchOption};
 ghost use Rattle.is_proto.specs.Macs.{joined};
 ghost use Rattle.is_proto.specs.Moments.{MAX, MILLISECOND, later};
 ghost use Rattle.is_proto.specs.Sockets.{ReadsSocketText, plain_socket_text};
@@ -156,7 +156,8 @@ impl Duration {
 
     /// The whole milliseconds in it.
     pub fn as_millis(self) -> u64
-        ensures { result ≡ self.0 / MILLISECOND }
+        ensures whole { result ≡ self.0 / MILLISECOND }
+        ensures fits { result ≤ MAX / MILLISECOND }
     {
         self.0 / NANOS_IN_MILLI
     }

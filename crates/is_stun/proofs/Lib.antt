@@ -8,3 +8,4 @@ pub mod RowLemmas
 pub mod WrittenLemmas
 pub mod LawLemmas
 pub mod AddressLemmas
+pub mod TimingLemmas

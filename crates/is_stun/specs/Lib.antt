@@ -16,3 +16,4 @@ pub mod Writing
 pub mod RowView
 pub mod Checks
 pub mod Laws
+pub mod Timing

@@ -16,6 +16,7 @@ mod message_writing;
 mod numbers;
 mod reading;
 mod rows;
+mod timing;
 mod tlv;
 mod trans_id;
 mod writing;
@@ -25,5 +26,6 @@ pub mod stun {
     pub use crate::attributes::Attributes;
     pub use crate::header::{Class, Method};
     pub use crate::message::{StunMessage, StunPacket};
+    pub use crate::timing::{DEFAULT_MAX_RETRANSMITS, StunTiming};
     pub use crate::trans_id::TransId;
 }

@@ -1,0 +1,63 @@
+//! The delays between checks, and how long a run of checks takes.
+
+use super::StunTiming;
+use is_proto::Duration;
+
+/// So many milliseconds.
+fn millis(n: u64) -> Duration {
+    Duration::from_millis(n)
+}
+
+#[test]
+fn by_default_the_delay_doubles_up_to_three_seconds(rt: HostRuntime) {
+    let timing = StunTiming::default();
+    for (count, delay) in [(0, 0), (1, 250), (2, 500), (3, 1000), (4, 2000), (5, 3000)] {
+        assert_eq!(rt; timing.stun_resend_delay(count), millis(delay));
+    }
+    assert_eq!(rt; timing.stun_last_resend_delay(), millis(3000));
+    assert_eq!(rt; timing.timeout(), millis(21500));
+    assert_eq!(rt; timing.max_retransmits(), 9);
+    assert_eq!(rt; timing.max_rto(), millis(3000));
+}
+
+/// A sum of one term for each retransmit would not end.
+#[test]
+fn the_greatest_retransmit_limit_is_answered_at_once(rt: HostRuntime) {
+    let timing = StunTiming {
+        max_retransmits: usize::MAX,
+        ..StunTiming::default()
+    };
+    assert_eq!(rt; timing.stun_resend_delay(100), millis(3000));
+    assert_eq!(rt; timing.stun_resend_delay(usize::MAX), millis(3000));
+    assert_eq!(rt; timing.timeout(), Duration(u64::MAX));
+}
+
+#[test]
+fn without_an_initial_delay_nothing_is_waited_for(rt: HostRuntime) {
+    let timing = StunTiming {
+        initial_rto: Duration(0),
+        ..StunTiming::default()
+    };
+    assert_eq!(rt; timing.timeout(), Duration(0));
+}
+
+#[test]
+fn only_whole_milliseconds_count(rt: HostRuntime) {
+    let timing = StunTiming {
+        initial_rto: Duration(250_000_001),
+        max_rto: Duration(999_999_999),
+        ..StunTiming::default()
+    };
+    assert_eq!(rt; timing.stun_resend_delay(1), millis(250));
+    assert_eq!(rt; timing.stun_resend_delay(3), millis(999));
+}
+
+#[test]
+fn one_retransmit_is_given_up_after_its_delay(rt: HostRuntime) {
+    let timing = StunTiming {
+        max_retransmits: 1,
+        ..StunTiming::default()
+    };
+    assert_eq!(rt; timing.stun_resend_delay(9), millis(500));
+    assert_eq!(rt; timing.timeout(), millis(250));
+}
