@@ -67,18 +67,14 @@ pub fn protocols_are_keys()
     ensures equal { (a b : Protocol) → IsTrue (⟦<Protocol as PartialEq>⟧.eq a b) ↔ (a ≡ b) }
     ensures hashed { (a b : Protocol) → ⟦<Protocol as PartialEq>⟧.eq a b ≡ true
         → ⟦<Protocol as Hash>⟧.hash_input a ≡ ⟦<Protocol as Hash>⟧.hash_input b }
-{
-    equal_values_hash_alike::<Protocol>()
-}
+{}
 
 /// `==` tells every two TCP roles apart, and equal ones hash alike.
 pub fn tcp_types_are_keys()
     ensures equal { (a b : TcpType) → IsTrue (⟦<TcpType as PartialEq>⟧.eq a b) ↔ (a ≡ b) }
     ensures hashed { (a b : TcpType) → ⟦<TcpType as PartialEq>⟧.eq a b ≡ true
         → ⟦<TcpType as Hash>⟧.hash_input a ≡ ⟦<TcpType as Hash>⟧.hash_input b }
-{
-    equal_values_hash_alike::<TcpType>()
-}
+{}
 
 /// Texts are equal where their bytes are, equal ones hash alike, and a copy is equal.
 pub fn texts_are_keys()
@@ -86,9 +82,7 @@ pub fn texts_are_keys()
     ensures hashed { (a b : Text) → ⟦<Text as PartialEq>⟧.eq a b ≡ true
         → ⟦<Text as Hash>⟧.hash_input a ≡ ⟦<Text as Hash>⟧.hash_input b }
     ensures copied { (text copy : Text) → ⟦<Text as Clone>⟧.is_clone text copy → copy ≡ text }
-{
-    equal_values_hash_alike::<Text>()
-}
+{}
 
 /// `==` tells every two addresses apart, by flow information and scope too.
 pub fn socket_texts_are_compared()
@@ -106,15 +100,11 @@ pub fn instants_are_ordered()
     ensures by_number { (a b : Instant) → ⟦<Instant as Ord>⟧.cmp a b ≡ nat_cmp a.0 b.0 }
     ensures total { IsTotalOrder ⟦<Instant as Ord>⟧.cmp }
     ensures equal { (a b : Instant) → IsTrue (⟦<Instant as PartialEq>⟧.eq a b) ↔ (a ≡ b) }
-{
-    orders_are_total::<Instant>()
-}
+{}
 
 /// Lengths of time are ordered as their numbers, which is a total order.
 pub fn durations_are_ordered()
     ensures by_number { (a b : Duration) → ⟦<Duration as Ord>⟧.cmp a b ≡ nat_cmp a.0 b.0 }
     ensures total { IsTotalOrder ⟦<Duration as Ord>⟧.cmp }
     ensures equal { (a b : Duration) → IsTrue (⟦<Duration as PartialEq>⟧.eq a b) ↔ (a ≡ b) }
-{
-    orders_are_total::<Duration>()
-}
+{}

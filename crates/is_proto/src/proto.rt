@@ -21,7 +21,8 @@ pub enum Protocol {
 }
 
 impl Protocol {
-    /// The protocol whose word the text is, without regard to ASCII case: `udp`, `tcp`, `ssltcp` or `tls`.
+    /// The protocol whose word the text is, without regard to ASCII case: `udp`, `tcp`, `ssltcp` or `tls`. None for
+    /// every other text, white space around a word included.
     pub fn from_text(text: &str) -> Option<Self>
         ensures { ReadsProtocol text.now result }
     {
@@ -62,7 +63,8 @@ pub enum TcpType {
 }
 
 impl TcpType {
-    /// The type whose word the text is, without regard to ASCII case: `active`, `passive` or `so`.
+    /// The role whose word the text is, without regard to ASCII case: `active`, `passive` or `so`. None for every
+    /// other text.
     pub fn from_text(text: &str) -> Option<Self>
         ensures { ReadsTcpType text.now result }
     {
@@ -117,7 +119,7 @@ impl Instant {
     }
 }
 
-/// The time from the later moment on to the earlier one, zero the other way round.
+/// The time since the moment on the right, zero where that is later.
 impl std::ops::Sub<Instant> for Instant {
     type Output = Duration;
 
@@ -130,6 +132,7 @@ impl std::ops::Sub<Instant> for Instant {
     }
 }
 
+/// The moment so much later, the last one where that passes the end.
 impl std::ops::Add<Duration> for Instant {
     type Output = Instant;
 
@@ -193,7 +196,8 @@ impl SocketText {
     }
 }
 
-/// IPv6 addresses are written as RFC 5952, section 4, says.
+/// IPv6 addresses are written as RFC 5952, sections 4 to 6, says: in lower case without leading zeros, with `::` for
+/// the first longest run of two zero groups or more, and an IPv4-mapped one as `::ffff:` and its IPv4 address.
 impl fmt::Display for SocketText {
     ghost output = { λ t. Some (plain_socket_text t.0) };
 

@@ -84,7 +84,7 @@ impl Hash for Text {
     }
 }
 
-/// Takes no memory.
+/// The string that holds the text. Takes no memory.
 impl From<Text> for String {
     ghost from_gives = { λ text string. string_bytes string ≡ text };
 
