@@ -1,19 +1,15 @@
 -- The messages of connectivity checks (RFC 8445, section 7).
 use Rattle.std.specs.Prelude.{ℕ, Bool, List, Some, None, codes, if◌then◌else◌}
 use Rattle.std.specs.declared.net.socket_addr.SocketAddr.{SocketAddr}
-use Rattle.is_stun.specs.declared.header.Class.{Class}
 use Rattle.is_stun.specs.declared.header.Class.TheVariants.{Request, Success, Failure}
 use Rattle.is_stun.specs.declared.header.Method.TheVariants.{Binding}
-use Rattle.is_stun.specs.Message.{AttributesRecord, Message, no_attributes}
-
--- a Binding message of these attributes, not yet written
-abbrev pub built : Class → List ℕ → AttributesRecord → Message
-built class id attributes = record { method = Binding; class = class; id = id; attributes = attributes; integrity = None }
+use Rattle.is_stun.specs.Message.{Message, no_attributes}
+use Rattle.is_stun.specs.Builder.{built}
 
 -- a connectivity check (RFC 8445, section 7.2.2)
 abbrev pub binding_request : List ℕ → List ℕ → Bool → ℕ → ℕ → Bool → Message
 binding_request username id is_controlling tie_breaker priority use_candidate =
-    built Request id (record no_attributes {
+    built Binding Request id (record no_attributes {
       username = Some username;
       ice_controlled = if is_controlling then None else Some tie_breaker;
       ice_controlling = if is_controlling then Some tie_breaker else None;
@@ -23,11 +19,11 @@ binding_request username id is_controlling tie_breaker priority use_candidate =
 
 -- its success, with the address that the request came from (RFC 8445, section 7.3.1.2)
 abbrev pub binding_reply : List ℕ → SocketAddr → Message
-binding_reply id address = built Success id (record no_attributes { xor_mapped_address = Some address })
+binding_reply id address = built Binding Success id (record no_attributes { xor_mapped_address = Some address })
 
 -- its refusal by an agent of the same role (RFC 8445, section 7.3.1.1)
 abbrev pub ROLE_CONFLICT : ℕ
 ROLE_CONFLICT = 487
 
 abbrev pub binding_role_conflict_reply : List ℕ → Message
-binding_role_conflict_reply id = built Failure id (record no_attributes { error_code = Some (ROLE_CONFLICT, codes "Role Conflict") })
+binding_role_conflict_reply id = built Binding Failure id (record no_attributes { error_code = Some (ROLE_CONFLICT, codes "Role Conflict") })

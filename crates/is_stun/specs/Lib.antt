@@ -14,6 +14,7 @@ pub mod MessageView
 pub mod Crc
 pub mod Writing
 pub mod RowView
+pub mod Builder
 pub mod Checks
 pub mod Laws
 pub mod Timing

@@ -1,8 +1,9 @@
 //! The three messages of connectivity checks (RFC 8445, section 7).
 
 ghost use Rattle.std.specs.Prelude.{◌≡◌};
+ghost use Rattle.is_stun.specs.declared.header.Method.TheVariants.{Binding};
 ghost use Rattle.is_stun.specs.MessageView.{attributes_view, message_view};
-ghost use Rattle.is_stun.specs.Checks.{built};
+ghost use Rattle.is_stun.specs.Builder.{built};
 
 use crate::attributes::Attributes;
 use crate::header::{Class, Method};
@@ -13,7 +14,7 @@ use std::net::SocketAddr;
 const ROLE_CONFLICT: u16 = 487;
 
 fn built<'a>(class: Class, trans_id: TransId, attrs: Attributes<'a>) -> StunMessage<'a>
-    ensures { message_view result ≡ built class trans_id.0 (attributes_view attrs.entry) }
+    ensures { message_view result ≡ built Binding class trans_id.0 (attributes_view attrs.entry) }
 {
     StunMessage {
         method: Method::Binding,

@@ -4,6 +4,7 @@
 mod accessors;
 mod address;
 mod attributes;
+mod builder;
 mod checks;
 mod crc;
 mod error_code;
@@ -24,8 +25,12 @@ mod writing;
 /// What the crate gives out, under the name that users know.
 pub mod stun {
     pub use crate::attributes::Attributes;
+    pub use crate::builder::{Builder, HasClass, HasMethod, NoMethod, StunMessageBuilder};
     pub use crate::header::{Class, Method};
     pub use crate::message::{StunMessage, StunPacket};
     pub use crate::timing::{DEFAULT_MAX_RETRANSMITS, StunTiming};
     pub use crate::trans_id::TransId;
 }
+
+#[cfg(test)]
+mod tests;

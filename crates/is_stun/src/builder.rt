@@ -1,0 +1,389 @@
+//! Building messages, step by step: the method, the class, the attributes, the transaction id. The states are
+//! types, so a step out of order does not compile.
+
+ghost use Rattle.std.specs.Prelude.{◌≡◌, Some, true};
+ghost use Rattle.is_stun.specs.declared.header.Class.TheVariants as classes;
+ghost use Rattle.is_stun.specs.declared.header.Method.TheVariants as methods;
+ghost use Rattle.is_stun.specs.Message.{no_attributes};
+ghost use Rattle.is_stun.specs.MessageView.{attributes_view, message_view};
+ghost use Rattle.is_stun.specs.Builder.{built};
+
+use crate::attributes::Attributes;
+use crate::header::{Class, Method};
+use crate::message::StunMessage;
+use crate::trans_id::TransId;
+use std::net::SocketAddr;
+
+/// A builder that wants a method.
+#[derive(Clone, Copy, Debug, Default)]
+pub struct NoMethod;
+
+/// A builder that wants a class.
+#[derive(Clone, Copy, Debug)]
+pub struct HasMethod {
+    method: Method,
+}
+
+/// A builder that takes attributes, and builds.
+#[derive(Clone, Copy, Debug)]
+pub struct HasClass {
+    method: Method,
+    class: Class,
+}
+
+/// A message in the making. Nothing of it takes memory: texts and data are borrowed until the message is written.
+/// The default builder of the state `NoMethod` is the empty one.
+#[derive(Clone, Copy, Debug, Default)]
+pub struct Builder<'a, State> {
+    attrs: Attributes<'a>,
+    state: State,
+}
+
+/// The builder under its longer name.
+pub type StunMessageBuilder<'a, State> = Builder<'a, State>;
+
+impl<'a> Builder<'a, NoMethod> {
+    /// The empty builder.
+    pub fn new() -> Self
+        ensures { attributes_view result.attrs ≡ no_attributes }
+    {
+        Builder::default()
+    }
+
+    /// STUN's one method (RFC 8489, section 18.2).
+    pub fn binding(self) -> Builder<'a, HasMethod>
+        ensures method { result.state.method ≡ methods.Binding }
+        ensures attributes { attributes_view result.attrs ≡ attributes_view self.entry.attrs }
+    {
+        self.with_method(Method::Binding)
+    }
+
+    /// TURN: asks for a relayed address (RFC 8656, section 7).
+    pub fn allocate(self) -> Builder<'a, HasMethod>
+        ensures method { result.state.method ≡ methods.Allocate }
+        ensures attributes { attributes_view result.attrs ≡ attributes_view self.entry.attrs }
+    {
+        self.with_method(Method::Allocate)
+    }
+
+    /// TURN: refreshes an allocation (RFC 8656, section 8).
+    pub fn refresh(self) -> Builder<'a, HasMethod>
+        ensures method { result.state.method ≡ methods.Refresh }
+        ensures attributes { attributes_view result.attrs ≡ attributes_view self.entry.attrs }
+    {
+        self.with_method(Method::Refresh)
+    }
+
+    /// TURN: sends data to a peer (RFC 8656, section 11).
+    pub fn send(self) -> Builder<'a, HasMethod>
+        ensures method { result.state.method ≡ methods.Send }
+        ensures attributes { attributes_view result.attrs ≡ attributes_view self.entry.attrs }
+    {
+        self.with_method(Method::Send)
+    }
+
+    /// TURN: brings data from a peer (RFC 8656, section 11).
+    pub fn data(self) -> Builder<'a, HasMethod>
+        ensures method { result.state.method ≡ methods.Data }
+        ensures attributes { attributes_view result.attrs ≡ attributes_view self.entry.attrs }
+    {
+        self.with_method(Method::Data)
+    }
+
+    /// TURN: permits peers (RFC 8656, section 10).
+    pub fn create_permission(self) -> Builder<'a, HasMethod>
+        ensures method { result.state.method ≡ methods.CreatePermission }
+        ensures attributes { attributes_view result.attrs ≡ attributes_view self.entry.attrs }
+    {
+        self.with_method(Method::CreatePermission)
+    }
+
+    /// TURN: binds a channel to a peer (RFC 8656, section 12).
+    pub fn channel_bind(self) -> Builder<'a, HasMethod>
+        ensures method { result.state.method ≡ methods.ChannelBind }
+        ensures attributes { attributes_view result.attrs ≡ attributes_view self.entry.attrs }
+    {
+        self.with_method(Method::ChannelBind)
+    }
+
+    fn with_method(self, method: Method) -> Builder<'a, HasMethod>
+        ensures method { result.state.method ≡ method }
+        ensures attributes { attributes_view result.attrs ≡ attributes_view self.entry.attrs }
+    {
+        Builder {
+            attrs: self.attrs,
+            state: HasMethod { method },
+        }
+    }
+}
+
+impl<'a> Builder<'a, HasMethod> {
+    /// A request.
+    pub fn request(self) -> Builder<'a, HasClass>
+        ensures state { result.state ≡ record { method = self.entry.state.method; class = classes.Request } }
+        ensures attributes { attributes_view result.attrs ≡ attributes_view self.entry.attrs }
+    {
+        self.with_class(Class::Request)
+    }
+
+    /// An indication, which nothing answers.
+    pub fn indication(self) -> Builder<'a, HasClass>
+        ensures state { result.state ≡ record { method = self.entry.state.method; class = classes.Indication } }
+        ensures attributes { attributes_view result.attrs ≡ attributes_view self.entry.attrs }
+    {
+        self.with_class(Class::Indication)
+    }
+
+    /// A success response.
+    pub fn success(self) -> Builder<'a, HasClass>
+        ensures state { result.state ≡ record { method = self.entry.state.method; class = classes.Success } }
+        ensures attributes { attributes_view result.attrs ≡ attributes_view self.entry.attrs }
+    {
+        self.with_class(Class::Success)
+    }
+
+    /// An error response.
+    pub fn failure(self) -> Builder<'a, HasClass>
+        ensures state { result.state ≡ record { method = self.entry.state.method; class = classes.Failure } }
+        ensures attributes { attributes_view result.attrs ≡ attributes_view self.entry.attrs }
+    {
+        self.with_class(Class::Failure)
+    }
+
+    fn with_class(self, class: Class) -> Builder<'a, HasClass>
+        ensures state { result.state ≡ record { method = self.entry.state.method; class = class } }
+        ensures attributes { attributes_view result.attrs ≡ attributes_view self.entry.attrs }
+    {
+        Builder {
+            attrs: self.attrs,
+            state: HasClass {
+                method: self.state.method,
+                class,
+            },
+        }
+    }
+}
+
+/// Each setter replaces what was set before.
+impl<'a> Builder<'a, HasClass> {
+    /// USERNAME (RFC 8489, section 14.3): at most 128 bytes are written.
+    pub fn username(self, username: &'a str) -> Self
+        ensures state { result.state ≡ self.entry.state }
+        ensures attributes { attributes_view result.attrs ≡ record (attributes_view self.entry.attrs) { username = Some username.now } }
+    {
+        let mut attrs = self.attrs;
+        attrs.username = Some(username);
+        Builder {
+            attrs,
+            state: self.state,
+        }
+    }
+
+    /// ERROR-CODE (RFC 8489, section 14.8): codes of 300 to 699 and reasons of at most 128 bytes are written.
+    pub fn error_code(self, code: u16, reason: &'a str) -> Self
+        ensures state { result.state ≡ self.entry.state }
+        ensures attributes { attributes_view result.attrs ≡ record (attributes_view self.entry.attrs) { error_code = Some (code, reason.now) } }
+    {
+        let mut attrs = self.attrs;
+        attrs.error_code = Some((code, reason));
+        Builder {
+            attrs,
+            state: self.state,
+        }
+    }
+
+    /// CHANNEL-NUMBER (RFC 8656, section 18.1). It is written as it is, and read between 0x4000 and 0x7FFF.
+    pub fn channel_number(self, number: u16) -> Self
+        ensures state { result.state ≡ self.entry.state }
+        ensures attributes { attributes_view result.attrs ≡ record (attributes_view self.entry.attrs) { channel_number = Some number } }
+    {
+        let mut attrs = self.attrs;
+        attrs.channel_number = Some(number);
+        Builder {
+            attrs,
+            state: self.state,
+        }
+    }
+
+    /// LIFETIME, in seconds (RFC 8656, section 18.2).
+    pub fn lifetime(self, lifetime: u32) -> Self
+        ensures state { result.state ≡ self.entry.state }
+        ensures attributes { attributes_view result.attrs ≡ record (attributes_view self.entry.attrs) { lifetime = Some lifetime } }
+    {
+        let mut attrs = self.attrs;
+        attrs.lifetime = Some(lifetime);
+        Builder {
+            attrs,
+            state: self.state,
+        }
+    }
+
+    /// XOR-PEER-ADDRESS (RFC 8656, section 18.3). Flow and scope of an IPv6 address are not written.
+    pub fn xor_peer_address(self, address: SocketAddr) -> Self
+        ensures state { result.state ≡ self.entry.state }
+        ensures attributes { attributes_view result.attrs ≡ record (attributes_view self.entry.attrs) { xor_peer_address = Some address } }
+    {
+        let mut attrs = self.attrs;
+        attrs.xor_peer_address = Some(address);
+        Builder {
+            attrs,
+            state: self.state,
+        }
+    }
+
+    /// DATA (RFC 8656, section 18.4): at most 65535 bytes are written.
+    pub fn data(self, bytes: &'a [u8]) -> Self
+        ensures state { result.state ≡ self.entry.state }
+        ensures attributes { attributes_view result.attrs ≡ record (attributes_view self.entry.attrs) { «data» = Some bytes.now } }
+    {
+        let mut attrs = self.attrs;
+        attrs.data = Some(bytes);
+        Builder {
+            attrs,
+            state: self.state,
+        }
+    }
+
+    /// REALM (RFC 8489, section 14.9): at most 128 bytes are written.
+    pub fn realm(self, realm: &'a str) -> Self
+        ensures state { result.state ≡ self.entry.state }
+        ensures attributes { attributes_view result.attrs ≡ record (attributes_view self.entry.attrs) { realm = Some realm.now } }
+    {
+        let mut attrs = self.attrs;
+        attrs.realm = Some(realm);
+        Builder {
+            attrs,
+            state: self.state,
+        }
+    }
+
+    /// NONCE (RFC 8489, section 14.10): at most 128 bytes are written.
+    pub fn nonce(self, nonce: &'a str) -> Self
+        ensures state { result.state ≡ self.entry.state }
+        ensures attributes { attributes_view result.attrs ≡ record (attributes_view self.entry.attrs) { nonce = Some nonce.now } }
+    {
+        let mut attrs = self.attrs;
+        attrs.nonce = Some(nonce);
+        Builder {
+            attrs,
+            state: self.state,
+        }
+    }
+
+    /// XOR-RELAYED-ADDRESS (RFC 8656, section 18.5). Flow and scope of an IPv6 address are not written.
+    pub fn xor_relayed_address(self, address: SocketAddr) -> Self
+        ensures state { result.state ≡ self.entry.state }
+        ensures attributes { attributes_view result.attrs ≡ record (attributes_view self.entry.attrs) { xor_relayed_address = Some address } }
+    {
+        let mut attrs = self.attrs;
+        attrs.xor_relayed_address = Some(address);
+        Builder {
+            attrs,
+            state: self.state,
+        }
+    }
+
+    /// XOR-MAPPED-ADDRESS (RFC 8489, section 14.2). Flow and scope of an IPv6 address are not written.
+    pub fn xor_mapped_address(self, address: SocketAddr) -> Self
+        ensures state { result.state ≡ self.entry.state }
+        ensures attributes { attributes_view result.attrs ≡ record (attributes_view self.entry.attrs) { xor_mapped_address = Some address } }
+    {
+        let mut attrs = self.attrs;
+        attrs.xor_mapped_address = Some(address);
+        Builder {
+            attrs,
+            state: self.state,
+        }
+    }
+
+    /// SOFTWARE, of type 0x0022: at most 128 bytes are written.
+    pub fn software(self, software: &'a str) -> Self
+        ensures state { result.state ≡ self.entry.state }
+        ensures attributes { attributes_view result.attrs ≡ record (attributes_view self.entry.attrs) { software = Some software.now } }
+    {
+        let mut attrs = self.attrs;
+        attrs.software = Some(software);
+        Builder {
+            attrs,
+            state: self.state,
+        }
+    }
+
+    /// PRIORITY (RFC 8445, section 16.1).
+    pub fn prio(self, prio: u32) -> Self
+        ensures state { result.state ≡ self.entry.state }
+        ensures attributes { attributes_view result.attrs ≡ record (attributes_view self.entry.attrs) { priority = Some prio } }
+    {
+        let mut attrs = self.attrs;
+        attrs.priority = Some(prio);
+        Builder {
+            attrs,
+            state: self.state,
+        }
+    }
+
+    /// USE-CANDIDATE (RFC 8445, section 16.1).
+    pub fn use_candidate(self) -> Self
+        ensures state { result.state ≡ self.entry.state }
+        ensures attributes { attributes_view result.attrs ≡ record (attributes_view self.entry.attrs) { use_candidate = true } }
+    {
+        let mut attrs = self.attrs;
+        attrs.use_candidate = true;
+        Builder {
+            attrs,
+            state: self.state,
+        }
+    }
+
+    /// ICE-CONTROLLED (RFC 8445, section 16.1).
+    pub fn ice_controlled(self, tie_breaker: u64) -> Self
+        ensures state { result.state ≡ self.entry.state }
+        ensures attributes { attributes_view result.attrs ≡ record (attributes_view self.entry.attrs) { ice_controlled = Some tie_breaker } }
+    {
+        let mut attrs = self.attrs;
+        attrs.ice_controlled = Some(tie_breaker);
+        Builder {
+            attrs,
+            state: self.state,
+        }
+    }
+
+    /// ICE-CONTROLLING (RFC 8445, section 16.1).
+    pub fn ice_controlling(self, tie_breaker: u64) -> Self
+        ensures state { result.state ≡ self.entry.state }
+        ensures attributes { attributes_view result.attrs ≡ record (attributes_view self.entry.attrs) { ice_controlling = Some tie_breaker } }
+    {
+        let mut attrs = self.attrs;
+        attrs.ice_controlling = Some(tie_breaker);
+        Builder {
+            attrs,
+            state: self.state,
+        }
+    }
+
+    /// NETWORK-COST: the id of the sender's network and its cost.
+    pub fn network_cost(self, network: u16, cost: u16) -> Self
+        ensures state { result.state ≡ self.entry.state }
+        ensures attributes { attributes_view result.attrs ≡ record (attributes_view self.entry.attrs) { network_cost = Some (network, cost) } }
+    {
+        let mut attrs = self.attrs;
+        attrs.network_cost = Some((network, cost));
+        Builder {
+            attrs,
+            state: self.state,
+        }
+    }
+
+    /// The message. It carries no integrity until it is written with a password.
+    pub fn build(self, trans_id: TransId) -> StunMessage<'a>
+        ensures { message_view result ≡ built self.entry.state.method self.entry.state.class trans_id.0 (attributes_view self.entry.attrs) }
+    {
+        StunMessage {
+            method: self.state.method,
+            class: self.state.class,
+            trans_id,
+            attrs: self.attrs,
+            integrity: None,
+        }
+    }
+}
