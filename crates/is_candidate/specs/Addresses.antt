@@ -43,6 +43,11 @@ same_version (V6 a) (V6 b) = true
 same_version (V4 a) (V6 b) = false
 same_version (V6 a) (V4 b) = false
 
+-- an address and a port, with no flow information and no scope
+abbrev pub plain_socket : IpAddr → ℕ → SocketAddr
+plain_socket (Ip.V4 a) port = V4 record { ip = a; port = port }
+plain_socket (Ip.V6 a) port = V6 record { ip = a; port = port; flowinfo = 0; scope_id = 0 }
+
 -- the unspecified address of the same IP version, with port 0
 abbrev pub unspecified_like : SocketAddr → SocketAddr
 unspecified_like (V4 a) = V4 record { ip = record { octets = 0 ∷ 0 ∷ 0 ∷ 0 ∷ [] }; port = 0 }

@@ -9,3 +9,7 @@ pub mod Building
 pub mod Equality
 pub mod Foundations
 pub mod Sdp
+pub mod Words
+pub mod Lines
+pub mod Faults
+pub mod Scanned

@@ -2,6 +2,7 @@
 #![tactic(auto)]
 
 pub mod candidate;
+pub mod parse;
 pub mod preference;
 
 pub use candidate::Candidate;

@@ -1,4 +1,5 @@
 //! Candidates as a user meets them.
 
+mod lines;
 mod making;
 mod preferences;

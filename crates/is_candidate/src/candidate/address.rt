@@ -1,6 +1,6 @@
 //! Tests of addresses and protocols.
 ghost use Rattle.std.specs.Prelude.{◌≡◌, ◌↔◌, IsTrue};
-ghost use Rattle.is_candidate.specs.Addresses.{protocol_number, same_protocol, same_address, same_version, unspecified_like, is_valid_ip};
+ghost use Rattle.is_candidate.specs.Addresses.{protocol_number, same_protocol, same_address, same_version, plain_socket, unspecified_like, is_valid_ip};
 
 use is_proto::Protocol;
 use std::net::{IpAddr, Ipv4Addr, Ipv6Addr, SocketAddr, SocketAddrV4, SocketAddrV6};
@@ -36,6 +36,16 @@ pub fn same_version(a: SocketAddr, b: SocketAddr) -> bool
     ensures { result ≡ same_version a b }
 {
     a.is_ipv4() == b.is_ipv4()
+}
+
+/// The address with the port, without flow information and scope.
+pub(crate) fn plain_socket(ip: IpAddr, port: u16) -> SocketAddr
+    ensures { result ≡ plain_socket ip port }
+{
+    match ip {
+        IpAddr::V4(ip) => SocketAddr::V4(SocketAddrV4::new(ip, port)),
+        IpAddr::V6(ip) => SocketAddr::V6(SocketAddrV6::new(ip, port, 0, 0)),
+    }
 }
 
 /// The unspecified address of the same IP version, with port 0. Browsers write it in place of the related

@@ -1,0 +1,13 @@
+use Rattle.std.proofs.Common.{ℕ, ◌-◌, length, drop}
+use Rattle.std.specs.Option.{option_copied}
+use Rattle.is_candidate.specs.Lines.{Answer, Keys, ReadsKeys, no_keys}
+use Rattle.is_candidate.specs.Scanned.{texts}
+use Rattle.is_candidate.proofs.parse.keys.read_keys.Given as goal
+
+-- what the rest answers from the keys so far is the answer of all
+abbrev pub invariant-loop-at : goal.invariant-loop-at
+invariant-loop-at l =
+    (r : Answer Keys) → ReadsKeys (record { raddr = l.keys.0; rport = l.keys.1.0; tcptype = l.keys.1.1.0; ufrag = option_copied l.keys.1.1.1.0 }) (texts (drop l.at l.words)) r → ReadsKeys no_keys (texts l.words) r
+
+abbrev pub decreases-loop-at : goal.decreases-loop-at
+decreases-loop-at l = length l.words - l.at

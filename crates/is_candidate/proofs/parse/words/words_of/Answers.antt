@@ -1,0 +1,26 @@
+use Rattle.std.proofs.Common.{◌≡◌, ℕ, List, [], ◌∷◌, ◌++◌, refl, ap, subst}
+use Rattle.std.specs.Str.Iter.{split_whitespace_rest}
+use Rattle.std.specs.Borrow.{Bor}
+use Rattle.is_candidate.specs.Scanned.{texts}
+use Rattle.is_candidate.specs.Words.{HasWords}
+use Rattle.is_candidate.proofs.parse.words.words_of.Goals as goal
+
+texts-push : (xs : List (Bor (List ℕ))) (w : Bor (List ℕ)) (ws : List (List ℕ)) → texts xs ++ (w.now ∷ ws) ≡ texts (xs ++ w ∷ []) ++ ws
+texts-push [] w ws = refl
+texts-push (x ∷ xs) w ws = ap (λ r. x.now ∷ r) (texts-push xs w ws)
+
+texts-end : (xs : List (Bor (List ℕ))) → texts xs ++ [] ≡ texts xs
+texts-end [] = refl
+texts-end (x ∷ xs) = ap (λ r. x.now ∷ r) (texts-end xs)
+
+pub loop-word-preserved : goal.loop-word-preserved
+loop-word-preserved c = λ ws h.
+    let P : List (List ℕ) → Type 0 = HasWords c.args.text.now in
+    let s = c.in-Some.ensures.steps in
+    let all = c.loop-word.invariant (c.in-Some.word.now ∷ ws) (s.0, split_whitespace_rest c.next.new.self, s.1, s.3, (s.2, s.4), s.5, h) in
+    rw c.in_ok-push.ensures.items (subst P (texts-push c.loop-word.words.items c.in-Some.word ws) all)
+
+pub returns : goal.returns
+returns c =
+    let P : List (List ℕ) → Type 0 = HasWords c.args.text.now in
+    subst P (texts-end c.loop-word.words.items) (c.loop-word.invariant [] c.in-None.ensures.steps.1)

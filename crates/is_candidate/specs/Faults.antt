@@ -1,0 +1,47 @@
+-- The messages of what is wrong with a line.
+use Rattle.std.specs.Prelude.{◌≡◌, ℕ, List, ◌++◌, codes, Result, Ok, Err, string_bytes}
+use Rattle.is_proto.specs.declared.error.IceError.{IceError}
+use Rattle.is_proto.specs.declared.error.IceError.TheVariants.{BadCandidate, OutOfMemory, PairIdsExhausted, MtuTooSmall, CredentialsTooLong, PriorityTooHigh}
+use Rattle.is_candidate.specs.declared.parse.fault.Fault.{Fault}
+use Rattle.is_candidate.specs.declared.parse.fault.Fault.TheVariants.{MissingPrefix, MissingFoundation, MissingComponent, BadComponent, MissingProtocol, InvalidProtocol, MissingPriority, BadPriority, MissingAddress, BadAddress, MissingPort, BadPort, ExpectedTyp, MissingKind, UnknownKind, MissingRaddr, BadRaddr, MissingRport, BadRport, MissingTcptype, BadTcptype, MissingUfrag}
+use Rattle.is_candidate.specs.Candidates.{CandidateRecord}
+use Rattle.is_candidate.specs.Lines.{IsLineOf, HasFault}
+
+abbrev pub fault_text : Fault → List ℕ
+fault_text MissingPrefix = codes "missing 'candidate:' prefix"
+fault_text MissingFoundation = codes "missing foundation"
+fault_text MissingComponent = codes "missing component-id"
+fault_text BadComponent = codes "bad component-id"
+fault_text MissingProtocol = codes "missing protocol"
+fault_text (InvalidProtocol word) = codes "invalid protocol: " ++ word.now
+fault_text MissingPriority = codes "missing priority"
+fault_text BadPriority = codes "bad priority"
+fault_text MissingAddress = codes "missing address"
+fault_text BadAddress = codes "bad address"
+fault_text MissingPort = codes "missing port"
+fault_text BadPort = codes "bad port"
+fault_text ExpectedTyp = codes "expected 'typ'"
+fault_text MissingKind = codes "missing candidate type"
+fault_text (UnknownKind word) = codes "unknown candidate type: " ++ word.now
+fault_text MissingRaddr = codes "missing raddr value"
+fault_text BadRaddr = codes "bad raddr"
+fault_text MissingRport = codes "missing rport value"
+fault_text BadRport = codes "bad rport"
+fault_text MissingTcptype = codes "missing tcptype value"
+fault_text BadTcptype = codes "bad tcptype"
+fault_text MissingUfrag = codes "missing ufrag value"
+
+-- a refusal says the whole text, a colon and the first fault; or there was no memory
+abbrev pub RefusesText : List ℕ → IceError → Type 0
+RefusesText text (BadCandidate s) =
+    (message : List ℕ) × HasFault text message × (string_bytes s ≡ text ++ codes ": " ++ message)
+RefusesText text OutOfMemory = Unit {0}
+RefusesText text PairIdsExhausted = ⊥
+RefusesText text MtuTooSmall = ⊥
+RefusesText text CredentialsTooLong = ⊥
+RefusesText text PriorityTooHigh = ⊥
+
+-- the candidate of the line, or the refusal
+abbrev pub ReadsLine : List ℕ → Result CandidateRecord IceError → Type 0
+ReadsLine text (Ok c) = IsLineOf text c
+ReadsLine text (Err e) = RefusesText text e

@@ -1,0 +1,55 @@
+//! Candidate lines (RFC 5245, section 15.1), read.
+ghost use Rattle.std.specs.Prelude.{◌≡◌, ◌++◌, codes};
+ghost use Rattle.is_candidate.specs.Faults.{fault_text, ReadsLine};
+ghost use Rattle.is_candidate.specs.Refusals.{Says};
+
+mod fault;
+mod head;
+mod keys;
+mod line;
+mod place;
+mod words;
+
+use crate::candidate::Candidate;
+use fault::Fault;
+use is_proto::IceError;
+use line::{candidate_of, read_words};
+use std::alloc::Global;
+use words::words_of;
+
+/// The candidate of a line: `candidate:`, then by words at white space foundation, component, protocol, priority,
+/// address, port, `typ` and kind, then keys with values. Of `raddr`, `rport`, `tcptype` and `ufrag` the last counts;
+/// other keys are skipped with their values. A related address stands where both `raddr` and `rport` came.
+///
+/// Refused with `BadCandidate`: the whole text, a colon, and the first fault.
+pub fn parse_candidate(alloc: Global, text: &str) -> Result<Candidate, IceError>
+    ensures { ReadsLine text.now result }
+{
+    let Some(rest) = text.strip_prefix("candidate:") else {
+        return Err(refusal(alloc, text, Fault::MissingPrefix));
+    };
+    let words = words_of(alloc, rest)?;
+    match read_words(words.as_slice()) {
+        Ok(line) => Ok(candidate_of(alloc, &line)?),
+        Err(fault) => Err(refusal(alloc, text, fault)),
+    }
+}
+
+/// The refusal of a text, or want of memory for its message.
+fn refusal(alloc: Global, text: &str, fault: Fault<'_>) -> IceError
+    ensures { Says (text.now ++ codes ": " ++ fault_text fault.entry) result }
+{
+    match format!(in alloc; "{text}: {fault}") {
+        Ok(message) => IceError::BadCandidate(message),
+        Err(_) => IceError::OutOfMemory,
+    }
+}
+
+impl Candidate {
+    /// The candidate of a line, as `parse::parse_candidate` reads it.
+    pub fn from_sdp_string(alloc: Global, text: &str) -> Result<Candidate, IceError>
+        ensures { ReadsLine text.now result }
+    {
+        parse_candidate(alloc, text)
+    }
+}

@@ -1,0 +1,160 @@
+//! Candidate lines, read and printed.
+
+use crate::parse::parse_candidate;
+use crate::{Candidate, CandidateKind};
+use is_proto::{IceError, Protocol, TcpType};
+use std::alloc::Global;
+use std::test::Fail;
+
+/// What the line prints as, once read.
+fn printed(alloc: Global, line: &str) -> Result<String, IceError> {
+    Candidate::from_sdp_string(alloc, line)?.to_sdp_string(alloc)
+}
+
+/// What the refusal of a line says.
+fn refused(alloc: Global, line: &str) -> Result<String, Fail> {
+    match parse_candidate(alloc, line) {
+        Ok(_) => Err(Fail::from("the line was taken")),
+        Err(refusal) => Ok(format!(in alloc; "{refusal}")?),
+    }
+}
+
+#[test]
+fn a_chrome_line_keeps_what_is_known_of_it(rt: HostRuntime) -> Result<(), Fail> {
+    let alloc = rt.alloc();
+    let line =
+        "candidate:842163049 1 udp 1677729535 203.0.113.5 46154 typ srflx raddr 0.0.0.0 rport 0 generation 0 ufrag EsAw network-id 1 network-cost 10";
+    let text = printed(alloc, line)?;
+    assert_eq!(rt;
+        text.as_str(),
+        "candidate:842163049 1 udp 1677729535 203.0.113.5 46154 typ srflx raddr 0.0.0.0 rport 0 ufrag EsAw"
+    );
+    Ok(())
+}
+
+#[test]
+fn a_firefox_line_prints_its_protocol_in_lower_case(rt: HostRuntime) -> Result<(), Fail> {
+    let text = printed(
+        rt.alloc(),
+        "candidate:0 1 UDP 2122252543 192.168.1.10 54321 typ host",
+    )?;
+    assert_eq!(rt;
+        text.as_str(),
+        "candidate:0 1 udp 2122252543 192.168.1.10 54321 typ host"
+    );
+    Ok(())
+}
+
+#[test]
+fn an_active_tcp_line_of_chrome_reads(rt: HostRuntime) -> Result<(), Fail> {
+    let line =
+        "candidate:1052353102 1 tcp 1518280447 2001:db8::7a 9 typ host tcptype active generation 0 network-id 3";
+    let host = Candidate::from_sdp_string(rt.alloc(), line)?;
+    assert!(rt; host.proto() == Protocol::Tcp);
+    assert!(rt; host.tcptype() == Some(TcpType::Active));
+    assert_eq!(rt; host.addr(), "[2001:db8::7a]:9".parse()?);
+    assert_eq!(rt; host.local(), host.addr());
+    assert_eq!(rt; host.prio(), 1518280447);
+    Ok(())
+}
+
+#[test]
+fn a_relayed_ipv6_line_reads_with_its_related_address(rt: HostRuntime) -> Result<(), Fail> {
+    let line =
+        "candidate:3 1 udp 16777215 2001:db8::1 50000 typ relay raddr 2001:db8:0:1:2:3:4:5 rport 61000";
+    let relayed = Candidate::from_sdp_string(rt.alloc(), line)?;
+    assert!(rt; relayed.kind() == CandidateKind::Relayed);
+    assert_eq!(rt; relayed.local(), "[::]:0".parse()?);
+    let text = relayed.to_sdp_string(rt.alloc())?;
+    assert_eq!(rt; text.as_str(), line);
+    Ok(())
+}
+
+#[test]
+fn of_equal_keys_the_last_counts_and_a_lone_raddr_is_none(rt: HostRuntime) -> Result<(), Fail> {
+    let line = "candidate:1 1 udp 1 10.0.0.1 1 typ prflx raddr 10.0.0.2 ufrag a ufrag b lonely";
+    let text = printed(rt.alloc(), line)?;
+    assert_eq!(rt;
+        text.as_str(),
+        "candidate:1 1 udp 1 10.0.0.1 1 typ prflx ufrag b"
+    );
+    Ok(())
+}
+
+#[test]
+fn unicode_white_space_splits_words(rt: HostRuntime) -> Result<(), Fail> {
+    let text = printed(
+        rt.alloc(),
+        "candidate:1\u{a0}1\u{2003}udp 1 10.0.0.1 1 typ host",
+    )?;
+    assert_eq!(rt; text.as_str(), "candidate:1 1 udp 1 10.0.0.1 1 typ host");
+    // U+001C is no white space, so the foundation is `1\u{1c}1` and the component `udp`
+    let said = refused(rt.alloc(), "candidate:1\u{1c}1 udp 1 10.0.0.1 1 typ host")?;
+    assert_eq!(rt;
+        said.as_str(),
+        "ICE bad candidate: candidate:1\u{1c}1 udp 1 10.0.0.1 1 typ host: bad component-id"
+    );
+    Ok(())
+}
+
+#[test]
+fn each_fault_has_its_message(rt: HostRuntime) -> Result<(), Fail> {
+    let rows = [
+        ("", "missing 'candidate:' prefix"),
+        (
+            "a=candidate:1 1 udp 1 10.0.0.1 1 typ host",
+            "missing 'candidate:' prefix",
+        ),
+        ("candidate: ", "missing foundation"),
+        ("candidate:12344", "missing component-id"),
+        ("candidate:12344 bad value", "bad component-id"),
+        ("candidate:1 65536 udp", "bad component-id"),
+        ("candidate:1 1", "missing protocol"),
+        ("candidate:1 1 sctp", "invalid protocol: sctp"),
+        ("candidate:1 1 udp", "missing priority"),
+        ("candidate:1 1 udp 4294967296", "bad priority"),
+        ("candidate:1 1 udp 1", "missing address"),
+        (
+            "candidate:1 1 udp 2113937151 4f5a.local 51000 typ host",
+            "bad address",
+        ),
+        ("candidate:1 1 udp 1 10.0.0.1", "missing port"),
+        ("candidate:1 1 udp 1 10.0.0.1 -1", "bad port"),
+        ("candidate:1 1 udp 1 10.0.0.1 1", "expected 'typ'"),
+        ("candidate:1 1 udp 1 10.0.0.1 1 type host", "expected 'typ'"),
+        (
+            "candidate:1 1 udp 1 10.0.0.1 1 typ",
+            "missing candidate type",
+        ),
+        (
+            "candidate:1 1 udp 1 10.0.0.1 1 typ HOST",
+            "unknown candidate type: HOST",
+        ),
+        (
+            "candidate:1 1 udp 1 10.0.0.1 1 typ host raddr",
+            "missing raddr value",
+        ),
+        (
+            "candidate:1 1 udp 1 10.0.0.1 1 typ host raddr x raddr 10.0.0.2",
+            "bad raddr",
+        ),
+        (
+            "candidate:1 1 udp 1 10.0.0.1 1 typ host rport 70000",
+            "bad rport",
+        ),
+        (
+            "candidate:1 1 udp 1 10.0.0.1 1 typ host tcptype both",
+            "bad tcptype",
+        ),
+        (
+            "candidate:1 1 udp 1 10.0.0.1 1 typ host ufrag",
+            "missing ufrag value",
+        ),
+    ];
+    for (line, fault) in rows.iter() {
+        let said = refused(rt.alloc(), line)?;
+        let wanted = format!(in rt.alloc(); "ICE bad candidate: {line}: {fault}")?;
+        assert_eq!(rt; said.as_str(), wanted.as_str());
+    }
+    Ok(())
+}
