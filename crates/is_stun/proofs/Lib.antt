@@ -9,3 +9,10 @@ pub mod WrittenLemmas
 pub mod LawLemmas
 pub mod AddressLemmas
 pub mod TimingLemmas
+pub mod WideLemmas
+pub mod RoundLemmas
+pub mod KindLemmas
+pub mod AddressTrip
+pub mod TripLemmas
+pub mod AttributesTrip
+pub mod MessageTrip
