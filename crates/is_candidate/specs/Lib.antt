@@ -13,3 +13,4 @@ pub mod Words
 pub mod Lines
 pub mod Faults
 pub mod Scanned
+pub mod Infos

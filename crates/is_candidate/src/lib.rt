@@ -6,6 +6,9 @@ pub mod parse;
 pub mod preference;
 
 pub use candidate::Candidate;
+pub use candidate::builder::{
+    CandidateBuilder, HasProtocol, HasRoute, NoProtocol, NoRoute, Tcp, Udp,
+};
 pub use candidate::kind::CandidateKind;
 pub use preference::{FnPreference, LocalPreference, PreferenceFunction, default_local_preference};
 

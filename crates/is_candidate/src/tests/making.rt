@@ -76,3 +76,36 @@ fn the_builder_makes_a_passive_host(rt: HostRuntime) -> Result<(), Fail> {
     assert!(rt; host.tcptype() == Some(TcpType::Passive));
     Ok(())
 }
+
+#[test]
+fn a_relayed_candidate_over_ssl_tcp_has_the_least_priority(rt: HostRuntime) -> Result<(), Fail> {
+    let (addr, local) = ("1.2.3.4:9876".parse()?, "7.8.9.0:2345".parse()?);
+    let relayed = Candidate::relayed(rt.alloc(), addr, local, Protocol::SslTcp)?;
+    let line = relayed.to_sdp_string(rt.alloc())?;
+    assert!(rt; line.ends_with(" 1 ssltcp 16776959 1.2.3.4 9876 typ relay raddr 0.0.0.0 rport 0"));
+    assert_eq!(rt; relayed.local(), local);
+    Ok(())
+}
+
+#[test]
+fn a_reflexive_candidate_keeps_one_ip_version(rt: HostRuntime) -> Result<(), Fail> {
+    let (v4, v6) = ("10.0.0.1:1000".parse()?, "[::1]:1000".parse()?);
+    let Err(refusal) = Candidate::server_reflexive(rt.alloc(), v4, v6, Protocol::Udp) else {
+        return Err(Fail::from("two IP versions were taken"));
+    };
+    let said = format!(in rt.alloc(); "{refusal}")?;
+    assert_eq!(rt;
+        said.as_str(),
+        "ICE bad candidate: addr and base are different IP versions"
+    );
+    let route = Candidate::builder().tls().server_reflexive(v4, v6);
+    let Err(refusal) = route.build(rt.alloc()) else {
+        return Err(Fail::from("two IP versions were built"));
+    };
+    let said = format!(in rt.alloc(); "{refusal}")?;
+    assert_eq!(rt;
+        said.as_str(),
+        "ICE bad candidate: address IP version mismatch: addr=10.0.0.1 base=::1"
+    );
+    Ok(())
+}

@@ -41,3 +41,16 @@ fn host_preferences_interleave_the_ip_versions(rt: HostRuntime) -> Result<(), Fa
     assert_eq!(rt; default_local_preference(&v4, 40000), 0);
     Ok(())
 }
+
+#[test]
+fn relays_across_ip_versions_come_last(rt: HostRuntime) -> Result<(), Fail> {
+    let v4 = "1.2.3.4:9876".parse()?;
+    let v6 = "[2001:db8::1]:9876".parse()?;
+    let relay4 = Candidate::relayed(rt.alloc(), v4, v6, Protocol::Udp)?;
+    let relay6 = Candidate::relayed(rt.alloc(), v6, v4, Protocol::Udp)?;
+    assert_eq!(rt; default_local_preference(&relay4, 0), 15382);
+    assert_eq!(rt; default_local_preference(&relay4, 1), 15380);
+    assert_eq!(rt; default_local_preference(&relay6, 0), 15383);
+    assert_eq!(rt; default_local_preference(&relay6, 1), 15381);
+    Ok(())
+}

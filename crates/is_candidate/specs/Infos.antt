@@ -1,0 +1,96 @@
+-- Candidate info, the object in which browsers signal a candidate (the W3C's RTCIceCandidateInit).
+use Rattle.std.specs.Prelude.{◌≡◌, ℕ, ◌⊎◌, List, codes, Option, Some, None, option_and_then, Result, Ok, Err, if◌then◌else◌, string_bytes}
+use Rattle.serde_json.specs.Data.{Data, null, boolean, number, string, array, object, unsigned, member, no_members}
+use Rattle.serde_json.specs.Find.{get_member, as_str}
+use Rattle.serde_json.specs.Written.{has_float}
+use Rattle.is_proto.specs.declared.error.IceError.{IceError}
+use Rattle.is_proto.specs.declared.error.IceError.TheVariants.{BadCandidate, OutOfMemory, PairIdsExhausted, MtuTooSmall, CredentialsTooLong, PriorityTooHigh}
+use Rattle.is_candidate.specs.Candidates.{CandidateRecord}
+use Rattle.is_candidate.specs.Faults.{RefusesText}
+use Rattle.is_candidate.specs.Lines.{Answer, IsLineOf}
+use Rattle.is_candidate.specs.Sdp.{sdp_text}
+
+-- a text, or null
+abbrev pub text_or_null : Option (List ℕ) → Data
+text_or_null (Some text) = string text
+text_or_null None = null
+
+-- the object of a candidate, its members in the order of their keys
+abbrev pub info_of : CandidateRecord → Data
+info_of c =
+    object
+    (member (codes "candidate") (string (sdp_text c))
+    (member (codes "sdpMLineIndex") (number (unsigned 0))
+    (member (codes "sdpMid") null (member (codes "usernameFragment") (text_or_null c.ufrag) no_members))))
+
+-- the line of an object, where there is one
+abbrev pub given_line : Option (List ℕ) → Answer (List ℕ)
+given_line (Some line) = Ok line
+given_line None = Err (codes "candidate info lacks candidate")
+
+-- the line in a value, or the first fault: a number that 64 bits do not hold as a whole number, anywhere in it, is one
+abbrev pub line_in : Data → Answer (List ℕ)
+line_in (object ms) =
+    if has_float (object ms) then Err (codes "candidate info holds a fraction")
+    else given_line (option_and_then as_str (get_member (codes "candidate") ms))
+line_in null = Err (codes "candidate info is not an object")
+line_in (boolean b) = Err (codes "candidate info is not an object")
+line_in (number n) = Err (codes "candidate info is not an object")
+line_in (string s) = Err (codes "candidate info is not an object")
+line_in (array ds) = Err (codes "candidate info is not an object")
+
+-- the ufrag of a member that is absent, null or a text
+abbrev pub given_ufrag : Option Data → Answer (Option (List ℕ))
+given_ufrag None = Ok None
+given_ufrag (Some null) = Ok None
+given_ufrag (Some (string s)) = Ok (Some s)
+given_ufrag (Some (boolean b)) = Err (codes "bad usernameFragment")
+given_ufrag (Some (number n)) = Err (codes "bad usernameFragment")
+given_ufrag (Some (array ds)) = Err (codes "bad usernameFragment")
+given_ufrag (Some (object ms)) = Err (codes "bad usernameFragment")
+
+-- the ufrag in a value that is an object
+abbrev pub ufrag_in : Data → Answer (Option (List ℕ))
+ufrag_in (object ms) = given_ufrag (get_member (codes "usernameFragment") ms)
+ufrag_in null = Ok None
+ufrag_in (boolean b) = Ok None
+ufrag_in (number n) = Ok None
+ufrag_in (string s) = Ok None
+ufrag_in (array ds) = Ok None
+
+-- a ufrag of its own replaces that of the line
+abbrev pub with_ufrag : Option (List ℕ) → CandidateRecord → CandidateRecord
+with_ufrag None c = c
+with_ufrag (Some ufrag) c = record c { ufrag = Some ufrag }
+
+-- the line and the ufrag of the value make this candidate
+pub record IsInfoOf (d : Data) (c : CandidateRecord) : Type 0 where
+  pub line : List ℕ
+  pub ufrag : Option (List ℕ)
+  pub read : CandidateRecord
+  pub has_line : line_in d ≡ Ok line
+  pub reads : IsLineOf line read
+  pub has_ufrag : ufrag_in d ≡ Ok ufrag
+  pub made : c ≡ with_ufrag ufrag read
+
+-- the line reads and the ufrag has this fault
+abbrev pub HasUfragFault : Data → List ℕ → Type 0
+HasUfragFault d message =
+    (line : List ℕ) × (read : CandidateRecord) × (line_in d ≡ Ok line) × IsLineOf line read × (ufrag_in d ≡ Err message)
+
+-- a refusal tells of the value, else of its line, else of its ufrag; or there was no memory
+abbrev pub RefusesInfo : Data → IceError → Type 0
+RefusesInfo d (BadCandidate s) =
+    (line_in d ≡ Err (string_bytes s))
+    ⊎ (((line : List ℕ) × (line_in d ≡ Ok line) × RefusesText line (BadCandidate s))
+    ⊎ HasUfragFault d (string_bytes s))
+RefusesInfo d OutOfMemory = Unit {0}
+RefusesInfo d PairIdsExhausted = ⊥
+RefusesInfo d MtuTooSmall = ⊥
+RefusesInfo d CredentialsTooLong = ⊥
+RefusesInfo d PriorityTooHigh = ⊥
+
+-- the candidate of the value, or the refusal
+abbrev pub ReadsInfo : Data → Result CandidateRecord IceError → Type 0
+ReadsInfo d (Ok c) = IsInfoOf d c
+ReadsInfo d (Err e) = RefusesInfo d e
