@@ -1,5 +1,7 @@
 -- The connectivity checks that a pair keeps (RFC 8445, section 7.2), oldest first.
-use Rattle.std.specs.Prelude.{ℕ, Bool, List, Option}
+use Rattle.std.specs.Prelude.{◌≡◌, ℕ, ◌-◌, Bool, bytes_eq, List, length, drop, find, reverse, position, slice_get, Option, Some, None, option_map, unwrap_or, is_some}
+use Rattle.std.specs.List.{list_any}
+use Rattle.std.specs.Option.{option_map_or}
 
 -- a check that was sent
 pub record Check : Type 0 where
@@ -12,3 +14,43 @@ pub record Check : Type 0 where
   pub nominated : Bool
   -- the role that it was sent under
   pub controlling : Bool
+
+-- its answer came: only the last one's moment stays
+abbrev pub answered_at : ℕ → Check → Check
+answered_at now c = record c { answered = Some now }
+
+abbrev pub is_answered : Check → Bool
+is_answered c = is_some c.answered
+
+-- how long its answer took
+abbrev pub round_trip_of : Check → Option ℕ
+round_trip_of c = option_map (λ at. at - c.sent) c.answered
+
+abbrev pub has_id : List ℕ → Check → Bool
+has_id id c = bytes_eq c.id id
+
+abbrev pub is_kept : List ℕ → List Check → Bool
+is_kept id checks = list_any (has_id id) checks
+
+-- the check at this place has the id
+abbrev pub IsCheckAt : List Check → List ℕ → ℕ → Check → Type 0
+IsCheckAt checks id place c = (slice_get checks place ≡ Some c) × (c.id ≡ id)
+
+-- the last n
+abbrev pub last_checks : ℕ → List Check → List Check
+last_checks n checks = drop (length checks - n) checks
+
+abbrev pub last_check : List Check → Option Check
+last_check checks = slice_get checks (length checks - 1)
+
+-- the round trip of the last answered one
+abbrev pub last_round_trip : List Check → Option ℕ
+last_round_trip checks = option_map_or round_trip_of (find is_answered (reverse checks)) None
+
+-- how many stand behind the last answered one: all where none was answered
+abbrev pub unanswered_count : List Check → ℕ
+unanswered_count checks = unwrap_or (position is_answered (reverse checks)) (length checks)
+
+-- the first of these
+abbrev pub first_unanswered : List Check → Option Check
+first_unanswered checks = slice_get checks (length checks - unanswered_count checks)

@@ -3,3 +3,4 @@ pub mod States
 pub mod Checks
 pub mod Pairs
 pub mod Order
+pub mod Due

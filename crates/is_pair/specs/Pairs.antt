@@ -1,13 +1,14 @@
 -- A candidate pair (RFC 8445, section 6.1.2), and what each operation makes of it. Moments and times are in nanoseconds.
-use Rattle.std.specs.Prelude.{ℕ, ◌-◌, ◌*◌, Bool, true, false, nat_lt, List, [], Option, Some, None}
+use Rattle.std.specs.Prelude.{◌≡◌, ℕ, ◌-◌, ◌*◌, Bool, true, false, nat_lt, List, [], ◌∷◌, ◌++◌, slice_set, Option, Some, None}
 use Rattle.std.specs.Option.{option_map_or}
-use Rattle.is_proto.specs.Moments.{SECOND, counted}
+use Rattle.is_proto.specs.Moments.{SECOND, counted, later}
+use Rattle.is_stun.specs.declared.timing.StunTiming.{StunTiming}
 use Rattle.is_pair.specs.declared.pair.states.CheckState.{CheckState}
 use Rattle.is_pair.specs.declared.pair.states.CheckState.TheVariants.{Waiting, Succeeded}
 use Rattle.is_pair.specs.declared.pair.states.NominationState.{NominationState}
 use Rattle.is_pair.specs.declared.pair.states.NominationState.TheVariants.{None as Unnominated, Nominated, Success}
-use Rattle.is_pair.specs.States.{is_valid_state, is_nominated_state, state_from, nomination_from}
-use Rattle.is_pair.specs.Checks.{Check}
+use Rattle.is_pair.specs.States.{is_valid_state, is_nominated_state, state_once_sent, state_once_answered, state_from, nomination_once_sent, nomination_once_answered, nomination_from}
+use Rattle.is_pair.specs.Checks.{Check, IsCheckAt, answered_at, last_checks}
 
 pub record PairRecord : Type 0 where
   pub number : ℕ
@@ -77,6 +78,42 @@ with_requests_of other p = record p { requests = other.requests; last_request = 
 -- the next check's moment is to be asked for anew
 abbrev pub undue : PairRecord → PairRecord
 undue p = record p { due = None }
+
+-- a check is sent (RFC 8445, section 7.2.4): only the last ones are kept
+
+abbrev pub check_of : ℕ → Bool → List ℕ → PairRecord → Check
+check_of now controlling id p = record {
+  id = id;
+  sent = now;
+  answered = None;
+  nominated = is_nominated p;
+  controlling = controlling;
+}
+
+abbrev pub checked : ℕ → StunTiming → Bool → List ℕ → PairRecord → PairRecord
+checked now t controlling id p = record p {
+  checks = last_checks t.max_retransmits (p.checks ++ check_of now controlling id p ∷ []);
+  nomination = nomination_once_sent p.nomination;
+  state = state_once_sent p.state;
+  due = None;
+}
+
+-- a kept check is answered, also once more (RFC 8445, section 7.2.5.3)
+
+abbrev pub answered : ℕ → ℕ → Check → PairRecord → PairRecord
+answered now place c p = record p {
+  checks = slice_set p.checks place (answered_at now c);
+  answers = counted p.answers;
+  total_round_trip = later p.total_round_trip (now - c.sent);
+  nomination = nomination_once_answered c.nominated p.nomination;
+  state = state_once_answered p.state;
+  due = None;
+}
+
+-- which of several kept checks with the id takes the answer is open
+abbrev pub TakesAnswer : PairRecord → ℕ → List ℕ → PairRecord → Type 0
+TakesAnswer old now id new =
+    (place : ℕ) × (c : Check) × IsCheckAt old.checks id place c × (new ≡ answered now place c old)
 
 -- whether a check of the peer's that came then is less than 15 s old
 abbrev pub is_recent : ℕ → ℕ → Bool

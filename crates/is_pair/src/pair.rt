@@ -1,17 +1,20 @@
 //! A candidate pair.
 
-ghost use Rattle.std.specs.Prelude.{◌≡◌, ◌<◌, ◌+◌, Some, length, option_map, slice_get};
+ghost use Rattle.std.specs.Prelude.{◌≡◌, ◌<◌, ◌+◌, IfErr, IfOk, Some, length, option_map, slice_get};
 ghost use Rattle.is_pair.specs.Pairs.{new_pair, is_nominated, nominated, with_request, is_lite_alive, validated, is_recent, with_success_of};
 ghost use Rattle.is_pair.specs.Priorities.{pair_priority};
 
 mod attempt;
+mod attempts;
+mod checks;
+mod due;
 pub(crate) mod internals;
 mod order;
 mod states;
 
 pub use attempt::BindingAttempt;
 use is_candidate::{Candidate, CandidateKind};
-use is_proto::{Duration, Instant};
+use is_proto::{Duration, IceError, Instant};
 pub use states::{CheckState, NominationState};
 use std::alloc::Global;
 use std::collections::VecDeque;
@@ -226,6 +229,29 @@ impl CandidatePair {
         ensures { self.new ≡ validated self.old }
     {
         self.state = CheckState::Succeeded;
+    }
+
+    /// A copy, equal in every part, the fixed moment of the next check too.
+    ///
+    /// Refused with `OutOfMemory` where the kept checks have no room.
+    pub fn try_clone(&self) -> Result<CandidatePair, IceError>
+        ensures copy { IfOk result (λ copy. copy ≡ self.now) }
+        ensures refusal { IfErr result (λ e. e ≡ IceError.OutOfMemory) }
+    {
+        Ok(CandidatePair {
+            id: self.id,
+            local_idx: self.local_idx,
+            remote_idx: self.remote_idx,
+            prio: self.prio,
+            binding_attempts: self.binding_attempts.clone()?,
+            nomination_state: self.nomination_state,
+            state: self.state,
+            remote_binding_requests: self.remote_binding_requests,
+            remote_binding_request_time: self.remote_binding_request_time,
+            responses_received: self.responses_received,
+            total_round_trip_time: self.total_round_trip_time,
+            cached_next_attempt_time: self.cached_next_attempt_time,
+        })
     }
 }
 

@@ -1,8 +1,9 @@
 //! One check that a pair sent.
 
-ghost use Rattle.std.specs.Prelude.{◌≡◌};
+ghost use Rattle.std.specs.Prelude.{◌≡◌, option_map};
+ghost use Rattle.is_pair.specs.Checks.{answered_at, has_id, is_answered, round_trip_of};
 
-use is_proto::Instant;
+use is_proto::{Duration, Instant};
 use is_stun::stun::TransId;
 use std::marker::Model;
 
@@ -51,5 +52,33 @@ impl BindingAttempt {
         ensures { result ≡ self.now.controlling }
     {
         self.controlling
+    }
+
+    pub(crate) fn has_id(&self, trans_id: TransId) -> bool
+        ensures { result ≡ has_id trans_id.0 self.now }
+    {
+        self.trans_id == trans_id
+    }
+
+    pub(crate) fn is_answered(&self) -> bool
+        ensures { result ≡ is_answered self.now }
+    {
+        self.response_received.is_some()
+    }
+
+    /// How long the last answer took.
+    pub(crate) fn round_trip(&self) -> Option<Duration>
+        ensures { option_map (λ took. took.0) result ≡ round_trip_of self.now }
+    {
+        self.response_received.map(|at| at - self.request_sent)
+    }
+
+    pub(crate) fn answered_at(self, now: Instant) -> BindingAttempt
+        ensures { result ≡ answered_at now.0 self }
+    {
+        BindingAttempt {
+            response_received: Some(now),
+            ..self
+        }
     }
 }

@@ -1,0 +1,60 @@
+-- When a pair is due for its next check, and when it is given up.
+use Rattle.std.specs.Prelude.{ℕ, ◌-◌, ◌*◌, ◌||◌, Bool, false, nat_lt, min, List, length, Some, unwrap_or, if◌then◌else◌}
+use Rattle.std.specs.Option.{option_map_or}
+use Rattle.is_proto.specs.Moments.{SECOND, later}
+use Rattle.is_stun.specs.declared.timing.StunTiming.{StunTiming}
+use Rattle.is_stun.specs.Timing.{resend_delay, last_resend_delay}
+use Rattle.is_pair.specs.declared.pair.states.NominationState.{NominationState}
+use Rattle.is_pair.specs.declared.pair.states.NominationState.TheVariants.{None as Unnominated, Nominated, Attempt, Success}
+use Rattle.is_pair.specs.Checks.{Check, last_check, unanswered_count, first_unanswered}
+use Rattle.is_pair.specs.Pairs.{PairRecord, is_recent}
+
+-- ---- when it is due
+
+-- 60 s before, and now where that would be before the beginning
+abbrev pub long_before : ℕ → ℕ
+long_before now = if nat_lt now (60 * SECOND) then now else now - 60 * SECOND
+
+-- for longer than half the greatest delay no check was answered
+abbrev pub is_silent : ℕ → StunTiming → List Check → Bool
+is_silent now t checks = option_map_or (λ c. nat_lt t.max_rto.0 (2 * (now - c.sent))) (first_unanswered checks) false
+
+-- how many checks the delay goes by: so the checks come faster again where the peer fell silent
+abbrev pub delaying_count : ℕ → StunTiming → List Check → ℕ
+delaying_count now t checks = if is_silent now t checks then unanswered_count checks else length checks
+
+-- a delay behind the last check, and now where there was none
+abbrev pub next_moment : ℕ → StunTiming → List Check → ℕ
+next_moment now t checks =
+    option_map_or (λ c. later c.sent (resend_delay t (delaying_count now t checks))) (last_check checks) now
+
+-- a pair that was nominated and not checked since goes before all others
+abbrev pub wanted_moment : NominationState → ℕ → StunTiming → List Check → ℕ
+wanted_moment Unnominated now t checks = next_moment now t checks
+wanted_moment Nominated now t checks = long_before now
+wanted_moment Attempt now t checks = next_moment now t checks
+wanted_moment Success now t checks = next_moment now t checks
+
+-- the moment that stands fixed, else the one that asking now fixes
+abbrev pub due_moment : ℕ → StunTiming → PairRecord → ℕ
+due_moment now t p = unwrap_or p.due (min (wanted_moment p.nomination now t p.checks) (later now t.max_rto.0))
+
+abbrev pub asked : ℕ → StunTiming → PairRecord → PairRecord
+asked now t p = record p { due = Some (due_moment now t p) }
+
+-- ---- when it is given up
+
+-- a check of the peer's came less than 15 s ago
+abbrev pub is_heard : ℕ → PairRecord → Bool
+is_heard now p = option_map_or (is_recent now) p.last_request false
+
+-- the last check may still be answered in time
+abbrev pub is_in_time : ℕ → StunTiming → List Check → Bool
+is_in_time now t checks = option_map_or (λ c. nat_lt now (later c.sent (last_resend_delay t))) (last_check checks) false
+
+abbrev pub is_possible : ℕ → StunTiming → PairRecord → Bool
+is_possible now t p =
+    is_heard now p
+    || nat_lt (length p.checks) t.max_retransmits
+    || nat_lt (unanswered_count p.checks) t.max_retransmits
+    || is_in_time now t p.checks

@@ -1,0 +1,41 @@
+//! What holds of all pairs. Each law is the contract of a function that does nothing; code whose proof needs a law
+//! calls its function.
+
+ghost use Rattle.std.specs.Prelude.{◌≡◌, ◌↔◌, ◌<◌, ◌^◌, ℕ, IsTrue, true, false};
+ghost use Rattle.std.specs.Cmp.{IsTotalOrder};
+ghost use Rattle.std.specs.Ordering.{is_eq};
+ghost use Rattle.is_pair.specs.Order.{pair_cmp};
+ghost use Rattle.is_pair.specs.Pairs.{PairRecord};
+ghost use Rattle.is_pair.specs.Priorities.{combined, pair_priority};
+
+use crate::pair::{CandidatePair, CheckState, NominationState, PairId};
+
+/// Both agents compute one priority.
+pub fn priorities_are_symmetric()
+    ensures { (remote local : ℕ) → pair_priority true remote local ≡ pair_priority false local remote }
+{}
+
+/// Among priorities of candidates below 2^31, as RFC 8445, section 5.1.2, has them, a pair's priority tells those of
+/// both its candidates.
+pub fn priorities_tell_both_candidates()
+    ensures { (g d g2 d2 : ℕ) → g < 2 ^ 31 → d < 2 ^ 31 → g2 < 2 ^ 31 → d2 < 2 ^ 31
+        → combined g d ≡ combined g2 d2 → (g ≡ g2) × (d ≡ d2) }
+{}
+
+/// Pairs are equal exactly where both places and the priority are, which is where their order says so; and the order
+/// is total.
+pub fn pairs_are_ordered()
+    ensures equal { (a b : PairRecord) → IsTrue (⟦<CandidatePair as PartialEq>⟧.eq a b)
+        ↔ ((a.priority ≡ b.priority) × (a.local ≡ b.local) × (a.remote ≡ b.remote)) }
+    ensures agrees { (a b : PairRecord) → ⟦<CandidatePair as PartialEq>⟧.eq a b
+        ≡ is_eq (⟦<CandidatePair as Ord>⟧.cmp a b) }
+    ensures by_rule { (a b : PairRecord) → ⟦<CandidatePair as Ord>⟧.cmp a b ≡ pair_cmp a b }
+    ensures total { IsTotalOrder ⟦<CandidatePair as Ord>⟧.cmp }
+{}
+
+/// `==` tells every two numbers and states apart.
+pub fn states_are_compared()
+    ensures of_numbers { (a b : PairId) → IsTrue (⟦<PairId as PartialEq>⟧.eq a b) ↔ (a ≡ b) }
+    ensures of_checks { (a b : CheckState) → IsTrue (⟦<CheckState as PartialEq>⟧.eq a b) ↔ (a ≡ b) }
+    ensures of_nomination { (a b : NominationState) → IsTrue (⟦<NominationState as PartialEq>⟧.eq a b) ↔ (a ≡ b) }
+{}

@@ -1,0 +1,68 @@
+//! The checks that a pair keeps, oldest first.
+
+ghost use Rattle.std.specs.Prelude.{◌≡◌, ◌≤◌, find, length, position, reverse};
+ghost use Rattle.std.specs.Option.{option_copied};
+ghost use Rattle.is_pair.specs.Checks.{first_unanswered, has_id, is_answered, last_check, last_checks, unanswered_count};
+
+use super::attempt::BindingAttempt;
+use is_stun::stun::TransId;
+use std::collections::VecDeque;
+
+/// The first check of this id.
+pub(crate) fn with_id(
+    attempts: &VecDeque<BindingAttempt>,
+    trans_id: TransId,
+) -> Option<&BindingAttempt>
+    ensures { option_copied result ≡ find (has_id trans_id.0) attempts.now.items }
+{
+    attempts.iter().find(|attempt| attempt.has_id(trans_id))
+}
+
+/// The last one.
+pub(crate) fn last(attempts: &VecDeque<BindingAttempt>) -> Option<BindingAttempt>
+    ensures { result ≡ last_check attempts.now.items }
+{
+    attempts.back().copied()
+}
+
+/// Lets all go but the last so many.
+pub(crate) fn keep_last(attempts: &mut VecDeque<BindingAttempt>, kept: usize)
+    ensures { attempts.new.items ≡ last_checks kept attempts.old.items }
+{
+    while attempts.len() > kept {
+        attempts.pop_front();
+    }
+}
+
+/// The last answered one.
+pub(crate) fn last_answered(attempts: &VecDeque<BindingAttempt>) -> Option<&BindingAttempt>
+    ensures { option_copied result ≡ find is_answered (reverse attempts.now.items) }
+{
+    attempts.iter().rev().find(|attempt| attempt.is_answered())
+}
+
+/// The first behind the last answered one.
+pub(crate) fn first_unanswered(attempts: &VecDeque<BindingAttempt>) -> Option<BindingAttempt>
+    ensures { result ≡ first_unanswered attempts.now.items }
+{
+    attempts.get(attempts.len() - unanswered(attempts)).copied()
+}
+
+/// How many stand behind the last answered one: all where none was answered.
+pub(crate) fn unanswered(attempts: &VecDeque<BindingAttempt>) -> usize
+    ensures count { result ≡ unanswered_count attempts.now.items }
+    ensures within { result ≤ length attempts.now.items }
+{
+    let answered = attempts
+        .iter()
+        .rev()
+        .position(|attempt| attempt.is_answered());
+    answered.unwrap_or(attempts.len())
+}
+
+/// The place of a check of this id, if there is one.
+pub(crate) fn place_of(attempts: &VecDeque<BindingAttempt>, trans_id: TransId) -> Option<usize>
+    ensures { result ≡ position (has_id trans_id.0) attempts.now.items }
+{
+    attempts.iter().position(|attempt| attempt.has_id(trans_id))
+}

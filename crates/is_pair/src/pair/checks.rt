@@ -1,0 +1,101 @@
+//! Sending checks on a pair, and taking their answers (RFC 8445, section 7.2).
+
+ghost use Rattle.std.specs.Prelude.{◌≡◌, ◌<◌, IfErr, IfOk, IsTrue, find, is_some, option_map};
+ghost use Rattle.std.specs.Option.{option_copied};
+ghost use Rattle.rand_core.specs.Stream.{fill_bytes};
+ghost use Rattle.is_pair.specs.Checks.{has_id, is_kept, last_round_trip};
+ghost use Rattle.is_pair.specs.Pairs.{TakesAnswer, checked};
+
+use super::attempt::BindingAttempt;
+use super::{CandidatePair, attempts};
+use is_proto::{Duration, IceError, Instant};
+use is_stun::stun::{StunTiming, TransId};
+use rand_core::Rng;
+
+impl CandidatePair {
+    /// Keeps a check that is sent now, of the last `max_retransmits` at most, and answers its transaction id. A
+    /// check of a nominated pair is a nominating one.
+    ///
+    /// Refused with `OutOfMemory` where the check has no room: then the pair is as before, and nothing was drawn.
+    pub fn new_attempt<R: Rng>(
+        &mut self,
+        now: Instant,
+        timing_config: &StunTiming,
+        controlling: bool,
+        rng: &mut R,
+    ) -> Result<TransId, IceError>
+        requires { 0 < timing_config.now.max_retransmits }
+        ensures sent { IfOk result (λ id. self.new ≡ checked now.0 timing_config.now controlling id.0 self.old) }
+        ensures drawn { IfOk result (λ id. (id.0, R.stream rng.new) ≡ fill_bytes 12 (R.stream rng.old)) }
+        ensures refusal { IfErr result (λ e. e ≡ IceError.OutOfMemory) }
+        ensures unchanged { IfErr result (λ _. self.new ≡ self.old) }
+        ensures undrawn { IfErr result (λ _. R.stream rng.new ≡ R.stream rng.old) }
+    {
+        self.binding_attempts.reserve(1)?;
+        let trans_id = TransId::new(rng);
+        let nominated = self.is_nominated();
+        self.binding_attempts.push_back_reserved(BindingAttempt {
+            trans_id,
+            request_sent: now,
+            response_received: None,
+            nominated,
+            controlling,
+        });
+        attempts::keep_last(&mut self.binding_attempts, timing_config.max_retransmits);
+        self.nomination_state = self.nomination_state.once_sent();
+        self.state = self.state.once_sent();
+        self.cached_next_attempt_time = None;
+        Ok(trans_id)
+    }
+
+    /// The kept check of this transaction id, if there is one: the first, where several have it.
+    pub fn binding_attempt(&self, trans_id: TransId) -> Option<&BindingAttempt>
+        ensures kept { is_some result ≡ is_kept trans_id.0 self.now.checks }
+        ensures found { option_copied result ≡ find (has_id trans_id.0) self.now.checks }
+    {
+        attempts::with_id(&self.binding_attempts, trans_id)
+    }
+
+    /// Takes the answer to a kept check. It counts, also where the check was answered before: its time goes into
+    /// the total, and its moment takes the place of the last one's. The pair is valid from now on, and a
+    /// nomination that went out with the check has succeeded. The local candidate that the answer's mapped
+    /// address names plays no part in what a pair does.
+    pub fn record_binding_response(&mut self, now: Instant, trans_id: TransId, _valid_idx: usize)
+        requires { IsTrue (is_kept trans_id.0 self.old.checks) }
+        ensures { TakesAnswer self.old now.0 trans_id.0 self.new }
+    {
+        let Some(place) = attempts::place_of(&self.binding_attempts, trans_id) else {
+            return;
+        };
+        let attempt = self.binding_attempts[place];
+        self.binding_attempts[place] = attempt.answered_at(now);
+        self.responses_received = self.responses_received.saturating_add(1);
+        self.total_round_trip_time = self
+            .total_round_trip_time
+            .saturating_add(now - attempt.request_sent);
+        self.nomination_state = self.nomination_state.once_answered(attempt.nominated);
+        self.state = self.state.once_answered();
+        self.cached_next_attempt_time = None;
+    }
+
+    /// How long the answer to the last answered check took. None where no kept check was answered.
+    pub fn last_successful_rtt(&self) -> Option<Duration>
+        ensures { option_map (λ took. took.0) result ≡ last_round_trip self.now.checks }
+    {
+        attempts::last_answered(&self.binding_attempts).and_then(|attempt| attempt.round_trip())
+    }
+
+    /// How many answers came, repeated ones too.
+    pub fn responses_received(&self) -> u64
+        ensures { result ≡ self.now.answers }
+    {
+        self.responses_received
+    }
+
+    /// How long all answers took together.
+    pub fn total_round_trip_time(&self) -> Duration
+        ensures { result.0 ≡ self.now.total_round_trip }
+    {
+        self.total_round_trip_time
+    }
+}

@@ -1,0 +1,101 @@
+//! When a pair is due for its next check, and when it is given up.
+
+ghost use Rattle.std.specs.Prelude.{◌≡◌, ◌<◌};
+ghost use Rattle.is_pair.specs.Due.{asked, delaying_count, due_moment, is_heard, is_in_time, is_possible, long_before, next_moment};
+
+use super::attempt::BindingAttempt;
+use super::states::NominationState;
+use super::{CandidatePair, attempts, is_recent};
+use is_proto::{Duration, Instant};
+use is_stun::stun::StunTiming;
+use std::collections::VecDeque;
+
+/// How far a nominated pair that was not checked since goes before all others.
+const HEAD_START: Duration = Duration(60_000_000_000);
+
+impl CandidatePair {
+    /// When the next check is due. Asking fixes the moment, until a check is sent or answered.
+    ///
+    /// A pair that was nominated and not checked since is due before all others, one that was never checked at
+    /// once; else the check comes a delay behind the last one, by the number of kept checks, or of unanswered ones
+    /// where the peer has been silent for longer than half of `max_rto`. It comes at most `max_rto` from now.
+    pub fn next_binding_attempt(&mut self, now: Instant, timing_config: &StunTiming) -> Instant
+        requires { 0 < timing_config.now.max_retransmits }
+        ensures moment { result.0 ≡ due_moment now.0 timing_config.now self.old }
+        ensures fixed { self.new ≡ asked now.0 timing_config.now self.old }
+    {
+        if let Some(fixed) = self.cached_next_attempt_time {
+            return fixed;
+        }
+        let next = match self.nomination_state {
+            NominationState::Nominated => long_before(now),
+            _ => next_moment(&self.binding_attempts, now, timing_config),
+        };
+        let due = next.min(now + timing_config.max_rto());
+        self.cached_next_attempt_time = Some(due);
+        due
+    }
+
+    /// Whether the path may still work. It is given up where no check of the peer's came for 15 s, `max_retransmits`
+    /// checks went unanswered, and the last of them has had its delay.
+    pub fn is_still_possible(&self, now: Instant, timing_config: &StunTiming) -> bool
+        requires { 0 < timing_config.now.max_retransmits }
+        ensures { result ≡ is_possible now.0 timing_config.now self.now }
+    {
+        self.is_heard(now)
+            || self.binding_attempts.len() < timing_config.max_retransmits()
+            || attempts::unanswered(&self.binding_attempts) < timing_config.max_retransmits()
+            || is_in_time(&self.binding_attempts, now, timing_config)
+    }
+
+    /// Whether a check of the peer's came less than 15 s ago.
+    fn is_heard(&self, now: Instant) -> bool
+        ensures { result ≡ is_heard now.0 self.now }
+    {
+        match self.remote_binding_request_time {
+            Some(at) => is_recent(now, at),
+            None => false,
+        }
+    }
+}
+
+/// The head start before now, and now where that would be before the beginning.
+fn long_before(now: Instant) -> Instant
+    ensures { result.0 ≡ long_before now.0 }
+{
+    now.checked_sub(HEAD_START).unwrap_or(now)
+}
+
+/// A delay behind the last check, and now where there was none.
+fn next_moment(attempts: &VecDeque<BindingAttempt>, now: Instant, timing: &StunTiming) -> Instant
+    ensures { result.0 ≡ next_moment now.0 timing.now attempts.now.items }
+{
+    match attempts::last(attempts) {
+        Some(last) => {
+            last.request_sent + timing.stun_resend_delay(delaying_count(attempts, now, timing))
+        }
+        None => now,
+    }
+}
+
+/// How many checks the delay goes by.
+fn delaying_count(attempts: &VecDeque<BindingAttempt>, now: Instant, timing: &StunTiming) -> usize
+    ensures { result ≡ delaying_count now.0 timing.now attempts.now.items }
+{
+    match attempts::first_unanswered(attempts) {
+        Some(first) if (now - first.request_sent).0 > timing.max_rto().0 / 2 => {
+            attempts::unanswered(attempts)
+        }
+        _ => attempts.len(),
+    }
+}
+
+/// Whether the last check may still be answered in time.
+fn is_in_time(attempts: &VecDeque<BindingAttempt>, now: Instant, timing: &StunTiming) -> bool
+    ensures { result ≡ is_in_time now.0 timing.now attempts.now.items }
+{
+    match attempts::last(attempts) {
+        Some(last) => now < last.request_sent + timing.stun_last_resend_delay(),
+        None => false,
+    }
+}

@@ -1,0 +1,84 @@
+//! Checks, their answers, and nomination.
+
+use super::{Path, at, host_pair};
+use crate::copy_remote_binding_requests;
+use crate::pair::CheckState;
+use is_proto::Duration;
+use std::test::Fail;
+
+/// So many milliseconds, if there are any.
+fn took(millis: u64) -> Option<Duration> {
+    Some(Duration::from_millis(millis))
+}
+
+#[test]
+fn round_trips_are_those_of_the_answers(rt: HostRuntime) -> Result<(), Fail> {
+    let mut path = Path::new(rt.alloc());
+    assert_eq!(rt; path.pair.last_successful_rtt(), None);
+    let first = path.check(at(0))?;
+    path.answer(at(50), first)?;
+    assert_eq!(rt; path.pair.last_successful_rtt(), took(50));
+    path.check(at(100))?;
+    assert_eq!(rt; path.pair.last_successful_rtt(), took(50));
+    let third = path.check(at(200))?;
+    path.answer(at(220), third)?;
+    assert_eq!(rt; path.pair.last_successful_rtt(), took(20));
+    assert_eq!(rt; path.pair.responses_received(), 2);
+    assert_eq!(rt;
+        path.pair.total_round_trip_time(),
+        Duration::from_millis(70)
+    );
+    Ok(())
+}
+
+#[test]
+fn a_repeated_answer_counts_again(rt: HostRuntime) -> Result<(), Fail> {
+    let mut path = Path::new(rt.alloc());
+    let id = path.check(at(0))?;
+    path.answer(at(50), id)?;
+    path.answer(at(80), id)?;
+    assert_eq!(rt; path.pair.last_successful_rtt(), took(80));
+    assert_eq!(rt; path.pair.responses_received(), 2);
+    assert_eq!(rt;
+        path.pair.total_round_trip_time(),
+        Duration::from_millis(130)
+    );
+    Ok(())
+}
+
+#[test]
+fn a_check_beyond_the_limit_is_forgotten(rt: HostRuntime) -> Result<(), Fail> {
+    let mut path = Path::impatient(rt.alloc());
+    let first = path.check(at(0))?;
+    assert!(rt; path.keeps(first));
+    let second = path.check(at(250))?;
+    assert!(rt; !path.keeps(first));
+    let role = path
+        .pair
+        .binding_attempt(second)
+        .map(|check| check.controlling());
+    assert_eq!(rt; role, Some(true));
+    Ok(())
+}
+
+/// The pair that replaces one whose nominating check is in flight has to send another.
+#[test]
+fn a_nomination_passes_to_the_pair_that_replaces(rt: HostRuntime) -> Result<(), Fail> {
+    let mut old = Path::new(rt.alloc());
+    let id = old.check(at(0))?;
+    old.answer(at(50), id)?;
+    old.pair.increase_remote_binding_requests(at(60));
+    old.nominate()?;
+    old.check(at(100))?;
+    let mut new = Path::new(rt.alloc());
+    new.pair = host_pair(rt.alloc(), 2);
+    new.pair.copy_nominated_and_success_state(&old.pair);
+    copy_remote_binding_requests(&mut new.pair, &old.pair);
+    assert_eq!(rt; new.pair.state(), CheckState::Succeeded);
+    assert!(rt; new.pair.is_nominated());
+    assert_eq!(rt; new.pair.remote_binding_request_time(), Some(at(60)));
+    assert_eq!(rt; new.pair.last_successful_rtt(), None);
+    // due before all others, and 60 s are not to be had before the beginning
+    assert_eq!(rt; new.due(at(100)), at(100));
+    Ok(())
+}

@@ -1,0 +1,78 @@
+//! When a pair is due, and when it is given up.
+
+use super::{Path, at, host_pair};
+use crate::reset_next_binding_attempt;
+use is_proto::{Duration, Instant};
+use std::test::Fail;
+
+#[test]
+fn a_silent_path_is_given_up_after_the_timeout(rt: HostRuntime) -> Result<(), Fail> {
+    let mut path = Path::new(rt.alloc());
+    let mut now = at(0);
+    for _ in 0..20 {
+        now = path.due(now);
+        let id = path.check(now)?;
+        now = now + Duration::from_millis(500);
+        path.answer(now, id)?;
+    }
+    now = path.due(now);
+    let end = now + Duration::from_millis(21500);
+    let nearly = now + Duration(21_499_999_999);
+    for _ in 0..9 {
+        assert!(rt; path.is_possible(now));
+        path.check(now)?;
+        now = path.due(now);
+    }
+    assert_eq!(rt; now, end);
+    assert!(rt; path.is_possible(nearly));
+    assert!(rt; !path.is_possible(end));
+    path.pair.increase_remote_binding_requests(end);
+    assert!(rt; path.is_possible(end + Duration(14_999_999_999)));
+    assert!(rt; !path.is_possible(end + Duration::from_millis(15000)));
+    Ok(())
+}
+
+#[test]
+fn one_retransmit_is_waited_for_once(rt: HostRuntime) -> Result<(), Fail> {
+    let mut path = Path::impatient(rt.alloc());
+    path.check(at(0))?;
+    assert!(rt; path.is_possible(at(249)));
+    assert!(rt; !path.is_possible(at(250)));
+    Ok(())
+}
+
+#[test]
+fn a_moment_stands_once_it_was_asked_for(rt: HostRuntime) -> Result<(), Fail> {
+    let mut path = Path::new(rt.alloc());
+    assert_eq!(rt; path.due(at(70000)), at(70000));
+    path.nominate()?;
+    assert_eq!(rt; path.due(at(80000)), at(70000));
+    path.pair = path.pair.try_clone()?;
+    assert_eq!(rt; path.due(at(80000)), at(70000));
+    reset_next_binding_attempt(&mut path.pair);
+    assert_eq!(rt; path.due(at(80000)), at(20000));
+    path.check(at(80000))?;
+    assert_eq!(rt; path.due(at(80000)), at(80250));
+    Ok(())
+}
+
+#[test]
+fn the_end_of_time_is_not_passed(rt: HostRuntime) -> Result<(), Fail> {
+    let mut path = Path::new(rt.alloc());
+    let end = Instant(u64::MAX);
+    let id = path.check(end)?;
+    assert_eq!(rt; path.due(end), end);
+    path.answer(end, id)?;
+    assert_eq!(rt; path.pair.total_round_trip_time(), Duration(0));
+    assert!(rt; path.is_possible(end));
+    Ok(())
+}
+
+#[test]
+fn an_ice_lite_pair_lives_on_the_checks_of_the_peer(rt: HostRuntime) {
+    let mut pair = host_pair(rt.alloc(), 1);
+    assert!(rt; pair.is_ice_lite_alive(at(60000)));
+    pair.increase_remote_binding_requests(at(60000));
+    assert!(rt; pair.is_ice_lite_alive(at(74999)));
+    assert!(rt; !pair.is_ice_lite_alive(at(75000)));
+}

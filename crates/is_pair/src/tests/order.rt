@@ -1,0 +1,54 @@
+//! Priorities, equality and order.
+
+use super::{host_pair, pair_at};
+use crate::pair::{CandidatePair, CheckState, PairId};
+use is_candidate::Candidate;
+use is_proto::Protocol;
+use std::cmp::Ordering;
+use std::test::Fail;
+
+#[test]
+fn priorities_are_those_of_the_formula(rt: HostRuntime) {
+    assert_eq!(rt; CandidatePair::calculate_prio(true, 1, 2), 4294967301);
+    let greatest = 18446744073709551615;
+    assert_eq!(rt;
+        CandidatePair::calculate_prio(true, 4294967294, 4294967295),
+        greatest
+    );
+    assert_eq!(rt;
+        CandidatePair::calculate_prio(false, 4294967295, 4294967294),
+        greatest
+    );
+}
+
+#[test]
+fn the_greater_priority_stands_first(rt: HostRuntime) {
+    let great = pair_at(rt.alloc(), 1, 1, 9);
+    let small = pair_at(rt.alloc(), 0, 0, 8);
+    let other = pair_at(rt.alloc(), 0, 1, 8);
+    assert_eq!(rt; great.cmp(&small), Ordering::Less);
+    assert_eq!(rt; small.cmp(&other), Ordering::Less);
+    assert!(rt; small == host_pair(rt.alloc(), 8));
+}
+
+#[test]
+fn a_pair_is_what_it_was_made_of(rt: HostRuntime) -> Result<(), Fail> {
+    let mut pair = pair_at(rt.alloc(), 3, 4, 5);
+    assert!(rt; pair.id() == PairId(7));
+    assert_eq!(rt;
+        (pair.local_idx(), pair.remote_idx(), pair.prio()),
+        (3, 4, 5)
+    );
+    let near = Candidate::host(rt.alloc(), "10.0.0.1:1000".parse()?, Protocol::Udp)?;
+    let far = Candidate::host(rt.alloc(), "10.0.0.2:2000".parse()?, Protocol::Udp)?;
+    let hosts = [near, far];
+    let path = pair_at(rt.alloc(), 0, 1, 5);
+    assert_eq!(rt; path.local_candidate(&hosts).addr(), hosts[0].addr());
+    assert_eq!(rt; path.remote_candidate(&hosts).addr(), hosts[1].addr());
+    pair.set_prio(6);
+    assert_eq!(rt; pair.prio(), 6);
+    assert_eq!(rt; pair.state(), CheckState::Waiting);
+    pair.record_remote_binding_request_success();
+    assert_eq!(rt; pair.state(), CheckState::Succeeded);
+    Ok(())
+}
