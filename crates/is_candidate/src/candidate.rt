@@ -1,10 +1,11 @@
 //! Candidates: addresses at which an agent may be reached.
-ghost use Rattle.std.specs.Prelude.{◌≡◌, Some, IfOk, OnOk, OnErr, IsOkUnless};
+ghost use Rattle.std.specs.Prelude.{◌≡◌, Some, OnOk, OnErr, IsOkUnless};
 ghost use Rattle.std.specs.Option.{option_copied};
 ghost use Rattle.is_proto.specs.declared.error.IceError.TheVariants.{OutOfMemory};
 
 pub mod address;
 pub mod builder;
+mod copy;
 pub mod equality;
 pub mod foundation;
 mod fraction;
@@ -17,7 +18,7 @@ pub mod sdp;
 
 use is_proto::{IceError, Protocol, TcpType, Text};
 use kind::CandidateKind;
-use std::alloc::{AllocError, Global};
+use std::alloc::Global;
 use std::marker::Model;
 use std::net::SocketAddr;
 
@@ -138,39 +139,5 @@ impl Candidate {
     {
         self.ufrag = Some(Text::from_str(alloc, ufrag)?);
         Ok(())
-    }
-}
-
-/// A copy is equal, discard mark and local preference included.
-impl Clone for Candidate {
-    ghost is_clone = { λ old copy. copy ≡ old };
-
-    fn clone(&self) -> Result<Candidate, AllocError> {
-        let foundation = copy_of(&self.foundation)?;
-        let ufrag = copy_of(&self.ufrag)?;
-        Ok(Candidate {
-            foundation,
-            component: self.component,
-            proto: self.proto,
-            given_priority: self.given_priority,
-            addr: self.addr,
-            given_base: self.given_base,
-            kind: self.kind,
-            raddr: self.raddr,
-            tcptype: self.tcptype,
-            ufrag,
-            local: self.local,
-            local_preference: self.local_preference,
-            discarded: self.discarded,
-        })
-    }
-}
-
-fn copy_of(text: &Option<Text>) -> Result<Option<Text>, AllocError>
-    ensures { IfOk result (λ t. t ≡ text.now) }
-{
-    match text {
-        Some(text) => Ok(Some(text.clone()?)),
-        None => Ok(None),
     }
 }

@@ -42,10 +42,10 @@ pub fn component(c: &Candidate) -> u16
 }
 
 /// Whether the candidate was discarded.
-pub fn is_discarded(c: &Candidate) -> bool
-    ensures { result ≡ c.now.discarded }
+pub fn is_discarded(candidate: &Candidate) -> bool
+    ensures { result ≡ candidate.now.discarded }
 {
-    c.discarded
+    candidate.discarded
 }
 
 /// Marks the candidate as discarded.
