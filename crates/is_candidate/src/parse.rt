@@ -1,5 +1,7 @@
 //! Candidate lines (RFC 5245, section 15.1), read.
-ghost use Rattle.std.specs.Prelude.{◌≡◌, ◌++◌, codes};
+ghost use Rattle.std.specs.Prelude.{◌≡◌, ◌++◌, codes, List, ℕ};
+ghost use Rattle.is_candidate.specs.Candidates.{CandidateRecord};
+ghost use Rattle.is_candidate.specs.Lines.{Answer, ReadsText};
 ghost use Rattle.is_candidate.specs.Faults.{fault_text, ReadsLine};
 ghost use Rattle.is_candidate.specs.Refusals.{Says};
 
@@ -53,3 +55,9 @@ impl Candidate {
         parse_candidate(alloc, text)
     }
 }
+
+/// A text tells of one candidate or has one first fault, and never both: so `parse_candidate` answers Ok exactly where
+/// the text is a line of a candidate, but for want of memory.
+pub fn texts_have_one_reading()
+    ensures { (text : List ℕ) (r s : Answer CandidateRecord) → ReadsText text r → ReadsText text s → r ≡ s }
+{}
