@@ -1,0 +1,4 @@
+mod PriorityLemmas
+mod PairLemmas
+mod PlaceLemmas
+mod ReplyLemmas

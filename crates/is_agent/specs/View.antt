@@ -1,0 +1,34 @@
+-- The record of an agent.
+use Rattle.std.specs.Prelude.{map, Result, Ok, Err}
+use Rattle.is_proto.specs.declared.error.IceError.{IceError}
+use Rattle.is_proto.specs.Packets.{packet_of}
+use Rattle.is_agent.specs.declared.agent.Agent as code
+use Rattle.is_agent.specs.declared.told.Told.{Told}
+use Rattle.is_agent.specs.Agent.{AgentRecord}
+
+abbrev pub record_of : {H P : Type 0} → code.Agent H P → AgentRecord H P
+record_of a = record {
+  provider = a.provider;
+  preference = a.preference;
+  local_creds = a.local_creds;
+  remote_creds = a.remote_creds;
+  controlling = a.controlling;
+  tie_breaker = a.tie_breaker;
+  local = a.local.items;
+  remote = a.remote.items;
+  pairs = a.pairs.items;
+  next_number = a.next_number;
+  packets = map packet_of a.packets.items;
+  events = a.events.items;
+  seen = a.seen.items;
+  stats = a.stats;
+}
+
+-- what the last packet made the agent issue and announce
+abbrev pub told_of : {H P : Type 0} → code.Agent H P → Told
+told_of a = a.told
+
+-- the record of what a constructor made
+abbrev pub made : {H P : Type 0} → Result (code.Agent H P) IceError → Result (AgentRecord H P) IceError
+made (Ok a) = Ok (record_of a)
+made (Err e) = Err e

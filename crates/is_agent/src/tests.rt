@@ -1,0 +1,64 @@
+//! An agent as its user meets it.
+
+mod candidates;
+mod credentials;
+mod memory;
+mod requests;
+
+use crate::event::IceAgentEvent;
+use crate::{IceAgent, IceCreds};
+use is_candidate::Candidate;
+use is_proto::{DefaultSha1HmacProvider, IceError, Instant, Protocol, Text};
+use is_stun::stun::{StunMessage, StunPacket};
+use std::alloc::{AllocError, Global};
+use std::test::Fail;
+
+/// A Binding request of 100 bytes: user name `p9KA:SQAt`, network cost (1, 10), controlling, USE-CANDIDATE, priority
+/// 1853824767, signed with `xJcE9AQAR7kczUDVOXRUCl`.
+const REQUEST: [u8; 100] = [
+    0x00, 0x01, 0x00, 0x50, 0x21, 0x12, 0xa4, 0x42, 0x6a, 0x75, 0x63, 0x31, 0x35, 0x75, 0x78, 0x55,
+    0x6e, 0x67, 0x47, 0x63, 0x00, 0x06, 0x00, 0x09, 0x70, 0x39, 0x4b, 0x41, 0x3a, 0x53, 0x51, 0x41,
+    0x74, 0x00, 0x00, 0x00, 0xc0, 0x57, 0x00, 0x04, 0x00, 0x01, 0x00, 0x0a, 0x80, 0x2a, 0x00, 0x08,
+    0x6e, 0xee, 0xc6, 0xe9, 0x7d, 0x18, 0x39, 0x5c, 0x00, 0x25, 0x00, 0x00, 0x00, 0x24, 0x00, 0x04,
+    0x6e, 0x7f, 0x1e, 0xff, 0x00, 0x08, 0x00, 0x14, 0x5d, 0x04, 0x25, 0xa0, 0x20, 0x7a, 0xb1, 0xe0,
+    0x54, 0x10, 0x22, 0x99, 0xaa, 0xf9, 0x83, 0x9c, 0xa0, 0x76, 0xc6, 0xd5, 0x80, 0x28, 0x00, 0x04,
+    0x36, 0x0e, 0x21, 0x9f,
+];
+
+const PASSWORD: &str = "xJcE9AQAR7kczUDVOXRUCl";
+
+/// What a success reply to the request from 10.0.0.2:2000 begins with: 64 bytes in all, the id, the mapped address and
+/// the header of the integrity.
+const REPLY: [u8; 36] = [
+    0x01, 0x01, 0x00, 0x2c, 0x21, 0x12, 0xa4, 0x42, 0x6a, 0x75, 0x63, 0x31, 0x35, 0x75, 0x78, 0x55,
+    0x6e, 0x67, 0x47, 0x63, 0x00, 0x20, 0x00, 0x08, 0x00, 0x01, 0x26, 0xc2, 0x2b, 0x12, 0xa4, 0x40,
+    0x00, 0x08, 0x00, 0x14,
+];
+
+type Agent = IceAgent<DefaultSha1HmacProvider>;
+
+fn creds(alloc: Global, ufrag: &str, pass: &str) -> Result<IceCreds, AllocError> {
+    Ok(IceCreds {
+        ufrag: Text::from_str(alloc, ufrag)?,
+        pass: Text::from_str(alloc, pass)?,
+    })
+}
+
+/// The agent that the request is for, under other names where they are given.
+fn agent_of(alloc: Global, ufrag: &str, pass: &str, peer: &str) -> Result<Agent, Fail> {
+    let mut agent = Agent::new(alloc, creds(alloc, ufrag, pass)?, 1)?;
+    agent.set_remote_credentials(creds(alloc, peer, "x")?)?;
+    let host = Candidate::host(alloc, "10.0.0.1:1000".parse()?, Protocol::Udp)?;
+    let _ = agent.add_local_candidate(host)?;
+    Ok(agent)
+}
+
+/// The request from 10.0.0.2:2000 to the address.
+fn request_to(destination: &str) -> Result<StunPacket<'static>, Fail> {
+    Ok(StunPacket {
+        proto: Protocol::Udp,
+        source: "10.0.0.2:2000".parse()?,
+        destination: destination.parse()?,
+        message: StunMessage::parse(&REQUEST)?,
+    })
+}
