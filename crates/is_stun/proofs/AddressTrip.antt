@@ -10,7 +10,7 @@ use Rattle.std.specs.declared.net.socket_addr.SocketAddr.{SocketAddr}
 use Rattle.std.specs.declared.net.socket_addr.SocketAddr.TheVariants.{V4, V6}
 use Rattle.std.specs.declared.net.socket_addr.SocketAddrV4.{SocketAddrV4}
 use Rattle.std.specs.declared.net.socket_addr.SocketAddrV6.{SocketAddrV6}
-use Rattle.is_stun.specs.declared.numbers.TheConstants.{MAGIC, PORT_MASK}
+use Rattle.is_stun.specs.Numbers.{MAGIC, PORT_MASK}
 use Rattle.is_stun.specs.Address.{xor_address, address_in, mask_of, ipv4_socket, ipv6_socket}
 use Rattle.is_stun.specs.Laws.{IsId, IsPlainAddress}
 use Rattle.is_stun.proofs.AddressLemmas.{ipv4_socket-is, ipv6_socket-is}

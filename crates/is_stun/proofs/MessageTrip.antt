@@ -3,7 +3,7 @@ use Rattle.std.proofs.Common.{◌≡◌, ℕ, ◌+◌, ◌^◌, ◌<◌, ◌≤�
 use Rattle.std.specs.Prelude.{IsSomeAnd, is_none, bit_xor}
 use Rattle.std.specs.Int.{w32, to_be_bytes}
 use Rattle.std.proofs.lemmas.Bool.{ltb-false}
-use Rattle.is_stun.specs.declared.numbers.TheConstants.{FINGERPRINT_MASK}
+use Rattle.is_stun.specs.Numbers.{FINGERPRINT_MASK}
 use Rattle.is_stun.specs.declared.header.Class.{Class}
 use Rattle.is_stun.specs.declared.header.Class.TheVariants as classes
 use Rattle.is_stun.specs.declared.header.Method.{Method}

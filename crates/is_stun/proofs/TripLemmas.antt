@@ -9,7 +9,7 @@ use Rattle.std.proofs.lemmas.Nat.{from_be_bytes-to_be_bytes_2}
 use Rattle.std.specs.Prelude.{is_some, option_and_then}
 use Rattle.is_stun.specs.Address.{address_in}
 use Rattle.is_proto.specs.declared.error.ParseFault.TheVariants.{LifetimeLength, PriorityLength, UseCandidateLength, ControlledLength, ControllingLength}
-use Rattle.is_stun.specs.declared.numbers.TheConstants.{MAGIC}
+use Rattle.is_stun.specs.Numbers.{MAGIC}
 use Rattle.is_stun.specs.Tlv.{Tlv, attribute_len, tlvs_behind, tlvs_of}
 use Rattle.is_stun.specs.Kinds.{value_fault, text, number, bytes_of_len, error_code, channel_number, network_cost}
 use Rattle.is_stun.specs.Message.{AttributesRecord}

@@ -7,7 +7,7 @@ use Rattle.std.specs.declared.net.socket_addr.SocketAddr.{SocketAddr}
 use Rattle.std.specs.declared.net.socket_addr.SocketAddr.TheVariants.{V4, V6}
 use Rattle.is_proto.specs.declared.error.ParseFault.{ParseFault}
 use Rattle.is_proto.specs.declared.error.ParseFault.TheVariants.{XorAddress}
-use Rattle.is_stun.specs.declared.numbers.TheConstants.{MAGIC, PORT_MASK}
+use Rattle.is_stun.specs.Numbers.{MAGIC, PORT_MASK}
 use Rattle.is_stun.specs.Tlv.{u16_of}
 
 -- what an IPv6 address is xored with: the magic cookie and the transaction id

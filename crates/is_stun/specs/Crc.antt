@@ -1,7 +1,7 @@
 -- CRC-32 (ISO-HDLC), bit by bit.
 use Rattle.std.specs.Prelude.{ℕ, zero, suc, ◌/◌, ◌%◌, List, [], ◌∷◌, bit_xor, ◌==◌, if◌then◌else◌}
 use Rattle.std.specs.List.{flat_map}
-use Rattle.is_stun.specs.declared.numbers.TheConstants.{CRC_POLYNOMIAL}
+use Rattle.is_stun.specs.Numbers.{CRC_POLYNOMIAL}
 
 -- the lowest bit is shifted out, and where it was set the polynomial is added
 abbrev pub shifted : ℕ → ℕ

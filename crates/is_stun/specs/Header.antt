@@ -3,7 +3,7 @@ use Rattle.std.specs.Prelude.{ℕ, ◌+◌, ◌%◌, not, List, [], ◌∷◌, �
 use Rattle.std.specs.Int.{w16, w32, from_be_bytes, to_be_bytes}
 use Rattle.is_proto.specs.declared.error.ParseFault.{ParseFault}
 use Rattle.is_proto.specs.declared.error.ParseFault.TheVariants.{TooShort, LengthUneven, LengthMismatch, Magic}
-use Rattle.is_stun.specs.declared.numbers.TheConstants.{HEADER_LEN, MAGIC}
+use Rattle.is_stun.specs.Numbers.{HEADER_LEN, MAGIC}
 use Rattle.is_stun.specs.declared.header.Class.{Class}
 use Rattle.is_stun.specs.declared.header.Class.TheVariants as classes
 use Rattle.is_stun.specs.declared.header.Method.{Method}

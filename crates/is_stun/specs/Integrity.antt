@@ -1,7 +1,7 @@
 -- MESSAGE-INTEGRITY (RFC 8489, section 14.5): where it stands, and what its MAC is of.
 use Rattle.std.specs.Prelude.{◌≡◌, ℕ, ◌+◌, ◌==◌, Bool, List, [], ◌∷◌, ◌++◌, take, drop, Option, Some, None, if◌then◌else◌, IsSomeAnd}
 use Rattle.std.specs.Int.{w16, to_be_bytes}
-use Rattle.is_stun.specs.declared.numbers.TheConstants.{MESSAGE_INTEGRITY, HEADER_LEN}
+use Rattle.is_stun.specs.Numbers.{MESSAGE_INTEGRITY, HEADER_LEN}
 use Rattle.is_stun.specs.Tlv.{Tlv, tlvs_of}
 use Rattle.is_stun.specs.Header.{body_of}
 use Rattle.is_stun.specs.Message.{Integrity, Message}

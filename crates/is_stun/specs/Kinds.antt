@@ -5,7 +5,7 @@ use Rattle.std.specs.Int.{Width, w32, w64, byte_len, from_be_bytes}
 use Rattle.std.specs.Str.{is_utf8}
 use Rattle.is_proto.specs.declared.error.ParseFault.{ParseFault}
 use Rattle.is_proto.specs.declared.error.ParseFault.TheVariants.{TextTooLong, TextNotUtf8, IntegrityLength, ErrorCodeLength, ErrorCodeTop, ErrorClass, ChannelLength, ChannelRange, LifetimeLength, PriorityLength, UseCandidateLength, FingerprintLength, ControlledLength, ControllingLength, XorAddress}
-use Rattle.is_stun.specs.declared.numbers.TheConstants.{USERNAME, MESSAGE_INTEGRITY, ERROR_CODE, CHANNEL_NUMBER, LIFETIME, XOR_PEER_ADDRESS, REALM, NONCE, XOR_RELAYED_ADDRESS, XOR_MAPPED_ADDRESS, SOFTWARE, PRIORITY, USE_CANDIDATE, FINGERPRINT, ICE_CONTROLLED, ICE_CONTROLLING, USERNAME_LIMIT, TEXT_LIMIT, INTEGRITY_LEN}
+use Rattle.is_stun.specs.Numbers.{USERNAME, MESSAGE_INTEGRITY, ERROR_CODE, CHANNEL_NUMBER, LIFETIME, XOR_PEER_ADDRESS, REALM, NONCE, XOR_RELAYED_ADDRESS, XOR_MAPPED_ADDRESS, SOFTWARE, PRIORITY, USE_CANDIDATE, FINGERPRINT, ICE_CONTROLLED, ICE_CONTROLLING, USERNAME_LIMIT, TEXT_LIMIT, INTEGRITY_LEN}
 use Rattle.is_stun.specs.Tlv.{u16_of}
 use Rattle.is_stun.specs.Address.{is_ipv4_value, is_ipv6_value}
 

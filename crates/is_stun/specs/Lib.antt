@@ -1,3 +1,4 @@
+pub mod Numbers
 pub mod Tlv
 pub mod TlvView
 pub mod Header

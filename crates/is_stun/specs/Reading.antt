@@ -7,7 +7,7 @@ use Rattle.is_proto.specs.declared.error.ParseFault.{ParseFault}
 use Rattle.is_proto.specs.declared.error.ParseFault.TheVariants.{AttributeLength, LifetimeLength, PriorityLength, UseCandidateLength, FingerprintLength, ControlledLength, ControllingLength, NoIntegrityReply, NoMappedAddress, NoIntegrityRequest, NoUsername, NoPriority}
 use Rattle.is_proto.specs.declared.error.StunError.{StunError}
 use Rattle.is_proto.specs.declared.error.StunError.TheVariants as errors
-use Rattle.is_stun.specs.declared.numbers.TheConstants.{USERNAME, ERROR_CODE, CHANNEL_NUMBER, LIFETIME, XOR_PEER_ADDRESS, DATA, REALM, NONCE, XOR_RELAYED_ADDRESS, XOR_MAPPED_ADDRESS, SOFTWARE, PRIORITY, USE_CANDIDATE, FINGERPRINT, ICE_CONTROLLED, ICE_CONTROLLING, NETWORK_COST, USERNAME_LIMIT, TEXT_LIMIT}
+use Rattle.is_stun.specs.Numbers.{USERNAME, ERROR_CODE, CHANNEL_NUMBER, LIFETIME, XOR_PEER_ADDRESS, DATA, REALM, NONCE, XOR_RELAYED_ADDRESS, XOR_MAPPED_ADDRESS, SOFTWARE, PRIORITY, USE_CANDIDATE, FINGERPRINT, ICE_CONTROLLED, ICE_CONTROLLING, NETWORK_COST, USERNAME_LIMIT, TEXT_LIMIT}
 use Rattle.is_stun.specs.declared.header.Class.{Class}
 use Rattle.is_stun.specs.declared.header.Class.TheVariants.{Request, Success}
 use Rattle.is_stun.specs.declared.header.Method.{Method}

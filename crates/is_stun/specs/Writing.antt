@@ -3,7 +3,7 @@ use Rattle.std.specs.Prelude.{◌≡◌, ℕ, ◌+◌, ◌-◌, ◌<◌, ◌≤�
 use Rattle.std.specs.List.{flat_map}
 use Rattle.std.specs.Option.{option_map, option_or}
 use Rattle.std.specs.Int.{w16, w32, w64, to_be_bytes}
-use Rattle.is_stun.specs.declared.numbers.TheConstants.{USERNAME, ICE_CONTROLLED, ICE_CONTROLLING, PRIORITY, XOR_MAPPED_ADDRESS, USE_CANDIDATE, DATA, XOR_RELAYED_ADDRESS, XOR_PEER_ADDRESS, CHANNEL_NUMBER, LIFETIME, REALM, NONCE, ERROR_CODE, SOFTWARE, NETWORK_COST, MESSAGE_INTEGRITY, FINGERPRINT, WRITTEN_TEXT_LIMIT, DATA_LIMIT, FINGERPRINT_MASK, HEADER_LEN}
+use Rattle.is_stun.specs.Numbers.{USERNAME, ICE_CONTROLLED, ICE_CONTROLLING, PRIORITY, XOR_MAPPED_ADDRESS, USE_CANDIDATE, DATA, XOR_RELAYED_ADDRESS, XOR_PEER_ADDRESS, CHANNEL_NUMBER, LIFETIME, REALM, NONCE, ERROR_CODE, SOFTWARE, NETWORK_COST, MESSAGE_INTEGRITY, FINGERPRINT, WRITTEN_TEXT_LIMIT, DATA_LIMIT, FINGERPRINT_MASK, HEADER_LEN}
 use Rattle.is_proto.specs.declared.error.StunError.{StunError}
 use Rattle.is_proto.specs.declared.error.StunError.TheVariants.{UnknownMethod, ValueTooLong, BadErrorCode, MessageTooLong, BufferTooShort}
 use Rattle.is_stun.specs.declared.header.Method.{Method}

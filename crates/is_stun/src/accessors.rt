@@ -28,60 +28,66 @@ impl<'a> StunMessage<'a> {
         self.class
     }
 
+    fn is(&self, method: Method, class: Class) -> bool
+        ensures { IsTrue result ↔ (((message_view self.now).method ≡ method) × ((message_view self.now).class ≡ class)) }
+    {
+        method == self.method && class == self.class
+    }
+
     /// A connectivity check, or a STUN client's question for its address.
     pub fn is_binding_request(&self) -> bool
         ensures { IsTrue result ↔ (((message_view self.now).method ≡ methods.Binding) × ((message_view self.now).class ≡ classes.Request)) }
     {
-        self.method == Method::Binding && self.class == Class::Request
+        self.is(Method::Binding, Class::Request)
     }
 
     /// A success answer to a Binding request.
     pub fn is_successful_binding_response(&self) -> bool
         ensures { IsTrue result ↔ (((message_view self.now).method ≡ methods.Binding) × ((message_view self.now).class ≡ classes.Success)) }
     {
-        self.method == Method::Binding && self.class == Class::Success
+        self.is(Method::Binding, Class::Success)
     }
 
     /// An error answer to a Binding request.
     pub fn is_failed_binding_response(&self) -> bool
         ensures { IsTrue result ↔ (((message_view self.now).method ≡ methods.Binding) × ((message_view self.now).class ≡ classes.Failure)) }
     {
-        self.method == Method::Binding && self.class == Class::Failure
+        self.is(Method::Binding, Class::Failure)
     }
 
     /// A TURN client asks for a relayed address (RFC 8656, section 7).
     pub fn is_allocate_request(&self) -> bool
         ensures { IsTrue result ↔ (((message_view self.now).method ≡ methods.Allocate) × ((message_view self.now).class ≡ classes.Request)) }
     {
-        self.method == Method::Allocate && self.class == Class::Request
+        self.is(Method::Allocate, Class::Request)
     }
 
     /// A TURN client permits peers (RFC 8656, section 10).
     pub fn is_create_permission_request(&self) -> bool
         ensures { IsTrue result ↔ (((message_view self.now).method ≡ methods.CreatePermission) × ((message_view self.now).class ≡ classes.Request)) }
     {
-        self.method == Method::CreatePermission && self.class == Class::Request
+        self.is(Method::CreatePermission, Class::Request)
     }
 
     /// A TURN client binds a channel to a peer (RFC 8656, section 12).
     pub fn is_channel_bind_request(&self) -> bool
         ensures { IsTrue result ↔ (((message_view self.now).method ≡ methods.ChannelBind) × ((message_view self.now).class ≡ classes.Request)) }
     {
-        self.method == Method::ChannelBind && self.class == Class::Request
+        self.is(Method::ChannelBind, Class::Request)
     }
 
     /// A TURN client refreshes its allocation (RFC 8656, section 8).
     pub fn is_refresh_request(&self) -> bool
         ensures { IsTrue result ↔ (((message_view self.now).method ≡ methods.Refresh) × ((message_view self.now).class ≡ classes.Request)) }
     {
-        self.method == Method::Refresh && self.class == Class::Request
+        self.is(Method::Refresh, Class::Request)
     }
 
     /// A TURN client sends data to a peer (RFC 8656, section 11).
     pub fn is_send_indication(&self) -> bool
         ensures { IsTrue result ↔ (((message_view self.now).method ≡ methods.Send) × ((message_view self.now).class ≡ classes.Indication)) }
     {
-        self.method == Method::Send && self.class == Class::Indication
+        self.is(Method::Send, Class::Indication)
     }
 
     /// The transaction id, which an answer has in common with its request.

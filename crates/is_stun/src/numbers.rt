@@ -38,7 +38,7 @@ pub(crate) const XOR_RELAYED_ADDRESS: u16 = 0x0016;
 
 pub(crate) const XOR_MAPPED_ADDRESS: u16 = 0x0020;
 
-/// SOFTWARE stands at 0x8022 in the registry; this number is what the attribute is read and written by here.
+/// SOFTWARE is read and written by this type; the one of RFC 8489, 0x8022, is skipped as types are that nobody knows.
 pub(crate) const SOFTWARE: u16 = 0x0022;
 
 pub(crate) const PRIORITY: u16 = 0x0024;

@@ -39,13 +39,13 @@ pub(crate) fn last_before_integrity(body: &[u8], code: u16) -> Option<&[u8]>
 pub(crate) fn last_anywhere(body: &[u8], code: u16) -> Option<&[u8]>
     ensures { option_copied result ≡ last_of code (tlvs_of body.now) }
 {
-    let mut last = None;
+    let mut found = None;
     for tlv in Tlvs::new(body) {
         if counts(code, &tlv) {
-            last = Some(tlv.value);
+            found = Some(tlv.value);
         }
     }
-    last
+    found
 }
 
 pub(crate) fn first_integrity(body: &[u8]) -> Option<Tlv<'_>>
