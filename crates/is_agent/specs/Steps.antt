@@ -40,6 +40,10 @@ pub data Answer : Type 0 where
   Wake : Option ℕ → Answer
   Unparsed : ParseFault → Answer
   Refused : IceError → Answer
+  -- of calls that were not made, which are no steps
+  NotCalled : Answer
+  NotInWorld : Answer
+  NoSuchPacket : Answer
 
 -- the answer, and what was told
 pub record Entry : Type 0 where

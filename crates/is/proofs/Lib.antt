@@ -1,0 +1,5 @@
+mod Logs
+mod Addresses
+mod Served
+mod AcceptedLemmas
+mod RepliesLemmas

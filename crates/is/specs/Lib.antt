@@ -1,0 +1,22 @@
+-- What contracts cite, and the definitions that they pass on from the crates below.
+pub mod Views
+pub mod Log
+pub mod Accepted
+pub mod Replies
+pub use Rattle.is_proto.specs.Moments
+pub use Rattle.is_proto.specs.Packets
+pub use Rattle.is_proto.specs.Words
+pub use Rattle.is_proto.specs.Sockets
+pub use Rattle.is_proto.specs.Macs
+pub use Rattle.is_proto.specs.Hmac
+pub use Rattle.is_stun.specs.Message
+pub use Rattle.is_stun.specs.MessageView
+pub use Rattle.is_stun.specs.Reading
+pub use Rattle.is_stun.specs.Integrity
+pub use Rattle.is_stun.specs.Writing
+pub use Rattle.is_candidate.specs.Candidates
+pub use Rattle.is_agent.specs.Agent
+pub use Rattle.is_agent.specs.View
+pub use Rattle.is_agent.specs.Accepting
+pub use Rattle.is_agent.specs.Serving
+pub use Rattle.is_agent.specs.Steps

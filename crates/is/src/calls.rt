@@ -1,0 +1,82 @@
+//! Calls of an agent as values, and what becomes of each.
+use is_agent::told::{Issued, Path};
+use is_agent::{IceAgentEvent, IceCreds};
+use is_candidate::{Candidate, LocalPreference};
+use is_proto::{IceError, Instant, ParseFault, Protocol, Transmit};
+use std::net::SocketAddr;
+
+/// A call of an `IceAgent`.
+pub type Call = AgentCall<Box<dyn LocalPreference>>;
+
+/// A call that can change an agent: one variant for each, with the call's arguments. Local candidates may be preferred
+/// by an object of `P`.
+#[derive(Drop)]
+pub enum AgentCall<P> {
+    /// `set_local_preference`, which answers `Done`.
+    SetLocalPreference(P),
+    /// `set_remote_credentials`, which answers `Done`.
+    SetRemoteCredentials(IceCreds),
+    /// `add_local_candidate`, which answers `Added` or `NotAdded`.
+    AddLocalCandidate(Candidate),
+    /// `handle_packet` of the message that the bytes read as, which answers `Flag`; `Unparsed` where they read as none.
+    Packet {
+        /// When the packet came.
+        now: Instant,
+        /// The protocol that it came over.
+        proto: Protocol,
+        /// Where it came from.
+        source: SocketAddr,
+        /// The local address that it came to.
+        destination: SocketAddr,
+        /// The whole packet, as it came.
+        bytes: Vec<u8>,
+    },
+    /// `poll_transmit`, which answers `Transmit`.
+    PollTransmit,
+    /// `poll_timeout`, which answers `Wake`.
+    PollTimeout,
+    /// `poll_event`, which answers `Event`.
+    PollEvent,
+}
+
+/// What a call answered.
+#[derive(Debug, PartialEq, Eq, Drop)]
+pub enum Answer {
+    /// A call that has no more to say was done.
+    Done,
+    /// The local candidate was added.
+    Added,
+    /// The local candidate was not added.
+    NotAdded,
+    /// The truth value of the call: of a packet, whether it was accepted.
+    Flag(bool),
+    /// The packet to send next, if there is one.
+    Transmit(Option<Transmit>),
+    /// The next event, if there is one.
+    Event(Option<IceAgentEvent>),
+    /// The moment at which the agent wants to be called, if there is one.
+    Wake(Option<Instant>),
+    /// The bytes are no STUN message, by their first fault. Nothing was changed.
+    Unparsed(ParseFault),
+    /// The call was refused. Nothing was changed.
+    Refused(IceError),
+    /// The call breaks a condition of the agent, and was not made.
+    NotCalled,
+    /// The call has no place in a world of agents, and was not made.
+    NotInWorld,
+    /// There is no packet of this number, and nothing was done.
+    NoSuchPacket,
+}
+
+/// What became of one call.
+#[derive(Debug, PartialEq, Eq, Drop)]
+pub struct Entry {
+    /// The place of the call in the list, from 0.
+    pub number: usize,
+    /// What the call answered.
+    pub answer: Answer,
+    /// The packet that the call issued: `poll_transmit` hands it out behind those that were issued before it.
+    pub issued: Option<Issued>,
+    /// The paths that the call announced by `NominatedSend`, in order.
+    pub announced: [Option<Path>; 2],
+}

@@ -1,0 +1,47 @@
+//! An ICE agent (RFC 8445) that is proved. It has no sockets, no clock, no threads and no random source of its own: the
+//! caller hands in moments, candidates, packets and random words, and takes out packets, events and the next moment.
+//!
+//! A session is a loop over an [`IceAgent`]: `handle_packet` for each packet that came, then `poll_transmit` and
+//! `poll_event` until each gives nothing, and `poll_timeout` for when to come back. [`run`] makes a whole list of such
+//! calls, with packets as raw bytes, and logs what became of each.
+#![tactic(auto)]
+
+mod calls;
+mod runs;
+
+pub use calls::{AgentCall, Answer, Call, Entry};
+pub use is_agent::told::{Issued, Path};
+pub use is_agent::{IceAgent, IceAgentEvent, IceAgentStats, IceConnectionState, IceCreds};
+pub use is_candidate::{
+    Candidate, CandidateBuilder, CandidateKind, FnPreference, LocalPreference, PreferenceFunction,
+    default_local_preference,
+};
+pub use is_proto::{
+    DefaultSha1HmacProvider, Duration, IceError, Instant, ParseFault, Protocol, Sha1HmacProvider,
+    SocketText, StunError, TcpType, Text, Transmit,
+};
+pub use runs::{RunLog, run};
+
+/// The type states of `CandidateBuilder`.
+pub mod candidate {
+    pub use is_candidate::{HasProtocol, HasRoute, NoProtocol, NoRoute, Tcp, Udp};
+}
+
+/// Candidate pairs: the checks of one path.
+pub mod pair {
+    pub use is_pair::pair::{BindingAttempt, CandidatePair, CheckState, NominationState, PairId};
+}
+
+/// Candidate lines (RFC 5245, section 15.1).
+pub mod parse {
+    pub use is_candidate::parse::parse_candidate;
+}
+
+/// STUN messages (RFC 8489) and their timing.
+pub mod stun {
+    pub use is_proto::StunError;
+    pub use is_stun::stun::{
+        Attributes, Builder, Class, DEFAULT_MAX_RETRANSMITS, HasClass, HasMethod, Method, NoMethod,
+        StunMessage, StunMessageBuilder, StunPacket, StunTiming, TransId,
+    };
+}
