@@ -16,3 +16,7 @@ pub mod Serving
 pub mod Accepting
 pub mod Room
 pub mod Steps
+pub mod Effects
+pub mod EffectAddresses
+pub mod EffectServing
+pub mod EffectLaws

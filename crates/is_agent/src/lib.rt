@@ -7,6 +7,7 @@ pub mod accepting;
 pub mod agent;
 pub mod credentials;
 pub mod event;
+pub mod laws;
 pub mod local;
 mod pairs;
 pub mod places;

@@ -1,0 +1,63 @@
+-- The tests of addresses and protocols say equality.
+use Rattle.std.proofs.Common.{◌≡◌, ℕ, zero, suc, ◌==◌, ◌&&◌, Bool, true, false, List, bytes_eq, refl, ap, sym, ◌∙◌}
+use Rattle.std.proofs.lemmas.Bool.{eqb-true}
+use Rattle.std.proofs.lemmas.Slice.Eq.{bytes_eq-Decides}
+use Rattle.std.specs.declared.net.socket_addr.SocketAddrV4.{SocketAddrV4}
+use Rattle.std.specs.declared.net.socket_addr.SocketAddrV6.{SocketAddrV6}
+use Rattle.std.specs.declared.net.socket_addr.SocketAddr.{SocketAddr}
+use Rattle.std.specs.declared.net.socket_addr.SocketAddr.TheVariants.{V4, V6}
+use Rattle.std.specs.Net.Addr.{ipv4_octets, ipv6_segments}
+use Rattle.std.specs.Net.Socket.{v4_ip, v4_port, v6_ip, v6_port, v6_flowinfo, v6_scope_id}
+use Rattle.is_proto.specs.declared.proto.Protocol.{Protocol}
+use Rattle.is_proto.specs.declared.proto.Protocol.TheVariants.{Udp, Tcp, SslTcp, Tls}
+use Rattle.is_candidate.specs.Addresses.{protocol_number, same_protocol, same_address}
+
+-- two tests pass
+pub both : (a b : Bool) → (a && b) ≡ true → (a ≡ true) × (b ≡ true)
+both true b h = (refl, h)
+both false b h = absurd (cc)
+
+same_bytes : (a b : List ℕ) → bytes_eq a b ≡ true → a ≡ b
+same_bytes a b h = (bytes_eq-Decides a b).0 h
+
+v4 : (a b : SocketAddrV4) → ipv4_octets (v4_ip a) ≡ ipv4_octets (v4_ip b) → v4_port a ≡ v4_port b → a ≡ b
+v4 a b octets port =
+    ap (λ o. let x : SocketAddrV4 = record { ip = record { octets = o }; port = a.port } in x) octets
+    ∙ ap (λ p. let x : SocketAddrV4 = record { ip = record { octets = b.ip.octets }; port = p } in x) port
+
+v6 : (a b : SocketAddrV6) → ipv6_segments (v6_ip a) ≡ ipv6_segments (v6_ip b) → v6_port a ≡ v6_port b
+    → v6_flowinfo a ≡ v6_flowinfo b → v6_scope_id a ≡ v6_scope_id b → a ≡ b
+v6 a b segments port flow scope =
+    ap (λ o. let x : SocketAddrV6 = record { ip = record { segments = o }; port = a.port; flowinfo = a.flowinfo; scope_id = a.scope_id } in x) segments
+    ∙ ap (λ p. let x : SocketAddrV6 = record { ip = b.ip; port = p; flowinfo = a.flowinfo; scope_id = a.scope_id } in x) port
+    ∙ ap (λ f. let x : SocketAddrV6 = record { ip = b.ip; port = b.port; flowinfo = f; scope_id = a.scope_id } in x) flow
+    ∙ ap (λ i. let x : SocketAddrV6 = record { ip = b.ip; port = b.port; flowinfo = b.flowinfo; scope_id = i } in x) scope
+
+pub same_address-sound : (a b : SocketAddr) → same_address a b ≡ true → a ≡ b
+same_address-sound (V4 a) (V4 b) h =
+    let k = both (bytes_eq (ipv4_octets (v4_ip a)) (ipv4_octets (v4_ip b))) (v4_port a == v4_port b) h in
+    ap V4 (v4 a b (same_bytes _ _ k.0) (eqb-true _ _ k.1))
+same_address-sound (V6 a) (V6 b) h =
+    let k = both (bytes_eq (ipv6_segments (v6_ip a)) (ipv6_segments (v6_ip b)) && v6_port a == v6_port b && v6_flowinfo a == v6_flowinfo b) (v6_scope_id a == v6_scope_id b) h in
+    let l = both (bytes_eq (ipv6_segments (v6_ip a)) (ipv6_segments (v6_ip b)) && v6_port a == v6_port b) (v6_flowinfo a == v6_flowinfo b) k.0 in
+    let m = both (bytes_eq (ipv6_segments (v6_ip a)) (ipv6_segments (v6_ip b))) (v6_port a == v6_port b) l.0 in
+    ap V6 (v6 a b (same_bytes _ _ m.0) (eqb-true _ _ m.1) (eqb-true _ _ l.1) (eqb-true _ _ k.1))
+same_address-sound (V4 a) (V6 b) h = absurd (cc)
+same_address-sound (V6 a) (V4 b) h = absurd (cc)
+
+-- the protocol of a number
+numbered : ℕ → Protocol
+numbered zero = Udp
+numbered (suc zero) = Tcp
+numbered (suc (suc zero)) = SslTcp
+numbered (suc (suc (suc n))) = Tls
+
+numbered-is : (p : Protocol) → numbered (protocol_number p) ≡ p
+unfolding numbered
+numbered-is Udp = refl
+numbered-is Tcp = refl
+numbered-is SslTcp = refl
+numbered-is Tls = refl
+
+pub same_protocol-sound : (a b : Protocol) → same_protocol a b ≡ true → a ≡ b
+same_protocol-sound a b h = sym (numbered-is a) ∙ ap numbered (eqb-true (protocol_number a) (protocol_number b) h) ∙ numbered-is b
