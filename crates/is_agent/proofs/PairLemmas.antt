@@ -1,5 +1,5 @@
 -- Pairs that are looked for.
-use Rattle.std.proofs.Common.{if◌then◌else◌, ◌≡◌, ℕ, Bool, true, false, List, [], ◌∷◌, Option, Some, None, find, filter, inl, inr, refl, sym, ◌∙◌, ap}
+use Rattle.std.proofs.Common.{if◌then◌else◌, ◌≡◌, Bool, true, false, List, [], ◌∷◌, Some, None, find, filter, inl, inr, refl}
 use Rattle.is_proto.specs.Lists.{Has, NonePass}
 
 -- what is found is there and passes

@@ -1,5 +1,5 @@
 -- The priorities of local candidates stay below the greatest one.
-use Rattle.std.proofs.Common.{refl, ◌≡◌, ℕ, ◌+◌, ◌*◌, ◌-◌, ◌^◌, ◌<◌, ◌≤◌, Option, Some, None, List, arith}
+use Rattle.std.proofs.Common.{refl, ◌≡◌, ℕ, ◌<◌, ◌≤◌, Option, Some, None, List, arith}
 use Rattle.is_proto.specs.declared.proto.Protocol.{Protocol}
 use Rattle.is_proto.specs.declared.proto.Protocol.TheVariants.{Udp, Tcp, SslTcp, Tls}
 use Rattle.is_candidate.specs.declared.candidate.kind.CandidateKind.{CandidateKind}

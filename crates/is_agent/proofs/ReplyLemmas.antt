@@ -1,5 +1,5 @@
 -- A reply fits the room that is made for it.
-use Rattle.std.proofs.Common.{◌≡◌, ℕ, List, Option, Some, None, refl}
+use Rattle.std.proofs.Common.{◌≡◌, ℕ, List, Some, None, refl}
 use Rattle.std.specs.declared.net.socket_addr.SocketAddr.{SocketAddr}
 use Rattle.std.specs.declared.net.socket_addr.SocketAddr.TheVariants.{V4, V6}
 use Rattle.is_proto.specs.declared.error.StunError.{StunError}

@@ -1,5 +1,5 @@
 -- Which messages the agent accepts, and what becomes of a packet (RFC 8445, sections 7.2.5 and 7.3).
-use Rattle.std.specs.Prelude.{◌≡◌, ℕ, ◌&&◌, ◌==◌, Bool, true, false, List, [], ◌∷◌, ◌++◌, Option, Some, None, IfSome, IsSomeAnd, Result, Ok, Err, if◌then◌else◌}
+use Rattle.std.specs.Prelude.{◌≡◌, ℕ, ◌&&◌, Bool, true, false, List, [], ◌∷◌, ◌++◌, IfSome, IsSomeAnd, Result, Ok, Err, if◌then◌else◌}
 use Rattle.std.specs.List.{list_any}
 use Rattle.is_proto.specs.Moments.{counted}
 use Rattle.is_proto.specs.declared.error.IceError.{IceError}

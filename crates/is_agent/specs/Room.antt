@@ -1,5 +1,5 @@
 -- Room for what a packet can add.
-use Rattle.std.specs.Prelude.{ℕ, ◌<◌, ◌≡◌, vec_len, vec_capacity}
+use Rattle.std.specs.Prelude.{◌<◌, vec_len, vec_capacity}
 use Rattle.std.specs.VecDeque.{deque_len, deque_capacity}
 use Rattle.is_agent.specs.declared.agent.Agent.{Agent}
 

@@ -1,4 +1,3 @@
-use Rattle.std.proofs.Common.{◌<◌}
 use Rattle.is_agent.proofs.PriorityLemmas.{preferred-low}
 use Rattle.is_agent.proofs.local.as_own.Goals as goal
 

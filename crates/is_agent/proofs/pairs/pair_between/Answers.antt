@@ -1,4 +1,4 @@
-use Rattle.std.proofs.Common.{sym, ◌∙◌}
+use Rattle.std.proofs.Common.{sym}
 use Rattle.is_agent.specs.Pairs.{is_between}
 use Rattle.is_agent.proofs.PairLemmas.{find-Some, find-None}
 use Rattle.is_agent.proofs.pairs.pair_between.Goals as goal

@@ -1,4 +1,4 @@
-use Rattle.std.proofs.Common.{ℕ, Option, Some, subst, sym, ap, ◌∙◌, ◌≡◌, false, true}
+use Rattle.std.proofs.Common.{ℕ, Option, subst, sym, ap, ◌∙◌, ◌≡◌}
 use Rattle.is_candidate.specs.Candidates.{candidate_at}
 use Rattle.is_candidate.specs.Priorities.{candidate_priority}
 use Rattle.is_agent.specs.RequestView.{request_view}

@@ -1,5 +1,5 @@
 -- `add_local_candidate` calls `lend_local`, and widens its error. Assumes `Logic`.
-use Rattle.std.proofs.Common.{◌≡◌, ℕ, List, [], ◌∷◌, ◌++◌, refl, sym, subst, Result, Ok, Err, Option}
+use Rattle.std.proofs.Common.{◌≡◌, List, [], ◌∷◌, ◌++◌, refl, sym, subst, Result, Option}
 use Rattle.std.specs.Bool.{⊤}
 use mathlib.Core.Option as maybe
 use seplogic.Ra.Ura.{Ura}
@@ -47,7 +47,6 @@ use Rattle.is_agent.specs.Lends.{EndsAs}
 use Rattle.is_agent.specs.Local.{LendsLocal, widened}
 use Rattle.is_candidate.specs.Candidates.{CandidateRecord}
 use Rattle.is_proto.specs.declared.error.IceError.{IceError}
-use Rattle.is_agent.specs.declared.local.Refusal.{Refusal}
 use Rattle.is_agent.specs.View.{record_of}
 use Rattle.is_agent.specs.contracts.agent.Agent.add_local_candidate as f
 use Rattle.is_agent.specs.contracts.agent.Agent.add_local_candidate.Key.{name as #self}
