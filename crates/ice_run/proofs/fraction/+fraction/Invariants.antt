@@ -1,0 +1,12 @@
+use Rattle.std.proofs.Common.{◌≡◌, List, ◌++◌, take}
+use Rattle.serde_json.specs.View.{items_view, members_view}
+use Rattle.serde_json.specs.Written.{items_have_float, members_have_float}
+use Rattle.serde_json.proofs.Views.{Entry}
+use Rattle.ice_run.proofs.fraction.+fraction.Given as goal
+
+abbrev pub invariant-items_hold_fraction-loop-item : goal.invariant-items_hold_fraction-loop-item
+invariant-items_hold_fraction-loop-item l = l.found ≡ items_have_float (items_view (take l.item-index l.item-items))
+
+abbrev pub invariant-members_hold_fraction-loop-key : goal.invariant-members_hold_fraction-loop-key
+invariant-members_hold_fraction-loop-key l =
+    (done : List Entry) × (l.members.entries ≡ done ++ l._key-iterator) × (l.found ≡ members_have_float (members_view done))

@@ -1,0 +1,63 @@
+//! Why a script ends before its last line.
+use std::alloc::{AllocError, AllocFailed};
+use std::{fmt, io};
+
+/// What is wrong with a line. The first that applies, in this order, is told.
+#[derive(Clone, Copy, Debug, PartialEq, Eq)]
+pub enum Fault {
+    /// No JSON object, a fraction anywhere in it, no text `call`, or an `on` that names no agent.
+    NotAScriptLine,
+    /// `call` is no word of the table.
+    UnknownCall,
+    /// No agent was made on this side.
+    NoAgent,
+    /// The first field of the call, in the table's order, that is not there.
+    Missing(&'static str),
+    /// The first field of the call, in the table's order, whose value is none of its kind.
+    Bad(&'static str),
+}
+
+impl fmt::Display for Fault {
+    fn fmt<W: fmt::Write>(&self, f: &mut fmt::Formatter<W>) -> fmt::Result {
+        match self {
+            Fault::NotAScriptLine => f.write_str("not a script line"),
+            Fault::UnknownCall => f.write_str("unknown call"),
+            Fault::NoAgent => f.write_str("no agent"),
+            Fault::Missing(field) => write!(f, "missing {field}"),
+            Fault::Bad(field) => write!(f, "bad {field}"),
+        }
+    }
+}
+
+/// Why no further line is taken.
+#[derive(Clone, Copy, Debug, PartialEq, Eq)]
+pub enum Stop {
+    /// The line has this fault.
+    Line(Fault),
+    /// Memory was refused, a read or a write failed, or the input is too long or no UTF-8.
+    Broken,
+}
+
+impl From<Fault> for Stop {
+    fn from(fault: Fault) -> Stop {
+        Stop::Line(fault)
+    }
+}
+
+impl From<AllocError> for Stop {
+    fn from(_e: AllocError) -> Stop {
+        Stop::Broken
+    }
+}
+
+impl<T: Drop> From<AllocFailed<T>> for Stop {
+    fn from(_e: AllocFailed<T>) -> Stop {
+        Stop::Broken
+    }
+}
+
+impl From<io::Error> for Stop {
+    fn from(_e: io::Error) -> Stop {
+        Stop::Broken
+    }
+}

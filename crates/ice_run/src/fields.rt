@@ -1,0 +1,72 @@
+//! The fields of a script line, each read as what it stands for.
+use crate::fault::{Fault, Stop};
+use hex::FromHexError;
+use is::{Instant, Protocol, SocketText, Text};
+use serde_json::Value;
+use std::alloc::Global;
+use std::net::SocketAddr;
+
+/// The fields of a line. A field that is not there, or is none of the kind asked for, is `bad`.
+#[derive(Clone, Copy)]
+pub struct Fields<'a> {
+    object: &'a Value,
+}
+
+impl<'a> Fields<'a> {
+    /// The fields of the object, none of these missing.
+    pub fn of(object: &'a Value, names: &[&'static str]) -> Result<Fields<'a>, Fault> {
+        for name in names {
+            if object.get(*name).is_none() {
+                return Err(Fault::Missing(name));
+            }
+        }
+        Ok(Fields { object })
+    }
+
+    fn str_at(&self, name: &'static str) -> Result<&'a str, Fault> {
+        self.object
+            .get(name)
+            .and_then(Value::as_str)
+            .ok_or(Fault::Bad(name))
+    }
+
+    /// Any text.
+    pub fn text(&self, alloc: Global, name: &'static str) -> Result<Text, Stop> {
+        Ok(Text::from_str(alloc, self.str_at(name)?)?)
+    }
+
+    /// A whole number of 64 bits.
+    pub fn number(&self, name: &'static str) -> Result<u64, Fault> {
+        self.object
+            .get(name)
+            .and_then(Value::as_u64)
+            .ok_or(Fault::Bad(name))
+    }
+
+    /// A moment, in nanoseconds.
+    pub fn moment(&self, name: &'static str) -> Result<Instant, Fault> {
+        Ok(Instant(self.number(name)?))
+    }
+
+    /// The word of a protocol, in either case.
+    pub fn protocol(&self, name: &'static str) -> Result<Protocol, Fault> {
+        Protocol::from_text(self.str_at(name)?).ok_or(Fault::Bad(name))
+    }
+
+    /// `IPv4:port` or `[IPv6]:port`.
+    pub fn socket(&self, name: &'static str) -> Result<SocketAddr, Fault> {
+        match SocketText::from_text(self.str_at(name)?) {
+            Some(SocketText(address)) => Ok(address),
+            None => Err(Fault::Bad(name)),
+        }
+    }
+
+    /// Bytes as two digits each, in either case.
+    pub fn bytes(&self, alloc: Global, name: &'static str) -> Result<Vec<u8>, Stop> {
+        match hex::decode(alloc, self.str_at(name)?) {
+            Ok(bytes) => Ok(bytes),
+            Err(FromHexError::OutOfMemory) => Err(Stop::Broken),
+            Err(_) => Err(Stop::Line(Fault::Bad(name))),
+        }
+    }
+}

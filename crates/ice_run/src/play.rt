@@ -1,0 +1,212 @@
+//! A script over any reader and two writers.
+use crate::counter::Counter;
+use crate::fault::{Fault, Stop};
+use crate::print::{AnswerText, EventText, HexText, WakeText};
+use crate::script::{ScriptCall, ScriptLine, Side, read_script};
+use is::{
+    Answer, Call, Candidate, DefaultSha1HmacProvider, IceAgent, IceCreds, IceError, SocketText, run,
+};
+use std::alloc::Global;
+use std::io::{Read, Write};
+
+#[cfg(test)]
+mod tests;
+
+type Agent = IceAgent<DefaultSha1HmacProvider>;
+
+/// Plays a script, and gives the exit status: 0 where every line was taken; 1 where one could not be,
+/// whose number and fault are then written to `errors`; 2 where memory was refused, where a read or a
+/// write failed, or where the input is longer than 16777216 bytes or no UTF-8.
+///
+/// The whole input is read before the first line is taken.
+pub fn play<R: Read, W: Write, E: Write>(
+    alloc: Global,
+    input: &mut R,
+    output: &mut W,
+    errors: &mut E,
+) -> u8 {
+    let Ok(text) = read_script(alloc, input) else {
+        return 2;
+    };
+    let mut agents = Agents { a: None, b: None };
+    let mut shared = Shared {
+        random: Counter::new(),
+        sent: 0,
+    };
+    let mut number = 0u64;
+    for line in text.as_str().split('\n') {
+        number = number.saturating_add(1);
+        match play_line(alloc, line, &mut agents, &mut shared, output) {
+            Ok(()) => {}
+            Err(Stop::Broken) => return 2,
+            Err(Stop::Line(fault)) => {
+                return match writeln!(errors, "line {number}: {fault}") {
+                    Ok(()) => 1,
+                    Err(_) => 2,
+                };
+            }
+        }
+    }
+    0
+}
+
+/// The agents of a script, each from the line on that makes it.
+#[derive(Drop)]
+struct Agents {
+    a: Option<Agent>,
+    b: Option<Agent>,
+}
+
+/// What the agents share.
+#[derive(Drop)]
+struct Shared {
+    random: Counter,
+    /// How many packets both agents sent.
+    sent: u64,
+}
+
+fn play_line<W: Write>(
+    alloc: Global,
+    text: &str,
+    agents: &mut Agents,
+    shared: &mut Shared,
+    output: &mut W,
+) -> Result<(), Stop> {
+    if text.is_empty() {
+        return Ok(());
+    }
+    let line = ScriptLine::read(alloc, text)?;
+    match line.side {
+        Side::A => play_on(alloc, &line, &mut agents.a, shared, output),
+        Side::B => play_on(alloc, &line, &mut agents.b, shared, output),
+    }
+}
+
+/// Plays a line on the agent that it names.
+fn play_on<W: Write>(
+    alloc: Global,
+    line: &ScriptLine,
+    agent: &mut Option<Agent>,
+    shared: &mut Shared,
+    output: &mut W,
+) -> Result<(), Stop> {
+    if agent.is_none() && !line.makes_agent() {
+        return Err(Stop::Line(Fault::NoAgent));
+    }
+    let call = line.call(alloc)?;
+    let answer = answer(alloc, agent, call, &mut shared.random)?;
+    let answer = AnswerText(&answer);
+    writeln!(output, "{} {} {answer}", line.side, line.word())?;
+    match agent {
+        Some(agent) => poll(line.side, agent, &mut shared.sent, output),
+        None => Ok(()),
+    }
+}
+
+fn answer(
+    alloc: Global,
+    agent: &mut Option<Agent>,
+    call: ScriptCall,
+    random: &mut Counter,
+) -> Result<Answer, Stop> {
+    match call {
+        ScriptCall::Agent {
+            ufrag,
+            pass,
+            tie_breaker,
+        } => make(alloc, agent, IceCreds { ufrag, pass }, tie_breaker),
+        ScriptCall::Remote { ufrag, pass } => {
+            let creds = IceCreds { ufrag, pass };
+            make_call(alloc, agent, Call::SetRemoteCredentials(creds), random)
+        }
+        ScriptCall::Host { addr, proto } => match Candidate::host(alloc, addr, proto) {
+            Ok(candidate) => { make_call(alloc, agent, Call::AddLocalCandidate(candidate), random) }
+            Err(error) => refused(error),
+        },
+        ScriptCall::Packet {
+            now,
+            proto,
+            source,
+            destination,
+            bytes,
+        } => {
+            let packet = Call::Packet {
+                now,
+                proto,
+                source,
+                destination,
+                bytes,
+            };
+            make_call(alloc, agent, packet, random)
+        }
+    }
+}
+
+/// Makes or replaces an agent. A refusal leaves the one that was there.
+fn make(
+    alloc: Global,
+    agent: &mut Option<Agent>,
+    creds: IceCreds,
+    tie_breaker: u64,
+) -> Result<Answer, Stop> {
+    match Agent::new(alloc, creds, tie_breaker) {
+        Ok(made) => {
+            *agent = Some(made);
+            Ok(Answer::Done)
+        }
+        Err(error) => refused(error),
+    }
+}
+
+/// Makes one call of the agent.
+fn make_call(
+    alloc: Global,
+    agent: &mut Option<Agent>,
+    call: Call,
+    random: &mut Counter,
+) -> Result<Answer, Stop> {
+    let Some(agent) = agent else {
+        return Err(Stop::Line(Fault::NoAgent));
+    };
+    let mut log = run(agent, vec![in alloc; call]?, random);
+    match log.entries.pop() {
+        Some(entry) => match entry.answer {
+            Answer::Refused(error) => refused(error),
+            answer => Ok(answer),
+        },
+        None => Err(Stop::Broken),
+    }
+}
+
+/// The answer of a refusal, but for want of memory, which ends the script.
+fn refused(error: IceError) -> Result<Answer, Stop> {
+    match error {
+        IceError::OutOfMemory => Err(Stop::Broken),
+        error => Ok(Answer::Refused(error)),
+    }
+}
+
+/// Prints what the agent has to hand out: packets, then events, then its wake-up.
+fn poll<W: Write>(
+    side: Side,
+    agent: &mut Agent,
+    sent: &mut u64,
+    output: &mut W,
+) -> Result<(), Stop> {
+    while let Some(packet) = agent.poll_transmit() {
+        let source = SocketText(packet.source);
+        let destination = SocketText(packet.destination);
+        let bytes = HexText(&packet.contents);
+        let proto = packet.proto;
+        writeln!(
+            output,
+            "{side} send {sent} {proto} {source} {destination} {bytes}"
+        )?;
+        *sent = sent.saturating_add(1);
+    }
+    while let Some(event) = agent.poll_event() {
+        writeln!(output, "{side} event {}", EventText(&event))?;
+    }
+    writeln!(output, "{side} wake {}", WakeText(agent.poll_timeout()))?;
+    Ok(())
+}

@@ -1,0 +1,83 @@
+//! What a script prints: answers, packets, events and wake-ups, each as one line's text.
+use is::{Answer, IceAgentEvent, IceError, Instant, SocketText};
+use std::fmt;
+
+/// The name of a refusal.
+fn refusal_name(error: &IceError) -> &'static str {
+    match error {
+        IceError::BadCandidate(_) => "BadCandidate",
+        IceError::OutOfMemory => "OutOfMemory",
+        IceError::PairIdsExhausted => "PairIdsExhausted",
+        IceError::MtuTooSmall => "MtuTooSmall",
+        IceError::CredentialsTooLong => "CredentialsTooLong",
+        IceError::PriorityTooHigh => "PriorityTooHigh",
+    }
+}
+
+/// A call's answer. What only polls answer is printed in lines of its own.
+#[derive(Clone, Copy)]
+pub struct AnswerText<'a>(pub &'a Answer);
+
+impl fmt::Display for AnswerText<'_> {
+    fn fmt<W: fmt::Write>(&self, f: &mut fmt::Formatter<W>) -> fmt::Result {
+        match self.0 {
+            Answer::Done => f.write_str("ok"),
+            Answer::Added => f.write_str("added"),
+            Answer::NotAdded => f.write_str("none"),
+            Answer::Flag(flag) => write!(f, "{flag}"),
+            Answer::Unparsed(fault) => write!(f, "unparsed {fault:?}"),
+            Answer::Refused(error) => write!(f, "refused {}", refusal_name(error)),
+            _ => Ok(()),
+        }
+    }
+}
+
+/// Bytes as two digits each, in lower case.
+#[derive(Clone, Copy)]
+pub struct HexText<'a>(pub &'a [u8]);
+
+impl fmt::Display for HexText<'_> {
+    fn fmt<W: fmt::Write>(&self, f: &mut fmt::Formatter<W>) -> fmt::Result {
+        for byte in self.0 {
+            write!(f, "{byte:02x}")?;
+        }
+        Ok(())
+    }
+}
+
+/// An event by its word and what it names.
+#[derive(Clone, Copy)]
+pub struct EventText<'a>(pub &'a IceAgentEvent);
+
+impl fmt::Display for EventText<'_> {
+    fn fmt<W: fmt::Write>(&self, f: &mut fmt::Formatter<W>) -> fmt::Result {
+        match self.0 {
+            IceAgentEvent::IceRestart(creds) => write!(f, "restart {} {}", creds.ufrag, creds.pass),
+            IceAgentEvent::IceConnectionStateChange(state) => write!(f, "state {state:?}"),
+            IceAgentEvent::DiscoveredRecv { proto, source } => {
+                write!(f, "discovered {proto} {}", SocketText(*source))
+            }
+            IceAgentEvent::NominatedSend {
+                proto,
+                source,
+                destination,
+            } => {
+                let source = SocketText(*source);
+                write!(f, "nominated {proto} {source} {}", SocketText(*destination))
+            }
+        }
+    }
+}
+
+/// When the agent wants to be called, in nanoseconds.
+#[derive(Clone, Copy)]
+pub struct WakeText(pub Option<Instant>);
+
+impl fmt::Display for WakeText {
+    fn fmt<W: fmt::Write>(&self, f: &mut fmt::Formatter<W>) -> fmt::Result {
+        match self.0 {
+            Some(Instant(nanoseconds)) => write!(f, "{nanoseconds}"),
+            None => f.write_str("none"),
+        }
+    }
+}
