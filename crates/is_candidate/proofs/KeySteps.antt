@@ -1,5 +1,5 @@
 -- One turn of the loop over the keys.
-use Rattle.std.proofs.Common.{◌≡◌, ℕ, zero, suc, ◌+◌, ◌<◌, List, [], ◌∷◌, length, map, drop, get_or, slice_get, None, Result, Ok, Err, sym, subst, arith}
+use Rattle.std.proofs.Common.{◌≡◌, ℕ, zero, suc, ◌+◌, ◌<◌, List, [], ◌∷◌, length, drop, get_or, slice_get, None, Ok, Err, sym, subst, arith}
 use Rattle.std.specs.Borrow.{Bor}
 use Rattle.std.specs.Option.{option_copied}
 use Rattle.is_candidate.specs.Lines.{Answer, Keys, ReadsKey, Then, ReadsKeys}

@@ -1,4 +1,4 @@
-use Rattle.std.proofs.Common.{ℕ, ◌-◌, length, drop}
+use Rattle.std.proofs.Common.{◌-◌, length, drop}
 use Rattle.std.specs.Option.{option_copied}
 use Rattle.is_candidate.specs.Lines.{Answer, Keys, ReadsKeys, no_keys}
 use Rattle.is_candidate.specs.Scanned.{texts}
