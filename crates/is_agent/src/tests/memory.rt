@@ -1,43 +1,59 @@
 //! A growth that is refused: run with each allocation failing in turn (`rt try --test --fail-alloc N`).
 
 use super::*;
+use crate::local::add_local;
+use std::net::{Ipv4Addr, SocketAddr, SocketAddrV4};
+use std::process::Abort;
 
-/// What the call gives, or gives the second time where memory was refused at first.
-macro_rules! twice {
-    ($call:expr) => {
-        match $call {
-            Ok(given) => given,
-            Err(_) => $call?,
-        }
+fn made(alloc: Global) -> Result<Agent, IceError> {
+    Agent::new(alloc, creds(alloc, "p9KA", PASSWORD)?, 1)
+}
+
+fn tell_peer(agent: &mut Agent, alloc: Global) -> Result<(), IceError> {
+    agent.set_remote_credentials(creds(alloc, "SQAt", "x")?)
+}
+
+fn add_host(agent: &mut Agent, alloc: Global) -> Result<Option<usize>, IceError> {
+    let addr = SocketAddr::V4(SocketAddrV4::new(Ipv4Addr::new(10, 0, 0, 1), 1000));
+    add_local(agent, Candidate::host(alloc, addr, Protocol::Udp)?)
+}
+
+/// The agent that the request is for; a call that is refused is made once more.
+fn patient(alloc: Global) -> Result<Agent, IceError> {
+    let mut agent = match made(alloc) {
+        Ok(agent) => agent,
+        Err(_) => made(alloc)?,
     };
+    if tell_peer(&mut agent, alloc).is_err() {
+        tell_peer(&mut agent, alloc)?;
+    }
+    if add_host(&mut agent, alloc).is_err() {
+        let _ = add_host(&mut agent, alloc)?;
+    }
+    Ok(agent)
+}
+
+/// Takes the packet; where memory is refused nothing has come of it, and it is taken once more.
+fn take(rt: &impl Abort, agent: &mut Agent, packet: StunPacket<'_>) -> Result<bool, IceError> {
+    match agent.handle_packet(Instant(0), packet) {
+        Ok(answer) => Ok(answer),
+        Err(error) => {
+            assert_eq!(rt; error, IceError::OutOfMemory);
+            assert!(rt; agent.poll_transmit().is_none());
+            assert!(rt; agent.poll_event().is_none());
+            agent.handle_packet(Instant(0), packet)
+        }
+    }
 }
 
 #[test]
 fn a_refused_call_can_be_made_again(rt: HostRuntime) -> Result<(), Fail> {
-    let alloc = rt.alloc();
-    let mut agent = twice!(Agent::new(alloc, twice!(creds(alloc, "p9KA", PASSWORD)), 1));
-    agent.set_remote_credentials(twice!(creds(alloc, "SQAt", "x")))?;
-    let place = twice!(crate::local::add_local(
-        &mut agent,
-        twice!(Candidate::host(alloc, "10.0.0.1:1000".parse()?, Protocol::Udp))
-    ));
-    assert_eq!(rt; place, Some(0));
-
-    let packet = request_to("10.0.0.1:1000")?;
-    let answer = match agent.handle_packet(Instant(0), packet) {
-        Ok(answer) => answer,
-        Err(error) => {
-            assert_eq!(rt; error, IceError::OutOfMemory);
-            assert!(rt; agent.poll_transmit().is_none());
-            assert_eq!(rt; agent.poll_event(), None);
-            agent.handle_packet(Instant(0), packet)?
-        }
-    };
-    assert!(rt; answer);
+    let mut agent = patient(rt.alloc())?;
+    assert!(rt; take(&rt, &mut agent, request_to("10.0.0.1:1000")?)?);
     let reply = agent.poll_transmit().ok_or("no reply")?;
     assert_eq!(rt; reply.contents.len(), 64);
     assert!(rt; reply.contents.starts_with(&REPLY));
     assert!(rt; agent.poll_event().is_some());
-    assert_eq!(rt; agent.poll_event(), None);
+    assert!(rt; agent.poll_event().is_none());
     Ok(())
 }
