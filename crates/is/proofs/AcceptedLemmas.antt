@@ -2,17 +2,16 @@
 use Rattle.std.proofs.Common.{◌≡◌, ℕ, Bool, true, false, List, Ok, Err, Result, inl, inr, ap, sym, ◌∙◌, subst}
 use Rattle.rand_core.specs.Stream.{Stream}
 use Rattle.is_proto.specs.declared.error.IceError.{IceError}
-use Rattle.is_proto.specs.declared.error.IceError.TheVariants.{OutOfMemory, PairIdsExhausted}
 use Rattle.is_stun.specs.Message.{Message}
 use Rattle.is_stun.specs.Reading.{Reads}
 use Rattle.is_candidate.specs.Candidates.{CandidateRecord}
 use Rattle.is_agent.specs.declared.told.Path.{Path}
 use Rattle.is_agent.specs.declared.told.Told.{Told}
 use Rattle.is_agent.specs.Agent.{AgentRecord}
-use Rattle.is_agent.specs.Accepting.{IsAccepted, MayRefusePacket, HandlesPacket}
-use Rattle.is_agent.specs.Steps.{Entry, Flag, Refused, answer_by, Receives, Step, ReceivePacket}
-use Rattle.is.specs.Log.{Logged, Point}
-use Rattle.is.specs.Accepted.{Accepts, IsSettled, PacketsAreSettled}
+use Rattle.is_agent.specs.Accepting.{IsAccepted, HandlesPacket}
+use Rattle.is_agent.specs.Steps.{Entry, Flag, answer_by, Receives, Step, ReceivePacket}
+use Rattle.is.specs.Log.{Logged}
+use Rattle.is.specs.Accepted.{IsSettled, PacketsAreSettled}
 
 module _ {H P : Type 0} (mac : H → List ℕ → List ℕ → List ℕ) where
   handled : (old new : AgentRecord H P) (now : ℕ) (way : Path) (bytes : List ℕ) (m : Message) (r : Result Bool IceError) (told : Told) (e : Entry)

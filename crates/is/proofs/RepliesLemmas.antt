@@ -24,7 +24,7 @@ use Rattle.is_agent.specs.Request as request
 use Rattle.is_agent.specs.Accepting.{IsAccepted, IsAcceptedAs, HandlesPacket}
 use Rattle.is_agent.specs.Steps as agent
 use Rattle.is_agent.specs.Steps.{Call, Entry, Receives, Step}
-use Rattle.is.specs.Log.{Logged, GivesCandidate, Run, Point}
+use Rattle.is.specs.Log.{Logged, GivesCandidate, Run}
 use Rattle.is.specs.Replies.{Appends, Queues, IssuesAreQueued, Transaction, request_of, request_in, requested_by, reply_of, replies, requests, AreAmong, IsFresh}
 use Rattle.is.proofs.Served.{TellsReply, serves}
 

@@ -1,6 +1,6 @@
 -- What serving a request tells: nothing, or the success reply on the way back.
-use Rattle.std.proofs.Common.{◌≡◌, ℕ, ◌<◌, ◌&&◌, Bool, true, false, not, List, [], ◌∷◌, ◌++◌, length, Option, Some, None, MatchBool, inl, inr, ◌⊎◌, refl, ap, sym, ◌∙◌, subst}
-use Rattle.std.specs.Prelude.{All, MatchOption, position, IsTrue}
+use Rattle.std.proofs.Common.{◌≡◌, ℕ, ◌<◌, Bool, true, false, not, List, [], ◌∷◌, ◌++◌, length, Option, Some, None, MatchBool, inl, inr, ◌⊎◌, refl, ap, ◌∙◌}
+use Rattle.std.specs.Prelude.{All, MatchOption, position}
 use Rattle.std.specs.Option.{option_or}
 use Rattle.std.proofs.lemmas.List.Elements.{All-get_or}
 use Rattle.std.proofs.lemmas.List.Quantifiers.{position-Some}
@@ -21,9 +21,9 @@ use Rattle.is_agent.specs.declared.told.Told.{Told}
 use Rattle.is_agent.specs.Told.{nothing_told, issued_alone, turned}
 use Rattle.is_agent.specs.Request.{RequestRecord}
 use Rattle.is_agent.specs.Agent.{AgentRecord}
-use Rattle.is_agent.specs.Places.{is_at, is_live, is_reached, first_place, local_place, is_sender, IsRemotePlace, place_by}
+use Rattle.is_agent.specs.Places.{is_at, is_live, is_reached, local_place, is_sender, IsRemotePlace, place_by}
 use Rattle.is_agent.specs.Forming.{formed, with_pair}
-use Rattle.is_agent.specs.Serving.{Drops, path_between, names_another, claims_own_role, request_counted, sender_candidate, with_sender, ServesPair, TakesAt, Joins, JoinsAt, Meets, Settles, ServesHere, Serves}
+use Rattle.is_agent.specs.Serving.{Drops, path_between, names_another, claims_own_role, request_counted, sender_candidate, with_sender, ServesPair, Joins, JoinsAt, Settles, Serves}
 use Rattle.is.proofs.Addresses.{both, same_address-sound, same_protocol-sound}
 
 -- what holds on either side of a test

@@ -9,7 +9,7 @@ use Rattle.is_candidate.specs.Candidates.{CandidateRecord}
 use Rattle.is_agent.specs.Agent.{AgentRecord}
 use Rattle.is_agent.specs.Accepting.{IsAccepted}
 use Rattle.is_agent.specs.Told.{nothing_told}
-use Rattle.is_agent.specs.Steps.{Call, ReceivePacket, Answer, Flag, Unparsed, Refused, Entry}
+use Rattle.is_agent.specs.Steps.{ReceivePacket, Answer, Flag, Unparsed, Refused, Entry}
 use Rattle.is.specs.Log.{Logged, Point}
 
 -- false, or that the bytes do not read
