@@ -14,3 +14,4 @@ pub mod Lines
 pub mod Faults
 pub mod Scanned
 pub mod Infos
+pub mod RoundTrips

@@ -14,6 +14,7 @@ pub mod json;
 pub mod kind;
 pub mod making;
 pub mod priority;
+pub mod round_trip;
 pub mod sdp;
 
 use is_proto::{IceError, Protocol, TcpType, Text};

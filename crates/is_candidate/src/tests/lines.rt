@@ -71,6 +71,19 @@ fn a_relayed_ipv6_line_reads_with_its_related_address(rt: HostRuntime) -> Result
 }
 
 #[test]
+fn a_relay_with_a_ufrag_prints_as_it_was_read(rt: HostRuntime) -> Result<(), Fail> {
+    let alloc = rt.alloc();
+    let (addr, local) = ("203.0.113.7:49152".parse()?, "192.168.1.10:54321".parse()?);
+    let mut relayed = Candidate::relayed(alloc, addr, local, Protocol::Udp)?;
+    relayed.set_ufrag(alloc, "EsAw")?;
+    let line = relayed.to_sdp_string(alloc)?;
+    assert!(rt; line.ends_with(" 203.0.113.7 49152 typ relay raddr 0.0.0.0 rport 0 ufrag EsAw"));
+    let text = printed(alloc, line.as_str())?;
+    assert_eq!(rt; text.as_str(), line.as_str());
+    Ok(())
+}
+
+#[test]
 fn of_equal_keys_the_last_counts_and_a_lone_raddr_is_none(rt: HostRuntime) -> Result<(), Fail> {
     let line = "candidate:1 1 udp 1 10.0.0.1 1 typ prflx raddr 10.0.0.2 ufrag a ufrag b lonely";
     let text = printed(rt.alloc(), line)?;

@@ -1,0 +1,42 @@
+//! Printed lines read again.
+ghost use Rattle.std.specs.Prelude.{IfSome};
+ghost use Rattle.is_candidate.specs.RoundTrips.{HasPlainTexts, ReadsBack, PartsFit};
+
+use super::Candidate;
+use std::net::{IpAddr, SocketAddr};
+
+/// Where foundation and ufrag, if given, are not empty and hold no white space, the line that `to_sdp_string` prints
+/// reads again, as the candidate that the line tells of, and that one prints the same line. A line tells nothing of
+/// the base, nor of flow information and scope. The body reads the parts whose types keep them in range, and does
+/// nothing with them.
+pub fn printed_line_reads_again(candidate: &Candidate)
+    ensures { HasPlainTexts candidate.now → ReadsBack candidate.now }
+{
+    let _component = candidate.component;
+    let _priority = candidate.prio();
+    parts_fit(candidate.addr);
+    related_parts_fit(candidate.raddr);
+}
+
+fn related_parts_fit(raddr: Option<SocketAddr>)
+    ensures { IfSome raddr PartsFit }
+{
+    if let Some(raddr) = raddr {
+        parts_fit(raddr);
+    }
+}
+
+/// The types of an address keep its parts in range.
+fn parts_fit(address: SocketAddr)
+    ensures { PartsFit address }
+{
+    let _port = address.port();
+    match address.ip() {
+        IpAddr::V4(ip) => {
+            let _octets = ip.octets();
+        }
+        IpAddr::V6(ip) => {
+            let _segments = ip.segments();
+        }
+    }
+}
