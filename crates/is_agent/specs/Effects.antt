@@ -51,7 +51,7 @@ remote_set_by _ remote = remote
 abbrev pub remote_after : {P : Type 0} → Call P → Answer → Option IceCreds → Option IceCreds
 remote_after call answer remote = if is_done answer then remote_set_by call remote else remote
 
--- requests are signed with the password of the agent that they go to, and so are their answers (RFC 8445, section 7.2.2)
+-- a request is signed with the password of the agent that it goes to, and its answer with the same one (RFC 8445, section 7.2.2)
 abbrev pub key_for : Class → IceCreds → Option IceCreds → List ℕ
 key_for class.Request local (Some remote) = remote.pass
 key_for _ local remote = local.pass
