@@ -8,6 +8,7 @@ use super::Candidate;
 use super::address::{same_address, same_protocol, same_version};
 use super::inner::{base, given_foundation};
 use super::kind::{CandidateKind, same_kind};
+use is_proto::laws::equal_values_hash_alike;
 use std::net::SocketAddr;
 
 /// The foundation of a remote candidate that a request brought, until signalling tells of it.
@@ -64,11 +65,6 @@ pub fn is_temporary(c: &Candidate) -> bool
         None => false,
     }
 }
-
-/// Equal values feed a hasher alike, whatever their type.
-pub fn equal_values_hash_alike<T: std::hash::Hash>()
-    ensures { (a b : T) → T.eq a b ≡ true → T.hash_input a ≡ T.hash_input b }
-{}
 
 /// Equal candidates feed a hasher alike.
 pub fn equal_candidates_hash_alike()
