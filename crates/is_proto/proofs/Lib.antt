@@ -1,2 +1,3 @@
 pub mod Addresses
 pub mod OneReading
+pub mod MacLengths

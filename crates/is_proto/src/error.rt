@@ -106,7 +106,7 @@ pub enum StunError {
     Parse(ParseFault),
     /// The buffer does not hold the message.
     BufferTooShort,
-    /// A text of more than 128 bytes, or data of more than 65535.
+    /// A user name of more than 508 bytes, another text of more than 128, or data of more than 65535.
     ValueTooLong,
     /// Attributes of more than 65535 bytes in all.
     MessageTooLong,

@@ -1,9 +1,10 @@
 //! What holds of all values of a type. Each law is the contract of a function that does nothing; code whose proof needs
 //! a law calls its function.
 
-ghost use Rattle.std.specs.Prelude.{◌≡◌, ◌↔◌, ℕ, List, Option, Some, IsTrue, true};
+ghost use Rattle.std.specs.Prelude.{◌≡◌, ◌↔◌, ℕ, List, length, Option, Some, IsTrue, true};
 ghost use Rattle.std.specs.Cmp.{IsEquivalence, IsTotalOrder, Agrees};
 ghost use Rattle.std.specs.Ordering.{nat_cmp, is_eq};
+ghost use Rattle.is_proto.specs.Hmac.{hmac_sha1};
 ghost use Rattle.is_proto.specs.Sockets.{ReadsSocketText, plain_socket_text, IsPlain};
 ghost use Rattle.is_proto.specs.Words.{protocol_word, tcp_type_word, ReadsProtocol, ReadsTcpType};
 
@@ -47,6 +48,11 @@ pub fn socket_text_reads_again(address: SocketText)
 pub fn socket_texts_read_in_one_way()
     ensures { (text : List ℕ) (r s : Option SocketText)
         → ReadsSocketText text r → ReadsSocketText text s → r ≡ s }
+{}
+
+/// HMAC-SHA1 has 20 bytes, of every key and every text.
+pub fn macs_have_twenty_bytes()
+    ensures { (key text : List ℕ) → length (hmac_sha1 key text) ≡ 20 }
 {}
 
 /// Equal values feed a hasher alike, whatever their type.
