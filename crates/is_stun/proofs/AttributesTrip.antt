@@ -24,7 +24,7 @@ use Rattle.is_stun.proofs.KindLemmas.{Trips, text_trips, u32_trips, u64_trips, c
 
 -- what is known of values that are not refused
 pub record HasShortValues (a : AttributesRecord) : Type 0 where
-  pub username : IfSome a.username (λ t. length t ≤ 128)
+  pub username : IfSome a.username (λ t. length t ≤ 508)
   pub realm : IfSome a.realm (λ t. length t ≤ 128)
   pub nonce : IfSome a.nonce (λ t. length t ≤ 128)
   pub software : IfSome a.software (λ t. length t ≤ 128)
@@ -56,7 +56,7 @@ short_values a short code =
     let s = or_parts _ _ r.0 in
     let t = or_parts _ _ s.0 in
     record {
-      username = short_by 128 a.username t.0;
+      username = short_by 508 a.username t.0;
       realm = short_by 128 a.realm t.1;
       nonce = short_by 128 a.nonce s.1;
       software = short_by 128 a.software r.1;
@@ -90,7 +90,7 @@ error_by (Some e) code short utf8 = error_trips e.0 e.1 code short utf8
 
 pub all_trip : (id : List ℕ) (a : AttributesRecord) → IsId id → HasShortValues a → HasReadableValues a → AllTrip id a
 all_trip id a id_is short values = record {
-  username = if_both a.username (λ t short utf8. text_trips 513 t (omega arith) short utf8) short.username values.username;
+  username = if_both a.username (λ t short utf8. text_trips 513 t (omega arith) (omega (arith, short)) utf8) short.username values.username;
   ice_controlled = if_all a.ice_controlled (λ n fits. u64_trips ControlledLength n fits) values.ice_controlled;
   ice_controlling = if_all a.ice_controlling (λ n fits. u64_trips ControllingLength n fits) values.ice_controlling;
   priority = if_all a.priority (λ n fits. u32_trips PriorityLength n fits) values.priority;
@@ -100,10 +100,10 @@ all_trip id a id_is short values = record {
   xor_peer_address = if_all a.xor_peer_address (λ x plain. address_trips id x id_is plain) values.xor_peer_address;
   channel_number = if_all a.channel_number (λ n range. channel_trips n range) values.channel_number;
   lifetime = if_all a.lifetime (λ n fits. u32_trips LifetimeLength n fits) values.lifetime;
-  realm = if_both a.realm (λ t short utf8. text_trips 763 t (omega arith) short utf8) short.realm values.realm;
-  nonce = if_both a.nonce (λ t short utf8. text_trips 763 t (omega arith) short utf8) short.nonce values.nonce;
+  realm = if_both a.realm (λ t short utf8. text_trips 763 t (omega arith) (omega (arith, short)) utf8) short.realm values.realm;
+  nonce = if_both a.nonce (λ t short utf8. text_trips 763 t (omega arith) (omega (arith, short)) utf8) short.nonce values.nonce;
   error_code = error_by a.error_code short.code short.reason values.error_code;
-  software = if_both a.software (λ t short utf8. text_trips 763 t (omega arith) short utf8) short.software values.software;
+  software = if_both a.software (λ t short utf8. text_trips 763 t (omega arith) (omega (arith, short)) utf8) short.software values.software;
   network_cost = values.network_cost;
 }
 
@@ -115,7 +115,7 @@ fault_by false true x y = refl
 fault_by false false x y = refl
 
 -- an address that can't be read is told without the transaction id
-address_fault-is : (id v : List ℕ) → address_fault v ≡ fault_in (address_in id v)
+pub address_fault-is : (id v : List ℕ) → address_fault v ≡ fault_in (address_in id v)
 unfolding address_fault address_in
 address_fault-is id v = fault_by (is_ipv4_value v) (is_ipv6_value v) _ _
 

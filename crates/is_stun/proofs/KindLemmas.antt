@@ -21,8 +21,8 @@ pub record Trips {A : Type 0} (read : List ℕ → Result A ParseFault) (value :
   pub short : length value < 2 ^ 16
   pub back : read value ≡ Ok x
 
-pub text_trips : (limit : ℕ) (t : List ℕ) → 128 ≤ limit → length t ≤ 128 → IsUtf8 t → Trips (text limit) t t
-text_trips limit t long short utf8 = record { short = omega (arith, short); back = text_of limit t (omega (arith, long, short)) utf8 }
+pub text_trips : (limit : ℕ) (t : List ℕ) → limit < 2 ^ 16 → length t ≤ limit → IsUtf8 t → Trips (text limit) t t
+text_trips limit t low short utf8 = record { short = omega (arith, low, short); back = text_of limit t short utf8 }
 
 pub u32_trips : (fault : ParseFault) (n : ℕ) → n < 2 ^ 32 → Trips (number w32 fault) (to_be_bytes w32 n) n
 u32_trips fault n fits = record { short = omega arith; back = ap Ok (from_be_bytes-to_be_bytes_4 n fits) }

@@ -5,13 +5,15 @@ use Rattle.std.specs.Option.{option_map}
 use Rattle.is_proto.specs.declared.error.ParseFault.{ParseFault}
 use Rattle.is_stun.specs.Tlv.{Tlv, tlvs_of}
 use Rattle.is_stun.specs.Message.{Message}
-use Rattle.is_stun.specs.Reading.{Reads, Fault, fault_of, message_of}
+use Rattle.is_stun.specs.Reading.{Fault, fault_of, message_of}
 use Rattle.is_stun.specs.Integrity.{IsSignedBy, IsAuthentic, first_integrity, integrity_of}
 use Rattle.is_stun.specs.Header.{body_of}
+use Rattle.is_stun.specs.Spells.{Spells}
 use Rattle.is_stun.specs.Laws.{ReadsOrFails, SignedIffAuthentic}
+use Rattle.is_stun.proofs.SpellsLemmas.{reads_spells, spells_reads}
 
-either_of : (bytes : List ℕ) (o : Option ParseFault) → fault_of bytes ≡ o → ((m : Message) × Reads bytes m) ⊎ ((f : ParseFault) × Fault bytes f)
-either_of bytes None e = inl (message_of bytes, record { faultless = e; spelled = refl })
+either_of : (bytes : List ℕ) (o : Option ParseFault) → fault_of bytes ≡ o → ((m : Message) × Spells bytes m) ⊎ ((f : ParseFault) × Fault bytes f)
+either_of bytes None e = inl (message_of bytes, reads_spells bytes (message_of bytes) (record { faultless = e; spelled = refl }))
 either_of bytes (Some f) e = inr (f, e)
 
 some_is : {A : Type 0} (x y : A) → Some x ≡ Some y → x ≡ y
@@ -20,8 +22,8 @@ some_is x y e = cc
 pub one_reading : (bytes : List ℕ) → ReadsOrFails bytes
 one_reading bytes = record {
   either = either_of bytes (fault_of bytes) refl;
-  not_both = λ m f reads fault. let both : None ≡ Some f = sym reads.faultless ∙ fault in cc both;
-  one_message = λ m n p q. p.spelled ∙ sym q.spelled;
+  not_both = λ m f spells fault. let both : None ≡ Some f = sym (spells_reads bytes m spells).faultless ∙ fault in cc both;
+  one_message = λ m n p q. (spells_reads bytes m p).spelled ∙ sym (spells_reads bytes n q).spelled;
   one_fault = λ f g p q. some_is f g (sym p ∙ q);
 }
 

@@ -1,9 +1,11 @@
 pub mod TlvLemmas
 pub mod TextLemmas
 pub mod WalkLemmas
+pub mod PassLemmas
 pub mod ReadsLemmas
 pub mod PutLemmas
 pub mod CrcLemmas
+pub mod CrcTable
 pub mod RowLemmas
 pub mod WrittenLemmas
 pub mod LawLemmas
@@ -15,4 +17,7 @@ pub mod KindLemmas
 pub mod AddressTrip
 pub mod TripLemmas
 pub mod AttributesTrip
+pub mod PlainLemmas
 pub mod MessageTrip
+pub mod LengthLemmas
+pub mod SpellsLemmas

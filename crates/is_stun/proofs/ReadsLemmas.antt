@@ -1,5 +1,5 @@
 -- The parts of what a message's bytes spell.
-use Rattle.std.proofs.Common.{◌≡◌, ℕ, List, Option, refl}
+use Rattle.std.proofs.Common.{◌≡◌, ℕ, Bool, true, false, not, cond, List, Option, Some, None, refl}
 use Rattle.std.specs.Option.{option_or}
 use Rattle.is_proto.specs.declared.error.ParseFault.{ParseFault}
 use Rattle.is_stun.specs.Tlv.{tlvs_of}
@@ -11,3 +11,12 @@ pub fault_of-parts : (bytes : List ℕ) (header attributes demand : Option Parse
     → fault_of bytes ≡ option_or header (option_or attributes demand)
 unfolding fault_of
 fault_of-parts bytes header attributes demand h a d = rw (h, a, d) refl
+
+-- what is refused neither by a test nor behind it
+pub refused_or : {A : Type 0} (b : Bool) (x : A) (o : Option A) → cond b (Some x) o ≡ None → (b ≡ false) × (o ≡ None)
+refused_or true x o e = absurd (cc)
+refused_or false x o e = (refl, e)
+
+pub not_false : (b : Bool) → not b ≡ false → b ≡ true
+not_false true e = refl
+not_false false e = absurd (cc)

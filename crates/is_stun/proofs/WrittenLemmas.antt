@@ -1,6 +1,6 @@
 -- A message that was put part by part.
 use Rattle.std.proofs.Common.{◌≡◌, ℕ, ◌+◌, List, ◌++◌, length, take, drop, Option, Some, None, Result, arith, ap, sym, ◌∙◌, subst}
-use Rattle.is_stun.specs.Writing.{Row, splice, Puts, body_len, front_of, sealed_of, written_rows, rows_text, integrity_text, fingerprint_text, rows_of, value_refusal, rows_refusal, refusal, written, WritesOr}
+use Rattle.is_stun.specs.Writing.{Row, splice, Puts, body_len, front_of, sealed_of, written_rows, rows_text, integrity_text, fingerprint_text, rows_of, value_refusal, rows_refusal, refusal, written, WritesOr, HasMacOf, HasMacOfRows}
 use Rattle.is_stun.specs.Header.{header, class_bits, method_bits}
 use Rattle.is_stun.specs.Message.{Message}
 use Rattle.std.specs.Option.{option_or}
@@ -26,6 +26,15 @@ written_parts mac key typ len id rows {s} {t} {u} {v} {w} {e1} {e2} {e3} {e4} le
     let sealed : Puts s v 0 e3 (sealed_of mac key typ id rows) =
     puts_by s u v e2 e3 (front_of key typ id rows) (integrity_text mac key (length (rows_text rows) + 24)) front integrity in
     puts_by s v w e3 e4 (sealed_of mac key typ id rows) fingerprint_text sealed p4
+
+pub mac_parts : (mac : List ℕ → List ℕ → List ℕ) (key : Option (List ℕ)) (typ len : ℕ) (id : List ℕ) (rows : List Row) {s t u : List ℕ} {e1 e2 : ℕ}
+    → len ≡ body_len key rows → e1 ≡ 20 → Puts s t 0 e1 (header typ len id) → Puts t u e1 e2 (rows_text rows) → HasMacOf mac key (e2 + 4) (take e2 u) → HasMacOfRows mac key typ id rows
+unfolding front_of
+mac_parts mac key typ len id rows {s} {t} {u} {e1} {e2} len-is e1-is p1 p2 fits =
+    let named : Puts s t 0 e1 (header typ (body_len key rows) id) = subst (λ (n : ℕ). Puts s t 0 e1 (header typ n id)) len-is p1 in
+    let front : Puts s u 0 e2 (front_of key typ id rows) = Puts-then named p2 in
+    let counts : e2 + 4 ≡ length (rows_text rows) + 24 = omega (arith, p2.ends, e1-is) in
+    subst (λ (n : ℕ). HasMacOf mac key n (front_of key typ id rows)) counts (subst (HasMacOf mac key (e2 + 4)) (take-Puts front) fits)
 
 -- what was put at the front, and the rest
 pub Puts-whole : {s t : List ℕ} {end : ℕ} {text : List ℕ} → Puts s t 0 end text → (end ≡ length text) × (t ≡ text ++ drop end s)

@@ -1,21 +1,29 @@
 -- What holds of the definitions.
-use Rattle.std.specs.Prelude.{◌≡◌, ℕ, ◌^◌, ◌<◌, ◌≤◌, ◌⊎◌, ◌↔◌, List, [], length, slice_index, Some, None, IfSome}
+use Rattle.std.specs.Prelude.{◌≡◌, ℕ, ◌^◌, ◌<◌, ◌≤◌, ◌⊎◌, ◌↔◌, ◌+◌, if◌then◌else◌, Bool, List, [], length, Option, slice_index, Some, None, IfSome}
 use Rattle.std.specs.Str.{IsUtf8}
 use Rattle.std.specs.Net.Socket.{IsSocketAddr, socket_flowinfo, socket_scope_id}
+use Rattle.std.specs.Option.{option_map}
 use Rattle.std.specs.declared.net.socket_addr.SocketAddr.{SocketAddr}
+use Rattle.std.specs.declared.net.socket_addr.SocketAddr.TheVariants.{V4, V6}
 use Rattle.is_proto.specs.declared.error.ParseFault.{ParseFault}
 use Rattle.is_stun.specs.declared.header.Class.{Class}
 use Rattle.is_stun.specs.declared.header.Class.TheVariants.{Unknown}
 use Rattle.is_stun.specs.Message.{AttributesRecord, Message}
+use Rattle.is_proto.specs.declared.error.StunError.TheVariants.{BufferTooShort}
+use Rattle.is_stun.specs.Numbers.{WRITTEN_USERNAME_LIMIT}
+use Rattle.is_stun.specs.Tlv.{padded_len}
+use Rattle.is_stun.specs.Checks.{binding_request, binding_reply}
 use Rattle.is_stun.specs.Integrity.{IsSignedBy, IsAuthentic}
 use Rattle.is_stun.specs.Reading.{Reads, Fault, demand_fault}
+use Rattle.is_stun.specs.Spells.{Spells}
 use Rattle.is_stun.specs.Writing.{refusal, written}
+use Rattle.is_proto.specs.Hmac.{hmac_sha1}
 
 -- Bytes spell one message, or have one first fault, and not both.
 pub record ReadsOrFails (bytes : List ℕ) : Type 0 where
-  pub either : ((m : Message) × Reads bytes m) ⊎ ((f : ParseFault) × Fault bytes f)
-  pub not_both : (m : Message) (f : ParseFault) → Reads bytes m → Fault bytes f → ⊥
-  pub one_message : (m n : Message) → Reads bytes m → Reads bytes n → m ≡ n
+  pub either : ((m : Message) × Spells bytes m) ⊎ ((f : ParseFault) × Fault bytes f)
+  pub not_both : (m : Message) (f : ParseFault) → Spells bytes m → Fault bytes f → ⊥
+  pub one_message : (m n : Message) → Spells bytes m → Spells bytes n → m ≡ n
   pub one_fault : (f g : ParseFault) → Fault bytes f → Fault bytes g → f ≡ g
 
 -- A message that was read is signed exactly where its bytes are authentic.
@@ -29,11 +37,15 @@ SignedIffAuthentic bytes m =
 abbrev pub IsPlainAddress : SocketAddr → Type 0
 IsPlainAddress a = IsSocketAddr a × (socket_flowinfo a ≡ 0) × (socket_scope_id a ≡ 0)
 
+-- channel numbers (RFC 8656, section 12)
+abbrev pub IsChannelNumber : ℕ → Type 0
+IsChannelNumber n = (0x4000 ≤ n) × (n ≤ 0x7FFF)
+
 -- values that their types allow, channel numbers in range, and plain addresses
 pub record HasReadableValues (a : AttributesRecord) : Type 0 where
   pub username : IfSome a.username IsUtf8
   pub error_code : IfSome a.error_code (λ e. IsUtf8 e.1)
-  pub channel_number : IfSome a.channel_number (λ n. (0x4000 ≤ n) × (n ≤ 0x7FFF))
+  pub channel_number : IfSome a.channel_number IsChannelNumber
   pub lifetime : IfSome a.lifetime (λ n. n < 2 ^ 32)
   pub xor_peer_address : IfSome a.xor_peer_address IsPlainAddress
   pub realm : IfSome a.realm IsUtf8
@@ -71,6 +83,12 @@ pub record SameMessage (n m : Message) : Type 0 where
   pub id : n.id ≡ m.id
   pub attributes : record n.attributes { fingerprint = None } ≡ record m.attributes { fingerprint = None }
 
+-- the message has a class, an id and values that bytes can carry, whether or not it has what a reader demands
+pub record IsCarried (m : Message) : Type 0 where
+  pub class : IsClass m.class
+  pub id : IsId m.id
+  pub values : HasReadableValues m.attributes
+
 -- the bytes are read as the message, and carry the MAC of the key
 pub record ReadsBack (mac : List ℕ → List ℕ → List ℕ) (key bytes : List ℕ) (m : Message) : Type 0 where
   pub read : Message
@@ -83,3 +101,85 @@ abbrev pub WrittenIsRead : (List ℕ → List ℕ → List ℕ) → List ℕ →
 WrittenIsRead mac key m =
     ((k text : List ℕ) → length (mac k text) ≡ 20) → (room : ℕ) → refusal (Some key) room m ≡ None → IsReadable m
     → ReadsBack mac key (written mac (Some key) m) m
+
+-- and the same with the default provider
+abbrev pub WrittenByDefaultIsRead : List ℕ → Message → Type 0
+WrittenByDefaultIsRead key m =
+    (room : ℕ) → refusal (Some key) room m ≡ None → IsReadable m → ReadsBack hmac_sha1 key (written hmac_sha1 (Some key) m) m
+
+-- what is written with a key, where it is not refused, is read as no other message
+abbrev pub WrittenIsReadAlike : (List ℕ → List ℕ → List ℕ) → List ℕ → Message → Type 0
+WrittenIsReadAlike mac key m =
+    ((k text : List ℕ) → length (mac k text) ≡ 20) → (room : ℕ) → refusal (Some key) room m ≡ None → IsCarried m
+    → (n : Message) → Reads (written mac (Some key) m) n → SameMessage n m
+
+-- ---- what a message carries of addresses
+
+-- an address without its flow and scope, which no message carries
+abbrev pub plain_address : SocketAddr → SocketAddr
+plain_address (V4 a) = V4 a
+plain_address (V6 a) = V6 (record a { flowinfo = 0; scope_id = 0 })
+
+abbrev pub plain_attributes : AttributesRecord → AttributesRecord
+plain_attributes a = record a {
+  xor_peer_address = option_map plain_address a.xor_peer_address;
+  xor_relayed_address = option_map plain_address a.xor_relayed_address;
+  xor_mapped_address = option_map plain_address a.xor_mapped_address;
+}
+
+-- the message with addresses as it carries them
+abbrev pub plain : Message → Message
+plain m = record m { attributes = plain_attributes m.attributes }
+
+-- flow and scope are not written
+abbrev pub IsWrittenPlain : (List ℕ → List ℕ → List ℕ) → Option (List ℕ) → Message → Type 0
+IsWrittenPlain mac key m = written mac key m ≡ written mac key (plain m)
+
+abbrev pub PlainReply : (List ℕ → List ℕ → List ℕ) → List ℕ → List ℕ → SocketAddr → Type 0
+PlainReply mac key id a = written mac (Some key) (binding_reply id a) ≡ written mac (Some key) (binding_reply id (plain_address a))
+
+-- ---- how long messages are
+
+-- with a key, the message takes so many bytes of room
+pub record Takes (key : List ℕ) (len : ℕ) (m : Message) : Type 0 where
+  pub fits : (room : ℕ) → len ≤ room → refusal (Some key) room m ≡ None
+  pub tight : (room : ℕ) → room < len → refusal (Some key) room m ≡ Some BufferTooShort
+
+-- with a key, the message is written into so much room
+abbrev pub FitsInto : List ℕ → ℕ → Message → Type 0
+FitsInto key len m = (room : ℕ) → len ≤ room → refusal (Some key) room m ≡ None
+
+-- a reply to a check, by the IP version of the address that it tells
+abbrev pub reply_len : SocketAddr → ℕ
+reply_len (V4 a) = 64
+reply_len (V6 a) = 76
+
+-- the length of a check by its user name and whether it nominates
+abbrev pub check_len : List ℕ → Bool → ℕ
+check_len username nominates = 76 + padded_len (length username) + (if nominates then 4 else 0)
+
+abbrev pub CheckTakes : List ℕ → List ℕ → List ℕ → Bool → ℕ → ℕ → Bool → Type 0
+CheckTakes key id username controlling tie_breaker priority nominates =
+    length username ≤ WRITTEN_USERNAME_LIMIT
+    → Takes key (check_len username nominates) (binding_request username id controlling tie_breaker priority nominates)
+
+-- ---- what a caller of the writer gets
+
+-- The values are such as their types allow: so what is written of the message reads as it wherever the demands are met.
+pub record HasValues (m : Message) : Type 0 where
+  pub id : IsId m.id
+  pub values : HasReadableValues m.attributes
+
+-- these bytes are put for the message: where they read, they read as it, but for its fingerprint and integrity
+pub record IsPut (bytes : List ℕ) (m : Message) : Type 0 where
+  pub values : HasValues m
+  pub reads : (n : Message) → Reads bytes n → SameMessage n m
+
+-- What was written with a key is put for the message as it is carried, and reads back where the demands are met. The
+-- message is of a known class, and a channel number that it has is in range.
+pub record ReadsAgainAs (mac : List ℕ → List ℕ → List ℕ) (key bytes : List ℕ) (m : Message) : Type 0 where
+  pub put : IsPut bytes (plain m)
+  pub back : demand_fault (sealed m) ≡ None → ReadsBack mac key bytes (plain m)
+
+abbrev pub ReadsAgain : (List ℕ → List ℕ → List ℕ) → List ℕ → List ℕ → Message → Type 0
+ReadsAgain mac key bytes m = IsClass m.class → IfSome m.attributes.channel_number IsChannelNumber → ReadsAgainAs mac key bytes m

@@ -10,6 +10,8 @@ pub mod ErrorCodeView
 pub mod Message
 pub mod Integrity
 pub mod Reading
+pub mod Spells
+pub mod Pass
 pub mod Gives
 pub mod MessageView
 pub mod Crc

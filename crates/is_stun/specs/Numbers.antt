@@ -82,7 +82,10 @@ USERNAME_LIMIT = 513
 abbrev pub TEXT_LIMIT : ℕ
 TEXT_LIMIT = 763
 
--- the longest text and the longest data that are written, in bytes
+-- the longest user name (RFC 8489, section 14.3), the longest other text and the longest data that are written, in bytes
+abbrev pub WRITTEN_USERNAME_LIMIT : ℕ
+WRITTEN_USERNAME_LIMIT = 508
+
 abbrev pub WRITTEN_TEXT_LIMIT : ℕ
 WRITTEN_TEXT_LIMIT = 128
 

@@ -1,9 +1,9 @@
 -- The one way in which a message is written (RFC 8489, sections 5 and 14).
-use Rattle.std.specs.Prelude.{◌≡◌, ℕ, ◌+◌, ◌-◌, ◌<◌, ◌≤◌, Bool, true, false, not, ◌||◌, MatchOption, List, [], ◌∷◌, ◌++◌, length, take, drop, Option, Some, None, Result, Ok, Err, replicate, bit_xor, nat_lt, if◌then◌else◌}
+use Rattle.std.specs.Prelude.{◌≡◌, ℕ, ◌+◌, ◌-◌, ◌<◌, ◌≤◌, Bool, true, false, not, ◌||◌, MatchOption, IfSome, List, [], ◌∷◌, ◌++◌, length, take, drop, Option, Some, None, Result, Ok, Err, replicate, bit_xor, nat_lt, if◌then◌else◌}
 use Rattle.std.specs.List.{flat_map}
 use Rattle.std.specs.Option.{option_map, option_or}
 use Rattle.std.specs.Int.{w16, w32, w64, to_be_bytes}
-use Rattle.is_stun.specs.Numbers.{USERNAME, ICE_CONTROLLED, ICE_CONTROLLING, PRIORITY, XOR_MAPPED_ADDRESS, USE_CANDIDATE, DATA, XOR_RELAYED_ADDRESS, XOR_PEER_ADDRESS, CHANNEL_NUMBER, LIFETIME, REALM, NONCE, ERROR_CODE, SOFTWARE, NETWORK_COST, MESSAGE_INTEGRITY, FINGERPRINT, WRITTEN_TEXT_LIMIT, DATA_LIMIT, FINGERPRINT_MASK, HEADER_LEN}
+use Rattle.is_stun.specs.Numbers.{USERNAME, ICE_CONTROLLED, ICE_CONTROLLING, PRIORITY, XOR_MAPPED_ADDRESS, USE_CANDIDATE, DATA, XOR_RELAYED_ADDRESS, XOR_PEER_ADDRESS, CHANNEL_NUMBER, LIFETIME, REALM, NONCE, ERROR_CODE, SOFTWARE, NETWORK_COST, MESSAGE_INTEGRITY, FINGERPRINT, WRITTEN_USERNAME_LIMIT, WRITTEN_TEXT_LIMIT, DATA_LIMIT, FINGERPRINT_MASK, HEADER_LEN, INTEGRITY_LEN}
 use Rattle.is_proto.specs.declared.error.StunError.{StunError}
 use Rattle.is_proto.specs.declared.error.StunError.TheVariants.{UnknownMethod, ValueTooLong, BadErrorCode, MessageTooLong, BufferTooShort}
 use Rattle.is_stun.specs.declared.header.Method.{Method}
@@ -95,6 +95,10 @@ abbrev pub integrity_text : (List ℕ → List ℕ → List ℕ) → Option (Lis
 integrity_text mac None len front = []
 integrity_text mac (Some key) len front = attribute MESSAGE_INTEGRITY (mac key (signed_text front len))
 
+-- the MAC of the front, where a key is given, is as long as a MAC is to be
+abbrev pub HasMacOf : (List ℕ → List ℕ → List ℕ) → Option (List ℕ) → ℕ → List ℕ → Type 0
+HasMacOf mac key len front = IfSome key (λ k. length (mac k (signed_text front len)) ≡ INTEGRITY_LEN)
+
 -- the fingerprint of what stands before it (RFC 8489, section 14.7)
 abbrev pub fingerprint_text : List ℕ → List ℕ
 fingerprint_text bytes = attribute FINGERPRINT (to_be_bytes w32 (bit_xor (crc32 bytes) FINGERPRINT_MASK))
@@ -121,6 +125,10 @@ written_rows mac key typ id rows =
     let sealed = sealed_of mac key typ id rows in
     sealed ++ fingerprint_text sealed
 
+-- the MAC of the message of these rows is as long as a MAC is to be
+abbrev pub HasMacOfRows : (List ℕ → List ℕ → List ℕ) → Option (List ℕ) → ℕ → List ℕ → List Row → Type 0
+HasMacOfRows mac key typ id rows = HasMacOf mac key (length (rows_text rows) + 24) (front_of key typ id rows)
+
 -- why rows are not written into so much room
 abbrev pub rows_refusal : Option (List ℕ) → ℕ → List Row → Option StunError
 rows_refusal key room rows =
@@ -143,10 +151,10 @@ abbrev pub is_longer : ℕ → Option (List ℕ) → Bool
 is_longer limit None = false
 is_longer limit (Some value) = nat_lt limit (length value)
 
--- a text of more than 128 bytes, or data whose length has no 16 bits
+-- a user name of more than 508 bytes, another text of more than 128, or data whose length has no 16 bits
 abbrev pub has_long_value : AttributesRecord → Bool
 has_long_value a =
-    is_longer WRITTEN_TEXT_LIMIT a.username
+    is_longer WRITTEN_USERNAME_LIMIT a.username
     || is_longer WRITTEN_TEXT_LIMIT a.realm
     || is_longer WRITTEN_TEXT_LIMIT a.nonce
     || is_longer WRITTEN_TEXT_LIMIT a.software

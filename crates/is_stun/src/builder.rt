@@ -5,8 +5,8 @@ ghost use Rattle.std.specs.Prelude.{◌≡◌, Some, true};
 ghost use Rattle.is_stun.specs.declared.header.Class.TheVariants as classes;
 ghost use Rattle.is_stun.specs.declared.header.Method.TheVariants as methods;
 ghost use Rattle.is_stun.specs.Message.{no_attributes};
-ghost use Rattle.is_stun.specs.MessageView.{attributes_view, message_view};
-ghost use Rattle.is_stun.specs.Builder.{built};
+ghost use Rattle.is_stun.specs.MessageView.{message_view};
+ghost use Rattle.is_stun.specs.Builder.{built, attributes_so_far, method_so_far, kind_so_far};
 
 use crate::attributes::Attributes;
 use crate::header::{Class, Method};
@@ -45,70 +45,70 @@ pub type StunMessageBuilder<'a, State> = Builder<'a, State>;
 impl<'a> Builder<'a, NoMethod> {
     /// The empty builder.
     pub fn new() -> Self
-        ensures { attributes_view result.attrs ≡ no_attributes }
+        ensures { attributes_so_far result ≡ no_attributes }
     {
         Builder::default()
     }
 
     /// STUN's one method (RFC 8489, section 18.2).
     pub fn binding(self) -> Builder<'a, HasMethod>
-        ensures method { result.state.method ≡ methods.Binding }
-        ensures attributes { attributes_view result.attrs ≡ attributes_view self.entry.attrs }
+        ensures method { method_so_far result ≡ methods.Binding }
+        ensures attributes { attributes_so_far result ≡ attributes_so_far self.entry }
     {
         self.with_method(Method::Binding)
     }
 
     /// TURN: asks for a relayed address (RFC 8656, section 7).
     pub fn allocate(self) -> Builder<'a, HasMethod>
-        ensures method { result.state.method ≡ methods.Allocate }
-        ensures attributes { attributes_view result.attrs ≡ attributes_view self.entry.attrs }
+        ensures method { method_so_far result ≡ methods.Allocate }
+        ensures attributes { attributes_so_far result ≡ attributes_so_far self.entry }
     {
         self.with_method(Method::Allocate)
     }
 
     /// TURN: refreshes an allocation (RFC 8656, section 8).
     pub fn refresh(self) -> Builder<'a, HasMethod>
-        ensures method { result.state.method ≡ methods.Refresh }
-        ensures attributes { attributes_view result.attrs ≡ attributes_view self.entry.attrs }
+        ensures method { method_so_far result ≡ methods.Refresh }
+        ensures attributes { attributes_so_far result ≡ attributes_so_far self.entry }
     {
         self.with_method(Method::Refresh)
     }
 
     /// TURN: sends data to a peer (RFC 8656, section 11).
     pub fn send(self) -> Builder<'a, HasMethod>
-        ensures method { result.state.method ≡ methods.Send }
-        ensures attributes { attributes_view result.attrs ≡ attributes_view self.entry.attrs }
+        ensures method { method_so_far result ≡ methods.Send }
+        ensures attributes { attributes_so_far result ≡ attributes_so_far self.entry }
     {
         self.with_method(Method::Send)
     }
 
     /// TURN: brings data from a peer (RFC 8656, section 11).
     pub fn data(self) -> Builder<'a, HasMethod>
-        ensures method { result.state.method ≡ methods.Data }
-        ensures attributes { attributes_view result.attrs ≡ attributes_view self.entry.attrs }
+        ensures method { method_so_far result ≡ methods.Data }
+        ensures attributes { attributes_so_far result ≡ attributes_so_far self.entry }
     {
         self.with_method(Method::Data)
     }
 
     /// TURN: permits peers (RFC 8656, section 10).
     pub fn create_permission(self) -> Builder<'a, HasMethod>
-        ensures method { result.state.method ≡ methods.CreatePermission }
-        ensures attributes { attributes_view result.attrs ≡ attributes_view self.entry.attrs }
+        ensures method { method_so_far result ≡ methods.CreatePermission }
+        ensures attributes { attributes_so_far result ≡ attributes_so_far self.entry }
     {
         self.with_method(Method::CreatePermission)
     }
 
     /// TURN: binds a channel to a peer (RFC 8656, section 12).
     pub fn channel_bind(self) -> Builder<'a, HasMethod>
-        ensures method { result.state.method ≡ methods.ChannelBind }
-        ensures attributes { attributes_view result.attrs ≡ attributes_view self.entry.attrs }
+        ensures method { method_so_far result ≡ methods.ChannelBind }
+        ensures attributes { attributes_so_far result ≡ attributes_so_far self.entry }
     {
         self.with_method(Method::ChannelBind)
     }
 
     fn with_method(self, method: Method) -> Builder<'a, HasMethod>
-        ensures method { result.state.method ≡ method }
-        ensures attributes { attributes_view result.attrs ≡ attributes_view self.entry.attrs }
+        ensures method { method_so_far result ≡ method }
+        ensures attributes { attributes_so_far result ≡ attributes_so_far self.entry }
     {
         Builder {
             attrs: self.attrs,
@@ -120,39 +120,39 @@ impl<'a> Builder<'a, NoMethod> {
 impl<'a> Builder<'a, HasMethod> {
     /// A request.
     pub fn request(self) -> Builder<'a, HasClass>
-        ensures state { result.state ≡ record { method = self.entry.state.method; class = classes.Request } }
-        ensures attributes { attributes_view result.attrs ≡ attributes_view self.entry.attrs }
+        ensures kind { kind_so_far result ≡ record { method = method_so_far self.entry; class = classes.Request } }
+        ensures attributes { attributes_so_far result ≡ attributes_so_far self.entry }
     {
         self.with_class(Class::Request)
     }
 
     /// An indication, which nothing answers.
     pub fn indication(self) -> Builder<'a, HasClass>
-        ensures state { result.state ≡ record { method = self.entry.state.method; class = classes.Indication } }
-        ensures attributes { attributes_view result.attrs ≡ attributes_view self.entry.attrs }
+        ensures kind { kind_so_far result ≡ record { method = method_so_far self.entry; class = classes.Indication } }
+        ensures attributes { attributes_so_far result ≡ attributes_so_far self.entry }
     {
         self.with_class(Class::Indication)
     }
 
     /// A success response.
     pub fn success(self) -> Builder<'a, HasClass>
-        ensures state { result.state ≡ record { method = self.entry.state.method; class = classes.Success } }
-        ensures attributes { attributes_view result.attrs ≡ attributes_view self.entry.attrs }
+        ensures kind { kind_so_far result ≡ record { method = method_so_far self.entry; class = classes.Success } }
+        ensures attributes { attributes_so_far result ≡ attributes_so_far self.entry }
     {
         self.with_class(Class::Success)
     }
 
     /// An error response.
     pub fn failure(self) -> Builder<'a, HasClass>
-        ensures state { result.state ≡ record { method = self.entry.state.method; class = classes.Failure } }
-        ensures attributes { attributes_view result.attrs ≡ attributes_view self.entry.attrs }
+        ensures kind { kind_so_far result ≡ record { method = method_so_far self.entry; class = classes.Failure } }
+        ensures attributes { attributes_so_far result ≡ attributes_so_far self.entry }
     {
         self.with_class(Class::Failure)
     }
 
     fn with_class(self, class: Class) -> Builder<'a, HasClass>
-        ensures state { result.state ≡ record { method = self.entry.state.method; class = class } }
-        ensures attributes { attributes_view result.attrs ≡ attributes_view self.entry.attrs }
+        ensures kind { kind_so_far result ≡ record { method = method_so_far self.entry; class = class } }
+        ensures attributes { attributes_so_far result ≡ attributes_so_far self.entry }
     {
         Builder {
             attrs: self.attrs,
@@ -166,10 +166,10 @@ impl<'a> Builder<'a, HasMethod> {
 
 /// Each setter replaces what was set before.
 impl<'a> Builder<'a, HasClass> {
-    /// USERNAME (RFC 8489, section 14.3): at most 128 bytes are written.
+    /// USERNAME (RFC 8489, section 14.3): at most 508 bytes are written.
     pub fn username(self, username: &'a str) -> Self
-        ensures state { result.state ≡ self.entry.state }
-        ensures attributes { attributes_view result.attrs ≡ record (attributes_view self.entry.attrs) { username = Some username.now } }
+        ensures kind { kind_so_far result ≡ kind_so_far self.entry }
+        ensures attributes { attributes_so_far result ≡ record (attributes_so_far self.entry) { username = Some username.now } }
     {
         let mut attrs = self.attrs;
         attrs.username = Some(username);
@@ -181,8 +181,8 @@ impl<'a> Builder<'a, HasClass> {
 
     /// ERROR-CODE (RFC 8489, section 14.8): codes of 300 to 699 and reasons of at most 128 bytes are written.
     pub fn error_code(self, code: u16, reason: &'a str) -> Self
-        ensures state { result.state ≡ self.entry.state }
-        ensures attributes { attributes_view result.attrs ≡ record (attributes_view self.entry.attrs) { error_code = Some (code, reason.now) } }
+        ensures kind { kind_so_far result ≡ kind_so_far self.entry }
+        ensures attributes { attributes_so_far result ≡ record (attributes_so_far self.entry) { error_code = Some (code, reason.now) } }
     {
         let mut attrs = self.attrs;
         attrs.error_code = Some((code, reason));
@@ -194,8 +194,8 @@ impl<'a> Builder<'a, HasClass> {
 
     /// CHANNEL-NUMBER (RFC 8656, section 18.1). It is written as it is, and read between 0x4000 and 0x7FFF.
     pub fn channel_number(self, number: u16) -> Self
-        ensures state { result.state ≡ self.entry.state }
-        ensures attributes { attributes_view result.attrs ≡ record (attributes_view self.entry.attrs) { channel_number = Some number } }
+        ensures kind { kind_so_far result ≡ kind_so_far self.entry }
+        ensures attributes { attributes_so_far result ≡ record (attributes_so_far self.entry) { channel_number = Some number } }
     {
         let mut attrs = self.attrs;
         attrs.channel_number = Some(number);
@@ -207,8 +207,8 @@ impl<'a> Builder<'a, HasClass> {
 
     /// LIFETIME, in seconds (RFC 8656, section 18.2).
     pub fn lifetime(self, lifetime: u32) -> Self
-        ensures state { result.state ≡ self.entry.state }
-        ensures attributes { attributes_view result.attrs ≡ record (attributes_view self.entry.attrs) { lifetime = Some lifetime } }
+        ensures kind { kind_so_far result ≡ kind_so_far self.entry }
+        ensures attributes { attributes_so_far result ≡ record (attributes_so_far self.entry) { lifetime = Some lifetime } }
     {
         let mut attrs = self.attrs;
         attrs.lifetime = Some(lifetime);
@@ -220,8 +220,8 @@ impl<'a> Builder<'a, HasClass> {
 
     /// XOR-PEER-ADDRESS (RFC 8656, section 18.3). Flow and scope of an IPv6 address are not written.
     pub fn xor_peer_address(self, address: SocketAddr) -> Self
-        ensures state { result.state ≡ self.entry.state }
-        ensures attributes { attributes_view result.attrs ≡ record (attributes_view self.entry.attrs) { xor_peer_address = Some address } }
+        ensures kind { kind_so_far result ≡ kind_so_far self.entry }
+        ensures attributes { attributes_so_far result ≡ record (attributes_so_far self.entry) { xor_peer_address = Some address } }
     {
         let mut attrs = self.attrs;
         attrs.xor_peer_address = Some(address);
@@ -233,8 +233,8 @@ impl<'a> Builder<'a, HasClass> {
 
     /// DATA (RFC 8656, section 18.4): at most 65535 bytes are written.
     pub fn data(self, bytes: &'a [u8]) -> Self
-        ensures state { result.state ≡ self.entry.state }
-        ensures attributes { attributes_view result.attrs ≡ record (attributes_view self.entry.attrs) { «data» = Some bytes.now } }
+        ensures kind { kind_so_far result ≡ kind_so_far self.entry }
+        ensures attributes { attributes_so_far result ≡ record (attributes_so_far self.entry) { «data» = Some bytes.now } }
     {
         let mut attrs = self.attrs;
         attrs.data = Some(bytes);
@@ -246,8 +246,8 @@ impl<'a> Builder<'a, HasClass> {
 
     /// REALM (RFC 8489, section 14.9): at most 128 bytes are written.
     pub fn realm(self, realm: &'a str) -> Self
-        ensures state { result.state ≡ self.entry.state }
-        ensures attributes { attributes_view result.attrs ≡ record (attributes_view self.entry.attrs) { realm = Some realm.now } }
+        ensures kind { kind_so_far result ≡ kind_so_far self.entry }
+        ensures attributes { attributes_so_far result ≡ record (attributes_so_far self.entry) { realm = Some realm.now } }
     {
         let mut attrs = self.attrs;
         attrs.realm = Some(realm);
@@ -259,8 +259,8 @@ impl<'a> Builder<'a, HasClass> {
 
     /// NONCE (RFC 8489, section 14.10): at most 128 bytes are written.
     pub fn nonce(self, nonce: &'a str) -> Self
-        ensures state { result.state ≡ self.entry.state }
-        ensures attributes { attributes_view result.attrs ≡ record (attributes_view self.entry.attrs) { nonce = Some nonce.now } }
+        ensures kind { kind_so_far result ≡ kind_so_far self.entry }
+        ensures attributes { attributes_so_far result ≡ record (attributes_so_far self.entry) { nonce = Some nonce.now } }
     {
         let mut attrs = self.attrs;
         attrs.nonce = Some(nonce);
@@ -272,8 +272,8 @@ impl<'a> Builder<'a, HasClass> {
 
     /// XOR-RELAYED-ADDRESS (RFC 8656, section 18.5). Flow and scope of an IPv6 address are not written.
     pub fn xor_relayed_address(self, address: SocketAddr) -> Self
-        ensures state { result.state ≡ self.entry.state }
-        ensures attributes { attributes_view result.attrs ≡ record (attributes_view self.entry.attrs) { xor_relayed_address = Some address } }
+        ensures kind { kind_so_far result ≡ kind_so_far self.entry }
+        ensures attributes { attributes_so_far result ≡ record (attributes_so_far self.entry) { xor_relayed_address = Some address } }
     {
         let mut attrs = self.attrs;
         attrs.xor_relayed_address = Some(address);
@@ -285,8 +285,8 @@ impl<'a> Builder<'a, HasClass> {
 
     /// XOR-MAPPED-ADDRESS (RFC 8489, section 14.2). Flow and scope of an IPv6 address are not written.
     pub fn xor_mapped_address(self, address: SocketAddr) -> Self
-        ensures state { result.state ≡ self.entry.state }
-        ensures attributes { attributes_view result.attrs ≡ record (attributes_view self.entry.attrs) { xor_mapped_address = Some address } }
+        ensures kind { kind_so_far result ≡ kind_so_far self.entry }
+        ensures attributes { attributes_so_far result ≡ record (attributes_so_far self.entry) { xor_mapped_address = Some address } }
     {
         let mut attrs = self.attrs;
         attrs.xor_mapped_address = Some(address);
@@ -298,8 +298,8 @@ impl<'a> Builder<'a, HasClass> {
 
     /// SOFTWARE, of type 0x0022: at most 128 bytes are written.
     pub fn software(self, software: &'a str) -> Self
-        ensures state { result.state ≡ self.entry.state }
-        ensures attributes { attributes_view result.attrs ≡ record (attributes_view self.entry.attrs) { software = Some software.now } }
+        ensures kind { kind_so_far result ≡ kind_so_far self.entry }
+        ensures attributes { attributes_so_far result ≡ record (attributes_so_far self.entry) { software = Some software.now } }
     {
         let mut attrs = self.attrs;
         attrs.software = Some(software);
@@ -311,8 +311,8 @@ impl<'a> Builder<'a, HasClass> {
 
     /// PRIORITY (RFC 8445, section 16.1).
     pub fn prio(self, prio: u32) -> Self
-        ensures state { result.state ≡ self.entry.state }
-        ensures attributes { attributes_view result.attrs ≡ record (attributes_view self.entry.attrs) { priority = Some prio } }
+        ensures kind { kind_so_far result ≡ kind_so_far self.entry }
+        ensures attributes { attributes_so_far result ≡ record (attributes_so_far self.entry) { priority = Some prio } }
     {
         let mut attrs = self.attrs;
         attrs.priority = Some(prio);
@@ -324,8 +324,8 @@ impl<'a> Builder<'a, HasClass> {
 
     /// USE-CANDIDATE (RFC 8445, section 16.1).
     pub fn use_candidate(self) -> Self
-        ensures state { result.state ≡ self.entry.state }
-        ensures attributes { attributes_view result.attrs ≡ record (attributes_view self.entry.attrs) { use_candidate = true } }
+        ensures kind { kind_so_far result ≡ kind_so_far self.entry }
+        ensures attributes { attributes_so_far result ≡ record (attributes_so_far self.entry) { use_candidate = true } }
     {
         let mut attrs = self.attrs;
         attrs.use_candidate = true;
@@ -337,8 +337,8 @@ impl<'a> Builder<'a, HasClass> {
 
     /// ICE-CONTROLLED (RFC 8445, section 16.1).
     pub fn ice_controlled(self, tie_breaker: u64) -> Self
-        ensures state { result.state ≡ self.entry.state }
-        ensures attributes { attributes_view result.attrs ≡ record (attributes_view self.entry.attrs) { ice_controlled = Some tie_breaker } }
+        ensures kind { kind_so_far result ≡ kind_so_far self.entry }
+        ensures attributes { attributes_so_far result ≡ record (attributes_so_far self.entry) { ice_controlled = Some tie_breaker } }
     {
         let mut attrs = self.attrs;
         attrs.ice_controlled = Some(tie_breaker);
@@ -350,8 +350,8 @@ impl<'a> Builder<'a, HasClass> {
 
     /// ICE-CONTROLLING (RFC 8445, section 16.1).
     pub fn ice_controlling(self, tie_breaker: u64) -> Self
-        ensures state { result.state ≡ self.entry.state }
-        ensures attributes { attributes_view result.attrs ≡ record (attributes_view self.entry.attrs) { ice_controlling = Some tie_breaker } }
+        ensures kind { kind_so_far result ≡ kind_so_far self.entry }
+        ensures attributes { attributes_so_far result ≡ record (attributes_so_far self.entry) { ice_controlling = Some tie_breaker } }
     {
         let mut attrs = self.attrs;
         attrs.ice_controlling = Some(tie_breaker);
@@ -363,8 +363,8 @@ impl<'a> Builder<'a, HasClass> {
 
     /// NETWORK-COST: the id of the sender's network and its cost.
     pub fn network_cost(self, network: u16, cost: u16) -> Self
-        ensures state { result.state ≡ self.entry.state }
-        ensures attributes { attributes_view result.attrs ≡ record (attributes_view self.entry.attrs) { network_cost = Some (network, cost) } }
+        ensures kind { kind_so_far result ≡ kind_so_far self.entry }
+        ensures attributes { attributes_so_far result ≡ record (attributes_so_far self.entry) { network_cost = Some (network, cost) } }
     {
         let mut attrs = self.attrs;
         attrs.network_cost = Some((network, cost));
@@ -376,7 +376,7 @@ impl<'a> Builder<'a, HasClass> {
 
     /// The message. It carries no integrity until it is written with a password.
     pub fn build(self, trans_id: TransId) -> StunMessage<'a>
-        ensures { message_view result ≡ built self.entry.state.method self.entry.state.class trans_id.0 (attributes_view self.entry.attrs) }
+        ensures { message_view result ≡ built (kind_so_far self.entry).method (kind_so_far self.entry).class trans_id.0 (attributes_so_far self.entry) }
     {
         StunMessage {
             method: self.state.method,

@@ -1,17 +1,14 @@
 //! The kinds of value that attributes have, and what can be wrong with one (RFC 8489, section 14).
 
-ghost use Rattle.std.specs.Prelude.{◌≡◌, ◌≤◌, length, drop};
+ghost use Rattle.std.specs.Prelude.{◌≡◌, ◌≤◌, length, drop, Some, None, OnOk, IfErr};
+ghost use Rattle.std.specs.Result.{result_ok};
 ghost use Rattle.std.specs.Int.{w32, w64};
 ghost use Rattle.std.specs.Option.{option_map};
-ghost use Rattle.is_stun.specs.Kinds.{text, number, bytes_of_len, error_code, channel_number, network_cost, value_fault};
+ghost use Rattle.is_stun.specs.Kinds.{text, number, bytes_of_len, error_code, channel_number, network_cost, fault_in};
+ghost use Rattle.is_stun.specs.ErrorCodeView.{error_view};
 ghost use Rattle.is_stun.specs.Gives.{Gives};
 
-use crate::address::address_fault;
-use crate::numbers::{
-    CHANNEL_NUMBER, ERROR_CODE, FINGERPRINT, ICE_CONTROLLED, ICE_CONTROLLING, INTEGRITY_LEN,
-    LIFETIME, MESSAGE_INTEGRITY, NONCE, PRIORITY, REALM, SOFTWARE, TEXT_LIMIT, USE_CANDIDATE,
-    USERNAME, USERNAME_LIMIT, XOR_MAPPED_ADDRESS, XOR_PEER_ADDRESS, XOR_RELAYED_ADDRESS,
-};
+use crate::numbers::TEXT_LIMIT;
 use is_proto::ParseFault;
 use std::str;
 
@@ -63,10 +60,15 @@ fn behind_code(value: &[u8]) -> &[u8]
     &value[4..]
 }
 
-/// A code of 300 to 699, and its reason (RFC 8489, section 14.8).
+/// Puts a code of 300 to 699 and its reason into their place (RFC 8489, section 14.8).
 #[tactic(auto, unfolding(crate::specs::Kinds::error_code))]
-pub(crate) fn error_code(value: &[u8]) -> Result<(u16, &str), ParseFault>
-    ensures { Gives (λ e. (e.0, e.1.now)) result (error_code value.now) }
+pub(crate) fn keep_error_code<'a>(
+    place: &mut Option<(u16, &'a str)>,
+    value: &'a [u8],
+) -> Result<(), ParseFault>
+    ensures kept { OnOk result (error_view place.new ≡ result_ok (error_code value.now)) }
+    ensures faultless { OnOk result (fault_in (error_code value.now) ≡ None) }
+    ensures fault { IfErr result (λ f. fault_in (error_code value.now) ≡ Some f) }
 {
     if value.len() < 4 {
         return Err(ParseFault::ErrorCodeLength);
@@ -79,7 +81,10 @@ pub(crate) fn error_code(value: &[u8]) -> Result<(u16, &str), ParseFault>
         return Err(ParseFault::ErrorClass);
     }
     match text(TEXT_LIMIT, behind_code(value)) {
-        Ok(reason) => Ok((100 * u16::from(class) + u16::from(value[3] % 100), reason)),
+        Ok(reason) => {
+            *place = Some((100 * u16::from(class) + u16::from(value[3] % 100), reason));
+            Ok(())
+        }
         Err(fault) => Err(fault),
     }
 }
@@ -110,30 +115,4 @@ pub(crate) fn network_cost(value: &[u8]) -> Option<(u16, u16)>
     let network = u16::from_be_bytes([value[0], value[1]]);
     let cost = u16::from_be_bytes([value[2], value[3]]);
     Some((network, cost))
-}
-
-/// What is wrong with the value of an attribute of this type.
-#[tactic(auto, unfolding(crate::specs::Kinds::value_fault))]
-pub(crate) fn value_fault(code: u16, value: &[u8]) -> Option<ParseFault>
-    ensures { result ≡ value_fault code value.now }
-{
-    match code {
-        USERNAME => text(USERNAME_LIMIT, value).err(),
-        MESSAGE_INTEGRITY => bytes_of_len(INTEGRITY_LEN, value, ParseFault::IntegrityLength).err(),
-        ERROR_CODE => error_code(value).err(),
-        CHANNEL_NUMBER => channel_number(value).err(),
-        LIFETIME => number32(value, ParseFault::LifetimeLength).err(),
-        XOR_PEER_ADDRESS => address_fault(value),
-        REALM => text(TEXT_LIMIT, value).err(),
-        NONCE => text(TEXT_LIMIT, value).err(),
-        XOR_RELAYED_ADDRESS => address_fault(value),
-        XOR_MAPPED_ADDRESS => address_fault(value),
-        SOFTWARE => text(TEXT_LIMIT, value).err(),
-        PRIORITY => number32(value, ParseFault::PriorityLength).err(),
-        USE_CANDIDATE => bytes_of_len(0, value, ParseFault::UseCandidateLength).err(),
-        FINGERPRINT => number32(value, ParseFault::FingerprintLength).err(),
-        ICE_CONTROLLED => number64(value, ParseFault::ControlledLength).err(),
-        ICE_CONTROLLING => number64(value, ParseFault::ControllingLength).err(),
-        _ => None,
-    }
 }

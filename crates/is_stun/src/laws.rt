@@ -1,19 +1,28 @@
 //! Laws of the format, each the contract of a function that does nothing.
 
-ghost use Rattle.std.specs.Prelude.{◌≡◌, ◌↔◌, IsTrue, true, ℕ, List};
+ghost use Rattle.std.specs.Prelude.{◌≡◌, ◌↔◌, IsTrue, true, ℕ, ◌≤◌, Bool, List, length, Option};
 ghost use Rattle.is_stun.specs.Message.{Message};
-ghost use Rattle.is_stun.specs.Laws.{ReadsOrFails, SignedIffAuthentic, WrittenIsRead};
+ghost use Rattle.is_stun.specs.Reading.{Reads};
+ghost use Rattle.is_stun.specs.Spells.{Spells};
+ghost use Rattle.is_stun.specs.Laws.{ReadsOrFails, SignedIffAuthentic, WrittenIsRead, WrittenIsReadAlike, WrittenByDefaultIsRead, IsWrittenPlain, PlainReply, Takes, FitsInto, CheckTakes, reply_len};
+ghost use Rattle.is_stun.specs.Checks.{binding_request, binding_reply, binding_role_conflict_reply};
+ghost use Rattle.std.specs.declared.net.socket_addr.SocketAddr.{SocketAddr};
 ghost use Rattle.std.specs.Cmp.{IsTotalOrder};
 ghost use Rattle.std.specs.Cmp.Lexicographic.{slice_cmp};
 ghost use Rattle.std.specs.Ordering.{nat_cmp};
 
 use crate::trans_id::TransId;
-use is_proto::laws::orders_are_total;
+use is_proto::laws::{macs_have_twenty_bytes, orders_are_total};
 use std::hash::Hash;
 
-/// All bytes spell one message or have one first fault.
+/// All bytes spell one message or have one first fault. What they spell is said part by part, without faults.
 pub fn one_reading()
     ensures { (bytes : List ℕ) → ReadsOrFails bytes }
+{}
+
+/// What is read is what the bytes spell.
+pub fn reads_what_is_spelled()
+    ensures { (bytes : List ℕ) (m : Message) → Reads bytes m ↔ Spells bytes m }
 {}
 
 /// Whether a message that was read is signed depends on the bytes alone.
@@ -24,6 +33,46 @@ pub fn signed_where_authentic()
 /// What was written with a key is read as the same message, and verifies with that key.
 pub fn written_is_read()
     ensures { (mac : List ℕ → List ℕ → List ℕ) (key : List ℕ) (m : Message) → WrittenIsRead mac key m }
+{}
+
+/// What was written with a key is read as no other message, whether or not it has what a reader demands.
+pub fn written_is_read_alike()
+    ensures { (mac : List ℕ → List ℕ → List ℕ) (key : List ℕ) (m : Message) → WrittenIsReadAlike mac key m }
+{}
+
+/// Flow and scope of addresses are not written.
+pub fn addresses_are_written_plain()
+    ensures { (mac : List ℕ → List ℕ → List ℕ) (key : Option (List ℕ)) (m : Message) → IsWrittenPlain mac key m }
+{}
+
+/// A reply carries an address without its flow and scope.
+pub fn replies_are_plain()
+    ensures { (mac : List ℕ → List ℕ → List ℕ) (key id : List ℕ) (a : SocketAddr) → PlainReply mac key id a }
+{}
+
+/// What was written with a key and the default provider is read as the same message, and verifies with that key.
+pub fn written_by_default_is_read()
+    ensures { (key : List ℕ) (m : Message) → WrittenByDefaultIsRead key m }
+{
+    macs_have_twenty_bytes();
+}
+
+/// A signed success reply takes 64 bytes where it tells an IPv4 address and 76 where it tells an IPv6 one, and a signed
+/// role conflict takes 76, whatever the id. So a caller with 76 bytes of room need not look at the refusal.
+pub fn replies_fit()
+    ensures takes { (key id : List ℕ) (a : SocketAddr) → Takes key (reply_len a) (binding_reply id a) }
+    ensures fits { (key id : List ℕ) (a : SocketAddr) → FitsInto key 76 (binding_reply id a) }
+    ensures conflict_takes { (key id : List ℕ) → Takes key 76 (binding_role_conflict_reply id) }
+    ensures conflict_fits { (key id : List ℕ) → FitsInto key 76 (binding_role_conflict_reply id) }
+{}
+
+/// A signed check takes 76 bytes, its user name with padding, and 4 bytes where it nominates: with a user name of 508
+/// bytes, the longest that is written, 588 at most.
+pub fn checks_fit()
+    ensures takes { (key id username : List ℕ) (controlling : Bool) (tie_breaker priority : ℕ) (nominates : Bool)
+        → CheckTakes key id username controlling tie_breaker priority nominates }
+    ensures fits { (key id username : List ℕ) (controlling : Bool) (tie_breaker priority : ℕ) (nominates : Bool)
+        → length username ≤ 508 → FitsInto key 588 (binding_request username id controlling tie_breaker priority nominates) }
 {}
 
 /// Transaction ids are equal where their bytes are, equal ones hash alike, and they are ordered as their bytes are,

@@ -7,6 +7,7 @@ mod attributes;
 mod builder;
 mod checks;
 mod crc;
+mod crc_tables;
 mod error_code;
 mod header;
 mod integrity;
@@ -20,6 +21,7 @@ mod rows;
 mod timing;
 mod tlv;
 mod trans_id;
+mod values;
 mod writing;
 
 /// What the crate gives out, under the name that users know.

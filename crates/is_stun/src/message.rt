@@ -1,13 +1,13 @@
 //! Messages: reading and verifying them, and asking what they carry.
 
-ghost use Rattle.std.specs.Prelude.{◌≡◌, ◌≤◌, ◌<◌, ◌^◌, ◌+◌, ◌↔◌, IsTrue, None, length, MatchResult};
+ghost use Rattle.std.specs.Prelude.{◌≡◌, ◌≤◌, ◌<◌, ◌^◌, ◌+◌, ◌↔◌, IsTrue, None, length, Some, IfOk, IfErr, OnOk, MatchResult};
 ghost use Rattle.is_stun.specs.Tlv.{tlvs_of};
 ghost use Rattle.is_stun.specs.Header.{body_of};
 
 use crate::attributes::Attributes;
 use crate::header::{Class, Method, body_of, header_fault};
 use crate::integrity::Integrity;
-use crate::reading::attributes_fault;
+use crate::reading::read_body;
 use crate::trans_id::TransId;
 use is_proto::{ParseFault, Protocol, Sha1HmacProvider, StunError};
 use std::net::SocketAddr;
@@ -46,42 +46,59 @@ impl<'a> StunMessage<'a> {
     ghost use Rattle.is_stun.specs.MessageView.{message_view};
     ghost use Rattle.is_stun.specs.Integrity.{IsSignedBy};
     ghost use Rattle.is_stun.specs.Reading.{attributes_fault, message_of, demand_fault, Reads, FailsBy};
+    ghost use Rattle.is_stun.specs.Spells.{Spells};
+    ghost use Rattle.is_stun.specs.Pass.{headed};
 
     /// Reads a message, or tells the first fault of the bytes, as `StunError::Parse`: first those of the header,
     /// then those of the attributes by place, then what a Binding request or success lacks (RFC 8489, section 6.3).
     /// FINGERPRINT is kept and not compared; comprehension-required types that are not known are skipped.
     pub fn parse(buf: &'a [u8]) -> Result<StunMessage<'a>, StunError>
-        ensures { MatchResult result (λ m. Reads buf.now (message_view m)) (λ e. FailsBy buf.now e) }
+        ensures reads { MatchResult result (λ m. Reads buf.now (message_view m)) (λ e. FailsBy buf.now e) }
+        ensures spells { IfOk result (λ m. Spells buf.now (message_view m)) }
     {
         if let Some(fault) = header_fault(buf) {
             return Err(StunError::Parse(fault));
         }
-        if let Some(fault) = attributes_fault(body_of(buf)) {
+        let mut message = StunMessage::of_header(buf);
+        if let Err(fault) = message.read(buf) {
             return Err(StunError::Parse(fault));
         }
-        let message = StunMessage::of_bytes(buf);
-        match message.demand_fault() {
-            Some(fault) => Err(StunError::Parse(fault)),
-            None => Ok(message),
+        if let Some(fault) = message.demand_fault() {
+            return Err(StunError::Parse(fault));
         }
+        Ok(message)
     }
 
-    #[tactic(auto, unfolding(crate::specs::Reading::message_of))]
-    fn of_bytes(buf: &'a [u8]) -> StunMessage<'a>
-        requires whole { 20 ≤ length buf.now }
-        requires small { length buf.now < 2 ^ 16 + 20 }
-        requires faultless { attributes_fault (tlvs_of (body_of buf.now)) ≡ None }
-        ensures { message_view result ≡ message_of buf.now }
+    /// What a header without fault says.
+    fn of_header(buf: &[u8]) -> StunMessage<'a>
+        requires { 20 ≤ length buf.now }
+        ensures { message_view result ≡ headed buf.now }
     {
         let typ = u16::from_be_bytes([buf[0], buf[1]]);
-        let trans_id = trans_id_of(&buf[8..20]);
         StunMessage {
             method: Method::from_typ(typ),
             class: Class::from_typ(typ),
-            trans_id,
-            attrs: Attributes::of_body(body_of(buf), &trans_id.0),
-            integrity: Integrity::of_bytes(buf),
+            trans_id: trans_id_of(&buf[8..20]),
+            attrs: Attributes::new(),
+            integrity: None,
         }
+    }
+
+    /// Reads what follows the header, in one pass.
+    #[tactic(auto, unfolding(crate::specs::Reading::message_of))]
+    fn read(&mut self, buf: &'a [u8]) -> Result<(), ParseFault>
+        requires whole { 20 ≤ length buf.now }
+        requires small { length buf.now < 2 ^ 16 + 20 }
+        requires headed { message_view self.old ≡ headed buf.now }
+        ensures spelled { OnOk result (message_view self.new ≡ message_of buf.now) }
+        ensures faultless { OnOk result (attributes_fault (tlvs_of (body_of buf.now)) ≡ None) }
+        ensures fault { IfErr result (λ f. attributes_fault (tlvs_of (body_of buf.now)) ≡ Some f) }
+    {
+        let id = self.trans_id.0;
+        if let Some(first) = read_body(&mut self.attrs, body_of(buf), &id)? {
+            self.integrity = Some(Integrity::of_first(buf, &first));
+        }
+        Ok(())
     }
 
     /// What a Binding success or request lacks.

@@ -1,8 +1,9 @@
 //! How messages are written.
 
-ghost use Rattle.std.specs.Prelude.{◌≡◌, length, map, IfNone};
+ghost use Rattle.std.specs.Prelude.{◌≡◌, length, take, map, IfNone, IfOk, IfSome};
 ghost use Rattle.std.specs.Option.{option_copied, option_map};
 ghost use Rattle.is_stun.specs.Writing.{WritesOr, is_longer, is_bad_code, has_long_value, value_refusal, refusal, written};
+ghost use Rattle.is_stun.specs.Laws.{ReadsAgain};
 ghost use Rattle.is_stun.specs.MessageView.{attributes_view, message_view};
 ghost use Rattle.is_stun.specs.ErrorCodeView.{error_view, WritableError};
 ghost use Rattle.is_stun.specs.RowView.{row_view};
@@ -10,16 +11,17 @@ ghost use Rattle.is_stun.specs.RowView.{row_view};
 use crate::attributes::Attributes;
 use crate::header::Method;
 use crate::message::StunMessage;
-use crate::numbers::{DATA_LIMIT, WRITTEN_TEXT_LIMIT};
+use crate::numbers::{DATA_LIMIT, WRITTEN_TEXT_LIMIT, WRITTEN_USERNAME_LIMIT};
 use crate::rows::{Values, rows_of};
+use crate::values::{id_fits, values_fit};
 use crate::writing::{Draft, write_draft};
 use is_proto::{Sha1HmacProvider, StunError};
 
-fn is_long_text(text: Option<&str>) -> bool
-    ensures { result ≡ is_longer WRITTEN_TEXT_LIMIT (option_copied text.entry) }
+fn is_longer(limit: usize, text: Option<&str>) -> bool
+    ensures { result ≡ is_longer limit (option_copied text.entry) }
 {
     match text {
-        Some(text) => text.len() > WRITTEN_TEXT_LIMIT,
+        Some(text) => text.len() > limit,
         None => false,
     }
 }
@@ -54,10 +56,10 @@ fn is_bad_code(error: Option<(u16, &str)>) -> bool
 fn has_long_value(attrs: &Attributes<'_>) -> bool
     ensures { result ≡ has_long_value (attributes_view attrs.now) }
 {
-    is_long_text(attrs.username)
-        || is_long_text(attrs.realm)
-        || is_long_text(attrs.nonce)
-        || is_long_text(attrs.software)
+    is_longer(WRITTEN_USERNAME_LIMIT, attrs.username)
+        || is_longer(WRITTEN_TEXT_LIMIT, attrs.realm)
+        || is_longer(WRITTEN_TEXT_LIMIT, attrs.nonce)
+        || is_longer(WRITTEN_TEXT_LIMIT, attrs.software)
         || is_long_reason(attrs.error_code)
         || is_long_data(attrs.data)
 }
@@ -83,11 +85,13 @@ fn value_refusal(message: &StunMessage<'_>) -> Option<StunError>
 impl<'a> StunMessage<'a> {
     /// Writes the message to the front of the buffer and tells its length: its attributes, then MESSAGE-INTEGRITY
     /// where there is a password, then FINGERPRINT (RFC 8489, sections 5 and 14). The integrity and the fingerprint
-    /// that a message was read with are left out, and it takes no memory. A refusal leaves the buffer as it was,
-    /// and is the first of
+    /// that a message was read with are left out, and so are flow and scope of addresses; it takes no memory. What was
+    /// written with a password reads as no other message than this one, and reads again, and verifies, where it has
+    /// what a reader demands; a class that is `Unknown` and channel numbers out of range are excepted. A refusal
+    /// leaves the buffer as it was, and is the first of
     /// - `UnknownMethod`: the method is `Unknown`;
-    /// - `ValueTooLong`: a user name, realm, nonce, software or reason of more than 128 bytes, or data of more
-    ///   than 65535;
+    /// - `ValueTooLong`: a user name of more than 508 bytes, a realm, nonce, software or reason of more than 128,
+    ///   or data of more than 65535;
     /// - `BadErrorCode`: an error code outside 300 to 699;
     /// - `MessageTooLong`: more than 65535 bytes would follow the header;
     /// - `BufferTooShort`: the buffer does not hold the message.
@@ -97,8 +101,12 @@ impl<'a> StunMessage<'a> {
         buf: &mut [u8],
         provider: &H,
     ) -> Result<usize, StunError>
-        ensures { WritesOr result buf.old buf.new (refusal (option_copied password.entry) (length buf.old) (message_view self.entry)) (written (H.mac provider.now) (option_copied password.entry) (message_view self.entry)) }
+        ensures written { WritesOr result buf.old buf.new (refusal (option_copied password.entry) (length buf.old) (message_view self.entry)) (written (H.mac provider.now) (option_copied password.entry) (message_view self.entry)) }
+        ensures read_again { IfOk result (λ len. IfSome (option_copied password.entry) (λ key. ReadsAgain (H.mac provider.now) key (take len buf.new) (message_view self.entry))) }
     {
+        // in the ranges of their types, the values are read again as they are
+        id_fits(self.trans_id);
+        values_fit(&self.attrs);
         if let Some(error) = value_refusal(&self) {
             return Err(error);
         }

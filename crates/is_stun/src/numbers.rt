@@ -11,9 +11,6 @@ pub(crate) const PORT_MASK: u16 = 0x2112;
 /// What the CRC of a fingerprint is xored with.
 pub(crate) const FINGERPRINT_MASK: u32 = 0x5354_554E;
 
-/// The polynomial of CRC-32, its bits turned round.
-pub(crate) const CRC_POLYNOMIAL: u32 = 0xEDB8_8320;
-
 // The types of attributes.
 
 pub(crate) const USERNAME: u16 = 0x0006;
@@ -62,7 +59,10 @@ pub(crate) const USERNAME_LIMIT: usize = 513;
 /// The longest other text that is read.
 pub(crate) const TEXT_LIMIT: usize = 763;
 
-/// The longest text that is written.
+/// The longest user name that is written (RFC 8489, section 14.3).
+pub(crate) const WRITTEN_USERNAME_LIMIT: usize = 508;
+
+/// The longest other text that is written.
 pub(crate) const WRITTEN_TEXT_LIMIT: usize = 128;
 
 /// The longest data that are written.

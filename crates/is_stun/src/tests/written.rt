@@ -18,46 +18,62 @@ fn ipv6() -> SocketAddr {
     SocketAddr::V6(SocketAddrV6::new(Ipv6Addr::LOCALHOST, 2000, 0, 0))
 }
 
+/// The length of the message that was written with the password, or none.
+fn signed_len(message: StunMessage<'_>, buf: &mut [u8]) -> Option<usize> {
+    message
+        .to_bytes(Some(PASSWORD), buf, &DefaultSha1HmacProvider)
+        .ok()
+}
+
+/// Why the message is not written, if it is not.
+fn refusal_of(message: StunMessage<'_>, buf: &mut [u8]) -> Option<StunError> {
+    message.to_bytes(None, buf, &DefaultSha1HmacProvider).err()
+}
+
+fn is_verified(read: &StunMessage<'_>) -> bool {
+    read.verify(PASSWORD, &DefaultSha1HmacProvider)
+}
+
 #[test]
-fn replies(rt: HostRuntime) -> Result<(), Fail> {
+fn a_reply_to_ipv4(rt: HostRuntime) -> Result<(), Fail> {
     let reply = StunMessage::binding_reply(ID, ipv4());
-    assert!(rt; !reply.verify(PASSWORD, &DefaultSha1HmacProvider));
-    let mut buf = [7; 80];
-    assert_eq!(rt;
-        reply.to_bytes(Some(PASSWORD), &mut buf, &DefaultSha1HmacProvider),
-        Ok(64)
-    );
+    assert!(rt; !is_verified(&reply));
+    let mut buf = [7; 65];
+    assert_eq!(rt; signed_len(reply, &mut buf), Some(64));
     assert_eq!(rt;
         &buf[..8],
         [0x01, 0x01, 0x00, 0x2c, 0x21, 0x12, 0xa4, 0x42].as_slice()
     );
     assert_eq!(rt;
-        &buf[20..32],
+        &buf[20..36],
         [
-            0x00, 0x20, 0x00, 0x08, 0x00, 0x01, 0xa1, 0x47, 0xe1, 0x12, 0xa6, 0x43
+            0x00, 0x20, 0x00, 0x08, 0x00, 0x01, 0xa1, 0x47, 0xe1, 0x12, 0xa6, 0x43, 0x00, 0x08,
+            0x00, 0x14
         ]
         .as_slice()
     );
-    assert_eq!(rt; &buf[32..36], [0x00, 0x08, 0x00, 0x14].as_slice());
     assert_eq!(rt; buf[64], 7);
     let read = StunMessage::parse(buf.get(..64).ok_or("short")?)?;
     assert_eq!(rt; read.mapped_address(), Some(ipv4()));
-    assert!(rt; read.verify(PASSWORD, &DefaultSha1HmacProvider));
-    let v6_reply = StunMessage::binding_reply(ID, ipv6());
-    assert_eq!(rt;
-        v6_reply.to_bytes(Some(PASSWORD), &mut buf, &DefaultSha1HmacProvider),
-        Ok(76)
-    );
-    assert_eq!(rt;
-        StunMessage::parse(buf.get(..76).ok_or("short")?)?.mapped_address(),
-        Some(ipv6())
-    );
+    assert!(rt; is_verified(&read));
+    Ok(())
+}
+
+#[test]
+fn a_reply_to_ipv6(rt: HostRuntime) -> Result<(), Fail> {
+    let mut buf = [0; 76];
+    let reply = StunMessage::binding_reply(ID, ipv6());
+    assert_eq!(rt; signed_len(reply, &mut buf), Some(76));
+    assert_eq!(rt; StunMessage::parse(&buf)?.mapped_address(), Some(ipv6()));
+    Ok(())
+}
+
+#[test]
+fn a_role_conflict(rt: HostRuntime) -> Result<(), Fail> {
+    let mut buf = [0; 76];
     let conflict = StunMessage::binding_role_conflict_reply(ID);
-    assert_eq!(rt;
-        conflict.to_bytes(Some(PASSWORD), &mut buf, &DefaultSha1HmacProvider),
-        Ok(76)
-    );
-    let read = StunMessage::parse(buf.get(..76).ok_or("short")?)?;
+    assert_eq!(rt; signed_len(conflict, &mut buf), Some(76));
+    let read = StunMessage::parse(&buf)?;
     assert!(rt; read.is_failed_binding_response());
     assert_eq!(rt; read.error_code(), Some((487, "Role Conflict")));
     Ok(())
@@ -77,32 +93,44 @@ fn checks(rt: HostRuntime) -> Result<(), Fail> {
     Ok(())
 }
 
+/// The longest user name that is written, in the longest check.
+#[test]
+fn user_names(rt: HostRuntime) {
+    let letters = [b'a'; 509];
+    let mut buf = [0; 600];
+    let longest = str::from_utf8(&letters[..508]).unwrap_or("");
+    let check = StunMessage::binding_request(longest, ID, true, 5, 9, true);
+    assert_eq!(rt; signed_len(check, &mut buf), Some(588));
+    let longer = str::from_utf8(&letters).unwrap_or("");
+    let check = StunMessage::binding_request(longer, ID, true, 5, 9, true);
+    assert_eq!(rt; refusal_of(check, &mut buf), Some(StunError::ValueTooLong));
+}
+
+#[test]
+fn a_short_buffer_is_left(rt: HostRuntime) {
+    let mut buf = [7; 63];
+    let reply = StunMessage::binding_reply(ID, ipv4());
+    assert_eq!(rt;
+        reply.to_bytes(Some(PASSWORD), &mut buf, &DefaultSha1HmacProvider),
+        Err(StunError::BufferTooShort)
+    );
+    assert_eq!(rt; buf.as_slice(), [7; 63].as_slice());
+}
+
 #[test]
 fn refusals_leave_the_buffer(rt: HostRuntime) {
-    let reply = StunMessage::binding_reply(ID, ipv4());
-    let mut buf = [7; 63];
-    let refused = reply.to_bytes(Some(PASSWORD), &mut buf, &DefaultSha1HmacProvider);
-    assert_eq!(rt; refused, Err(StunError::BufferTooShort));
-    assert_eq!(rt; buf.as_slice(), [7; 63].as_slice());
-    let failure = Builder::new().binding().failure();
-    let bad_code = failure.error_code(700, "").build(ID);
-    assert_eq!(rt;
-        bad_code.to_bytes(None, &mut buf, &DefaultSha1HmacProvider),
-        Err(StunError::BadErrorCode)
-    );
     let letters = [b'a'; 129];
-    let name = str::from_utf8(&letters).unwrap_or("");
-    let long_name = failure.username(name).build(ID);
-    assert_eq!(rt;
-        long_name.to_bytes(None, &mut buf, &DefaultSha1HmacProvider),
-        Err(StunError::ValueTooLong)
-    );
-    let long_data = [0; 65535];
-    let long = failure.data(&long_data).build(ID);
-    assert_eq!(rt;
-        long.to_bytes(None, &mut buf, &DefaultSha1HmacProvider),
-        Err(StunError::MessageTooLong)
-    );
+    let text = str::from_utf8(&letters).unwrap_or("");
+    let failure = Builder::new().binding().failure();
+    let mut buf = [7; 63];
+    for (message, error) in [
+        (failure.error_code(700, ""), StunError::BadErrorCode),
+        (failure.error_code(300, text), StunError::ValueTooLong),
+        (failure.realm(text), StunError::ValueTooLong),
+        (failure.data(&[0; 65535]), StunError::MessageTooLong),
+    ] {
+        assert_eq!(rt; refusal_of(message.build(ID), &mut buf), Some(error));
+    }
     assert_eq!(rt; buf.as_slice(), [7; 63].as_slice());
 }
 
@@ -161,10 +189,8 @@ fn software_before_network_cost(rt: HostRuntime) {
     );
 }
 
-/// Every attribute at once, written and read again.
-#[test]
-fn every_attribute(rt: HostRuntime) -> Result<(), Fail> {
-    let message = Builder::new()
+fn every_attribute() -> StunMessage<'static> {
+    Builder::new()
         .channel_bind()
         .request()
         .username("alice")
@@ -183,58 +209,90 @@ fn every_attribute(rt: HostRuntime) -> Result<(), Fail> {
         .ice_controlled(2)
         .ice_controlling(3)
         .network_cost(4, 5)
-        .build(ID);
+        .build(ID)
+}
+
+fn has_its_texts(read: &StunMessage<'_>) -> bool {
+    read.username() == Some("alice")
+        && read.split_username().is_none()
+        && read.error_code() == Some((438, "Stale Nonce"))
+        && read.realm() == Some("example.org")
+        && read.nonce() == Some("f//499k954d6OL34oL9FSTvy64sA")
+        && read.software() == Some("rice")
+        && read.data() == Some(b"data".as_slice())
+}
+
+fn has_its_numbers(read: &StunMessage<'_>) -> bool {
+    read.channel_number() == Some(0x4001)
+        && read.lifetime() == Some(600)
+        && read.prio() == Some(1)
+        && read.use_candidate()
+        && read.ice_controlled() == Some(2)
+        && read.ice_controlling() == Some(3)
+        && read.network_cost() == Some((4, 5))
+}
+
+fn has_its_addresses(read: &StunMessage<'_>) -> bool {
+    read.xor_peer_address() == Some(ipv4())
+        && read.xor_relayed_address() == Some(ipv6())
+        && read.mapped_address() == Some(ipv4())
+}
+
+/// Every attribute at once, written and read again.
+#[test]
+fn every_attribute_comes_back(rt: HostRuntime) -> Result<(), Fail> {
     let mut buf = [0; 400];
-    let len = message.to_bytes(Some(PASSWORD), &mut buf, &DefaultSha1HmacProvider)?;
+    let len = signed_len(every_attribute(), &mut buf).ok_or("refused")?;
     let read = StunMessage::parse(buf.get(..len).ok_or("short")?)?;
-    assert!(rt; read.is_channel_bind_request());
-    assert_eq!(rt; read.trans_id(), ID);
-    assert_eq!(rt; read.username(), Some("alice"));
-    assert_eq!(rt; read.split_username(), None);
-    assert_eq!(rt; read.error_code(), Some((438, "Stale Nonce")));
-    assert_eq!(rt; read.channel_number(), Some(0x4001));
-    assert_eq!(rt; read.lifetime(), Some(600));
-    assert_eq!(rt; read.xor_peer_address(), Some(ipv4()));
-    assert_eq!(rt; read.data(), Some(b"data".as_slice()));
-    assert_eq!(rt; read.realm(), Some("example.org"));
-    assert_eq!(rt; read.nonce(), Some("f//499k954d6OL34oL9FSTvy64sA"));
-    assert_eq!(rt; read.xor_relayed_address(), Some(ipv6()));
-    assert_eq!(rt; read.mapped_address(), Some(ipv4()));
-    assert_eq!(rt; read.software(), Some("rice"));
-    assert_eq!(rt; read.prio(), Some(1));
-    assert!(rt; read.use_candidate());
-    assert_eq!(rt; read.ice_controlled(), Some(2));
-    assert_eq!(rt; read.ice_controlling(), Some(3));
-    assert_eq!(rt; read.network_cost(), Some((4, 5)));
-    assert!(rt; read.verify(PASSWORD, &DefaultSha1HmacProvider));
+    assert!(rt; read.is_channel_bind_request() && read.trans_id() == ID);
+    assert!(rt; has_its_texts(&read));
+    assert!(rt; has_its_numbers(&read));
+    assert!(rt; has_its_addresses(&read));
+    assert!(rt; is_verified(&read));
     Ok(())
 }
 
-/// Each method and class that the crate names, from its builder to its bytes.
-#[test]
-fn methods_and_classes(rt: HostRuntime) {
-    for (message, typ) in [
-        (Builder::new().binding().request().build(ID), [0x00, 0x01]),
-        (Builder::new().allocate().request().build(ID), [0x00, 0x03]),
-        (Builder::new().refresh().request().build(ID), [0x00, 0x04]),
-        (Builder::new().send().indication().build(ID), [0x00, 0x16]),
-        (Builder::new().data().indication().build(ID), [0x00, 0x17]),
-        (
-            Builder::new().create_permission().success().build(ID),
-            [0x01, 0x08],
-        ),
-        (
-            Builder::new().channel_bind().failure().build(ID),
-            [0x01, 0x19],
-        ),
-    ] {
-        let mut buf = [7; 28];
-        assert_eq!(rt;
-            message.to_bytes(None, &mut buf, &DefaultSha1HmacProvider),
-            Ok(28)
-        );
-        assert_eq!(rt; &buf[..2], typ.as_slice());
+/// The type of a message as it is written.
+fn type_of(message: StunMessage<'_>) -> [u8; 2] {
+    let mut buf = [7; 28];
+    match message.to_bytes(None, &mut buf, &DefaultSha1HmacProvider) {
+        Ok(28) => [buf[0], buf[1]],
+        _ => [0xff, 0xff],
     }
+}
+
+/// Each method that the crate names, from its builder to its bytes.
+#[test]
+fn methods(rt: HostRuntime) {
+    for (builder, typ) in [
+        (Builder::new().binding(), [0x00, 0x01]),
+        (Builder::new().allocate(), [0x00, 0x03]),
+        (Builder::new().refresh(), [0x00, 0x04]),
+        (Builder::new().send(), [0x00, 0x06]),
+        (Builder::new().data(), [0x00, 0x07]),
+        (Builder::new().create_permission(), [0x00, 0x08]),
+        (Builder::new().channel_bind(), [0x00, 0x09]),
+    ] {
+        assert_eq!(rt; type_of(builder.request().build(ID)), typ);
+    }
+}
+
+/// Each class.
+#[test]
+fn classes(rt: HostRuntime) {
+    let builder = Builder::new().channel_bind();
+    for (builder, typ) in [
+        (builder.indication(), [0x00, 0x19]),
+        (builder.success(), [0x01, 0x09]),
+        (builder.failure(), [0x01, 0x19]),
+    ] {
+        assert_eq!(rt; type_of(builder.build(ID)), typ);
+    }
+}
+
+/// What the TURN methods are asked by.
+#[test]
+fn turn_requests(rt: HostRuntime) {
     assert!(rt;
         Builder::new()
             .allocate()
@@ -249,18 +307,13 @@ fn methods_and_classes(rt: HostRuntime) {
             .build(ID)
             .is_refresh_request()
     );
+    let permission = Builder::new().create_permission().request().build(ID);
+    assert!(rt; permission.is_create_permission_request());
     assert!(rt;
         Builder::new()
             .send()
             .indication()
             .build(ID)
             .is_send_indication()
-    );
-    assert!(rt;
-        Builder::new()
-            .create_permission()
-            .request()
-            .build(ID)
-            .is_create_permission_request()
     );
 }

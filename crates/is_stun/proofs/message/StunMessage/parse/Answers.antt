@@ -1,25 +1,27 @@
-use Rattle.std.proofs.Common.{refl, ◌∙◌, ap}
-use Rattle.is_stun.specs.Tlv.{tlvs_of}
-use Rattle.is_stun.specs.Reading.{attributes_fault, demand_fault}
+use Rattle.std.proofs.Common.{refl, ◌∙◌, ap, sym}
+use Rattle.is_stun.specs.Reading.{demand_fault}
 use Rattle.is_stun.proofs.ReadsLemmas.{fault_of-parts}
+use Rattle.is_stun.proofs.SpellsLemmas.{reads_spells}
 use Rattle.is_stun.proofs.message.StunMessage.parse.Goals as goal
 
-pub returns-in-Some : goal.returns-in-Some
-returns-in-Some c = fault_of-parts c.args.buf.now _ _ _ c.in-Some.ensures.fault refl refl
+pub returns-in-Some-clause-reads : goal.returns-in-Some-clause-reads
+returns-in-Some-clause-reads c = fault_of-parts c.args.buf.now _ _ _ c.in-Some.ensures.fault refl refl
 
-pub returns-in-Some-attributes_fault : goal.returns-in-Some-attributes_fault
-returns-in-Some-attributes_fault c =
-    fault_of-parts c.args.buf.now _ _ _ c.in_default.ensures.fault (c.in-Some-attributes_fault.ensures ∙ ap (λ b. attributes_fault (tlvs_of b)) c.body_of.ensures.bytes) refl
+pub returns-in-Err-clause-reads : goal.returns-in-Err-clause-reads
+returns-in-Err-clause-reads c = fault_of-parts c.args.buf.now _ _ _ c.in_default.ensures.fault (sym c.in-Err.ensures.fault) refl
 
-pub returns-in-Some-demand_fault : goal.returns-in-Some-demand_fault
-returns-in-Some-demand_fault c =
-    fault_of-parts c.args.buf.now _ _ _ c.in_default.ensures.fault (c.in_default-attributes_fault.ensures ∙ ap (λ b. attributes_fault (tlvs_of b)) c.body_of.ensures.bytes)
-    (c.in-Some-demand_fault.ensures ∙ ap demand_fault c.of_bytes-message.ensures)
+pub returns-in-Some-demand_fault-clause-reads : goal.returns-in-Some-demand_fault-clause-reads
+returns-in-Some-demand_fault-clause-reads c =
+    fault_of-parts c.args.buf.now _ _ _ c.in_default.ensures.fault (sym c.in_default-read.ensures.faultless)
+    (c.in-Some-demand_fault.ensures ∙ ap demand_fault c.in_default-read.ensures.spelled)
 
-pub returns-in-None : goal.returns-in-None
-returns-in-None c = record {
+pub returns-clause-reads : goal.returns-clause-reads
+returns-clause-reads c = record {
   faultless =
-      fault_of-parts c.args.buf.now _ _ _ c.in_default.ensures.fault (c.in_default-attributes_fault.ensures ∙ ap (λ b. attributes_fault (tlvs_of b)) c.body_of.ensures.bytes)
-      (c.in-None.ensures ∙ ap demand_fault c.of_bytes-message.ensures);
-  spelled = c.of_bytes-message.ensures;
+      fault_of-parts c.args.buf.now _ _ _ c.in_default.ensures.fault (sym c.in_default-read.ensures.faultless)
+      (c.in_default-demand_fault.ensures ∙ ap demand_fault c.in_default-read.ensures.spelled);
+  spelled = c.in_default-read.ensures.spelled;
 }
+
+pub returns-clause-spells : goal.returns-clause-spells
+returns-clause-spells c = reads_spells c.args.buf.now _ (returns-clause-reads c)
