@@ -15,7 +15,7 @@ use Rattle.is_candidate.specs.declared.candidate.kind.CandidateKind.TheVariants.
 use Rattle.is_candidate.specs.Kinds.{kind_word}
 use Rattle.is_candidate.specs.Candidates.{CandidateRecord}
 use Rattle.is_candidate.specs.Words.{HasWords}
-use Rattle.is_candidate.specs.Lines.{Answer, IsNumberBelow, Reads, Then, Head, Place, Keys, ReadsPriority, ReadsProtocol, ReadsComponent, ReadsHead, ReadsKind, ReadsTyp, ReadsPort, ReadsPlace, Takes, ReadsKey, ReadsKeys, no_keys, ReadsWords, HasRest, ReadsText}
+use Rattle.is_candidate.specs.Lines.{Answer, IsNumberBelow, ReadsAs, Then, Head, Place, Keys, ReadsPriority, ReadsTransport, ReadsComponent, ReadsHead, ReadsKind, ReadsTyp, ReadsPort, ReadsPlace, Takes, ReadsKey, ReadsKeys, no_keys, ReadsWords, HasRest, ReadsText}
 use Rattle.is_candidate.proofs.WordsUnique.{has-words-unique}
 
 -- ---- a word has one value
@@ -68,7 +68,7 @@ kind-unique word k l a b = sym (named-kind k) ∙ ap kind_named (sym a ∙ b) �
 
 reads-unique : {A R : Type 0} (Is : A → Type 0) (message : List ℕ) (r s : Answer R) (next next' : A → Type 0)
     → ((a b : A) → Is a → Is b → a ≡ b) → ((a : A) → next a → next' a → r ≡ s)
-    → Reads Is message r next → Reads Is message s next' → r ≡ s
+    → ReadsAs Is message r next → ReadsAs Is message s next' → r ≡ s
 reads-unique Is message r s next next' one go (inl (a, i, n)) (inl (b, j, m)) =
     go a n (subst next' (sym (one a b i j)) m)
 reads-unique Is message r s next next' one go (inl (a, i, n)) (inr (bare, e)) = absurd (bare a i)
@@ -83,7 +83,7 @@ priority-unique f c p [] r s a b = a ∙ sym b
 priority-unique f c p (w ∷ ws) r s a b =
     reads-unique (IsNumberBelow (2 ^ 32) w) _ r s _ _ (number-unique (2 ^ 32) w) (λ n x y. x ∙ sym y) a b
 
-protocols-unique : (f : List ℕ) (c : ℕ) (ws : List (List ℕ)) (r s : Answer Head) → ReadsProtocol f c ws r → ReadsProtocol f c ws s → r ≡ s
+protocols-unique : (f : List ℕ) (c : ℕ) (ws : List (List ℕ)) (r s : Answer Head) → ReadsTransport f c ws r → ReadsTransport f c ws s → r ≡ s
 protocols-unique f c [] r s a b = a ∙ sym b
 protocols-unique f c (w ∷ ws) r s a b =
     reads-unique (λ (p : Protocol). Spells w (protocol_word p)) _ r s _ _ (protocol-unique w) (λ p. priority-unique f c p ws r s) a b

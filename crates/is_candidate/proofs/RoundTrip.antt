@@ -24,7 +24,7 @@ use Rattle.is_candidate.specs.Kinds.{kind_word}
 use Rattle.is_candidate.specs.Making.{signalled_candidate}
 use Rattle.is_candidate.specs.Lines.{Answer, IsNumberBelow, Keys, ReadsHead, ReadsPlace, ReadsKeys, no_keys, related_address, ReadsWords}
 use Rattle.is_candidate.specs.Priorities.{candidate_priority}
-use Rattle.is_candidate.specs.RoundTrips.{told_address, told_related, PartsFit, as_signalled, HasPlainTexts, ReadsBack}
+use Rattle.is_candidate.specs.RoundTrips.{told_address, told_related, PartsFit, as_signalled, HasPlainTexts, LineReadsAgain}
 use Rattle.is_candidate.specs.Sdp.{front_text, place_text, related_text, role_text, fragment_text, sdp_text}
 use Rattle.is_candidate.specs.Words.{IsWord}
 use Rattle.is_candidate.proofs.PlainWords.{decimal_word, foundation_word, ip_word, protocol_is_word, role_is_word, kind_is_word, typ_is_word, raddr_is_word, rport_is_word, tcptype_is_word, ufrag_is_word}
@@ -284,7 +284,7 @@ same_line : (c : CandidateRecord) → sdp_text (as_signalled c) ≡ sdp_text c
 same_line c = λ i. front_same c i ++ place_same c i ++ related_same c.raddr i ++ role_text c.tcptype ++ fragment_text c.ufrag
 
 pub reads_back : (c : CandidateRecord) → c.component < 2 ^ 16 → candidate_priority c < 2 ^ 32 → PartsFit c.addr → IfSome c.raddr PartsFit
-    → HasPlainTexts c → ReadsBack c
+    → HasPlainTexts c → LineReadsAgain c
 reads_back c component priority addr raddr plain =
     let keys = keys_are_words c raddr plain.1 in
     let foundation = given_is_word c.foundation (computed_foundation c) plain.0 (foundation_word c) in (

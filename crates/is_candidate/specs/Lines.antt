@@ -24,8 +24,8 @@ IsNumberBelow bound word n =
     IsNumeral 10 (without_leading_plus word) × (digits_value 10 (without_leading_plus word) ≡ n) × (n < bound)
 
 -- the word reads as a value, from which the rest goes on; or it reads as none, and that is the fault
-abbrev pub Reads : {A R : Type 0} → (A → Type 0) → List ℕ → Answer R → (A → Type 0) → Type 0
-Reads {A} Is message r next = ((a : A) × Is a × next a) ⊎ (((a : A) → ¬ Is a) × (r ≡ Err message))
+abbrev pub ReadsAs : {A R : Type 0} → (A → Type 0) → List ℕ → Answer R → (A → Type 0) → Type 0
+ReadsAs {A} Is message r next = ((a : A) × Is a × next a) ⊎ (((a : A) → ¬ Is a) × (r ≡ Err message))
 
 -- what follows an answer: the next rule, or the fault
 abbrev pub Then : {A R : Type 0} → Answer A → Answer R → (A → Type 0) → Type 0
@@ -43,20 +43,20 @@ pub record Head : Type 0 where
 abbrev pub ReadsPriority : List ℕ → ℕ → Protocol → List (List ℕ) → Answer Head → Type 0
 ReadsPriority foundation component proto [] r = r ≡ Err (codes "missing priority")
 ReadsPriority foundation component proto (word ∷ words) r =
-    Reads (IsNumberBelow (2 ^ 32) word) (codes "bad priority") r
+    ReadsAs (IsNumberBelow (2 ^ 32) word) (codes "bad priority") r
     (λ n. r ≡ Ok record { foundation = foundation; component = component; proto = proto; priority = n })
 
-abbrev pub ReadsProtocol : List ℕ → ℕ → List (List ℕ) → Answer Head → Type 0
-ReadsProtocol foundation component [] r = r ≡ Err (codes "missing protocol")
-ReadsProtocol foundation component (word ∷ words) r =
-    Reads (λ (p : Protocol). Spells word (protocol_word p)) (codes "invalid protocol: " ++ word) r
+abbrev pub ReadsTransport : List ℕ → ℕ → List (List ℕ) → Answer Head → Type 0
+ReadsTransport foundation component [] r = r ≡ Err (codes "missing protocol")
+ReadsTransport foundation component (word ∷ words) r =
+    ReadsAs (λ (p : Protocol). Spells word (protocol_word p)) (codes "invalid protocol: " ++ word) r
     (λ p. ReadsPriority foundation component p words r)
 
 abbrev pub ReadsComponent : List ℕ → List (List ℕ) → Answer Head → Type 0
 ReadsComponent foundation [] r = r ≡ Err (codes "missing component-id")
 ReadsComponent foundation (word ∷ words) r =
-    Reads (IsNumberBelow (2 ^ 16) word) (codes "bad component-id") r
-    (λ n. ReadsProtocol foundation n words r)
+    ReadsAs (IsNumberBelow (2 ^ 16) word) (codes "bad component-id") r
+    (λ n. ReadsTransport foundation n words r)
 
 abbrev pub ReadsHead : List (List ℕ) → Answer Head → Type 0
 ReadsHead [] r = r ≡ Err (codes "missing foundation")
@@ -72,7 +72,7 @@ pub record Place : Type 0 where
 abbrev pub ReadsKind : IpAddr → ℕ → List (List ℕ) → Answer Place → Type 0
 ReadsKind ip port [] r = r ≡ Err (codes "missing candidate type")
 ReadsKind ip port (word ∷ words) r =
-    Reads (λ (k : CandidateKind). word ≡ kind_word k) (codes "unknown candidate type: " ++ word) r
+    ReadsAs (λ (k : CandidateKind). word ≡ kind_word k) (codes "unknown candidate type: " ++ word) r
     (λ k. r ≡ Ok record { ip = ip; port = port; kind = k })
 
 abbrev pub ReadsTyp : IpAddr → ℕ → List (List ℕ) → Answer Place → Type 0
@@ -83,12 +83,12 @@ ReadsTyp ip port (word ∷ words) r =
 abbrev pub ReadsPort : IpAddr → List (List ℕ) → Answer Place → Type 0
 ReadsPort ip [] r = r ≡ Err (codes "missing port")
 ReadsPort ip (word ∷ words) r =
-    Reads (IsNumberBelow (2 ^ 16) word) (codes "bad port") r (λ n. ReadsTyp ip n words r)
+    ReadsAs (IsNumberBelow (2 ^ 16) word) (codes "bad port") r (λ n. ReadsTyp ip n words r)
 
 abbrev pub ReadsPlace : List (List ℕ) → Answer Place → Type 0
 ReadsPlace [] r = r ≡ Err (codes "missing address")
 ReadsPlace (word ∷ words) r =
-    Reads (IsIpText word) (codes "bad address") r (λ ip. ReadsPort ip words r)
+    ReadsAs (IsIpText word) (codes "bad address") r (λ ip. ReadsPort ip words r)
 
 -- ---- the keys behind them: of equal ones the last counts, each value of a known one is checked, others are skipped
 
@@ -104,7 +104,7 @@ no_keys = record { raddr = None; rport = None; tcptype = None; ufrag = None }
 -- the value is there and reads, and so stands; or it is missing, or reads as nothing
 abbrev pub Takes : {A : Type 0} → Option (List ℕ) → (List ℕ → A → Type 0) → List ℕ → List ℕ → Answer Keys → (A → Keys) → Type 0
 Takes value Is missing bad r with_value =
-    MatchOption value (r ≡ Err missing) (λ word. Reads (Is word) bad r (λ a. r ≡ Ok (with_value a)))
+    MatchOption value (r ≡ Err missing) (λ word. ReadsAs (Is word) bad r (λ a. r ≡ Ok (with_value a)))
 
 -- the keys with one more, whose value may be missing
 abbrev pub ReadsKey : List ℕ → Option (List ℕ) → Keys → Answer Keys → Type 0

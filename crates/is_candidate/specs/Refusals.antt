@@ -5,15 +5,15 @@ use Rattle.is_proto.specs.declared.error.IceError.TheVariants.{BadCandidate, Out
 use Rattle.is_candidate.specs.Candidates.{CandidateRecord}
 
 -- the refusal with this message, or want of memory for the message
-abbrev pub Says : List ℕ → IceError → Type 0
-Says message (BadCandidate s) = string_bytes s ≡ message
-Says message OutOfMemory = Unit {0}
-Says message PairIdsExhausted = ⊥
-Says message MtuTooSmall = ⊥
-Says message CredentialsTooLong = ⊥
-Says message PriorityTooHigh = ⊥
+abbrev pub RefusesWith : List ℕ → IceError → Type 0
+RefusesWith message (BadCandidate s) = string_bytes s ≡ message
+RefusesWith message OutOfMemory = Unit {0}
+RefusesWith message PairIdsExhausted = ⊥
+RefusesWith message MtuTooSmall = ⊥
+RefusesWith message CredentialsTooLong = ⊥
+RefusesWith message PriorityTooHigh = ⊥
 
 -- the candidate where nothing is wrong, else the refusal with the message of the fault
 abbrev pub Makes : Option (List ℕ) → CandidateRecord → Result CandidateRecord IceError → Type 0
 Makes None made r = r ≡ Ok made
-Makes (Some message) made r = IsErrAnd r (Says message)
+Makes (Some message) made r = IsErrAnd r (RefusesWith message)

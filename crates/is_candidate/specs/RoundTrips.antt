@@ -31,8 +31,8 @@ abbrev pub HasPlainTexts : CandidateRecord → Type 0
 HasPlainTexts c = IfSome c.foundation IsWord × IfSome c.ufrag IsWord
 
 -- the printed line reads as what it tells of, which prints the same
-abbrev pub ReadsBack : CandidateRecord → Type 0
-ReadsBack c = IsLineOf (sdp_text c) (as_signalled c) × (sdp_text (as_signalled c) ≡ sdp_text c)
+abbrev pub LineReadsAgain : CandidateRecord → Type 0
+LineReadsAgain c = IsLineOf (sdp_text c) (as_signalled c) × (sdp_text (as_signalled c) ≡ sdp_text c)
 
 -- the parts of an address that a line tells are in range
 abbrev pub PartsFit : SocketAddr → Type 0

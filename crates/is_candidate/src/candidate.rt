@@ -5,11 +5,11 @@ ghost use Rattle.is_proto.specs.declared.error.IceError.TheVariants.{OutOfMemory
 
 pub mod address;
 pub mod builder;
-mod copy;
+pub mod copy;
 pub mod equality;
 pub mod foundation;
-mod fraction;
-pub mod inner;
+pub mod fraction;
+pub mod internals;
 pub mod json;
 pub mod kind;
 pub mod making;

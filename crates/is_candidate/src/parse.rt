@@ -3,7 +3,7 @@ ghost use Rattle.std.specs.Prelude.{◌≡◌, ◌++◌, codes, List, ℕ};
 ghost use Rattle.is_candidate.specs.Candidates.{CandidateRecord};
 ghost use Rattle.is_candidate.specs.Lines.{Answer, ReadsText};
 ghost use Rattle.is_candidate.specs.Faults.{fault_text, ReadsLine};
-ghost use Rattle.is_candidate.specs.Refusals.{Says};
+ghost use Rattle.is_candidate.specs.Refusals.{RefusesWith};
 
 mod fault;
 mod head;
@@ -39,7 +39,7 @@ pub fn parse_candidate(alloc: Global, text: &str) -> Result<Candidate, IceError>
 
 /// The refusal of a text, or want of memory for its message.
 fn refusal(alloc: Global, text: &str, fault: Fault<'_>) -> IceError
-    ensures { Says (text.now ++ codes ": " ++ fault_text fault.entry) result }
+    ensures { RefusesWith (text.now ++ codes ": " ++ fault_text fault.entry) result }
 {
     match format!(in alloc; "{text}: {fault}") {
         Ok(message) => IceError::BadCandidate(message),

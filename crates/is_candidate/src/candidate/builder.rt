@@ -3,7 +3,7 @@ ghost use Rattle.std.specs.Prelude.{◌≡◌, ◌++◌, codes, Some, None};
 ghost use Rattle.std.specs.Net.Text.{ip_text};
 ghost use Rattle.is_candidate.specs.declared.candidate.builder.Route.TheVariants.{Host, ServerReflexive, Relayed};
 ghost use Rattle.is_candidate.specs.Building.{protocol_of, route_of, tcptype_of, mixed_text, route_fault, built_candidate};
-ghost use Rattle.is_candidate.specs.Refusals.{Says, Makes};
+ghost use Rattle.is_candidate.specs.Refusals.{RefusesWith, Makes};
 
 use super::Candidate;
 use super::address::{is_valid_ip, same_version};
@@ -215,7 +215,7 @@ impl<P> CandidateBuilder<HasProtocol<P>, HasRoute> {
 
 /// The refusal of an address, or want of memory for its message.
 fn invalid_ip(alloc: Global, ip: IpAddr) -> IceError
-    ensures { Says (codes "Invalid IP: " ++ ip_text ip) result }
+    ensures { RefusesWith (codes "Invalid IP: " ++ ip_text ip) result }
 {
     match format!(in alloc; "Invalid IP: {ip}") {
         Ok(message) => IceError::BadCandidate(message),
@@ -225,7 +225,7 @@ fn invalid_ip(alloc: Global, ip: IpAddr) -> IceError
 
 /// The refusal of two IP versions, or want of memory for its message.
 fn mixed_versions(alloc: Global, addr: IpAddr, base: IpAddr) -> IceError
-    ensures { Says (mixed_text addr base) result }
+    ensures { RefusesWith (mixed_text addr base) result }
 {
     let mixed = Mixed { addr, base };
     match format!(in alloc; "{mixed}") {

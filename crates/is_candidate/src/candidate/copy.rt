@@ -1,5 +1,5 @@
 //! Copies that can be refused.
-ghost use Rattle.std.specs.Prelude.{◌≡◌, IfOk};
+ghost use Rattle.std.specs.Prelude.{◌≡◌, IfOk, Some};
 
 use super::Candidate;
 use is_proto::Text;
@@ -12,22 +12,17 @@ impl Clone for Candidate {
     fn clone(&self) -> Result<Candidate, AllocError> {
         let foundation = copy_of(&self.foundation)?;
         let ufrag = copy_of(&self.ufrag)?;
-        Ok(Candidate {
-            foundation,
-            component: self.component,
-            proto: self.proto,
-            given_priority: self.given_priority,
-            addr: self.addr,
-            given_base: self.given_base,
-            kind: self.kind,
-            raddr: self.raddr,
-            tcptype: self.tcptype,
-            ufrag,
-            local: self.local,
-            local_preference: self.local_preference,
-            discarded: self.discarded,
-        })
+        Ok(with_texts(self, foundation, ufrag))
     }
+}
+
+/// A copy under another user fragment. The old one is not copied.
+pub fn clone_with_ufrag(c: &Candidate, ufrag: &Text) -> Result<Candidate, AllocError>
+    ensures { IfOk result (λ copy. copy ≡ record c.now { ufrag = Some ufrag.now }) }
+{
+    let foundation = copy_of(&c.foundation)?;
+    let ufrag = ufrag.clone()?;
+    Ok(with_texts(c, foundation, Some(ufrag)))
 }
 
 fn copy_of(text: &Option<Text>) -> Result<Option<Text>, AllocError>
@@ -36,5 +31,25 @@ fn copy_of(text: &Option<Text>) -> Result<Option<Text>, AllocError>
     match text {
         Some(text) => Ok(Some(text.clone()?)),
         None => Ok(None),
+    }
+}
+
+fn with_texts(c: &Candidate, foundation: Option<Text>, ufrag: Option<Text>) -> Candidate
+    ensures { result ≡ record c.now { foundation = foundation; ufrag = ufrag } }
+{
+    Candidate {
+        foundation,
+        component: c.component,
+        proto: c.proto,
+        given_priority: c.given_priority,
+        addr: c.addr,
+        given_base: c.given_base,
+        kind: c.kind,
+        raddr: c.raddr,
+        tcptype: c.tcptype,
+        ufrag,
+        local: c.local,
+        local_preference: c.local_preference,
+        discarded: c.discarded,
     }
 }

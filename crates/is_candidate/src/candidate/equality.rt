@@ -6,7 +6,7 @@ ghost use Rattle.is_candidate.specs.Equality.{is_same_place, is_same_origin, is_
 
 use super::Candidate;
 use super::address::{same_address, same_protocol, same_version};
-use super::inner::{base, given_foundation};
+use super::internals::{base, given_foundation};
 use super::kind::{CandidateKind, same_kind};
 use is_proto::laws::equal_values_hash_alike;
 use std::net::SocketAddr;

@@ -4,7 +4,7 @@ ghost use Rattle.is_candidate.specs.Foundations.{fnv_from, fnv, ip_bytes, relate
 
 use super::Candidate;
 use super::address::protocol_number;
-use super::inner::base;
+use super::internals::base;
 use super::kind::kind_number;
 use std::fmt;
 use std::net::{IpAddr, SocketAddr};

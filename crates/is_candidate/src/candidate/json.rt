@@ -4,7 +4,7 @@ ghost use Rattle.std.specs.Option.{option_copied};
 ghost use Rattle.serde_json.specs.View.{view};
 ghost use Rattle.is_proto.specs.declared.error.IceError.TheVariants.{OutOfMemory};
 ghost use Rattle.is_candidate.specs.Infos.{info_of, text_or_null, line_in, ufrag_in, ReadsInfo};
-ghost use Rattle.is_candidate.specs.Refusals.{Says};
+ghost use Rattle.is_candidate.specs.Refusals.{RefusesWith};
 
 use super::Candidate;
 use super::fraction::holds_fraction;
@@ -104,7 +104,7 @@ fn ufrag_in(value: &Value) -> Result<Option<&str>, &'static str>
 
 /// The refusal with this message, or want of memory for it.
 fn refusal(alloc: Global, message: &str) -> IceError
-    ensures { Says message.now result }
+    ensures { RefusesWith message.now result }
 {
     match String::from_str(alloc, message) {
         Ok(message) => IceError::BadCandidate(message),

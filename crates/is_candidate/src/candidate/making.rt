@@ -4,7 +4,7 @@ ghost use Rattle.std.specs.Net.Socket.{socket_ip};
 ghost use Rattle.std.specs.Net.Text.{ip_text};
 ghost use Rattle.is_candidate.specs.Kinds.{is_direct};
 ghost use Rattle.is_candidate.specs.Making.{ip_fault, reflexive_fault, gathered, host_candidate, server_reflexive_candidate, relayed_candidate, signalled_candidate, peer_reflexive_candidate};
-ghost use Rattle.is_candidate.specs.Refusals.{Says, Makes};
+ghost use Rattle.is_candidate.specs.Refusals.{RefusesWith, Makes};
 
 use super::Candidate;
 use super::address::{is_valid_ip, same_version, unspecified_like};
@@ -212,7 +212,7 @@ fn gathered(
 
 /// The refusal of an address, or want of memory for its message.
 fn invalid_ip(alloc: Global, ip: IpAddr) -> IceError
-    ensures { Says (codes "invalid ip " ++ ip_text ip) result }
+    ensures { RefusesWith (codes "invalid ip " ++ ip_text ip) result }
 {
     match format!(in alloc; "invalid ip {ip}") {
         Ok(message) => IceError::BadCandidate(message),
@@ -222,7 +222,7 @@ fn invalid_ip(alloc: Global, ip: IpAddr) -> IceError
 
 /// The refusal of two IP versions, or want of memory for its message.
 fn mixed_versions(alloc: Global) -> IceError
-    ensures { Says (codes "addr and base are different IP versions") result }
+    ensures { RefusesWith (codes "addr and base are different IP versions") result }
 {
     match String::from_str(alloc, "addr and base are different IP versions") {
         Ok(message) => IceError::BadCandidate(message),

@@ -1,5 +1,5 @@
 //! The priority of a candidate (RFC 8445, section 5.1.2).
-ghost use Rattle.std.specs.Prelude.{◌≡◌};
+ghost use Rattle.std.specs.Prelude.{◌≡◌, ◌<◌, ◌≤◌};
 ghost use Rattle.is_candidate.specs.Priorities.{type_preference, local_preference_of, formula, candidate_priority, check_priority};
 
 use super::Candidate;
@@ -20,9 +20,10 @@ impl Candidate {
 }
 
 /// What PRIORITY says in a check from this candidate: its priority, were it peer reflexive (RFC 8445,
-/// section 7.1.1).
+/// section 7.1.1). So it is below the greatest priority where that of the candidate is.
 pub fn check_priority(c: &Candidate) -> u32
-    ensures { result ≡ check_priority c.now }
+    ensures value { result ≡ check_priority c.now }
+    ensures low { candidate_priority c.now < 4294967295 → result < 4294967295 }
 {
     match c.given_priority {
         Some(priority) => priority,
@@ -31,7 +32,8 @@ pub fn check_priority(c: &Candidate) -> u32
 }
 
 fn formula(c: &Candidate, kind: CandidateKind) -> u32
-    ensures { result ≡ formula kind c.now }
+    ensures value { result ≡ formula kind c.now }
+    ensures low { result < 4294967295 }
 {
     type_preference(kind, c.proto) * 0x100_0000
         + u32::from(local_preference(c)) * 0x100
@@ -40,7 +42,8 @@ fn formula(c: &Candidate, kind: CandidateKind) -> u32
 
 /// RFC 8445, section 5.1.2.2, and for other protocols than UDP the values of libwebrtc.
 fn type_preference(kind: CandidateKind, proto: Protocol) -> u32
-    ensures { result ≡ type_preference kind proto }
+    ensures value { result ≡ type_preference kind proto }
+    ensures low { result ≤ 126 }
 {
     match (kind, proto) {
         (CandidateKind::Host, Protocol::Udp) => 126,

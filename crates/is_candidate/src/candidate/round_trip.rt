@@ -1,6 +1,6 @@
 //! Printed lines read again.
 ghost use Rattle.std.specs.Prelude.{IfSome};
-ghost use Rattle.is_candidate.specs.RoundTrips.{HasPlainTexts, ReadsBack, PartsFit};
+ghost use Rattle.is_candidate.specs.RoundTrips.{HasPlainTexts, LineReadsAgain, PartsFit};
 
 use super::Candidate;
 use std::net::{IpAddr, SocketAddr};
@@ -10,7 +10,7 @@ use std::net::{IpAddr, SocketAddr};
 /// the base, nor of flow information and scope. The body reads the parts whose types keep them in range, and does
 /// nothing with them.
 pub fn printed_line_reads_again(candidate: &Candidate)
-    ensures { HasPlainTexts candidate.now → ReadsBack candidate.now }
+    ensures { HasPlainTexts candidate.now → LineReadsAgain candidate.now }
 {
     let _component = candidate.component;
     let _priority = candidate.prio();

@@ -6,11 +6,14 @@ ghost use Rattle.is_candidate.specs.Words.{HasWords};
 
 use std::alloc::{AllocError, Global};
 
+/// Room for the words of a browser's line, so that one growth does for it.
+const MANY_WORDS: usize = 24;
+
 /// The words of the text, split at white space (Unicode's White_Space).
 pub(crate) fn words_of(alloc: Global, text: &str) -> Result<Vec<&str>, AllocError>
     ensures { IfOk result (λ v. HasWords text.now (texts v.items)) }
 {
-    let mut words = Vec::new(alloc);
+    let mut words = Vec::with_capacity(alloc, MANY_WORDS)?;
     for word in text.split_whitespace() {
         words.push(word)?;
     }

@@ -11,38 +11,40 @@ fn printed(alloc: Global, line: &str) -> Result<String, IceError> {
     Candidate::from_sdp_string(alloc, line)?.to_sdp_string(alloc)
 }
 
-/// What the refusal of a line says.
-fn refused(alloc: Global, line: &str) -> Result<String, Fail> {
-    match parse_candidate(alloc, line) {
-        Ok(_) => Err(Fail::from("the line was taken")),
-        Err(refusal) => Ok(format!(in alloc; "{refusal}")?),
+/// Whether the line prints so, once read.
+fn prints(alloc: Global, line: &str, text: &str) -> bool {
+    match printed(alloc, line) {
+        Ok(printed) => printed.as_str() == text,
+        Err(_) => false,
+    }
+}
+
+/// Whether the line is refused with the line itself, a colon, and this fault.
+fn is_refused(alloc: Global, line: &str, fault: &str) -> bool {
+    let Err(IceError::BadCandidate(message)) = parse_candidate(alloc, line) else {
+        return false;
+    };
+    match message.as_str().strip_prefix(line) {
+        Some(rest) => rest.strip_prefix(": ") == Some(fault),
+        None => false,
     }
 }
 
 #[test]
-fn a_chrome_line_keeps_what_is_known_of_it(rt: HostRuntime) -> Result<(), Fail> {
-    let alloc = rt.alloc();
-    let line =
-        "candidate:842163049 1 udp 1677729535 203.0.113.5 46154 typ srflx raddr 0.0.0.0 rport 0 generation 0 ufrag EsAw network-id 1 network-cost 10";
-    let text = printed(alloc, line)?;
-    assert_eq!(rt;
-        text.as_str(),
-        "candidate:842163049 1 udp 1677729535 203.0.113.5 46154 typ srflx raddr 0.0.0.0 rport 0 ufrag EsAw"
-    );
-    Ok(())
-}
-
-#[test]
-fn a_firefox_line_prints_its_protocol_in_lower_case(rt: HostRuntime) -> Result<(), Fail> {
-    let text = printed(
-        rt.alloc(),
-        "candidate:0 1 UDP 2122252543 192.168.1.10 54321 typ host",
-    )?;
-    assert_eq!(rt;
-        text.as_str(),
-        "candidate:0 1 udp 2122252543 192.168.1.10 54321 typ host"
-    );
-    Ok(())
+fn lines_of_browsers_print_what_is_known_of_them(rt: HostRuntime) {
+    let rows = [
+        (
+            "candidate:842163049 1 udp 1677729535 203.0.113.5 46154 typ srflx raddr 0.0.0.0 rport 0 generation 0 ufrag EsAw network-id 1 network-cost 10",
+            "candidate:842163049 1 udp 1677729535 203.0.113.5 46154 typ srflx raddr 0.0.0.0 rport 0 ufrag EsAw",
+        ),
+        (
+            "candidate:0 1 UDP 2122252543 192.168.1.10 54321 typ host",
+            "candidate:0 1 udp 2122252543 192.168.1.10 54321 typ host",
+        ),
+    ];
+    for (line, text) in rows.iter() {
+        assert!(rt; prints(rt.alloc(), line, text));
+    }
 }
 
 #[test]
@@ -84,34 +86,24 @@ fn a_relay_with_a_ufrag_prints_as_it_was_read(rt: HostRuntime) -> Result<(), Fai
 }
 
 #[test]
-fn of_equal_keys_the_last_counts_and_a_lone_raddr_is_none(rt: HostRuntime) -> Result<(), Fail> {
+fn of_equal_keys_the_last_counts_and_a_lone_raddr_is_none(rt: HostRuntime) {
     let line = "candidate:1 1 udp 1 10.0.0.1 1 typ prflx raddr 10.0.0.2 ufrag a ufrag b lonely";
-    let text = printed(rt.alloc(), line)?;
-    assert_eq!(rt;
-        text.as_str(),
-        "candidate:1 1 udp 1 10.0.0.1 1 typ prflx ufrag b"
-    );
-    Ok(())
+    let text = "candidate:1 1 udp 1 10.0.0.1 1 typ prflx ufrag b";
+    assert!(rt; prints(rt.alloc(), line, text));
 }
 
 #[test]
-fn unicode_white_space_splits_words(rt: HostRuntime) -> Result<(), Fail> {
-    let text = printed(
-        rt.alloc(),
-        "candidate:1\u{a0}1\u{2003}udp 1 10.0.0.1 1 typ host",
-    )?;
-    assert_eq!(rt; text.as_str(), "candidate:1 1 udp 1 10.0.0.1 1 typ host");
+fn unicode_white_space_splits_words(rt: HostRuntime) {
+    let line = "candidate:1\u{a0}1\u{2003}udp 1 10.0.0.1 1 typ host";
+    let text = "candidate:1 1 udp 1 10.0.0.1 1 typ host";
+    assert!(rt; prints(rt.alloc(), line, text));
     // U+001C is no white space, so the foundation is `1\u{1c}1` and the component `udp`
-    let said = refused(rt.alloc(), "candidate:1\u{1c}1 udp 1 10.0.0.1 1 typ host")?;
-    assert_eq!(rt;
-        said.as_str(),
-        "ICE bad candidate: candidate:1\u{1c}1 udp 1 10.0.0.1 1 typ host: bad component-id"
-    );
-    Ok(())
+    let line = "candidate:1\u{1c}1 udp 1 10.0.0.1 1 typ host";
+    assert!(rt; is_refused(rt.alloc(), line, "bad component-id"));
 }
 
 #[test]
-fn each_fault_has_its_message(rt: HostRuntime) -> Result<(), Fail> {
+fn each_fault_has_its_message(rt: HostRuntime) {
     let rows = [
         ("", "missing 'candidate:' prefix"),
         (
@@ -165,9 +157,6 @@ fn each_fault_has_its_message(rt: HostRuntime) -> Result<(), Fail> {
         ),
     ];
     for (line, fault) in rows.iter() {
-        let said = refused(rt.alloc(), line)?;
-        let wanted = format!(in rt.alloc(); "ICE bad candidate: {line}: {fault}")?;
-        assert_eq!(rt; said.as_str(), wanted.as_str());
+        assert!(rt; is_refused(rt.alloc(), line, fault));
     }
-    Ok(())
 }

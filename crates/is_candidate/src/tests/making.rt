@@ -1,12 +1,23 @@
 //! Host and peer reflexive candidates.
 
-use crate::candidate::inner::base;
+use crate::candidate::copy::clone_with_ufrag;
+use crate::candidate::equality::is_temporary;
+use crate::candidate::internals::{base, give_ufrag};
 use crate::candidate::making::peer_reflexive;
 use crate::candidate::priority::check_priority;
 use crate::{Candidate, CandidateKind};
-use is_proto::{Protocol, TcpType, Text};
+use is_proto::{IceError, Protocol, TcpType, Text};
+use std::alloc::Global;
 use std::net::SocketAddr;
 use std::test::Fail;
+
+/// Whether the candidate was refused with this message.
+fn is_refused(made: Result<Candidate, IceError>, message: &str) -> bool {
+    match made {
+        Err(IceError::BadCandidate(said)) => said.as_str() == message,
+        _ => false,
+    }
+}
 
 #[test]
 fn a_host_has_the_recommended_priority(rt: HostRuntime) -> Result<(), Fail> {
@@ -21,35 +32,49 @@ fn a_host_has_the_recommended_priority(rt: HostRuntime) -> Result<(), Fail> {
 
 #[test]
 fn a_host_on_every_interface_is_refused(rt: HostRuntime) -> Result<(), Fail> {
-    let Err(refusal) = Candidate::host(rt.alloc(), "0.0.0.0:9876".parse()?, Protocol::Udp) else {
-        return Err(Fail::from("0.0.0.0 was taken"));
-    };
-    let said = format!(in rt.alloc(); "{refusal}")?;
-    assert_eq!(rt; said.as_str(), "ICE bad candidate: invalid ip 0.0.0.0");
+    let made = Candidate::host(rt.alloc(), "0.0.0.0:9876".parse()?, Protocol::Udp);
+    assert!(rt; is_refused(made, "invalid ip 0.0.0.0"));
     Ok(())
+}
+
+/// The remote candidate of a request from 10.0.0.2:2000.
+fn remote_peer_reflexive(alloc: Global) -> Result<Candidate, Fail> {
+    let source: SocketAddr = "10.0.0.2:2000".parse()?;
+    let foundation = Text::from_str(alloc, "tmp_prflx")?;
+    let ufrag = Text::from_str(alloc, "p9KA")?;
+    let proto = Protocol::Udp;
+    Ok(peer_reflexive(Some(foundation), proto, 1853824767, source, source, ufrag))
 }
 
 #[test]
 fn a_peer_reflexive_candidate_keeps_the_priority_of_the_request(
     rt: HostRuntime,
 ) -> Result<(), Fail> {
-    let source: SocketAddr = "10.0.0.2:2000".parse()?;
-    let foundation = Text::from_str(rt.alloc(), "tmp_prflx")?;
-    let ufrag = Text::from_str(rt.alloc(), "p9KA")?;
-    let found = peer_reflexive(
-        Some(foundation),
-        Protocol::Udp,
-        1853824767,
-        source,
-        source,
-        ufrag,
-    );
+    let found = remote_peer_reflexive(rt.alloc())?;
+    assert_eq!(rt; found.prio(), 1853824767);
+    assert!(rt; found.kind() == CandidateKind::PeerReflexive);
+    assert!(rt; is_temporary(&found));
+    Ok(())
+}
+
+#[test]
+fn a_copy_has_its_own_ufrag(rt: HostRuntime) -> Result<(), Fail> {
+    let found = remote_peer_reflexive(rt.alloc())?;
     let mut copy = found.clone()?;
     copy.set_ufrag(rt.alloc(), "SQAt")?;
-    assert_eq!(rt; copy.prio(), 1853824767);
-    assert!(rt; copy.kind() == CandidateKind::PeerReflexive);
     assert_eq!(rt; copy.ufrag(), Some("SQAt"));
     assert_eq!(rt; found.ufrag(), Some("p9KA"));
+    Ok(())
+}
+
+#[test]
+fn a_copy_is_made_under_another_ufrag(rt: HostRuntime) -> Result<(), Fail> {
+    let mut found = remote_peer_reflexive(rt.alloc())?;
+    let ufrag = Text::from_str(rt.alloc(), "SQAt")?;
+    let copy = clone_with_ufrag(&found, &ufrag)?;
+    assert_eq!(rt; copy.ufrag(), Some("SQAt"));
+    give_ufrag(&mut found, ufrag);
+    assert!(rt; copy == found);
     Ok(())
 }
 
@@ -90,22 +115,10 @@ fn a_relayed_candidate_over_ssl_tcp_has_the_least_priority(rt: HostRuntime) -> R
 #[test]
 fn a_reflexive_candidate_keeps_one_ip_version(rt: HostRuntime) -> Result<(), Fail> {
     let (v4, v6) = ("10.0.0.1:1000".parse()?, "[::1]:1000".parse()?);
-    let Err(refusal) = Candidate::server_reflexive(rt.alloc(), v4, v6, Protocol::Udp) else {
-        return Err(Fail::from("two IP versions were taken"));
-    };
-    let said = format!(in rt.alloc(); "{refusal}")?;
-    assert_eq!(rt;
-        said.as_str(),
-        "ICE bad candidate: addr and base are different IP versions"
-    );
-    let route = Candidate::builder().tls().server_reflexive(v4, v6);
-    let Err(refusal) = route.build(rt.alloc()) else {
-        return Err(Fail::from("two IP versions were built"));
-    };
-    let said = format!(in rt.alloc(); "{refusal}")?;
-    assert_eq!(rt;
-        said.as_str(),
-        "ICE bad candidate: address IP version mismatch: addr=10.0.0.1 base=::1"
-    );
+    let made = Candidate::server_reflexive(rt.alloc(), v4, v6, Protocol::Udp);
+    assert!(rt; is_refused(made, "addr and base are different IP versions"));
+    let built = Candidate::builder().tls().server_reflexive(v4, v6);
+    let message = "address IP version mismatch: addr=10.0.0.1 base=::1";
+    assert!(rt; is_refused(built.build(rt.alloc()), message));
     Ok(())
 }

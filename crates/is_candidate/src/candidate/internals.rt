@@ -4,6 +4,7 @@ ghost use Rattle.std.specs.Option.{option_copied};
 ghost use Rattle.is_candidate.specs.Candidates.{base_of, IsBased};
 
 use super::Candidate;
+use is_proto::Text;
 use std::net::SocketAddr;
 
 /// The base: where packets of the candidate are sent from. It is the address of a host or relayed candidate.
@@ -68,6 +69,13 @@ pub fn set_local_preference(c: &mut Candidate, preference: u32)
     ensures { c.new ≡ record c.old { local_preference = Some preference } }
 {
     c.local_preference = Some(preference as u16);
+}
+
+/// Sets the user fragment, which takes no memory.
+pub fn give_ufrag(c: &mut Candidate, ufrag: Text)
+    ensures { c.new ≡ record c.old { ufrag = Some ufrag } }
+{
+    c.ufrag = Some(ufrag);
 }
 
 /// Takes the user fragment away.
