@@ -1,3 +1,17 @@
 mod CheckLemmas
 mod Backwards
 mod PriorityLemmas
+pub mod BagLemmas
+pub mod IndexLemmas
+pub mod RankLemmas
+pub mod EntryLemmas
+pub mod GreatestLemmas
+pub mod AnewLemmas
+pub mod IdLemmas
+pub mod KeeperLemmas
+pub mod WrittenLemmas
+pub mod GoneLemmas
+pub mod ChangedLemmas
+pub mod AnswerLemmas
+pub mod LeastLemmas
+pub mod DueLemmas

@@ -1,13 +1,14 @@
 -- When a pair is due for its next check, and when it is given up.
-use Rattle.std.specs.Prelude.{ℕ, ◌-◌, ◌*◌, ◌||◌, Bool, false, nat_lt, min, List, length, Some, unwrap_or, if◌then◌else◌}
+use Rattle.std.specs.Prelude.{[], ◌≡◌, ℕ, ◌<◌, ◌≤◌, ◌-◌, ◌*◌, ◌||◌, ◌⊎◌, Bool, true, false, not, nat_lt, nat_le, min, List, length, Option, Some, None, unwrap_or, if◌then◌else◌}
 use Rattle.std.specs.Option.{option_map_or}
+use Rattle.is_proto.specs.Lists.{Has, NonePass}
 use Rattle.is_proto.specs.Moments.{SECOND, later}
 use Rattle.is_stun.specs.declared.timing.StunTiming.{StunTiming}
 use Rattle.is_stun.specs.Timing.{resend_delay, last_resend_delay}
 use Rattle.is_pair.specs.declared.pair.states.NominationState.{NominationState}
 use Rattle.is_pair.specs.declared.pair.states.NominationState.TheVariants.{None as Unnominated, Nominated, Attempt, Success}
 use Rattle.is_pair.specs.Checks.{Check, last_check, unanswered_count, first_unanswered}
-use Rattle.is_pair.specs.Pairs.{PairRecord, is_recent}
+use Rattle.is_pair.specs.Pairs.{PairRecord, is_recent, is_lite_alive}
 
 -- ---- when it is due
 
@@ -58,3 +59,30 @@ is_possible now t p =
     || nat_lt (length p.checks) t.max_retransmits
     || nat_lt (unanswered_count p.checks) t.max_retransmits
     || is_in_time now t p.checks
+
+-- consent holds (RFC 7675); under lite the peer was heard of
+abbrev pub stays : Bool → ℕ → StunTiming → PairRecord → Bool
+stays lite now t p = if lite then is_lite_alive now p else is_possible now t p
+
+abbrev pub is_given_up : Bool → ℕ → StunTiming → PairRecord → Bool
+is_given_up lite now t p = not (stays lite now t p)
+
+-- ---- which pair is checked next (RFC 8445, section 6.1.4.2)
+
+abbrev pub is_due : ℕ → StunTiming → PairRecord → Bool
+is_due now t p = nat_le (due_moment now t p) now
+
+-- due earlier, or at the same moment with no smaller priority
+abbrev pub GoesBefore : ℕ → StunTiming → PairRecord → PairRecord → Type 0
+GoesBefore now t p q =
+    (due_moment now t p < due_moment now t q) ⊎ ((due_moment now t p ≡ due_moment now t q) × (q.priority ≤ p.priority))
+
+-- the pair that goes before all others, and none where there is none. Ties are free
+abbrev pub IsEarliest : ℕ → StunTiming → List PairRecord → Option PairRecord → Type 0
+IsEarliest now t pairs None = pairs ≡ []
+IsEarliest now t pairs (Some p) = Has pairs p × ((q : PairRecord) → Has pairs q → GoesBefore now t p q)
+
+-- that pair, where it is due
+abbrev pub IsNextDue : ℕ → StunTiming → List PairRecord → Option PairRecord → Type 0
+IsNextDue now t pairs None = NonePass (is_due now t) pairs
+IsNextDue now t pairs (Some p) = IsEarliest now t pairs (Some p) × (is_due now t p ≡ true)

@@ -1,5 +1,5 @@
 -- A candidate pair (RFC 8445, section 6.1.2), and what each operation makes of it. Moments and times are in nanoseconds.
-use Rattle.std.specs.Prelude.{◌≡◌, ℕ, ◌-◌, ◌*◌, Bool, true, false, nat_lt, List, [], ◌∷◌, ◌++◌, slice_set, Option, Some, None}
+use Rattle.std.specs.Prelude.{◌≡◌, ℕ, ◌-◌, ◌*◌, Bool, true, false, nat_lt, List, [], ◌∷◌, ◌++◌, slice_set, Option, Some, None, if◌then◌else◌}
 use Rattle.std.specs.Option.{option_map_or}
 use Rattle.is_proto.specs.Moments.{SECOND, counted, later}
 use Rattle.is_stun.specs.declared.timing.StunTiming.{StunTiming}
@@ -75,6 +75,18 @@ with_success_of other p = record p {
 abbrev pub with_requests_of : PairRecord → PairRecord → PairRecord
 with_requests_of other p = record p { requests = other.requests; last_request = other.last_request }
 
+-- what a pair that replaces another takes over; under lite the peer's checks too
+abbrev pub taking_over : Bool → PairRecord → PairRecord → PairRecord
+taking_over lite other p = if lite then with_requests_of other (with_success_of other p) else with_success_of other p
+
+-- under lite, where no request came, one is taken to have come now
+abbrev pub heard_at : ℕ → Option ℕ → PairRecord → PairRecord
+heard_at now None p = with_request now p
+heard_at now (Some at) p = p
+
+abbrev pub heard : ℕ → PairRecord → PairRecord
+heard now p = heard_at now p.last_request p
+
 -- the next check's moment is to be asked for anew
 abbrev pub undue : PairRecord → PairRecord
 undue p = record p { due = None }
@@ -90,13 +102,16 @@ check_of now controlling id p = record {
   controlling = controlling;
 }
 
-abbrev pub checked : ℕ → StunTiming → Bool → List ℕ → PairRecord → PairRecord
-checked now t controlling id p = record p {
-  checks = last_checks t.max_retransmits (p.checks ++ check_of now controlling id p ∷ []);
+abbrev pub once_sent : ℕ → PairRecord → PairRecord
+once_sent kept p = record p {
+  checks = last_checks kept p.checks;
   nomination = nomination_once_sent p.nomination;
   state = state_once_sent p.state;
   due = None;
 }
+
+abbrev pub checked : ℕ → StunTiming → Bool → List ℕ → PairRecord → PairRecord
+checked now t controlling id p = once_sent t.max_retransmits (record p { checks = p.checks ++ check_of now controlling id p ∷ [] })
 
 -- a kept check is answered, also once more (RFC 8445, section 7.2.5.3)
 

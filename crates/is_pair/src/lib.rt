@@ -1,10 +1,13 @@
 //! Candidate pairs: the connectivity checks of one path, from when it is due to when it is given up (RFC 8445).
 #![tactic(auto)]
 
+pub mod checklist;
 pub mod laws;
 pub mod pair;
 
-pub use pair::internals::{copy_remote_binding_requests, reset_next_binding_attempt};
+pub use pair::attempts::reserve_spare;
+pub use pair::due::{due_moment, fixed_due, reset_next_binding_attempt};
+pub use pair::replacing::{copy_remote_binding_requests, take_over};
 
 #[cfg(test)]
 mod tests;

@@ -1,16 +1,18 @@
 //! A candidate pair.
 
-ghost use Rattle.std.specs.Prelude.{◌≡◌, ◌<◌, ◌+◌, IfErr, IfOk, Some, length, option_map, slice_get};
-ghost use Rattle.is_pair.specs.Pairs.{new_pair, is_nominated, nominated, with_request, is_lite_alive, validated, is_recent, with_success_of};
-ghost use Rattle.is_pair.specs.Priorities.{pair_priority};
+ghost use Rattle.std.specs.Prelude.{◌≡◌, ◌<◌, IfErr, IfOk, Some, length, option_map, slice_get};
+ghost use Rattle.is_pair.specs.Pairs.{new_pair, is_nominated, nominated};
 
 mod attempt;
-mod attempts;
+pub(crate) mod attempts;
 mod checks;
-mod due;
-pub(crate) mod internals;
+pub(crate) mod due;
 mod order;
+mod priority;
+pub(crate) mod replacing;
+mod requests;
 mod states;
+mod statistics;
 
 pub use attempt::BindingAttempt;
 use is_candidate::{Candidate, CandidateKind};
@@ -102,21 +104,6 @@ impl CandidatePair {
         self.id
     }
 
-    /// The priority of a pair (RFC 8445, section 6.1.2.3), from the agent's role and the priorities of the remote
-    /// and the local candidate: the same for both agents. Not both candidates have priority 4294967295, for which
-    /// no pair priority fits 64 bits.
-    pub fn calculate_prio(controlling: bool, remote_prio: u32, local_prio: u32) -> u64
-        requires { remote_prio + local_prio < 8589934590 }
-        ensures { result ≡ pair_priority controlling remote_prio local_prio }
-    {
-        let (g, d) = if controlling {
-            (u64::from(local_prio), u64::from(remote_prio))
-        } else {
-            (u64::from(remote_prio), u64::from(local_prio))
-        };
-        0x1_0000_0000 * g.min(d) + 2 * g.max(d) + u64::from(g > d)
-    }
-
     /// The place of the local candidate.
     pub fn local_idx(&self) -> usize
         ensures { result ≡ self.now.local }
@@ -154,26 +141,11 @@ impl CandidatePair {
         self.prio
     }
 
-    /// Sets the priority, as when the agents swap their roles.
-    pub fn set_prio(&mut self, prio: u64)
-        ensures { self.new ≡ record self.old { priority = prio } }
-    {
-        self.prio = prio;
-    }
-
     /// How far its checks have come.
     pub fn state(&self) -> CheckState
         ensures { result ≡ self.now.state }
     {
         self.state
-    }
-
-    /// Counts a check of the peer's that came at this moment.
-    pub fn increase_remote_binding_requests(&mut self, now: Instant)
-        ensures { self.new ≡ with_request now.0 self.old }
-    {
-        self.remote_binding_requests = self.remote_binding_requests.saturating_add(1);
-        self.remote_binding_request_time = Some(now);
     }
 
     /// When the last check of the peer's came.
@@ -203,34 +175,6 @@ impl CandidatePair {
         };
     }
 
-    /// Whether an ice-lite agent, which sends no checks, still hears of the peer: no check of the peer's came yet,
-    /// or the last one came less than 15 s ago.
-    pub fn is_ice_lite_alive(&self, now: Instant) -> bool
-        ensures { result ≡ is_lite_alive now.0 self.now }
-    {
-        match self.remote_binding_request_time {
-            Some(at) => is_recent(now, at),
-            None => true,
-        }
-    }
-
-    /// Takes over what a pair of the same path that this one replaces has reached: that it is valid, and its
-    /// nomination, but with a nominating check still to be sent where the other's was in flight.
-    pub fn copy_nominated_and_success_state(&mut self, other: &CandidatePair)
-        ensures { self.new ≡ with_success_of other.now self.old }
-    {
-        self.nomination_state = self.nomination_state.replacing(other.nomination_state);
-        self.state = self.state.replacing(other.state);
-    }
-
-    /// Makes the pair valid with no check of its own, as an ice-lite agent does where it answers a check of the
-    /// peer's.
-    pub fn record_remote_binding_request_success(&mut self)
-        ensures { self.new ≡ validated self.old }
-    {
-        self.state = CheckState::Succeeded;
-    }
-
     /// A copy, equal in every part, the fixed moment of the next check too.
     ///
     /// Refused with `OutOfMemory` where the kept checks have no room.
@@ -254,13 +198,3 @@ impl CandidatePair {
         })
     }
 }
-
-/// Whether a check of the peer's that came at this moment still keeps its pair.
-fn is_recent(now: Instant, at: Instant) -> bool
-    ensures { result ≡ is_recent now.0 at.0 }
-{
-    now - at < RECENT_BINDING_REQUEST
-}
-
-/// How long a pair is kept for a check of the peer's alone.
-const RECENT_BINDING_REQUEST: Duration = Duration(15_000_000_000);

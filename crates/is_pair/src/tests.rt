@@ -4,6 +4,7 @@ ghost use Rattle.std.specs.Prelude.{◌≡◌, ◌<◌};
 ghost use Rattle.is_pair.specs.Checks.{is_kept};
 ghost use Rattle.is_pair.specs.Pairs.{new_pair};
 
+mod checklist;
 mod checks;
 mod due;
 mod order;
@@ -84,6 +85,12 @@ impl Path {
         }
         self.pair.record_binding_response(now, id, 0);
         Ok(())
+    }
+
+    /// A check, and its answer.
+    fn check_answered(&mut self, sent: u64, received: u64) -> Result<(), Fail> {
+        let id = self.check(at(sent))?;
+        self.answer(at(received), id)
     }
 
     fn keeps(&self, id: TransId) -> bool

@@ -1,12 +1,16 @@
 //! The checks that a pair keeps, oldest first.
 
-ghost use Rattle.std.specs.Prelude.{◌≡◌, ◌≤◌, find, length, position, reverse};
+ghost use Rattle.std.specs.Prelude.{◌≡◌, ◌<◌, ◌≤◌, OnOk, find, length, position, reverse};
 ghost use Rattle.std.specs.Option.{option_copied};
+ghost use Rattle.std.specs.VecDeque.{deque_len, deque_capacity};
 ghost use Rattle.is_pair.specs.Checks.{first_unanswered, has_id, is_answered, last_check, last_checks, unanswered_count};
 
+use super::CandidatePair;
 use super::attempt::BindingAttempt;
 use is_stun::stun::TransId;
+use std::alloc::AllocError;
 use std::collections::VecDeque;
+use std::mem::swap;
 
 /// The first check of this id.
 pub(crate) fn with_id(
@@ -65,4 +69,49 @@ pub(crate) fn place_of(attempts: &VecDeque<BindingAttempt>, trans_id: TransId) -
     ensures { result ≡ position (has_id trans_id.0) attempts.now.items }
 {
     attempts.iter().position(|attempt| attempt.has_id(trans_id))
+}
+
+/// Room for one more: a full queue gives its checks to the spare one, and they change places.
+pub(crate) fn make_room(
+    attempts: &mut VecDeque<BindingAttempt>,
+    spare: &mut VecDeque<BindingAttempt>,
+)
+    requires { length attempts.old.items < deque_capacity spare.old }
+    ensures items { attempts.new.items ≡ attempts.old.items }
+    ensures room { deque_len attempts.new < deque_capacity attempts.new }
+{
+    if attempts.len() < attempts.capacity() {
+        return;
+    }
+    spare.clear();
+    match spare.append(attempts) {
+        Ok(()) => swap(attempts, spare),
+        Err(_) => unreachable!(),
+    }
+}
+
+/// Makes the spare queue longer than this one.
+pub(crate) fn reserve_beyond(
+    spare: &mut VecDeque<BindingAttempt>,
+    attempts: &VecDeque<BindingAttempt>,
+) -> Result<(), AllocError>
+    ensures room { OnOk result (length attempts.now.items < deque_capacity spare.new) }
+    ensures grows { deque_capacity spare.old ≤ deque_capacity spare.new }
+{
+    spare.clear();
+    match attempts.len().checked_add(1) {
+        Some(len) => spare.reserve(len),
+        None => Err(AllocError),
+    }
+}
+
+/// Makes a spare queue of checks longer than the pair's own, for `new_attempt_reserved`.
+pub fn reserve_spare(
+    spare: &mut VecDeque<BindingAttempt>,
+    pair: &CandidatePair,
+) -> Result<(), AllocError>
+    ensures room { OnOk result (length pair.now.checks < deque_capacity spare.new) }
+    ensures grows { deque_capacity spare.old ≤ deque_capacity spare.new }
+{
+    reserve_beyond(spare, &pair.binding_attempts)
 }

@@ -1,16 +1,18 @@
 //! Sending checks on a pair, and taking their answers (RFC 8445, section 7.2).
 
-ghost use Rattle.std.specs.Prelude.{◌≡◌, ◌<◌, IfErr, IfOk, IsTrue, find, is_some, option_map};
+ghost use Rattle.std.specs.Prelude.{◌≡◌, ◌<◌, IfErr, IfOk, IsTrue, find, is_some, length, nat_le};
 ghost use Rattle.std.specs.Option.{option_copied};
+ghost use Rattle.std.specs.VecDeque.{deque_capacity};
 ghost use Rattle.rand_core.specs.Stream.{fill_bytes};
-ghost use Rattle.is_pair.specs.Checks.{has_id, is_kept, last_round_trip};
-ghost use Rattle.is_pair.specs.Pairs.{TakesAnswer, checked};
+ghost use Rattle.is_pair.specs.Checks.{has_id, is_kept};
+ghost use Rattle.is_pair.specs.Pairs.{TakesAnswer, check_of, once_sent, checked};
 
 use super::attempt::BindingAttempt;
 use super::{CandidatePair, attempts};
-use is_proto::{Duration, IceError, Instant};
+use is_proto::{IceError, Instant};
 use is_stun::stun::{StunTiming, TransId};
 use rand_core::Rng;
+use std::collections::VecDeque;
 
 impl CandidatePair {
     /// Keeps a check that is sent now, of the last `max_retransmits` at most, and answers its transaction id. A
@@ -33,19 +35,64 @@ impl CandidatePair {
     {
         self.binding_attempts.reserve(1)?;
         let trans_id = TransId::new(rng);
+        let attempt = self.attempt(trans_id, now, controlling);
+        self.binding_attempts.push_back_reserved(attempt);
+        self.once_sent(timing_config);
+        Ok(trans_id)
+    }
+
+    /// Whether it keeps so many checks that one more cuts the oldest.
+    pub(crate) fn is_full(&self, timing_config: &StunTiming) -> bool
+        ensures { result ≡ nat_le timing_config.now.max_retransmits (length self.now.checks) }
+    {
+        self.binding_attempts.len() >= timing_config.max_retransmits
+    }
+
+    /// The check that is sent now.
+    fn attempt(&self, trans_id: TransId, now: Instant, controlling: bool) -> BindingAttempt
+        ensures { result ≡ check_of now.0 controlling trans_id.0 self.now }
+    {
         let nominated = self.is_nominated();
-        self.binding_attempts.push_back_reserved(BindingAttempt {
+        BindingAttempt {
             trans_id,
             request_sent: now,
             response_received: None,
             nominated,
             controlling,
-        });
+        }
+    }
+
+    /// A check was sent.
+    fn once_sent(&mut self, timing_config: &StunTiming)
+        ensures { self.new ≡ once_sent timing_config.now.max_retransmits self.old }
+    {
         attempts::keep_last(&mut self.binding_attempts, timing_config.max_retransmits);
         self.nomination_state = self.nomination_state.once_sent();
         self.state = self.state.once_sent();
         self.cached_next_attempt_time = None;
-        Ok(trans_id)
+    }
+
+    /// The same where it can't be refused: a spare queue has room for one check more than the pair keeps. Where the
+    /// pair's own is full they change places.
+    pub fn new_attempt_reserved<R: Rng>(
+        &mut self,
+        now: Instant,
+        timing_config: &StunTiming,
+        controlling: bool,
+        rng: &mut R,
+        spare: &mut VecDeque<BindingAttempt>,
+    ) -> TransId
+        requires retransmits { 0 < timing_config.now.max_retransmits }
+        requires room { length self.old.checks < deque_capacity spare.old }
+        ensures sent { self.new ≡ checked now.0 timing_config.now controlling result.0 self.old }
+        ensures drawn { (result.0, R.stream rng.new) ≡ fill_bytes 12 (R.stream rng.old) }
+    {
+        attempts::make_room(&mut self.binding_attempts, spare);
+        let trans_id = TransId::new(rng);
+        let attempt = self.attempt(trans_id, now, controlling);
+        self.binding_attempts.push_back_reserved(attempt);
+        self.once_sent(timing_config);
+        trans_id
     }
 
     /// The kept check of this transaction id, if there is one: the first, where several have it.
@@ -76,26 +123,5 @@ impl CandidatePair {
         self.nomination_state = self.nomination_state.once_answered(attempt.nominated);
         self.state = self.state.once_answered();
         self.cached_next_attempt_time = None;
-    }
-
-    /// How long the answer to the last answered check took. None where no kept check was answered.
-    pub fn last_successful_rtt(&self) -> Option<Duration>
-        ensures { option_map (λ took. took.0) result ≡ last_round_trip self.now.checks }
-    {
-        attempts::last_answered(&self.binding_attempts).and_then(|attempt| attempt.round_trip())
-    }
-
-    /// How many answers came, repeated ones too.
-    pub fn responses_received(&self) -> u64
-        ensures { result ≡ self.now.answers }
-    {
-        self.responses_received
-    }
-
-    /// How long all answers took together.
-    pub fn total_round_trip_time(&self) -> Duration
-        ensures { result.0 ≡ self.now.total_round_trip }
-    {
-        self.total_round_trip_time
     }
 }

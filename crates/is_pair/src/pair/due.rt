@@ -1,11 +1,14 @@
 //! When a pair is due for its next check, and when it is given up.
 
-ghost use Rattle.std.specs.Prelude.{◌≡◌, ◌<◌};
+ghost use Rattle.std.specs.Prelude.{◌≡◌, ◌<◌, unwrap_or};
+ghost use Rattle.is_proto.specs.Moments.{MAX};
+ghost use Rattle.is_pair.specs.Pairs.{undue};
 ghost use Rattle.is_pair.specs.Due.{asked, delaying_count, due_moment, is_heard, is_in_time, is_possible, long_before, next_moment};
 
 use super::attempt::BindingAttempt;
+use super::requests::is_recent;
 use super::states::NominationState;
-use super::{CandidatePair, attempts, is_recent};
+use super::{CandidatePair, attempts};
 use is_proto::{Duration, Instant};
 use is_stun::stun::StunTiming;
 use std::collections::VecDeque;
@@ -24,6 +27,23 @@ impl CandidatePair {
         ensures moment { result.0 ≡ due_moment now.0 timing_config.now self.old }
         ensures fixed { self.new ≡ asked now.0 timing_config.now self.old }
     {
+        self.fix_due_moment(now, timing_config)
+    }
+
+    /// The same, for any timing.
+    pub(crate) fn fix_due_moment(&mut self, now: Instant, timing_config: &StunTiming) -> Instant
+        ensures moment { result.0 ≡ due_moment now.0 timing_config.now self.old }
+        ensures fixed { self.new ≡ asked now.0 timing_config.now self.old }
+    {
+        let due = self.due_moment(now, timing_config);
+        self.cached_next_attempt_time = Some(due);
+        due
+    }
+
+    /// The moment that asking now would tell, and fix.
+    pub(crate) fn due_moment(&self, now: Instant, timing_config: &StunTiming) -> Instant
+        ensures { result.0 ≡ due_moment now.0 timing_config.now self.now }
+    {
         if let Some(fixed) = self.cached_next_attempt_time {
             return fixed;
         }
@@ -31,9 +51,7 @@ impl CandidatePair {
             NominationState::Nominated => long_before(now),
             _ => next_moment(&self.binding_attempts, now, timing_config),
         };
-        let due = next.min(now + timing_config.max_rto());
-        self.cached_next_attempt_time = Some(due);
-        due
+        next.min(now + timing_config.max_rto())
     }
 
     /// Whether the path may still work. It is given up where no check of the peer's came for 15 s, `max_retransmits`
@@ -98,4 +116,30 @@ fn is_in_time(attempts: &VecDeque<BindingAttempt>, now: Instant, timing: &StunTi
         Some(last) => now < last.request_sent + timing.stun_last_resend_delay(),
         None => false,
     }
+}
+
+// ---- what the agent asks, and its users do not
+
+/// The moment that asking for the next check's would tell, and fix.
+pub fn due_moment(pair: &CandidatePair, now: Instant, timing: &StunTiming) -> Instant
+    ensures { result.0 ≡ due_moment now.0 timing.now pair.now }
+{
+    pair.due_moment(now, timing)
+}
+
+/// The moment of the next check, once it was asked for; the greatest one before.
+pub fn fixed_due(pair: &CandidatePair) -> Instant
+    ensures { result.0 ≡ unwrap_or pair.now.due MAX }
+{
+    match pair.cached_next_attempt_time {
+        Some(due) => due,
+        None => Instant(u64::MAX),
+    }
+}
+
+/// Has the next check's moment asked for anew, as when the agent changes its timing.
+pub fn reset_next_binding_attempt(pair: &mut CandidatePair)
+    ensures { pair.new ≡ undue pair.old }
+{
+    pair.cached_next_attempt_time = None;
 }

@@ -1,9 +1,10 @@
 //! Checks, their answers, and nomination.
 
-use super::{Path, at, host_pair};
-use crate::copy_remote_binding_requests;
+use super::{Path, at};
 use crate::pair::CheckState;
+use crate::take_over;
 use is_proto::Duration;
+use std::alloc::Global;
 use std::test::Fail;
 
 /// So many milliseconds, if there are any.
@@ -15,13 +16,11 @@ fn took(millis: u64) -> Option<Duration> {
 fn round_trips_are_those_of_the_answers(rt: HostRuntime) -> Result<(), Fail> {
     let mut path = Path::new(rt.alloc());
     assert_eq!(rt; path.pair.last_successful_rtt(), None);
-    let first = path.check(at(0))?;
-    path.answer(at(50), first)?;
+    path.check_answered(0, 50)?;
     assert_eq!(rt; path.pair.last_successful_rtt(), took(50));
     path.check(at(100))?;
     assert_eq!(rt; path.pair.last_successful_rtt(), took(50));
-    let third = path.check(at(200))?;
-    path.answer(at(220), third)?;
+    path.check_answered(200, 220)?;
     assert_eq!(rt; path.pair.last_successful_rtt(), took(20));
     assert_eq!(rt; path.pair.responses_received(), 2);
     assert_eq!(rt;
@@ -61,19 +60,29 @@ fn a_check_beyond_the_limit_is_forgotten(rt: HostRuntime) -> Result<(), Fail> {
     Ok(())
 }
 
+/// A path whose nominating check is in flight.
+fn nominating(alloc: Global) -> Result<Path, Fail> {
+    let mut path = Path::new(alloc);
+    let id = path.check(at(0))?;
+    path.answer(at(50), id)?;
+    path.pair.increase_remote_binding_requests(at(60));
+    path.nominate()?;
+    path.check(at(100))?;
+    Ok(path)
+}
+
+/// A path whose pair replaces that of this one.
+fn replacing(alloc: Global, old: &Path) -> Path {
+    let mut path = Path::new(alloc);
+    take_over(&mut path.pair, &old.pair, true);
+    path
+}
+
 /// The pair that replaces one whose nominating check is in flight has to send another.
 #[test]
 fn a_nomination_passes_to_the_pair_that_replaces(rt: HostRuntime) -> Result<(), Fail> {
-    let mut old = Path::new(rt.alloc());
-    let id = old.check(at(0))?;
-    old.answer(at(50), id)?;
-    old.pair.increase_remote_binding_requests(at(60));
-    old.nominate()?;
-    old.check(at(100))?;
-    let mut new = Path::new(rt.alloc());
-    new.pair = host_pair(rt.alloc(), 2);
-    new.pair.copy_nominated_and_success_state(&old.pair);
-    copy_remote_binding_requests(&mut new.pair, &old.pair);
+    let old = nominating(rt.alloc())?;
+    let mut new = replacing(rt.alloc(), &old);
     assert_eq!(rt; new.pair.state(), CheckState::Succeeded);
     assert!(rt; new.pair.is_nominated());
     assert_eq!(rt; new.pair.remote_binding_request_time(), Some(at(60)));

@@ -4,6 +4,7 @@ use super::{host_pair, pair_at};
 use crate::pair::{CandidatePair, CheckState, PairId};
 use is_candidate::Candidate;
 use is_proto::Protocol;
+use std::alloc::Global;
 use std::cmp::Ordering;
 use std::test::Fail;
 
@@ -32,23 +33,28 @@ fn the_greater_priority_stands_first(rt: HostRuntime) {
 }
 
 #[test]
-fn a_pair_is_what_it_was_made_of(rt: HostRuntime) -> Result<(), Fail> {
+fn a_pair_is_what_it_was_made_of(rt: HostRuntime) {
     let mut pair = pair_at(rt.alloc(), 3, 4, 5);
     assert!(rt; pair.id() == PairId(7));
-    assert_eq!(rt;
-        (pair.local_idx(), pair.remote_idx(), pair.prio()),
-        (3, 4, 5)
-    );
-    let near = Candidate::host(rt.alloc(), "10.0.0.1:1000".parse()?, Protocol::Udp)?;
-    let far = Candidate::host(rt.alloc(), "10.0.0.2:2000".parse()?, Protocol::Udp)?;
-    let hosts = [near, far];
-    let path = pair_at(rt.alloc(), 0, 1, 5);
-    assert_eq!(rt; path.local_candidate(&hosts).addr(), hosts[0].addr());
-    assert_eq!(rt; path.remote_candidate(&hosts).addr(), hosts[1].addr());
+    let made = (pair.local_idx(), pair.remote_idx(), pair.prio());
+    assert_eq!(rt; made, (3, 4, 5));
     pair.set_prio(6);
     assert_eq!(rt; pair.prio(), 6);
     assert_eq!(rt; pair.state(), CheckState::Waiting);
     pair.record_remote_binding_request_success();
     assert_eq!(rt; pair.state(), CheckState::Succeeded);
+}
+
+fn host(alloc: Global, addr: &str) -> Result<Candidate, Fail> {
+    Ok(Candidate::host(alloc, addr.parse()?, Protocol::Udp)?)
+}
+
+#[test]
+fn a_pair_names_its_candidates(rt: HostRuntime) -> Result<(), Fail> {
+    let near = host(rt.alloc(), "10.0.0.1:1000")?;
+    let hosts = [near, host(rt.alloc(), "10.0.0.2:2000")?];
+    let path = pair_at(rt.alloc(), 0, 1, 5);
+    assert_eq!(rt; path.local_candidate(&hosts).addr(), hosts[0].addr());
+    assert_eq!(rt; path.remote_candidate(&hosts).addr(), hosts[1].addr());
     Ok(())
 }

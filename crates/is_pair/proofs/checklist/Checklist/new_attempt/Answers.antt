@@ -1,0 +1,101 @@
+use Rattle.std.proofs.Common.{rules, ◌≡◌, true, false, List, ℕ, ap, sym, refl, ◌∙◌, nat_eq, nat_le, Some, length}
+use Rattle.std.specs.Map.{lookup, set_value}
+use Rattle.is_pair.specs.Checks.{is_kept}
+use Rattle.is_pair.specs.Pairs.{PairRecord, checked, check_of}
+use Rattle.is_pair.specs.Bag.{is_numbered, has_number}
+use Rattle.is_pair.specs.Entries.{pairs_of, are_keyed, named_after}
+use Rattle.is_pair.proofs.BagLemmas.{found-number, keyed-written, none-found, writes}
+use Rattle.is_pair.proofs.IndexLemmas.{all-current, issued, kept-uncut}
+use Rattle.is_pair.proofs.WrittenLemmas.{written-below, written-found, written-ranking, written-rises}
+use Rattle.is_pair.proofs.checklist.Checklist.new_attempt.Goals as goal
+
+pub unreachable-requires : goal.unreachable-requires
+unreachable-requires g c =
+    let list = c.args.self.now in
+    let none = none-found c.args.number list.pairs.entries list.keyed (search rules) in
+    absurd (cc)
+
+pub follow-requires-clause-uncut : goal.follow-requires-clause-uncut
+follow-requires-clause-uncut g c = λ few.
+    let list = c.args.self.now in
+    let es = list.pairs.entries in
+    let p = c.in-Some.pair.now in
+    let after = c.new_attempt_reserved-id.new.self in
+    let made : after ≡ checked c.args.now.0 c.args.timing_config.now c.args.controlling c.new_attempt_reserved-id.result.0 p = c.new_attempt_reserved-id.ensures.sent in
+    let found : lookup (nat_eq c.args.number) es ≡ Some p = search rules in
+    all-current list.index.items es c.args.number p after list.keyed list.rising found list.indexed (ap (λ (q : PairRecord). q.number) made ∙ found-number c.args.number es p list.keyed found)
+    (λ i kept. ap (λ (q : PairRecord). is_kept i q.checks) made
+    ∙ kept-uncut c.args.timing_config.now.max_retransmits p.checks (check_of c.args.now.0 c.args.controlling c.new_attempt_reserved-id.result.0 p) i (sym c.is_full-cuts.ensures ∙ few) kept)
+
+pub invariant_of-self-clause-keyed : goal.invariant_of-self-clause-keyed
+invariant_of-self-clause-keyed g c =
+    let list = c.args.self.now in
+    let es = list.pairs.entries in
+    let p = c.in-Some.pair.now in
+    let after = c.new_attempt_reserved-id.new.self in
+    let made : after ≡ checked c.args.now.0 c.args.timing_config.now c.args.controlling c.new_attempt_reserved-id.result.0 p = c.new_attempt_reserved-id.ensures.sent in
+    let is = (c.get_mut.follows.holds after).0 in
+    let found : lookup (nat_eq c.args.number) es ≡ Some p = search rules in
+    ap are_keyed is ∙ keyed-written c.args.number es after list.keyed (ap (λ (q : PairRecord). q.number) made ∙ found-number c.args.number es p list.keyed found)
+
+pub invariant_of-self-clause-rising : goal.invariant_of-self-clause-rising
+invariant_of-self-clause-rising g c =
+    let list = c.args.self.now in
+    let es = list.pairs.entries in
+    let p = c.in-Some.pair.now in
+    let after = c.new_attempt_reserved-id.new.self in
+    let made : after ≡ checked c.args.now.0 c.args.timing_config.now c.args.controlling c.new_attempt_reserved-id.result.0 p = c.new_attempt_reserved-id.ensures.sent in
+    let is = (c.get_mut.follows.holds after).0 in
+    let found : lookup (nat_eq c.args.number) es ≡ Some p = search rules in
+    written-rises c.args.number es _ p after found is (ap (λ (q : PairRecord). q.number) made) list.rising
+
+pub invariant_of-self-clause-indexed : goal.invariant_of-self-clause-indexed
+invariant_of-self-clause-indexed g c =
+    let list = c.args.self.now in
+    let es = list.pairs.entries in
+    let p = c.in-Some.pair.now in
+    let after = c.new_attempt_reserved-id.new.self in
+    let made : after ≡ checked c.args.now.0 c.args.timing_config.now c.args.controlling c.new_attempt_reserved-id.result.0 p = c.new_attempt_reserved-id.ensures.sent in
+    let is = (c.get_mut.follows.holds after).0 in
+    let found : lookup (nat_eq c.args.number) es ≡ Some p = search rules in
+    let f = checked c.args.now.0 c.args.timing_config.now c.args.controlling c.new_attempt_reserved-id.result.0 in
+    issued c.args.timing_config.now.max_retransmits es _ list.index.items c.follow.new.index.items c.args.number f p
+    c.new_attempt_reserved-id.result.0 (check_of c.args.now.0 c.args.controlling c.new_attempt_reserved-id.result.0 p)
+    c.requires.retransmits list.keyed list.rising (ap are_keyed is ∙ keyed-written c.args.number es after list.keyed (ap (λ (q : PairRecord). q.number) made ∙ found-number c.args.number es p list.keyed found))
+    list.indexed found (written-found c.args.number es _ p after found is ∙ ap (λ (q : PairRecord). Some q) made) (λ q. refl) refl refl
+    (ap pairs_of is ∙ writes c.args.number f es p after list.keyed list.rising found made)
+    (λ i k. c.follow.ensures.named i k ∙ ap (λ (q : PairRecord). named_after q c.new_attempt_reserved-id.result.0 i k list.index.items) made)
+
+pub invariant_of-self-clause-ranked : goal.invariant_of-self-clause-ranked
+invariant_of-self-clause-ranked g c =
+    let list = c.args.self.now in
+    let es = list.pairs.entries in
+    let p = c.in-Some.pair.now in
+    let after = c.new_attempt_reserved-id.new.self in
+    let made : after ≡ checked c.args.now.0 c.args.timing_config.now c.args.controlling c.new_attempt_reserved-id.result.0 p = c.new_attempt_reserved-id.ensures.sent in
+    let is = (c.get_mut.follows.holds after).0 in
+    let found : lookup (nat_eq c.args.number) es ≡ Some p = search rules in
+    written-ranking c.args.number es _ p after found is list.ranks.items (ap (λ (q : PairRecord). q.number) made) (ap (λ (q : PairRecord). q.priority) made) list.ranked
+
+pub returns-clause-sent : goal.returns-clause-sent
+returns-clause-sent g c =
+    let list = c.args.self.now in
+    let es = list.pairs.entries in
+    let p = c.in-Some.pair.now in
+    let after = c.new_attempt_reserved-id.new.self in
+    let made : after ≡ checked c.args.now.0 c.args.timing_config.now c.args.controlling c.new_attempt_reserved-id.result.0 p = c.new_attempt_reserved-id.ensures.sent in
+    let is = (c.get_mut.follows.holds after).0 in
+    let found : lookup (nat_eq c.args.number) es ≡ Some p = search rules in
+    let f = checked c.args.now.0 c.args.timing_config.now c.args.controlling c.new_attempt_reserved-id.result.0 in
+    ap pairs_of is ∙ writes c.args.number f es p after list.keyed list.rising found made
+
+pub returns-clause-below : goal.returns-clause-below
+returns-clause-below g c = λ n h.
+    let list = c.args.self.now in
+    let es = list.pairs.entries in
+    let p = c.in-Some.pair.now in
+    let after = c.new_attempt_reserved-id.new.self in
+    let made : after ≡ checked c.args.now.0 c.args.timing_config.now c.args.controlling c.new_attempt_reserved-id.result.0 p = c.new_attempt_reserved-id.ensures.sent in
+    let is = (c.get_mut.follows.holds after).0 in
+    let found : lookup (nat_eq c.args.number) es ≡ Some p = search rules in
+    written-below c.args.number es _ p after found is n (ap (λ (q : PairRecord). q.number) made) h

@@ -1,0 +1,7 @@
+use Rattle.std.proofs.Common.{rules, ◌==◌, not}
+use Rattle.std.proofs.lemmas.Fn.{filter_same}
+use Rattle.is_pair.specs.declared.checklist.entries.Rank.{Rank}
+use Rattle.is_pair.proofs.checklist.ranks.drop_number.Goals as goal
+
+pub returns-clause-items : goal.returns-clause-items
+returns-clause-items c = filter_same _ (λ (k : Rank). not (k.number == c.args.number)) _ (λ x b f' h. search rules) _ _ c.retain.ensures.filtered

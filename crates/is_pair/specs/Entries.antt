@@ -1,0 +1,77 @@
+-- What stands in the index and in the ordered set of a checklist, against its bag.
+use Rattle.std.specs.Prelude.{◌≡◌, ℕ, ◌==◌, ◌&&◌, ◌||◌, not, Bool, true, nat_eq, nat_le, bytes_eq, List, [], ◌∷◌, map, if◌then◌else◌}
+use Rattle.std.specs.List.{list_any, list_all}
+use Rattle.std.specs.Cmp.Lexicographic.{slice_cmp}
+use Rattle.std.specs.Ordering.{is_lt, nat_cmp}
+use Rattle.std.specs.Map.{lookup}
+use Rattle.std.specs.Option.{option_map_or}
+use Rattle.is_pair.specs.declared.checklist.entries.Kept.{Kept}
+use Rattle.is_pair.specs.declared.checklist.entries.Rank.{Rank}
+use Rattle.is_pair.specs.Checks.{is_kept}
+use Rattle.is_pair.specs.Pairs.{PairRecord}
+use Rattle.is_pair.specs.Bag.{passes_at, keeps, ranks}
+
+-- an id stands before another, by their bytes
+abbrev pub is_before : List ℕ → List ℕ → Bool
+is_before a b = is_lt (slice_cmp nat_cmp a b)
+
+-- sorted by id
+abbrev pub ids_rise : List Kept → Bool
+ids_rise [] = true
+ids_rise (k ∷ ks) = list_all (λ (q : Kept). not (is_before q.id.0 k.id.0)) ks && ids_rise ks
+
+-- the pairs of a map's entries
+abbrev pub pairs_of : List (ℕ × PairRecord) → List PairRecord
+pairs_of entries = map (λ e. e.1) entries
+
+-- each pair stands under its number
+abbrev pub are_keyed : List (ℕ × PairRecord) → Bool
+are_keyed entries = list_all (λ (e : ℕ × PairRecord). e.1.number == e.0) entries
+
+abbrev pub names : List ℕ → ℕ → Kept → Bool
+names id number k = k.number == number && bytes_eq k.id.0 id
+
+abbrev pub is_named : List ℕ → ℕ → List Kept → Bool
+is_named id number index = list_any (names id number) index
+
+-- the index names exactly the pairs that keep each id
+abbrev pub IsIndex : List Kept → List PairRecord → Type 0
+IsIndex index pairs = (id : List ℕ) (number : ℕ) → is_named id number index ≡ keeps id number pairs
+
+abbrev pub is_rank : ℕ → ℕ → Rank → Bool
+is_rank priority number r = r.number == number && r.priority == priority
+
+abbrev pub is_ranked : ℕ → ℕ → List Rank → Bool
+is_ranked priority number rs = list_any (is_rank priority number) rs
+
+-- the set holds exactly the pairs with their stored priorities
+abbrev pub IsRanking : List Rank → List PairRecord → Type 0
+IsRanking rs pairs = (priority : ℕ) (number : ℕ) → is_ranked priority number rs ≡ ranks priority number pairs
+
+-- by priority, the least first
+abbrev pub are_ordered : List Rank → Bool
+are_ordered [] = true
+are_ordered (r ∷ rs) = list_all (λ q. nat_le r.priority q.priority) rs && are_ordered rs
+
+-- it is of the id, and its pair passes
+abbrev pub names_passing : List ℕ → (PairRecord → Bool) → List PairRecord → Kept → Bool
+names_passing id test pairs k = bytes_eq k.id.0 id && list_any (passes_at k.number test) pairs
+
+-- its pair passes
+abbrev pub has_passing : (PairRecord → Bool) → List PairRecord → Rank → Bool
+has_passing test pairs r = list_any (passes_at r.number test) pairs
+
+-- with the priority that its pair has now
+abbrev pub rank_now : List (ℕ × PairRecord) → Rank → Rank
+rank_now entries r = option_map_or (λ (p : PairRecord). record r { priority = p.priority }) (lookup (nat_eq r.number) entries) r
+
+-- ---- a check is sent
+
+-- the entry is of another pair, or of an id that this one keeps
+abbrev pub is_current : PairRecord → Kept → Bool
+is_current p k = not (k.number == p.number) || is_kept k.id.0 p.checks
+
+-- what is named once the pair, as it is now, has sent a check with the id
+abbrev pub named_after : PairRecord → List ℕ → List ℕ → ℕ → List Kept → Bool
+named_after p id i number index =
+    if p.number == number then bytes_eq id i || (is_named i number index && is_kept i p.checks) else is_named i number index

@@ -1,0 +1,158 @@
+//! The checklist (RFC 8445, section 6.1.2): the pairs by their numbers, an index of the ids that they keep, and their order
+//! by priority.
+
+ghost use Rattle.std.specs.Prelude.{◌≡◌, true};
+ghost use Rattle.is_pair.specs.Entries.{pairs_of, are_keyed, are_ordered, ids_rise, IsIndex, IsRanking};
+ghost use Rattle.is_pair.specs.Bag.{rises};
+
+mod changes;
+mod checks;
+mod entries;
+mod evicting;
+mod given_up;
+mod index;
+mod mapped;
+mod pair_change;
+mod pair_test;
+mod ranks;
+mod reading;
+mod rule;
+
+use crate::pair::{BindingAttempt, CandidatePair};
+use entries::{Kept, Rank};
+pub use given_up::GivenUp;
+use indexmap::IndexMap;
+use is_proto::IceError;
+pub use pair_change::PairChange;
+pub use pair_test::PairTest;
+pub use rule::PairPriority;
+use std::alloc::Global;
+use std::collections::VecDeque;
+
+/// The pairs of an agent.
+#[derive(Drop)]
+pub struct Checklist {
+    /// Each under its number, in the order of the numbers.
+    pairs: IndexMap<u64, CandidatePair>,
+    /// Which pairs keep which ids, sorted by id.
+    index: Vec<Kept>,
+    /// Which pair has which priority, sorted by priority.
+    ranks: Vec<Rank>,
+    /// Takes the checks of a pair that has no room for one more.
+    spare: VecDeque<BindingAttempt>,
+    ghost keyed: { are_keyed pairs.entries ≡ true },
+    ghost rising: { rises (pairs_of pairs.entries) ≡ true },
+    ghost by_id: { ids_rise index.items ≡ true },
+    ghost indexed: { IsIndex index.items (pairs_of pairs.entries) },
+    ghost ordered: { are_ordered ranks.items ≡ true },
+    ghost ranked: { IsRanking ranks.items (pairs_of pairs.entries) },
+}
+
+impl Checklist {
+    ghost use Rattle.std.specs.Prelude.{◌<◌, ◌+◌, ◌↔◌, ℕ, IsTrue, is_some, length, OnOk, IfErr, [], ◌++◌, ◌∷◌};
+    ghost use Rattle.std.specs.Option.{option_copied};
+    ghost use Rattle.is_pair.specs.Bag.{is_numbered, has_number, pair_numbered, are_below, without};
+    ghost use Rattle.is_pair.specs.Checklists.{bag_of, HasRoom, HasCheckRoom};
+
+    /// No pairs.
+    pub fn new(alloc: Global) -> Checklist
+        ensures { bag_of result ≡ [] }
+    {
+        Checklist {
+            pairs: IndexMap::new(alloc),
+            index: Vec::new(alloc),
+            ranks: Vec::new(alloc),
+            spare: VecDeque::new(alloc),
+        }
+    }
+
+    /// How many pairs there are.
+    pub fn len(&self) -> usize
+        ensures { result ≡ length (bag_of self.now) }
+    {
+        self.pairs.len()
+    }
+
+    /// Whether there are none.
+    pub fn is_empty(&self) -> bool
+        ensures { IsTrue result ↔ (bag_of self.now ≡ []) }
+    {
+        self.pairs.is_empty()
+    }
+
+    /// The pair of the number, if there is one.
+    pub fn get(&self, number: u64) -> Option<&CandidatePair>
+        ensures found { option_copied result ≡ pair_numbered number (bag_of self.now) }
+        ensures has { is_some result ≡ has_number number (bag_of self.now) }
+    {
+        self.pairs.get(&number)
+    }
+
+    /// Makes room for n more pairs.
+    ///
+    /// Refused with `OutOfMemory` where there is none: the pairs are as before.
+    pub fn reserve(&mut self, n: usize) -> Result<(), IceError>
+        ensures bag { bag_of self.new ≡ bag_of self.old }
+        ensures reserved { OnOk result (HasRoom n self.new) }
+        ensures refusal { IfErr result (λ e. e ≡ IceError.OutOfMemory) }
+        ensures room { (n : ℕ) → HasRoom n self.old → HasRoom n self.new }
+        ensures check_room { HasCheckRoom self.old → HasCheckRoom self.new }
+    {
+        self.pairs.reserve(n)?;
+        self.ranks.reserve(n)?;
+        Ok(())
+    }
+
+    /// Adds a pair that was just made, under a number above all others.
+    pub fn add(&mut self, pair: CandidatePair)
+        requires room { HasRoom 1 self.old }
+        requires last { are_below pair.number (bag_of self.old) ≡ true }
+        requires unchecked { pair.checks ≡ [] }
+        ensures added { bag_of self.new ≡ bag_of self.old ++ pair ∷ [] }
+        ensures room { (n : ℕ) → HasRoom (n + 1) self.old → HasRoom n self.new }
+        ensures check_room { HasCheckRoom self.old → HasCheckRoom self.new }
+        ensures below { are_below (pair.number + 1) (bag_of self.new) ≡ true }
+    {
+        let rank = Rank {
+            priority: pair.prio(),
+            number: pair.id().0,
+        };
+        mapped::put(&mut self.pairs, pair);
+        ranks::put(&mut self.ranks, rank);
+    }
+
+    /// Removes the pairs that pass.
+    pub fn remove_where<T: PairTest>(&mut self, test: &T)
+        ensures left { bag_of self.new ≡ without (T.passes test.now) (bag_of self.old) }
+        ensures room { (n : ℕ) → HasRoom n self.old → HasRoom n self.new }
+        ensures check_room { HasCheckRoom self.old → HasCheckRoom self.new }
+        ensures below { (n : ℕ) → are_below n (bag_of self.old) ≡ true → are_below n (bag_of self.new) ≡ true }
+    {
+        mapped::drop_passing(&mut self.pairs, test);
+        index::keep_known(&mut self.index, &self.pairs);
+        ranks::keep_known(&mut self.ranks, &self.pairs);
+    }
+
+    /// Removes the pair of the number, if there is one.
+    pub fn remove(&mut self, number: u64)
+        ensures left { bag_of self.new ≡ without (is_numbered number) (bag_of self.old) }
+        ensures room { (n : ℕ) → HasRoom n self.old → HasRoom n self.new }
+        ensures check_room { HasCheckRoom self.old → HasCheckRoom self.new }
+        ensures below { (n : ℕ) → are_below n (bag_of self.old) ≡ true → are_below n (bag_of self.new) ≡ true }
+    {
+        mapped::take_out(&mut self.pairs, number);
+        index::drop_number(&mut self.index, number);
+        ranks::drop_number(&mut self.ranks, number);
+    }
+
+    /// Removes all pairs; the room stays.
+    pub fn clear(&mut self)
+        ensures cleared { bag_of self.new ≡ [] }
+        ensures room { (n : ℕ) → HasRoom n self.old → HasRoom n self.new }
+        ensures check_room { HasCheckRoom self.old → HasCheckRoom self.new }
+    {
+        self.pairs.clear();
+        self.index.clear();
+        self.ranks.clear();
+    }
+}

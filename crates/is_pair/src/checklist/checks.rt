@@ -1,0 +1,98 @@
+//! Checks of the pairs, and their answers (RFC 8445, section 7.2).
+
+ghost use Rattle.std.specs.Prelude.{◌≡◌, ◌<◌, ℕ, true, IfErr, IfSome, OnOk};
+ghost use Rattle.std.specs.List.{list_any};
+ghost use Rattle.std.specs.Option.{option_copied};
+ghost use Rattle.rand_core.specs.Stream.{fill_bytes};
+ghost use Rattle.is_pair.specs.Bag.{are_below, change_pair, has_number, is_keeper, keeps, IsKeeper, RecordsAnswer};
+ghost use Rattle.is_pair.specs.Pairs.{checked};
+ghost use Rattle.is_pair.specs.Checklists.{bag_of, HasRoom, HasCheckRoom};
+
+use super::{Checklist, PairTest, index, mapped};
+use crate::pair::CandidatePair;
+use is_proto::{IceError, Instant};
+use is_stun::stun::{StunTiming, TransId};
+use rand_core::Rng;
+
+impl Checklist {
+    /// Makes room for one more check, on whichever pair.
+    ///
+    /// Refused with `OutOfMemory` where there is none: the pairs are as before.
+    pub fn reserve_check(&mut self) -> Result<(), IceError>
+        ensures bag { bag_of self.new ≡ bag_of self.old }
+        ensures reserved { OnOk result (HasCheckRoom self.new) }
+        ensures refusal { IfErr result (λ e. e ≡ IceError.OutOfMemory) }
+        ensures room { (n : ℕ) → HasRoom n self.old → HasRoom n self.new }
+    {
+        self.index.reserve(1)?;
+        mapped::reserve_beyond_all(&mut self.spare, &self.pairs)?;
+        Ok(())
+    }
+
+    /// Sends a check on the pair of the number, which is one of the pairs: keeps it, and answers its transaction id. Takes
+    /// the room of one check.
+    pub fn new_attempt<R: Rng>(
+        &mut self,
+        number: u64,
+        now: Instant,
+        timing_config: &StunTiming,
+        controlling: bool,
+        rng: &mut R,
+    ) -> TransId
+        requires retransmits { 0 < timing_config.now.max_retransmits }
+        requires room { HasCheckRoom self.old }
+        requires has { has_number number (bag_of self.old) ≡ true }
+        ensures sent { bag_of self.new ≡ change_pair number (checked now.0 timing_config.now controlling result.0) (bag_of self.old) }
+        ensures drawn { (result.0, R.stream rng.new) ≡ fill_bytes 12 (R.stream rng.old) }
+        ensures room { (n : ℕ) → HasRoom n self.old → HasRoom n self.new }
+        ensures below { (n : ℕ) → are_below n (bag_of self.old) ≡ true → are_below n (bag_of self.new) ≡ true }
+    {
+        match self.pairs.get_mut(&number) {
+            Some(pair) => {
+                let cuts = pair.is_full(timing_config);
+                let id = pair.new_attempt_reserved(
+                    now,
+                    timing_config,
+                    controlling,
+                    rng,
+                    &mut self.spare,
+                );
+                index::follow(&mut self.index, pair, id, cuts);
+                id
+            }
+            None => unreachable!(),
+        }
+    }
+
+    /// A pair that keeps a check of the id and passes.
+    pub fn keeper<T: PairTest>(&self, trans_id: TransId, test: &T) -> Option<&CandidatePair>
+        ensures keeper { IsKeeper trans_id.0 (T.passes test.now) (bag_of self.now) (option_copied result) }
+        ensures kept { IfSome (option_copied result) (λ p. keeps trans_id.0 p.number (bag_of self.now) ≡ true) }
+    {
+        match index::keeper(&self.index, &self.pairs, trans_id, test) {
+            Some(kept) => self.pairs.get(&kept.number),
+            None => None,
+        }
+    }
+
+    /// Whether a pair keeps a check of the id and passes.
+    pub fn has_keeper<T: PairTest>(&self, trans_id: TransId, test: &T) -> bool
+        ensures { result ≡ list_any (is_keeper trans_id.0 (T.passes test.now)) (bag_of self.now) }
+    {
+        self.keeper(trans_id, test).is_some()
+    }
+
+    /// The pair of the number, which keeps a check of the id, takes its answer.
+    pub fn record_binding_response(&mut self, number: u64, now: Instant, trans_id: TransId)
+        requires kept { keeps trans_id.0 number (bag_of self.old) ≡ true }
+        ensures answered { RecordsAnswer number now.0 trans_id.0 (bag_of self.old) (bag_of self.new) }
+        ensures room { (n : ℕ) → HasRoom n self.old → HasRoom n self.new }
+        ensures check_room { HasCheckRoom self.old → HasCheckRoom self.new }
+        ensures below { (n : ℕ) → are_below n (bag_of self.old) ≡ true → are_below n (bag_of self.new) ≡ true }
+    {
+        match self.pairs.get_mut(&number) {
+            Some(pair) => pair.record_binding_response(now, trans_id, 0),
+            None => unreachable!(),
+        }
+    }
+}

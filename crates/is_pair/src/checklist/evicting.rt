@@ -1,0 +1,39 @@
+//! The limit on the number of pairs (RFC 8445, section 6.1.2.5).
+
+ghost use Rattle.std.specs.Prelude.{◌≡◌, ℕ, true};
+ghost use Rattle.std.specs.Option.{option_copied};
+ghost use Rattle.is_pair.specs.Bag.{are_below, Evicts, IsLowest};
+ghost use Rattle.is_pair.specs.Checklists.{bag_of, HasRoom, HasCheckRoom};
+
+use super::Checklist;
+use crate::pair::CandidatePair;
+
+impl Checklist {
+    /// A pair of least priority, if there is one.
+    pub fn least(&self) -> Option<&CandidatePair>
+        ensures { IsLowest (bag_of self.now) (option_copied result) }
+    {
+        match self.ranks.first() {
+            Some(rank) => self.pairs.get(&rank.number),
+            None => None,
+        }
+    }
+
+    /// Removes pairs of least priority until there are no more than the limit.
+    pub fn evict(&mut self, limit: usize)
+        ensures evicted { Evicts limit (bag_of self.old) (bag_of self.new) }
+        ensures room { (n : ℕ) → HasRoom n self.old → HasRoom n self.new }
+        ensures check_room { HasCheckRoom self.old → HasCheckRoom self.new }
+        ensures below { (n : ℕ) → are_below n (bag_of self.old) ≡ true → are_below n (bag_of self.new) ≡ true }
+    {
+        while self.len() > limit {
+            match self.least() {
+                None => return,
+                Some(least) => {
+                    let number = least.id().0;
+                    self.remove(number);
+                }
+            }
+        }
+    }
+}

@@ -1,0 +1,155 @@
+//! The index of a checklist: which pairs keep which ids.
+
+ghost use Rattle.std.specs.Prelude.{◌≡◌, ◌<◌, ◌≤◌, ◌==◌, true, false, not, ℕ, List, Bool, ◌||◌, filter, find, length, vec_len, vec_capacity};
+ghost use Rattle.std.specs.List.{list_all, list_any};
+ghost use Rattle.std.specs.List.Sorted.{IsPartitionPoint};
+ghost use Rattle.is_pair.specs.Bag.{has_number, rises};
+ghost use Rattle.is_pair.specs.Entries.{is_before, ids_rise, names_passing, pairs_of, are_keyed, is_named, is_current, named_after};
+ghost use Rattle.is_pair.specs.declared.checklist.entries.Kept.{Kept};
+
+use super::entries::Kept;
+use super::mapped::passes;
+use super::pair_test::PairTest;
+use crate::pair::CandidatePair;
+use indexmap::IndexMap;
+use is_stun::stun::TransId;
+
+/// Whether an entry names another pair than this one, or an id that this one keeps.
+fn is_current(kept: Kept, pair: &CandidatePair) -> bool
+    ensures { result ≡ is_current pair.now kept }
+{
+    kept.number != pair.id().0 || pair.binding_attempt(kept.id).is_some()
+}
+
+/// The entries of ids that the pair keeps no more go. There are none where none of its checks was cut.
+fn forget(index: &mut Vec<Kept>, pair: &CandidatePair, cut: bool)
+    requires uncut { cut ≡ false → list_all (is_current pair.now) index.old.items ≡ true }
+    ensures items { index.new.items ≡ filter (is_current pair.now) index.old.items }
+    ensures within { vec_len index.new ≤ vec_len index.old }
+    ensures capacity { vec_capacity index.new ≡ vec_capacity index.old }
+{
+    if cut {
+        index.retain(|kept| is_current(*kept, pair));
+    }
+}
+
+fn is_before(kept: Kept, id: TransId) -> bool
+    ensures { result ≡ is_before kept.id.0 id.0 }
+{
+    kept.id.cmp(&id).is_lt()
+}
+
+/// How many entries stand before those of the id.
+fn count_before(index: &[Kept], id: TransId) -> usize
+    requires rising { ids_rise index.now ≡ true }
+    ensures within { result ≤ length index.now }
+    ensures point { IsPartitionPoint (λ k. is_before k.id.0 id.0 ≡ true) (λ k. is_before k.id.0 id.0 ≡ false) index.now result }
+{
+    index.partition_point(|kept| is_before(*kept, id))
+}
+
+fn is_behind(kept: Kept, id: TransId) -> bool
+    ensures { result ≡ is_before id.0 kept.id.0 }
+{
+    id.cmp(&kept.id).is_lt()
+}
+
+/// How many entries stand before those behind the id.
+fn count_through(index: &[Kept], id: TransId) -> usize
+    requires rising { ids_rise index.now ≡ true }
+    ensures within { result ≤ length index.now }
+    ensures point { IsPartitionPoint (λ k. not (is_before id.0 k.id.0) ≡ true) (λ k. not (is_before id.0 k.id.0) ≡ false) index.now result }
+{
+    index.partition_point(|kept| !is_behind(*kept, id))
+}
+
+/// One more entry, in its place.
+fn put(index: &mut Vec<Kept>, kept: Kept)
+    requires room { vec_len index.old < vec_capacity index.old }
+    requires rising { ids_rise index.old.items ≡ true }
+    ensures any { (test : Kept → Bool) → list_any test index.new.items ≡ (test kept || list_any test index.old.items) }
+    ensures rising { ids_rise index.new.items ≡ true }
+{
+    let place = count_before(index, kept.id);
+    if index.insert(place, kept).is_err() {
+        unreachable!()
+    }
+}
+
+/// The first entry of the id whose pair passes.
+pub(crate) fn keeper<T: PairTest>(
+    index: &[Kept],
+    pairs: &IndexMap<u64, CandidatePair>,
+    id: TransId,
+    test: &T,
+) -> Option<Kept>
+    requires rising { ids_rise index.now ≡ true }
+    requires keyed { are_keyed pairs.now.entries ≡ true }
+    requires numbers { rises (pairs_of pairs.now.entries) ≡ true }
+    ensures { result ≡ find (names_passing id.0 (T.passes test.now) (pairs_of pairs.now.entries)) index.now }
+{
+    let behind = &index[count_before(index, id)..];
+    let many = count_through(behind, id);
+    first_keeper(&behind[..many], pairs, id, test)
+}
+
+fn names_passing<T: PairTest>(
+    kept: Kept,
+    pairs: &IndexMap<u64, CandidatePair>,
+    id: TransId,
+    test: &T,
+) -> bool
+    requires keyed { are_keyed pairs.now.entries ≡ true }
+    requires numbers { rises (pairs_of pairs.now.entries) ≡ true }
+    ensures { result ≡ names_passing id.0 (T.passes test.now) (pairs_of pairs.now.entries) kept }
+{
+    kept.id == id && passes(pairs, kept.number, test)
+}
+
+fn first_keeper<T: PairTest>(
+    index: &[Kept],
+    pairs: &IndexMap<u64, CandidatePair>,
+    id: TransId,
+    test: &T,
+) -> Option<Kept>
+    requires keyed { are_keyed pairs.now.entries ≡ true }
+    requires numbers { rises (pairs_of pairs.now.entries) ≡ true }
+    ensures { result ≡ find (names_passing id.0 (T.passes test.now) (pairs_of pairs.now.entries)) index.now }
+{
+    index
+        .iter()
+        .find(|kept| names_passing(**kept, pairs, id, test))
+        .copied()
+}
+
+/// The pair, which sent a check with the id, keeps what it keeps now; earlier checks of it were cut, or none.
+pub(crate) fn follow(index: &mut Vec<Kept>, pair: &CandidatePair, id: TransId, cut: bool)
+    requires uncut { cut ≡ false → list_all (is_current pair.now) index.old.items ≡ true }
+    requires room { vec_len index.old < vec_capacity index.old }
+    requires rising { ids_rise index.old.items ≡ true }
+    ensures rising { ids_rise index.new.items ≡ true }
+    ensures named { (i : List ℕ) (number : ℕ) → is_named i number index.new.items ≡ named_after pair.now id.0 i number index.old.items }
+{
+    forget(index, pair, cut);
+    let number = pair.id().0;
+    put(index, Kept { id, number });
+}
+
+/// The entries of pairs that are not there go.
+pub(crate) fn keep_known(index: &mut Vec<Kept>, pairs: &IndexMap<u64, CandidatePair>)
+    requires keyed { are_keyed pairs.now.entries ≡ true }
+    ensures within { vec_len index.new ≤ vec_len index.old }
+    ensures capacity { vec_capacity index.new ≡ vec_capacity index.old }
+    ensures items { index.new.items ≡ filter (λ k. has_number k.number (pairs_of pairs.now.entries)) index.old.items }
+{
+    index.retain(|kept| pairs.contains_key(&kept.number));
+}
+
+/// The entries of the number go.
+pub(crate) fn drop_number(index: &mut Vec<Kept>, number: u64)
+    ensures items { index.new.items ≡ filter (λ k. not (k.number == number)) index.old.items }
+    ensures within { vec_len index.new ≤ vec_len index.old }
+    ensures capacity { vec_capacity index.new ≡ vec_capacity index.old }
+{
+    index.retain(|kept| kept.number != number);
+}

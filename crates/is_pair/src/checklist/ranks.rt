@@ -1,0 +1,104 @@
+//! The pairs of a checklist in the order of their priorities.
+
+ghost use Rattle.std.specs.Prelude.{◌≡◌, ◌<◌, ◌≤◌, ◌==◌, ◌+◌, not, true, Bool, ◌||◌, filter, find, map, reverse, vec_len, vec_capacity};
+ghost use Rattle.std.specs.List.{list_any};
+ghost use Rattle.is_pair.specs.Bag.{has_number, rises};
+ghost use Rattle.is_pair.specs.Entries.{pairs_of, are_keyed, are_ordered, has_passing, rank_now};
+ghost use Rattle.is_pair.specs.declared.checklist.entries.Rank.{Rank};
+
+use super::entries::Rank;
+use super::mapped::passes;
+use super::pair_test::PairTest;
+use crate::pair::CandidatePair;
+use indexmap::IndexMap;
+
+/// One more, behind those of no greater priority.
+pub(crate) fn put(ranks: &mut Vec<Rank>, rank: Rank)
+    requires room { vec_len ranks.old < vec_capacity ranks.old }
+    requires ordered { are_ordered ranks.old.items ≡ true }
+    ensures any { (test : Rank → Bool) → list_any test ranks.new.items ≡ (test rank || list_any test ranks.old.items) }
+    ensures ordered { are_ordered ranks.new.items ≡ true }
+    ensures len { vec_len ranks.new ≡ vec_len ranks.old + 1 }
+    ensures capacity { vec_capacity ranks.new ≡ vec_capacity ranks.old }
+{
+    let place = ranks.partition_point(|other| other.priority <= rank.priority);
+    if ranks.insert(place, rank).is_err() {
+        unreachable!()
+    }
+}
+
+/// Those of pairs that are not there go.
+pub(crate) fn keep_known(ranks: &mut Vec<Rank>, pairs: &IndexMap<u64, CandidatePair>)
+    requires keyed { are_keyed pairs.now.entries ≡ true }
+    ensures items { ranks.new.items ≡ filter (λ r. has_number r.number (pairs_of pairs.now.entries)) ranks.old.items }
+    ensures within { vec_len ranks.new ≤ vec_len ranks.old }
+    ensures capacity { vec_capacity ranks.new ≡ vec_capacity ranks.old }
+{
+    ranks.retain(|rank| pairs.contains_key(&rank.number));
+}
+
+/// Those of the number go.
+pub(crate) fn drop_number(ranks: &mut Vec<Rank>, number: u64)
+    ensures items { ranks.new.items ≡ filter (λ r. not (r.number == number)) ranks.old.items }
+    ensures within { vec_len ranks.new ≤ vec_len ranks.old }
+    ensures capacity { vec_capacity ranks.new ≡ vec_capacity ranks.old }
+{
+    ranks.retain(|rank| rank.number != number);
+}
+
+/// Of those whose pairs pass, the last.
+pub(crate) fn last_passing<T: PairTest>(
+    ranks: &[Rank],
+    pairs: &IndexMap<u64, CandidatePair>,
+    test: &T,
+) -> Option<Rank>
+    requires keyed { are_keyed pairs.now.entries ≡ true }
+    requires rising { rises (pairs_of pairs.now.entries) ≡ true }
+    ensures { result ≡ find (has_passing (T.passes test.now) (pairs_of pairs.now.entries)) (reverse ranks.now) }
+{
+    ranks
+        .iter()
+        .rev()
+        .find(|rank| passes(pairs, rank.number, test))
+        .copied()
+}
+
+/// Each gets the priority that its pair has now.
+fn follow_each(ranks: &mut [Rank], pairs: &IndexMap<u64, CandidatePair>)
+    ensures { ranks.new ≡ map (rank_now pairs.now.entries) ranks.old }
+{
+    for place in 0..ranks.len() {
+        ranks[place] = rank_now(ranks[place], pairs);
+    }
+}
+
+fn follow_pairs(ranks: &mut Vec<Rank>, pairs: &IndexMap<u64, CandidatePair>)
+    ensures items { ranks.new.items ≡ map (rank_now pairs.now.entries) ranks.old.items }
+    ensures len { vec_len ranks.new ≡ vec_len ranks.old }
+    ensures capacity { vec_capacity ranks.new ≡ vec_capacity ranks.old }
+{
+    follow_each(ranks, pairs);
+}
+
+fn rank_now(rank: Rank, pairs: &IndexMap<u64, CandidatePair>) -> Rank
+    ensures { result ≡ rank_now pairs.now.entries rank }
+{
+    match pairs.get(&rank.number) {
+        Some(pair) => Rank {
+            priority: pair.prio(),
+            ..rank
+        },
+        None => rank,
+    }
+}
+
+/// All by the priorities that the pairs have now.
+pub(crate) fn order_anew(ranks: &mut Vec<Rank>, pairs: &IndexMap<u64, CandidatePair>)
+    ensures any { (test : Rank → Bool) → list_any test ranks.new.items ≡ list_any test (map (rank_now pairs.now.entries) ranks.old.items) }
+    ensures ordered { are_ordered ranks.new.items ≡ true }
+    ensures len { vec_len ranks.new ≡ vec_len ranks.old }
+    ensures capacity { vec_capacity ranks.new ≡ vec_capacity ranks.old }
+{
+    follow_pairs(ranks, pairs);
+    ranks.sort_unstable_by_key(|rank| rank.priority);
+}

@@ -1,0 +1,78 @@
+//! What is asked of the pairs.
+
+ghost use Rattle.std.specs.Prelude.{◌≡◌, ◌<◌, true, IfSome, find, fold, map, min};
+ghost use Rattle.std.specs.List.{list_any};
+ghost use Rattle.std.specs.Map.Iter.{ShowsInOrder, deref};
+ghost use Rattle.std.specs.Option.{option_copied};
+ghost use Rattle.is_proto.specs.Moments.{MAX};
+ghost use Rattle.is_pair.specs.Bag.{has_number, passes_at, IsGreatest};
+ghost use Rattle.is_pair.specs.Due.{due_moment, IsNextDue};
+ghost use Rattle.is_pair.specs.Checklists.{bag_of};
+
+use super::{Checklist, PairTest, mapped, ranks};
+use crate::pair::CandidatePair;
+use indexmap::map::Values;
+use is_proto::Instant;
+use is_stun::stun::StunTiming;
+
+impl Checklist {
+    /// The pairs, in the order of their numbers.
+    pub fn iter(&self) -> Values<'_, u64, CandidatePair>
+        ensures rest { result ≡ bag_of self.now }
+        ensures runs { ShowsInOrder (deref {X = CandidatePair}) }
+    {
+        self.pairs.values()
+    }
+
+    /// Whether any pair passes.
+    pub fn any<T: PairTest>(&self, test: &T) -> bool
+        ensures { result ≡ list_any (T.passes test.now) (bag_of self.now) }
+    {
+        mapped::any(&self.pairs, test)
+    }
+
+    /// Whether there is a pair of the number, and it passes.
+    pub fn passes<T: PairTest>(&self, number: u64, test: &T) -> bool
+        ensures { result ≡ list_any (passes_at number (T.passes test.now)) (bag_of self.now) }
+    {
+        mapped::passes(&self.pairs, number, test)
+    }
+
+    /// Of the pairs that pass, that of the least number.
+    pub fn first<T: PairTest>(&self, test: &T) -> Option<&CandidatePair>
+        ensures { option_copied result ≡ find (T.passes test.now) (bag_of self.now) }
+    {
+        mapped::first(&self.pairs, test)
+    }
+
+    /// Of the pairs that pass, one of greatest priority.
+    pub fn greatest<T: PairTest>(&self, test: &T) -> Option<&CandidatePair>
+        ensures { IsGreatest (T.passes test.now) (bag_of self.now) (option_copied result) }
+    {
+        match ranks::last_passing(&self.ranks, &self.pairs, test) {
+            Some(rank) => self.pairs.get(&rank.number),
+            None => None,
+        }
+    }
+
+    /// The pair that is checked now, where one is due: that of the earliest moment, and among several such one of greatest
+    /// priority (RFC 8445, section 6.1.4.2).
+    pub fn next_due(&self, now: Instant, timing: &StunTiming) -> Option<&CandidatePair>
+        ensures next { IsNextDue now.0 timing.now (bag_of self.now) (option_copied result) }
+        ensures has { IfSome (option_copied result) (λ p. has_number p.number (bag_of self.now) ≡ true) }
+    {
+        let first = mapped::earliest(&self.pairs, now, timing)?;
+        if first.due_moment(now, timing) <= now {
+            Some(first)
+        } else {
+            None
+        }
+    }
+
+    /// The earliest moment at which a pair is due for its next check, and the end of time where there is none.
+    pub fn earliest_due(&self, now: Instant, timing: &StunTiming) -> Instant
+        ensures { result.0 ≡ fold min MAX (map (due_moment now.0 timing.now) (bag_of self.now)) }
+    {
+        mapped::earliest_due(&self.pairs, now, timing)
+    }
+}

@@ -1,0 +1,47 @@
+//! The peer's checks on a pair.
+
+ghost use Rattle.std.specs.Prelude.{◌≡◌};
+ghost use Rattle.is_pair.specs.Pairs.{with_request, is_lite_alive, is_recent, validated};
+
+use super::CandidatePair;
+use super::states::CheckState;
+use is_proto::{Duration, Instant};
+
+impl CandidatePair {
+    /// Counts a check of the peer's that came at this moment.
+    pub fn increase_remote_binding_requests(&mut self, now: Instant)
+        ensures { self.new ≡ with_request now.0 self.old }
+    {
+        self.remote_binding_requests = self.remote_binding_requests.saturating_add(1);
+        self.remote_binding_request_time = Some(now);
+    }
+
+    /// Makes the pair valid with no check of its own, as an ice-lite agent does where it answers a check of the
+    /// peer's.
+    pub fn record_remote_binding_request_success(&mut self)
+        ensures { self.new ≡ validated self.old }
+    {
+        self.state = CheckState::Succeeded;
+    }
+
+    /// Whether an ice-lite agent, which sends no checks, still hears of the peer: no check of the peer's came yet,
+    /// or the last one came less than 15 s ago.
+    pub fn is_ice_lite_alive(&self, now: Instant) -> bool
+        ensures { result ≡ is_lite_alive now.0 self.now }
+    {
+        match self.remote_binding_request_time {
+            Some(at) => is_recent(now, at),
+            None => true,
+        }
+    }
+}
+
+/// Whether a check of the peer's that came at this moment still keeps its pair.
+pub(crate) fn is_recent(now: Instant, at: Instant) -> bool
+    ensures { result ≡ is_recent now.0 at.0 }
+{
+    now - at < RECENT_BINDING_REQUEST
+}
+
+/// How long a pair is kept for a check of the peer's alone.
+const RECENT_BINDING_REQUEST: Duration = Duration(15_000_000_000);

@@ -1,0 +1,198 @@
+//! The checklist: index and order follow the pairs.
+
+ghost use Rattle.std.specs.Prelude.{◌≡◌, ◌<◌, true};
+ghost use Rattle.is_pair.specs.Bag.{are_below};
+ghost use Rattle.is_pair.specs.Checklists.{bag_of};
+
+use super::at;
+use crate::checklist::{Checklist, PairPriority, PairTest};
+use crate::pair::{CandidatePair, PairId};
+use is_candidate::CandidateKind;
+use is_proto::IceError;
+use is_stun::stun::{StunTiming, TransId};
+use rand_core::SeedableRng;
+use rand_pcg::Pcg32;
+use std::alloc::Global;
+use std::test::Fail;
+
+#[derive(Clone, Copy)]
+struct Any;
+
+impl PairTest for Any {
+    ghost use Rattle.std.specs.Prelude.{true};
+
+    ghost passes = { λ t p. true };
+
+    fn passes(&self, _pair: &CandidatePair) -> bool {
+        true
+    }
+}
+
+#[derive(Clone, Copy)]
+struct Numbered(u64);
+
+impl PairTest for Numbered {
+    ghost use Rattle.is_pair.specs.Bag.{is_numbered};
+
+    ghost passes = { λ t p. is_numbered t.0 p };
+
+    fn passes(&self, pair: &CandidatePair) -> bool {
+        pair.id().0 == self.0
+    }
+}
+
+#[derive(Clone, Copy)]
+struct ByNumber;
+
+impl PairPriority for ByNumber {
+    ghost gives = { λ r p. p.number };
+
+    fn priority(&self, pair: &CandidatePair) -> u64 {
+        pair.id().0
+    }
+}
+
+/// A checklist whose pairs have the numbers from 0 on, and are checked with the timing.
+#[derive(Drop)]
+struct Paths {
+    list: Checklist,
+    next: u64,
+    timing: StunTiming,
+    ghost below: { are_below next (bag_of list) ≡ true },
+    ghost is_checked: { 0 < timing.max_retransmits },
+}
+
+impl Paths {
+    fn new(alloc: Global, max_retransmits: usize) -> Paths
+        requires { 0 < max_retransmits }
+    {
+        Paths {
+            list: Checklist::new(alloc),
+            next: 0,
+            timing: StunTiming {
+                max_retransmits,
+                ..StunTiming::default()
+            },
+        }
+    }
+
+    /// One more pair; refused, none.
+    fn add(&mut self, alloc: Global, prio: u64) -> Result<(), IceError> {
+        let Some(next) = self.next.checked_add(1) else {
+            return Err(IceError::PairIdsExhausted);
+        };
+        self.list.reserve(1)?;
+        let id = PairId(self.next);
+        let host = CandidateKind::Host;
+        let pair = CandidatePair::new(alloc, id, 0, host, 0, host, prio);
+        self.list.add(pair);
+        self.next = next;
+        Ok(())
+    }
+
+    /// A check of the pair of the number, with the id that a generator of this seed gives; refused, none.
+    fn check(&mut self, number: u64, millis: u64, seed: u64) -> Result<TransId, IceError> {
+        self.list.reserve_check()?;
+        let mut rng = Pcg32::seed_from_u64(seed);
+        if self.list.get(number).is_none() {
+            return Ok(TransId::new(&mut rng));
+        }
+        let now = at(millis);
+        Ok(
+            self.list
+                .new_attempt(number, now, &self.timing, true, &mut rng),
+        )
+    }
+
+    fn remove(&mut self, number: u64) {
+        self.list.remove(number);
+    }
+
+    fn keeper(&self, id: TransId) -> Option<u64> {
+        self.list.keeper(id, &Any).map(|pair| pair.id().0)
+    }
+
+    /// Whether the pair of the number keeps the id.
+    fn keeps(&self, id: TransId, number: u64) -> bool {
+        self.list.has_keeper(id, &Numbered(number))
+    }
+
+    fn greatest(&self) -> Option<u64> {
+        self.list.greatest(&Any).map(|pair| pair.id().0)
+    }
+
+    fn least(&self) -> Option<u64> {
+        self.list.least().map(|pair| pair.id().0)
+    }
+}
+
+/// Pairs of these priorities.
+fn paths_of(alloc: Global, max_retransmits: usize, prios: &[u64]) -> Result<Paths, IceError>
+    requires { 0 < max_retransmits }
+{
+    let mut paths = Paths::new(alloc, max_retransmits);
+    for prio in prios {
+        paths.add(alloc, *prio)?;
+    }
+    Ok(paths)
+}
+
+#[test]
+fn an_id_of_two_pairs_names_both(rt: HostRuntime) -> Result<(), Fail> {
+    let mut paths = paths_of(rt.alloc(), 9, &[50, 60])?;
+    let id = paths.check(0, 0, 1)?;
+    assert!(rt; paths.check(1, 50, 1)? == id);
+    assert!(rt; paths.keeps(id, 0) && paths.keeps(id, 1));
+    paths.remove(0);
+    assert_eq!(rt; paths.keeper(id), Some(1));
+    paths.remove(1);
+    assert_eq!(rt; paths.keeper(id), None);
+    Ok(())
+}
+
+#[test]
+fn an_id_that_was_cut_is_found_no_more(rt: HostRuntime) -> Result<(), Fail> {
+    let mut paths = paths_of(rt.alloc(), 1, &[50, 60])?;
+    let first = paths.check(0, 0, 1)?;
+    assert_eq!(rt; paths.keeper(first), Some(0));
+    let second = paths.check(0, 250, 2)?;
+    assert_eq!(rt; paths.keeper(first), None);
+    assert_eq!(rt; paths.keeper(second), Some(0));
+    Ok(())
+}
+
+#[test]
+fn the_order_follows_the_priorities(rt: HostRuntime) -> Result<(), Fail> {
+    let mut paths = paths_of(rt.alloc(), 9, &[50, 70, 70, 60])?;
+    assert_eq!(rt; paths.least(), Some(0));
+    let first = paths.greatest().ok_or("none is greatest")?;
+    assert!(rt; first == 1 || first == 2);
+    paths.remove(first);
+    assert_eq!(rt; paths.greatest(), Some(3 - first));
+    paths.list.set_priorities(&ByNumber);
+    assert_eq!(rt; paths.greatest(), Some(3));
+    assert_eq!(rt; paths.least(), Some(0));
+    paths.list.evict(1);
+    assert_eq!(rt; paths.least(), Some(3));
+    Ok(())
+}
+
+/// Run with each allocation failing in turn: what was refused can be asked for again.
+#[test]
+fn a_refused_growth_leaves_the_pairs(rt: HostRuntime) -> Result<(), Fail> {
+    let mut paths = Paths::new(rt.alloc(), 9);
+    if paths.add(rt.alloc(), 50).is_err() {
+        assert!(rt; paths.list.is_empty());
+        assert_eq!(rt; paths.greatest(), None);
+        paths.add(rt.alloc(), 50)?;
+    }
+    for seed in 0..6 {
+        if paths.check(0, 50, seed).is_err() {
+            paths.check(0, 50, seed)?;
+        }
+    }
+    let id = TransId::new(&mut Pcg32::seed_from_u64(3));
+    assert!(rt; paths.keeps(id, 0));
+    assert_eq!(rt; paths.greatest(), Some(0));
+    Ok(())
+}
