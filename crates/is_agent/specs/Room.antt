@@ -1,16 +1,61 @@
--- Room for what a packet can add.
-use Rattle.std.specs.Prelude.{◌<◌, vec_len, vec_capacity}
+-- Room for what a call can add.
+use Rattle.std.specs.Prelude.{◌≡◌, ℕ, ◌+◌, ◌≤◌, ◌<◌, false, List, All, IfSome, length, vec_len, vec_capacity, string_bytes}
 use Rattle.std.specs.VecDeque.{deque_len, deque_capacity}
+use Rattle.is_pair.specs.Pairs.{PairRecord}
 use Rattle.is_agent.specs.declared.agent.Agent.{Agent}
+use Rattle.is_agent.specs.Fitting.{MTU_FLOOR}
+use Rattle.is_agent.specs.Kept.{AreRising}
+use Rattle.is_agent.specs.Checking.{username_between}
 
--- one more source, and its event
-abbrev pub HasSourceRoom : {H P : Type 0} → Agent H P → Type 0
-HasSourceRoom a = (vec_len a.seen < vec_capacity a.seen) × (deque_len a.events < deque_capacity a.events)
+-- each pair keeps fewer checks
+abbrev pub KeepFewer : ℕ → List PairRecord → Type 0
+KeepFewer n pairs = All (λ p. length p.checks < n) pairs
 
--- one more packet
-abbrev pub HasPacketRoom : {H P : Type 0} → Agent H P → Type 0
-HasPacketRoom a = deque_len a.packets < deque_capacity a.packets
+module _ {H P : Type 0} where
+  -- so many events more
+  abbrev pub HasEventRoom : ℕ → Agent H P → Type 0
+  HasEventRoom n a = deque_len a.events + n ≤ deque_capacity a.events
 
--- one more candidate, pair and packet
-abbrev pub HasServingRoom : {H P : Type 0} → Agent H P → Type 0
-HasServingRoom a = (vec_len a.remote < vec_capacity a.remote) × (vec_len a.pairs < vec_capacity a.pairs) × HasPacketRoom a
+  -- one more source, and so many events
+  abbrev pub HasNewsRoom : ℕ → Agent H P → Type 0
+  HasNewsRoom n a = (vec_len a.seen < vec_capacity a.seen) × HasEventRoom n a
+
+  -- one more packet
+  abbrev pub HasPacketRoom : Agent H P → Type 0
+  HasPacketRoom a = deque_len a.packets < deque_capacity a.packets
+
+  -- one more candidate, pair and packet
+  abbrev pub HasServingRoom : Agent H P → Type 0
+  HasServingRoom a = (vec_len a.remote < vec_capacity a.remote) × (vec_len a.pairs < vec_capacity a.pairs) × HasPacketRoom a
+
+  -- one more local candidate, and so many pairs
+  abbrev pub HasLocalRoom : ℕ → Agent H P → Type 0
+  HasLocalRoom pairs a = (vec_len a.local < vec_capacity a.local) × (vec_len a.pairs + pairs ≤ vec_capacity a.pairs)
+
+  -- so many pairs more
+  abbrev pub HasPairRoom : ℕ → Agent H P → Type 0
+  HasPairRoom n a = vec_len a.pairs + n ≤ vec_capacity a.pairs
+
+  -- one more request that waits
+  abbrev pub HasQueueRoom : Agent H P → Type 0
+  HasQueueRoom a = deque_len a.queue < deque_capacity a.queue
+
+  -- one more candidate of the peer's, and so many pairs
+  abbrev pub HasFormingRoom : ℕ → Agent H P → Type 0
+  HasFormingRoom pairs a = (vec_len a.remote < vec_capacity a.remote) × (vec_len a.pairs + pairs ≤ vec_capacity a.pairs)
+
+  -- where the peer is known, the user name of a check
+  abbrev pub HasUsername : Agent H P → Type 0
+  HasUsername a = IfSome a.remote_creds (λ peer. string_bytes a.username ≡ username_between peer a.local_creds)
+
+  -- and bytes for the longest one
+  abbrev pub HasContents : Agent H P → Type 0
+  HasContents a = IfSome a.remote_creds (λ _. length a.contents.items ≡ MTU_FLOOR)
+
+  abbrev pub IsPrepared : Agent H P → Type 0
+  IsPrepared a = HasUsername a × HasContents a
+
+  -- one more packet, one more check of any pair, whose number is its own, and what the packet says
+  abbrev pub HasCheckRoom : Agent H P → Type 0
+  HasCheckRoom a =
+      HasPacketRoom a × KeepFewer (deque_capacity a.spare) a.pairs.items × AreRising a.pairs.items × (a.lite ≡ false → IsPrepared a)

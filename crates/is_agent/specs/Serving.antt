@@ -5,33 +5,54 @@ use Rattle.std.specs.Option.{option_map_or}
 use Rattle.is_proto.specs.Moments.{MAX, counted}
 use Rattle.is_proto.specs.declared.error.IceError.{IceError}
 use Rattle.is_proto.specs.declared.error.IceError.TheVariants.{OutOfMemory, PairIdsExhausted}
-use Rattle.is_candidate.specs.Candidates.{CandidateRecord, base_of, candidate_at}
+use Rattle.is_candidate.specs.Candidates.{CandidateRecord, candidate_at}
 use Rattle.is_candidate.specs.Making.{peer_reflexive_candidate}
 use Rattle.is_candidate.specs.Equality.{TEMPORARY}
-use Rattle.is_pair.specs.Pairs.{PairRecord, is_nominated, with_request, nominated}
-use Rattle.is_stun.specs.declared.header.Class.TheVariants.{Success}
-use Rattle.is_stun.specs.Checks.{binding_reply}
+use Rattle.is_pair.specs.Pairs.{PairRecord, is_nominated, with_request, validated, nominated}
+use Rattle.is_stun.specs.declared.header.Class.TheVariants.{Success, Failure}
+use Rattle.is_stun.specs.Checks.{binding_reply, binding_role_conflict_reply}
+use Rattle.is_stun.specs.Laws.{IsPut}
 use Rattle.is_stun.specs.Writing.{written}
 use Rattle.is_agent.specs.declared.credentials.IceCreds.{IceCreds}
 use Rattle.is_agent.specs.declared.places.RemotePlace.{RemotePlace}
 use Rattle.is_agent.specs.declared.places.RemotePlace.TheVariants.{Known, Barred, Unknown}
+use Rattle.is_agent.specs.declared.roles.Conflict.{Conflict}
+use Rattle.is_agent.specs.declared.roles.Conflict.TheVariants.{Absent, Insists, Yields}
 use Rattle.is_agent.specs.declared.serving.Places.{Places}
 use Rattle.is_agent.specs.declared.told.Path.{Path}
 use Rattle.is_agent.specs.declared.told.Told.{Told}
-use Rattle.is_agent.specs.Told.{nothing_told, issued_alone}
+use Rattle.is_agent.specs.Told.{nothing_told, issued_as, issued_alone, told_by, turned}
 use Rattle.is_agent.specs.Request.{RequestRecord}
 use Rattle.is_agent.specs.Agent.{AgentRecord}
-use Rattle.is_agent.specs.Pairs.{change_pair, IsPairBetween}
+use Rattle.is_agent.specs.Pairs.{change_pair, is_valid_at, IsPairBetween}
 use Rattle.is_agent.specs.Places.{local_place, IsRemotePlace, remote_index}
 use Rattle.is_agent.specs.Forming.{formed, with_pair}
+use Rattle.is_agent.specs.Queue.{queued}
+use Rattle.is_agent.specs.Sending.{carried, path_between, with_packet}
+use Rattle.is_agent.specs.Nominating.{NominatesWhere}
+use Rattle.is_agent.specs.Roles.{conflict_of, switched}
+
+-- a lite agent makes no checks of its own: while it is controlled each request makes the pair valid
+abbrev pub validated_by_peer : Bool → Bool → PairRecord → PairRecord
+validated_by_peer controlling lite p = if lite && not controlling then validated p else p
 
 -- a controlled agent nominates the pair where the peer asks for it and it is not nominated yet (RFC 8445, section 7.3.1.5)
-abbrev pub nominated_by_peer : Bool → RequestRecord → PairRecord → PairRecord
-nominated_by_peer controlling q p = if not controlling && q.use_candidate && not (is_nominated p) then nominated false p else p
+abbrev pub nominated_by_peer : Bool → Bool → RequestRecord → PairRecord → PairRecord
+nominated_by_peer controlling lite q p = if not controlling && q.use_candidate && not (is_nominated p) then nominated lite p else p
 
--- the pair records the peer's check, and may be nominated
-abbrev pub served : Bool → RequestRecord → PairRecord → PairRecord
-served controlling q p = nominated_by_peer controlling q (with_request q.moment p)
+-- the pair records the peer's check, and may become valid and nominated
+abbrev pub served : Bool → Bool → RequestRecord → PairRecord → PairRecord
+served controlling lite q p = nominated_by_peer controlling lite q (validated_by_peer controlling lite (with_request q.moment p))
+
+-- the peer nominates while the agent is controlling
+abbrev pub is_misled : Bool → RequestRecord → Bool
+is_misled controlling q = controlling && q.use_candidate
+
+-- serving goes on to its places, by the role before it
+abbrev pub is_admitted : Conflict → Bool → RequestRecord → Bool
+is_admitted Absent controlling q = not (is_misled controlling q)
+is_admitted Insists controlling q = false
+is_admitted Yields controlling q = not (is_misled (not controlling) q)
 
 -- no pair joins the places, and one would be added
 abbrev pub wants_pair_at : RemotePlace → Option ℕ → Bool → Bool
@@ -44,32 +65,15 @@ module _ {H P : Type 0} where
   abbrev pub Drops : AgentRecord H P → Told → AgentRecord H P → Type 0
   Drops s told new = (told ≡ nothing_told) × (new ≡ s)
 
-  -- a packet goes out
-  abbrev pub with_packet : Path → List ℕ → AgentRecord H P → AgentRecord H P
-  with_packet path contents s = record s {
-    packets = s.packets ++ record { proto = path.proto; source = path.source; destination = path.destination; contents = contents } ∷ [];
-  }
-
-  -- from the local candidate's base to the remote candidate's address
-  abbrev pub path_between : AgentRecord H P → ℕ → ℕ → Path
-  path_between s l r = record {
-    proto = (candidate_at s.local l).proto;
-    source = base_of (candidate_at s.local l);
-    destination = (candidate_at s.remote r).addr;
-  }
+  -- the request waits
+  abbrev pub Queues : RequestRecord → AgentRecord H P → Told → AgentRecord H P → Type 0
+  Queues q s told new = (told ≡ nothing_told) × (new ≡ queued q s)
 
   -- ---- what each rule looks at and changes
 
   -- the request names another peer than the one that is known, or none is known
   abbrev pub names_another : AgentRecord H P → RequestRecord → Bool
   names_another s q = option_map_or (λ (peer : IceCreds). not (bytes_eq q.ufrag peer.ufrag)) s.remote_creds true
-
-  -- the tie-breaker of a sender that claims the role that the agent has (RFC 8445, section 7.3.1.1)
-  abbrev pub rival : AgentRecord H P → RequestRecord → Option ℕ
-  rival s q = if s.controlling then q.ice_controlling else q.ice_controlled
-
-  abbrev pub claims_own_role : AgentRecord H P → RequestRecord → Bool
-  claims_own_role s q = is_some (rival s q)
 
   abbrev pub request_counted : AgentRecord H P → AgentRecord H P
   request_counted s = record s { stats = record s.stats { bind_request_recv = counted s.stats.bind_request_recv } }
@@ -82,7 +86,7 @@ module _ {H P : Type 0} where
   with_sender q s = record s { remote = s.remote ++ sender_candidate s q ∷ [] }
 
   abbrev pub pair_served : RequestRecord → ℕ → AgentRecord H P → AgentRecord H P
-  pair_served q number s = record s { pairs = change_pair number (served s.controlling q) s.pairs }
+  pair_served q number s = record s { pairs = change_pair number (served s.controlling s.lite q) s.pairs }
 
   -- ---- what serving prepares
 
@@ -100,17 +104,33 @@ module _ {H P : Type 0} where
     abbrev pub replied : RequestRecord → Path → AgentRecord H P → AgentRecord H P
     replied q path s = with_packet path (written (mac s.provider) (Some s.local_creds.pass) (binding_reply q.id q.path.source)) s
 
-    -- the pair takes the request, and the reply goes out
+    -- the 487, under the same password, goes back the way that the request came
+    abbrev pub role_insisted : RequestRecord → AgentRecord H P → AgentRecord H P
+    role_insisted q s = with_packet (turned q.path) (written (mac s.provider) (Some s.local_creds.pass) (binding_role_conflict_reply q.id)) s
+
+    -- the reply goes out, behind what was announced
+    abbrev pub Replies : RequestRecord → Path → Option Path → AgentRecord H P → Told → AgentRecord H P → Type 0
+    Replies q path announced s told new =
+        IsPut (written (mac s.provider) (Some s.local_creds.pass) (binding_reply q.id q.path.source)) (binding_reply q.id (carried q.path.source))
+        × (told ≡ told_by (Some (issued_as path Success q.id)) announced None) × (new ≡ replied q path s)
+
+    -- the pair takes the request; a controlling agent evaluates nomination where it is valid; and the reply goes out
     abbrev pub ServesPair : RequestRecord → ℕ → ℕ → ℕ → AgentRecord H P → Told → AgentRecord H P → Type 0
     ServesPair q l r number s told new =
-        (told ≡ issued_alone (path_between s l r) Success q.id) × (new ≡ replied q (path_between s l r) (pair_served q number s))
+        (path : Option Path) × (mid : AgentRecord H P)
+        × NominatesWhere (s.controlling && is_valid_at number s.pairs) (pair_served q number s) path mid
+        × Replies q (path_between s l r) path mid told new
 
-    -- a pair of the places takes it; where there is none, one is added without limit or redundancy, but none at a discarded
-    -- local place, which drops it (RFC 8445, section 7.3.1.4)
+    -- a pair is added, without limit or redundancy: a number is left
+    abbrev pub AddsPair : RequestRecord → ℕ → ℕ → AgentRecord H P → Told → AgentRecord H P → Type 0
+    AddsPair q l r s told new = (s.next_number == MAX ≡ false) × ServesPair q l r s.next_number (with_pair (formed s l r) s) told new
+
+    -- a pair of the places takes it; where there is none, one is added, but none at a discarded local place, which drops it
+    -- (RFC 8445, section 7.3.1.4)
     abbrev pub TakesAt : RequestRecord → ℕ → ℕ → Option ℕ → AgentRecord H P → Told → AgentRecord H P → Type 0
     TakesAt q l r (Some number) s told new = ServesPair q l r number s told new
     TakesAt q l r None s told new =
-        MatchBool (candidate_at s.local l).discarded (Drops s told new) (ServesPair q l r s.next_number (with_pair (formed s l r) s) told new)
+        MatchBool (candidate_at s.local l).discarded (Drops s told new) (AddsPair q l r s told new)
 
     abbrev pub Joins : RequestRecord → ℕ → ℕ → AgentRecord H P → Told → AgentRecord H P → Type 0
     Joins q l r s told new = (pair : Option ℕ) × IsPairBetween s.pairs l r pair × TakesAt q l r pair s told new
@@ -125,9 +145,24 @@ module _ {H P : Type 0} where
     abbrev pub Meets : RequestRecord → ℕ → AgentRecord H P → Told → AgentRecord H P → Type 0
     Meets q l s told new = (place : RemotePlace) × IsRemotePlace s.remote q place × JoinsAt q l place s told new
 
-    -- a request that claims the agent's own role is dropped; any other one counts
+    -- USE-CANDIDATE while controlling is dropped; any other request counts
+    abbrev pub Admits : RequestRecord → ℕ → AgentRecord H P → Told → AgentRecord H P → Type 0
+    Admits q l s told new = MatchBool (is_misled s.controlling q) (Drops s told new) (Meets q l (request_counted s) told new)
+
+    -- the 487 goes out, and serving ends
+    abbrev pub InsistsOnRole : RequestRecord → AgentRecord H P → Told → AgentRecord H P → Type 0
+    InsistsOnRole q s told new =
+        IsPut (written (mac s.provider) (Some s.local_creds.pass) (binding_role_conflict_reply q.id)) (binding_role_conflict_reply q.id)
+        × (told ≡ issued_alone (turned q.path) Failure q.id) × (new ≡ role_insisted q s)
+
+    -- a sender of the agent's own role: the greater tie-breaker keeps it (RFC 8445, section 7.3.1.1)
+    abbrev pub SettlesBy : Conflict → RequestRecord → ℕ → AgentRecord H P → Told → AgentRecord H P → Type 0
+    SettlesBy Absent q l s told new = Admits q l s told new
+    SettlesBy Insists q l s told new = InsistsOnRole q s told new
+    SettlesBy Yields q l s told new = Admits q l (switched s) told new
+
     abbrev pub Settles : RequestRecord → ℕ → AgentRecord H P → Told → AgentRecord H P → Type 0
-    Settles q l s told new = MatchBool (claims_own_role s q) (Drops s told new) (Meets q l (request_counted s) told new)
+    Settles q l s told new = SettlesBy (conflict_of s q) q l s told new
 
     -- the local place; none drops it
     abbrev pub ServesHere : RequestRecord → AgentRecord H P → Told → AgentRecord H P → Type 0
@@ -136,6 +171,10 @@ module _ {H P : Type 0} where
     -- a request that names another peer is dropped
     abbrev pub Serves : RequestRecord → AgentRecord H P → Told → AgentRecord H P → Type 0
     Serves q s told new = MatchBool (names_another s q) (Drops s told new) (ServesHere q s told new)
+
+    -- where no remote credentials are known the request waits
+    abbrev pub TakesRequest : RequestRecord → AgentRecord H P → Told → AgentRecord H P → Type 0
+    TakesRequest q s told new = MatchOption s.remote_creds (Queues q s told new) (λ _. Serves q s told new)
 
   -- ---- when a pair is wanted and no number is left
 
@@ -148,7 +187,8 @@ module _ {H P : Type 0} where
 
   -- a pair must be added there
   abbrev pub wants_pair : AgentRecord H P → RequestRecord → Places → Bool
-  wants_pair s q at = not (claims_own_role s q) && wants_pair_at at.remote at.pair (candidate_at s.local at.local).discarded
+  wants_pair s q at =
+      is_admitted (conflict_of s q) s.controlling q && wants_pair_at at.remote at.pair (candidate_at s.local at.local).discarded
 
   -- numbers run from 0 to one below the greatest counter
   abbrev pub lacks_number : AgentRecord H P → RequestRecord → Places → Bool
@@ -167,3 +207,7 @@ module _ {H P : Type 0} where
   MayRefuseRequest s q PairIdsExhausted = LacksNumber s q
   MayRefuseRequest s q OutOfMemory = ¬ AlwaysLacksNumber s q
   MayRefuseRequest s q _ = ⊥
+
+  -- a request that waits is refused for want of memory alone
+  abbrev pub MayRefuseArrival : AgentRecord H P → RequestRecord → IceError → Type 0
+  MayRefuseArrival s q error = MatchOption s.remote_creds (error ≡ OutOfMemory) (λ _. MayRefuseRequest s q error)

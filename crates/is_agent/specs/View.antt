@@ -1,15 +1,22 @@
 -- The record of an agent.
-use Rattle.std.specs.Prelude.{map, Result, Ok, Err}
+use Rattle.std.specs.Prelude.{map, option_map, Result, Ok, Err}
 use Rattle.is_proto.specs.declared.error.IceError.{IceError}
 use Rattle.is_proto.specs.Packets.{packet_of}
 use Rattle.is_agent.specs.declared.agent.Agent as code
 use Rattle.is_agent.specs.declared.told.Told.{Told}
+use Rattle.is_agent.specs.RequestView.{waiting_view}
 use Rattle.is_agent.specs.Agent.{AgentRecord}
 
 abbrev pub record_of : {H P : Type 0} → code.Agent H P → AgentRecord H P
 record_of a = record {
   provider = a.provider;
   preference = a.preference;
+  max_pairs = a.max_pairs;
+  timing = a.timing;
+  timing_advance = a.timing_advance.0;
+  lite = a.lite;
+  mtu = a.mtu;
+  mtu_warn = a.mtu_warn;
   local_creds = a.local_creds;
   remote_creds = a.remote_creds;
   controlling = a.controlling;
@@ -18,6 +25,10 @@ record_of a = record {
   remote = a.remote.items;
   pairs = a.pairs.items;
   next_number = a.next_number;
+  announced = a.announced;
+  queue = map waiting_view a.queue.items;
+  state = a.state;
+  last_moment = option_map (λ at. at.0) a.last_moment;
   packets = map packet_of a.packets.items;
   events = a.events.items;
   seen = a.seen.items;

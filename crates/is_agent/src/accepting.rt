@@ -1,18 +1,19 @@
 //! Which messages an agent accepts, and what becomes of a packet (RFC 8445, section 7.3).
 
-ghost use Rattle.std.specs.Prelude.{◌≡◌, ◌↔◌, IsTrue, IsSomeAnd, IfSome};
-ghost use Rattle.std.specs.Option.{option_map};
+ghost use Rattle.std.specs.Prelude.{◌≡◌, ◌↔◌, ℕ, IsTrue, IfSome, IfOk, IfErr, OnOk};
 ghost use Rattle.std.specs.List.{list_any};
 ghost use Rattle.is_stun.specs.declared.header.Class.TheVariants as classes;
 ghost use Rattle.is_stun.specs.Integrity.{IsSignedBy};
-ghost use Rattle.is_stun.specs.Message.{split_username};
 ghost use Rattle.is_stun.specs.MessageView.{message_view};
 ghost use Rattle.is_agent.specs.View.{record_of, told_of};
-ghost use Rattle.is_agent.specs.RequestView.{way_of};
-ghost use Rattle.is_agent.specs.Room.{HasSourceRoom};
-ghost use Rattle.is_agent.specs.Accepting.{IsAddressed, IsAcceptedAs, IsAccepted, is_source, source_told, HandlesPacket};
+ghost use Rattle.is_agent.specs.RequestView.{request_view, way_of};
+ghost use Rattle.is_agent.specs.Serving.{TakesRequest, MayRefuseArrival};
+ghost use Rattle.is_agent.specs.Answers.{keeps_check_on};
+ghost use Rattle.is_agent.specs.Room.{HasNewsRoom};
+ghost use Rattle.is_agent.specs.Accepting.{IsAddressed, IsAcceptedAs, IsAccepted, IsAcceptedOn, Arrives, is_source, source_told, HandlesPacket};
 
 use crate::agent::{Agent, Source};
+use crate::answers::keeps_any;
 use crate::event::IceAgentEvent;
 use crate::request::{Request, way_of};
 use crate::told::{Path, Told};
@@ -63,15 +64,16 @@ impl<H: Sha1HmacProvider + Drop, P: LocalPreference> Agent<H, P> {
     }
 
     fn accepts_request(&self, message: &StunMessage<'_>) -> bool
-        ensures { IsTrue result ↔ IsAcceptedAs H.mac classes.Request (record_of self.now) (message_view message.now) }
+        ensures { IsTrue result ↔ (IsAddressed (record_of self.now) (message_view message.now) × IsSignedBy (H.mac (record_of self.now).provider) (message_view message.now) (record_of self.now).local_creds.pass) }
     {
         let password = self.local_creds.pass.as_str().as_bytes();
         self.is_addressed(message) && message.verify(password, &self.provider)
     }
 
-    /// Whether the agent takes the message: a Binding request whose user name is the agent's own user fragment, a colon
-    /// and the peer's fragment, where one is known, and which is signed with the agent's password (RFC 8445,
-    /// section 7.3). Takes no memory. What was built and not read is never accepted.
+    /// Whether the agent takes the message, as far as the message tells: a Binding request whose user name is the agent's own
+    /// user fragment, a colon and the peer's fragment, where one is known, and which is signed with the agent's password
+    /// (RFC 8445, section 7.3); or a Binding success or failure with the id of a check that is kept, signed with the peer's
+    /// password. Takes no memory. What was built and not read is never accepted.
     pub fn accepts_message(&self, message: &StunMessage<'_>) -> bool
         ensures { IsTrue result ↔ IsAccepted H.mac (record_of self.now) (message_view message.now) }
     {
@@ -80,13 +82,34 @@ impl<H: Sha1HmacProvider + Drop, P: LocalPreference> Agent<H, P> {
         }
         match message.class() {
             Class::Request => self.accepts_request(message),
+            Class::Success | Class::Failure => {
+                keeps_any(&self.pairs, message.trans_id()) && self.is_by_peer(message)
+            }
+            _ => false,
+        }
+    }
+
+    /// Whether `handle_packet` takes the packet: the message is accepted (`accepts_message`), and an answer came back on
+    /// the path of the pair that keeps its check, from the remote address to the local base. Takes no memory.
+    pub fn accepts_packet(&self, packet: &StunPacket<'_>) -> bool
+        ensures { IsTrue result ↔ IsAcceptedOn H.mac (record_of self.now) (way_of packet.now) (message_view packet.now.message) }
+    {
+        let message = &packet.message;
+        if message.method() != Method::Binding {
+            return false;
+        }
+        match message.class() {
+            Class::Request => self.accepts_request(message),
+            Class::Success | Class::Failure => {
+                self.awaited_place(&way_of(packet), message).is_some()
+            }
             _ => false,
         }
     }
 
     /// Tells of the source of a packet, where it was not told of since the last restart.
     fn tell_source(&mut self, way: &Path)
-        requires { HasSourceRoom self.old }
+        requires { HasNewsRoom 1 self.old }
         ensures { record_of self.new ≡ source_told way.now (record_of self.old) }
     {
         if is_seen(&self.seen, way) {
@@ -104,30 +127,105 @@ impl<H: Sha1HmacProvider + Drop, P: LocalPreference> Agent<H, P> {
         self.stats.discovered_recv_count = self.stats.discovered_recv_count.saturating_add(1);
     }
 
-    /// Takes a packet that came at this moment, and answers whether it was accepted (`accepts_message`). One that is not
-    /// changes nothing and takes no memory. An accepted request is answered, or dropped; what there is to send is polled,
-    /// and so are the events.
+    /// Takes a packet that came at this moment, and answers whether it was accepted (`accepts_packet`). One that is not
+    /// changes nothing and takes no memory. An accepted request is answered, or dropped, or waits for remote credentials;
+    /// an answer is recorded at its pair; what there is to send is polled, and so are the events.
     ///
     /// Refused with `PairIdsExhausted` where a pair must be added and no number is left, and with `OutOfMemory`; the
     /// agent is then as it was.
     pub fn handle_packet(&mut self, now: Instant, packet: StunPacket<'_>) -> Result<bool, IceError>
         ensures { HandlesPacket H.mac now.0 (record_of self.old) (way_of packet.entry) (message_view packet.entry.message) result (told_of self.new) (record_of self.new) }
     {
-        if !self.accepts_message(&packet.message) {
-            self.told = Told::nothing();
-            return Ok(false);
-        }
-        let request = Request::new(now, &packet);
-        match self.serve(&request) {
-            Ok(told) => {
-                self.tell_source(&request.path);
+        match self.take_packet(now, &packet) {
+            Ok(Some(told)) => {
+                self.tell_source(&way_of(&packet));
                 self.told = told;
                 Ok(true)
+            }
+            Ok(None) => {
+                self.told = Told::nothing();
+                Ok(false)
             }
             Err(error) => {
                 self.told = Told::nothing();
                 Err(error)
             }
         }
+    }
+
+    /// What becomes of a packet; nothing where it is not accepted.
+    fn take_packet(
+        &mut self,
+        now: Instant,
+        packet: &StunPacket<'_>,
+    ) -> Result<Option<Told>, IceError>
+        ensures arrives { Arrives (IsAcceptedOn H.mac (record_of self.old) (way_of packet.now) (message_view packet.now.message)) H.mac (message_view packet.now.message).class now.0 (record_of self.old) (way_of packet.now) (message_view packet.now.message) result (record_of self.new) }
+        ensures room { IfOk result (λ taken. IfSome taken (λ _. HasNewsRoom 1 self.new)) }
+    {
+        if packet.message.method() != Method::Binding {
+            return Ok(None);
+        }
+        match packet.message.class() {
+            Class::Request => self.take_request_packet(now, packet),
+            Class::Success => self.take_success_packet(now, packet),
+            Class::Failure => self.take_failure_packet(packet),
+            _ => Ok(None),
+        }
+    }
+
+    fn take_request_packet(
+        &mut self,
+        now: Instant,
+        packet: &StunPacket<'_>,
+    ) -> Result<Option<Told>, IceError>
+        ensures arrives { Arrives (IsAcceptedAs H.mac classes.Request (keeps_check_on (record_of self.old) (way_of packet.now) (message_view packet.now.message).id) (record_of self.old) (message_view packet.now.message)) H.mac classes.Request now.0 (record_of self.old) (way_of packet.now) (message_view packet.now.message) result (record_of self.new) }
+        ensures room { IfOk result (λ taken. IfSome taken (λ _. HasNewsRoom 1 self.new)) }
+    {
+        if !self.accepts_request(&packet.message) {
+            return Ok(None);
+        }
+        let told = self.take_request(&Request::new(now, packet))?;
+        Ok(Some(told))
+    }
+
+    /// A request is served, or waits until remote credentials are known.
+    fn take_request(&mut self, request: &Request<'_>) -> Result<Told, IceError>
+        ensures taken { IfOk result (λ told. TakesRequest H.mac (request_view request.now) (record_of self.old) told (record_of self.new)) }
+        ensures room { OnOk result (HasNewsRoom 1 self.new) }
+        ensures refused { IfErr result (λ error. MayRefuseArrival (record_of self.old) (request_view request.now) error × (record_of self.new ≡ record_of self.old)) }
+    {
+        match self.remote_creds {
+            None => self.queue_request(request),
+            Some(_) => self.serve(request),
+        }
+    }
+
+    fn take_success_packet(
+        &mut self,
+        now: Instant,
+        packet: &StunPacket<'_>,
+    ) -> Result<Option<Told>, IceError>
+        ensures arrives { Arrives (IsAcceptedAs H.mac classes.Success (keeps_check_on (record_of self.old) (way_of packet.now) (message_view packet.now.message).id) (record_of self.old) (message_view packet.now.message)) H.mac classes.Success now.0 (record_of self.old) (way_of packet.now) (message_view packet.now.message) result (record_of self.new) }
+        ensures room { IfOk result (λ taken. IfSome taken (λ _. HasNewsRoom 1 self.new)) }
+    {
+        let way = way_of(packet);
+        let Some(place) = self.awaited_place(&way, &packet.message) else {
+            return Ok(None);
+        };
+        let told = self.take_success(place, now, &way, &packet.message)?;
+        Ok(Some(told))
+    }
+
+    fn take_failure_packet(&mut self, packet: &StunPacket<'_>) -> Result<Option<Told>, IceError>
+        ensures arrives { (now : ℕ) → Arrives (IsAcceptedAs H.mac classes.Failure (keeps_check_on (record_of self.old) (way_of packet.now) (message_view packet.now.message).id) (record_of self.old) (message_view packet.now.message)) H.mac classes.Failure now (record_of self.old) (way_of packet.now) (message_view packet.now.message) result (record_of self.new) }
+        ensures room { IfOk result (λ taken. IfSome taken (λ _. HasNewsRoom 1 self.new)) }
+    {
+        let way = way_of(packet);
+        let Some(place) = self.awaited_place(&way, &packet.message) else {
+            return Ok(None);
+        };
+        self.take_source_room()?;
+        self.take_failure(place, &way, &packet.message);
+        Ok(Some(Told::nothing()))
     }
 }

@@ -1,15 +1,19 @@
 //! The agent, and how it is made.
 
-ghost use Rattle.std.specs.Prelude.{◌≡◌, false, IfOk};
+ghost use Rattle.std.specs.Prelude.{◌≡◌, ◌<◌, false, IfOk};
 ghost use Rattle.is_agent.specs.Fitting.{are_too_long};
 ghost use Rattle.is_agent.specs.Kept.{NoneTooHigh};
 
 use crate::credentials::{IceCreds, are_too_long};
-use crate::event::{IceAgentEvent, IceAgentStats};
+use crate::event::{IceAgentEvent, IceAgentStats, IceConnectionState};
+use crate::request::Waiting;
 use crate::told::Told;
 use is_candidate::{Candidate, LocalPreference};
-use is_pair::pair::CandidatePair;
-use is_proto::{DefaultSha1HmacProvider, IceError, Protocol, Sha1HmacProvider, Transmit};
+use is_pair::pair::{BindingAttempt, CandidatePair};
+use is_proto::{
+    DefaultSha1HmacProvider, Duration, IceError, Instant, Protocol, Sha1HmacProvider, Transmit,
+};
+use is_stun::stun::StunTiming;
 use std::alloc::Global;
 use std::collections::VecDeque;
 use std::net::SocketAddr;
@@ -21,6 +25,15 @@ pub(crate) struct Source {
     pub(crate) address: SocketAddr,
 }
 
+/// How many pairs forming leaves at most, until another limit is set (RFC 8445, section 6.1.2.5).
+pub const DEFAULT_MAX_PAIRS: usize = 100;
+
+/// How long a packet may be, until another length is set.
+const DEFAULT_MTU: usize = 1150;
+
+/// From which length on packets are warned of, until another one is set.
+const DEFAULT_MTU_WARN: usize = 1280;
+
 /// An ICE agent that signs by the provider `H`, and whose local candidates may be preferred by a boxed object.
 pub type IceAgent<H> = Agent<H, Box<dyn LocalPreference>>;
 
@@ -29,6 +42,16 @@ pub type IceAgent<H> = Agent<H, Box<dyn LocalPreference>>;
 pub struct Agent<H, P> {
     pub(crate) provider: H,
     pub(crate) preference: Option<P>,
+    /// How many pairs forming leaves at most.
+    pub(crate) max_pairs: usize,
+    pub(crate) timing: StunTiming,
+    pub(crate) timing_advance: Duration,
+    /// The agent has host candidates alone, and answers checks without making any (RFC 8445, section 2.5).
+    pub(crate) lite: bool,
+    /// How long a packet may be.
+    pub(crate) mtu: usize,
+    /// From which length on packets are warned of.
+    pub(crate) mtu_warn: usize,
     pub(crate) local_creds: IceCreds,
     pub(crate) remote_creds: Option<IceCreds>,
     pub(crate) controlling: bool,
@@ -37,8 +60,21 @@ pub struct Agent<H, P> {
     pub(crate) remote: Vec<Candidate>,
     /// The checklist (RFC 8445, section 6.1.2), in the order of the pairs' numbers.
     pub(crate) pairs: Vec<CandidatePair>,
+    /// What a pair whose checks have no room changes its own for.
+    pub(crate) spare: VecDeque<BindingAttempt>,
+    /// The user name of the next check, written anew at each moment.
+    pub(crate) username: String,
+    /// The bytes that the next check is written to.
+    pub(crate) contents: Vec<u8>,
     /// The number of the next pair. No number is given twice.
     pub(crate) next_number: u64,
+    /// The number of the pair that was announced last.
+    pub(crate) announced: Option<u64>,
+    /// The requests that wait for remote credentials.
+    pub(crate) queue: VecDeque<Waiting>,
+    pub(crate) state: IceConnectionState,
+    /// The last moment that the agent was told of.
+    pub(crate) last_moment: Option<Instant>,
     pub(crate) packets: VecDeque<Transmit>,
     pub(crate) events: VecDeque<IceAgentEvent>,
     /// The sources that were told of.
@@ -49,6 +85,8 @@ pub struct Agent<H, P> {
     ghost credentials_fit: { are_too_long local_creds remote_creds ≡ false },
     // with each remote candidate a local one has a pair priority that fits 64 bits
     ghost none_too_high: { NoneTooHigh local.items },
+    // a pair keeps a check at least
+    ghost retransmits: { 0 < timing.max_retransmits },
 }
 
 impl<P: LocalPreference> Agent<DefaultSha1HmacProvider, P> {
@@ -74,7 +112,7 @@ impl<H: Sha1HmacProvider + Drop, P: LocalPreference> Agent<H, P> {
     /// A controlled agent without candidates, under these credentials, that signs by this provider. The tie-breaker is
     /// a random number that settles role conflicts (RFC 8445, section 7.3.1.1).
     ///
-    /// Refused with `CredentialsTooLong` where the user fragment and a colon are longer than 128 bytes.
+    /// Refused with `CredentialsTooLong` where the user fragment and a colon are longer than 508 bytes.
     pub fn with_hmac(
         alloc: Global,
         creds: IceCreds,
@@ -90,6 +128,12 @@ impl<H: Sha1HmacProvider + Drop, P: LocalPreference> Agent<H, P> {
         Ok(Agent {
             provider,
             preference: None,
+            max_pairs: DEFAULT_MAX_PAIRS,
+            timing: StunTiming::default(),
+            timing_advance: Duration(50_000_000),
+            lite: false,
+            mtu: DEFAULT_MTU,
+            mtu_warn: DEFAULT_MTU_WARN,
             local_creds: creds,
             remote_creds: None,
             controlling: false,
@@ -97,7 +141,14 @@ impl<H: Sha1HmacProvider + Drop, P: LocalPreference> Agent<H, P> {
             local: Vec::new(alloc),
             remote: Vec::new(alloc),
             pairs: Vec::new(alloc),
+            spare: VecDeque::new(alloc),
+            username: String::new(alloc),
+            contents: Vec::new(alloc),
             next_number: 0,
+            announced: None,
+            queue: VecDeque::new(alloc),
+            state: IceConnectionState::New,
+            last_moment: None,
             packets: VecDeque::new(alloc),
             events: VecDeque::new(alloc),
             seen: Vec::new(alloc),

@@ -1,5 +1,8 @@
 //! What an agent tells its user: events, statistics and the connection state.
 
+ghost use Rattle.std.specs.Prelude.{◌≡◌};
+ghost use Rattle.is_agent.specs.Connecting.{is_connected, is_disconnected};
+
 use crate::credentials::IceCreds;
 use is_proto::Protocol;
 use std::net::SocketAddr;
@@ -42,6 +45,25 @@ pub enum IceConnectionState {
     Completed,
     /// No path is nominated, and none is possible.
     Disconnected,
+}
+
+impl IceConnectionState {
+    /// Whether media can go: Connected or Completed.
+    pub fn is_connected(&self) -> bool
+        ensures { result ≡ is_connected self.now }
+    {
+        matches!(
+            *self,
+            IceConnectionState::Connected | IceConnectionState::Completed
+        )
+    }
+
+    /// Whether no path is nominated, and none is possible.
+    pub fn is_disconnected(&self) -> bool
+        ensures { result ≡ is_disconnected self.now }
+    {
+        matches!(*self, IceConnectionState::Disconnected)
+    }
 }
 
 /// How often things happened since the last restart. Each figure stays at 18446744073709551615 once it is there.

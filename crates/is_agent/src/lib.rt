@@ -5,22 +5,40 @@
 
 pub mod accepting;
 pub mod agent;
+pub mod answers;
+pub mod checking;
 pub mod credentials;
+pub mod discarding;
+mod due;
 pub mod event;
+pub mod forming;
 pub mod laws;
 pub mod local;
+pub mod nomination;
 mod pairs;
 pub mod places;
 mod polls;
+pub mod questions;
+mod queue;
+pub mod remote;
 mod reply;
 mod request;
+pub mod restarting;
+pub mod roles;
+pub mod rounds;
 pub mod serving;
 mod settings;
+mod sides;
+pub mod states;
+pub mod timeout;
 pub mod told;
+pub mod tops;
+mod waking;
 
 pub use agent::{Agent, IceAgent};
 pub use credentials::IceCreds;
 pub use event::{IceAgentEvent, IceAgentStats, IceConnectionState};
+pub use questions::{LocalCandidates, RemoteCandidates};
 
 #[cfg(test)]
 mod tests;

@@ -1,21 +1,28 @@
 //! Local candidates (RFC 8445, section 5.1).
 
-ghost use Rattle.std.specs.Prelude.{◌≡◌, ◌≤◌, ◌<◌, ◌++◌, ◌∷◌, [], length, position, Some, IfOk, IsOkUnless, vec_len, vec_capacity};
+ghost use Rattle.std.specs.Prelude.{◌≡◌, ◌≤◌, ◌<◌, ◌++◌, ◌∷◌, [], length, position, nat_lt, ◌↔◌, IsTrue, Some, IfOk, IfSome, OnOk, vec_len, vec_capacity};
 ghost use Rattle.is_candidate.specs.Priorities.{candidate_priority};
 ghost use Rattle.is_agent.specs.Kept.{TOO_HIGH, NoneTooHigh};
 ghost use Rattle.std.specs.Borrow.{sem};
 ghost use Rattle.std.specs.Option.{option_copied, option_and_then};
 ghost use Rattle.std.specs.Prelude.{slice_get};
 ghost use Rattle.is_candidate.specs.Equality.{is_alike, is_same_place};
+ghost use Rattle.is_candidate.specs.Candidates.{candidate_at};
 ghost use Rattle.is_agent.specs.contracts.agent.Agent.{the_row};
 ghost use Rattle.is_agent.specs.View.{record_of};
 ghost use Rattle.is_agent.specs.Lends.{EndsAs};
-ghost use Rattle.is_agent.specs.Local.{count_alike, MayPrefer, AddsLocal, LendsLocal, error_of, widened};
+ghost use Rattle.is_agent.specs.Room.{HasLocalRoom};
+ghost use Rattle.is_agent.specs.Discarding.{change_place, local_discarded};
+ghost use Rattle.is_agent.specs.Forming.{HasNumbers, FormsAll, local_combinations};
+ghost use Rattle.is_agent.specs.Local.{count_alike, MayPrefer, Prefers, comes_again, enabled, preferred, as_own, appended, is_unwanted, HasNumbersAt, EntersAgain, EntersNew, Enrols, EnrolsPreferred, AddsLocal, LendsLocal, error_of, widened};
 
 use crate::agent::Agent;
-use is_candidate::candidate::equality::{is_alike, is_same_place};
-use is_candidate::candidate::inner::set_local_preference;
-use is_candidate::{Candidate, LocalPreference, default_local_preference};
+use crate::forming::{has_numbers_for, local_combinations};
+use crate::places::{candidate_at, priority_at};
+use is_candidate::candidate::equality::{is_alike, is_same_origin, is_same_place};
+use is_candidate::candidate::internals::{enable, is_discarded, set_local_preference};
+use is_candidate::candidate::kind::same_kind;
+use is_candidate::{Candidate, CandidateKind, LocalPreference, default_local_preference};
 use is_proto::{IceError, Sha1HmacProvider, Text};
 use std::alloc::{AllocError, Global};
 
@@ -24,6 +31,8 @@ use std::alloc::{AllocError, Global};
 pub enum Refusal {
     /// The priority of the candidate is 4294967295.
     PriorityTooHigh,
+    /// Fewer pair numbers are left than the candidate has combinations.
+    PairIdsExhausted,
     /// A growth was refused.
     OutOfMemory,
 }
@@ -44,6 +53,7 @@ impl From<Refusal> for IceError {
     fn from(refusal: Refusal) -> IceError {
         match refusal {
             Refusal::PriorityTooHigh => IceError::PriorityTooHigh,
+            Refusal::PairIdsExhausted => IceError::PairIdsExhausted,
             Refusal::OutOfMemory => IceError::OutOfMemory,
         }
     }
@@ -75,8 +85,9 @@ fn preference_for<P: LocalPreference>(
 }
 
 /// The first place of a candidate of equal address, base and protocol.
-fn place_of_same(candidate: &Candidate, local: &[Candidate]) -> Option<usize>
-    ensures { result ≡ position (is_same_place candidate.now) local.now }
+fn place_of_same(local: &[Candidate], candidate: &Candidate) -> Option<usize>
+    ensures place { result ≡ position (is_same_place candidate.now) local.now }
+    ensures within { IfSome result (λ place. place < length local.now) }
 {
     local
         .iter()
@@ -84,36 +95,50 @@ fn place_of_same(candidate: &Candidate, local: &[Candidate]) -> Option<usize>
 }
 
 /// The candidate that stands at the place, where there is one.
-fn candidate_at(local: &[Candidate], place: Option<usize>) -> Option<&Candidate>
+fn lent_at(local: &[Candidate], place: Option<usize>) -> Option<&Candidate>
     ensures { option_copied result ≡ option_and_then (slice_get local.now) place }
 {
     local.get(place?)
 }
 
-/// The candidate as the agent's own: under its user fragment and with this preference.
-fn as_own(
-    mut candidate: Candidate,
-    ufrag: &Text,
-    preference: u32,
-    alloc: Global,
-) -> Result<Candidate, Refusal>
+/// The candidate under this preference.
+fn preferred(mut candidate: Candidate, preference: u32) -> Candidate
     requires bounded { preference ≤ 65535 }
-    requires low { candidate_priority candidate < TOO_HIGH }
-    ensures made { IfOk result (λ own. own ≡ record candidate { local_preference = Some preference; ufrag = Some ufrag.now }) }
-    ensures low { IfOk result (λ own. candidate_priority own < TOO_HIGH) }
-    ensures refused { IsOkUnless result Refusal.OutOfMemory }
+    ensures { result ≡ preferred preference candidate }
+{
+    set_local_preference(&mut candidate, preference);
+    candidate
+}
+
+/// The candidate under this user fragment.
+fn as_own(mut candidate: Candidate, ufrag: &Text, alloc: Global) -> Result<Candidate, AllocError>
+    ensures own { IfOk result (λ own. own ≡ record candidate { ufrag = Some ufrag.now }) }
+    ensures priority { IfOk result (λ own. candidate_priority own ≡ candidate_priority candidate) }
 {
     match candidate.set_ufrag(alloc, ufrag.as_str()) {
-        Ok(()) => {
-            set_local_preference(&mut candidate, preference);
-            Ok(candidate)
-        }
-        Err(_) => Err(Refusal::OutOfMemory),
+        Ok(()) => Ok(candidate),
+        Err(_) => Err(AllocError),
     }
 }
 
+/// Takes the discard mark from the candidate at the place.
+fn enable_at(candidates: &mut Vec<Candidate>, place: usize)
+    requires { place < length candidates.old.items }
+    ensures items { candidates.new.items ≡ change_place place enabled candidates.old.items }
+    ensures low { NoneTooHigh candidates.old.items → NoneTooHigh candidates.new.items }
+{
+    enable(&mut candidates[place]);
+}
+
+/// A discarded candidate that comes again.
+fn comes_again(candidate: &Candidate, other: &Candidate) -> bool
+    ensures { result ≡ comes_again candidate.now other.now }
+{
+    is_discarded(other) && is_same_origin(candidate, other)
+}
+
 /// Appends the candidate within the room that there is, and tells its place.
-fn append(local: &mut Vec<Candidate>, candidate: Candidate) -> usize
+pub(crate) fn append(local: &mut Vec<Candidate>, candidate: Candidate) -> usize
     requires room { vec_len local.old < vec_capacity local.old }
     requires all_low { NoneTooHigh local.old.items }
     requires low { candidate_priority candidate < TOO_HIGH }
@@ -126,7 +151,191 @@ fn append(local: &mut Vec<Candidate>, candidate: Candidate) -> usize
     place
 }
 
+/// A local candidate that can be stored, and its combinations.
+#[derive(Drop)]
+struct Newcomer {
+    own: Candidate,
+    all: Vec<(usize, usize)>,
+}
+
+// ---- choices
+
 impl<H: Sha1HmacProvider + Drop, P: LocalPreference> Agent<H, P> {
+    fn is_unwanted(&self, candidate: &Candidate) -> bool
+        ensures { result ≡ is_unwanted (record_of self.now) candidate.now }
+    {
+        self.lite && !same_kind(candidate.kind(), CandidateKind::Host)
+    }
+
+    fn preference_for(&self, candidate: &Candidate) -> u32
+        ensures stated { Prefers P.answers (record_of self.now) candidate.now result }
+        ensures bounded { result ≤ 65535 }
+    {
+        preference_for(&self.preference, candidate, &self.local)
+    }
+
+    /// The first place of a candidate of equal address, base and protocol.
+    fn place_of_same(&self, candidate: &Candidate) -> Option<usize>
+        ensures place { result ≡ position (is_same_place candidate.now) (record_of self.now).local }
+        ensures within { IfSome result (λ place. place < length self.now.local.items) }
+    {
+        place_of_same(&self.local, candidate)
+    }
+
+    fn comes_again_at(&self, candidate: &Candidate, place: usize) -> bool
+        requires { place < length self.now.local.items }
+        ensures { result ≡ comes_again candidate.now (candidate_at (record_of self.now).local place) }
+    {
+        comes_again(candidate, candidate_at(&self.local, place))
+    }
+
+    /// There is a number for each pair of the candidate.
+    fn has_numbers_at(&self, candidate: &Candidate) -> bool
+        ensures { IsTrue result ↔ HasNumbersAt (record_of self.now) candidate.now }
+    {
+        has_numbers_for(self.next_number, candidate, &self.remote)
+    }
+
+    /// The same, of the candidate at the place.
+    fn has_numbers_again(&self, place: usize) -> bool
+        requires { place < length self.now.local.items }
+        ensures { IsTrue result ↔ HasNumbersAt (record_of self.now) (candidate_at (record_of self.now).local place) }
+    {
+        self.has_numbers_at(candidate_at(&self.local, place))
+    }
+
+    fn is_below(&self, candidate: &Candidate, place: usize) -> bool
+        ensures { result ≡ nat_lt (candidate_priority candidate.now) (candidate_priority (candidate_at (record_of self.now).local place)) }
+    {
+        candidate.prio() < priority_at(&self.local, place)
+    }
+}
+
+// ---- room
+
+impl<H: Sha1HmacProvider + Drop, P: LocalPreference> Agent<H, P> {
+    /// Makes room for one more local candidate and so many pairs.
+    fn take_local_room(&mut self, pairs: usize) -> Result<(), AllocError>
+        ensures record { record_of self.new ≡ record_of self.old }
+        ensures room { OnOk result (HasLocalRoom pairs self.new) }
+    {
+        self.pairs.reserve(pairs)?;
+        self.local.reserve(1)?;
+        Ok(())
+    }
+
+    /// Makes what the candidate takes to be stored.
+    fn newcomer(&self, candidate: Candidate) -> Result<Newcomer, AllocError>
+        requires low { candidate_priority candidate < TOO_HIGH }
+        ensures own { IfOk result (λ n. n.own ≡ as_own (record_of self.now) candidate) }
+        ensures low { IfOk result (λ n. candidate_priority n.own < TOO_HIGH) }
+        ensures all { IfOk result (λ n. n.all.items ≡ local_combinations candidate (length self.now.local.items) self.now.remote.items) }
+        ensures numbers { HasNumbersAt (record_of self.now) candidate → IfOk result (λ n. HasNumbers self.now.next_number (length n.all.items)) }
+    {
+        let alloc = *self.local.allocator();
+        let all = local_combinations(alloc, &candidate, self.local.len(), &self.remote)?;
+        let own = as_own(candidate, &self.local_creds.ufrag, alloc)?;
+        Ok(Newcomer { own, all })
+    }
+
+    /// The combinations of the discarded candidate at the place.
+    fn combinations_again(&self, place: usize) -> Result<Vec<(usize, usize)>, AllocError>
+        requires { place < length self.now.local.items }
+        ensures all { IfOk result (λ all. all.items ≡ local_combinations (candidate_at self.now.local.items place) place self.now.remote.items) }
+        ensures numbers { HasNumbersAt (record_of self.now) (candidate_at self.now.local.items place) → IfOk result (λ all. HasNumbers self.now.next_number (length all.items)) }
+    {
+        let alloc = *self.local.allocator();
+        local_combinations(alloc, candidate_at(&self.local, place), place, &self.remote)
+    }
+}
+
+// ---- the rules
+
+impl<H: Sha1HmacProvider + Drop, P: LocalPreference> Agent<H, P> {
+    /// Appends the candidate, and forms these combinations.
+    fn store_local(&mut self, own: Candidate, all: &[(usize, usize)]) -> usize
+        requires room { HasLocalRoom (length all.now) self.old }
+        requires low { candidate_priority own < TOO_HIGH }
+        requires numbers { HasNumbers self.old.next_number (length all.now) }
+        ensures forms { FormsAll (appended own (record_of self.old)) all.now (record_of self.new) }
+        ensures place { result ≡ length (record_of self.old).local }
+    {
+        let place = append(&mut self.local, own);
+        self.form(all);
+        place
+    }
+
+    /// The candidate comes behind the others.
+    fn enter_last(&mut self, candidate: Candidate) -> Result<Option<usize>, Refusal>
+        requires low { candidate_priority candidate < TOO_HIGH }
+        ensures { EntersNew (record_of self.old) candidate (record_of self.old) (widened result) (record_of self.new) }
+    {
+        if !self.has_numbers_at(&candidate) {
+            return Err(Refusal::PairIdsExhausted);
+        }
+        let Newcomer { own, all } = self.newcomer(candidate)?;
+        self.take_local_room(all.len())?;
+        Ok(Some(self.store_local(own, &all)))
+    }
+
+    /// The candidate comes in the place of the one there, which is discarded.
+    fn supersede(&mut self, place: usize, candidate: Candidate) -> Result<Option<usize>, Refusal>
+        requires within { place < length self.old.local.items }
+        requires low { candidate_priority candidate < TOO_HIGH }
+        ensures { EntersNew (record_of self.old) candidate (local_discarded place (record_of self.old)) (widened result) (record_of self.new) }
+    {
+        if !self.has_numbers_at(&candidate) {
+            return Err(Refusal::PairIdsExhausted);
+        }
+        let Newcomer { own, all } = self.newcomer(candidate)?;
+        self.take_local_room(all.len())?;
+        self.discard_local(place);
+        Ok(Some(self.store_local(own, &all)))
+    }
+
+    /// The discarded candidate at the place comes again.
+    fn enable_again(&mut self, place: usize) -> Result<Option<usize>, Refusal>
+        requires within { place < length self.old.local.items }
+        ensures { EntersAgain (record_of self.old) place (widened result) (record_of self.new) }
+    {
+        if !self.has_numbers_again(place) {
+            return Err(Refusal::PairIdsExhausted);
+        }
+        let all = self.combinations_again(place)?;
+        self.take_local_room(all.len())?;
+        enable_at(&mut self.local, place);
+        self.form(&all);
+        Ok(Some(place))
+    }
+
+    /// The first local candidate of equal address, base and protocol decides.
+    fn enrol(&mut self, candidate: Candidate) -> Result<Option<usize>, Refusal>
+        requires low { candidate_priority candidate < TOO_HIGH }
+        ensures { Enrols (record_of self.old) candidate (widened result) (record_of self.new) }
+    {
+        match self.place_of_same(&candidate) {
+            None => self.enter_last(candidate),
+            Some(place) => {
+                if self.comes_again_at(&candidate, place) {
+                    self.enable_again(place)
+                } else if self.is_below(&candidate, place) {
+                    Ok(None)
+                } else {
+                    self.supersede(place, candidate)
+                }
+            }
+        }
+    }
+
+    /// The candidate gets its preference, and is enrolled.
+    fn enrol_preferred(&mut self, candidate: Candidate) -> Result<Option<usize>, Refusal>
+        requires low { candidate_priority candidate < TOO_HIGH }
+        ensures { EnrolsPreferred P.answers (record_of self.old) candidate (widened result) (record_of self.new) }
+    {
+        let preference = self.preference_for(&candidate);
+        self.enrol(preferred(candidate, preference))
+    }
+
     /// Adds a local candidate, and tells its place; see `add_local_candidate`.
     pub(crate) fn add_local(&mut self, candidate: Candidate) -> Result<Option<usize>, Refusal>
         ensures { AddsLocal P.answers (record_of self.old) candidate (widened result) (record_of self.new) }
@@ -134,14 +343,10 @@ impl<H: Sha1HmacProvider + Drop, P: LocalPreference> Agent<H, P> {
         if candidate.prio() == u32::MAX {
             return Err(Refusal::PriorityTooHigh);
         }
-        let preference = preference_for(&self.preference, &candidate, &self.local);
-        if place_of_same(&candidate, &self.local).is_some() {
+        if self.is_unwanted(&candidate) {
             return Ok(None);
         }
-        let alloc = *self.local.allocator();
-        let own = as_own(candidate, &self.local_creds.ufrag, preference, alloc)?;
-        self.local.reserve(1)?;
-        Ok(Some(append(&mut self.local, own)))
+        self.enrol_preferred(candidate)
     }
 
     /// Adds a local candidate and lends it; see `add_local_candidate`. The refusals own no memory.
@@ -149,15 +354,19 @@ impl<H: Sha1HmacProvider + Drop, P: LocalPreference> Agent<H, P> {
         ensures* step { sem 𝓛 (EndsAs (the_row H.row P.row) self.entry (λ after. LendsLocal P.answers (record_of self.old) candidate (widened result) (record_of after))) }
     {
         let place = self.add_local(candidate)?;
-        Ok(candidate_at(&self.local, place))
+        Ok(lent_at(&self.local, place))
     }
 
     /// Adds a local candidate, under the agent's user fragment, and lends it (RFC 8445, section 5.1). Its local
     /// preference is what the object that was set answers for it and the number of local candidates of its kind and IP
-    /// version, discarded ones too, or the default one. None where an older local candidate has its address, base and
-    /// protocol.
+    /// version, discarded ones too, or the default one. Under lite a candidate that is no host is not added.
     ///
-    /// Refused with `PriorityTooHigh` where its priority is 4294967295, and with `OutOfMemory`.
+    /// The first local candidate of its address, base and protocol decides: a discarded one of its kind and related address
+    /// is enabled again and stands for it; a greater one stays, and the answer is None; else that one is discarded, and its
+    /// pairs go. Pairs are formed with the remote candidates (RFC 8445, section 6.1.2).
+    ///
+    /// Refused with `PriorityTooHigh` where its priority is 4294967295, with `PairIdsExhausted` where no number is left for
+    /// a pair, and with `OutOfMemory`; the agent is then as it was.
     pub fn add_local_candidate(
         &mut self,
         candidate: Candidate,

@@ -2,17 +2,20 @@
 
 ghost use Rattle.std.specs.Prelude.{◌≡◌, ◌+◌, ◌<◌, length, position, true, IfSome};
 ghost use Rattle.std.specs.List.{list_any};
-ghost use Rattle.is_candidate.specs.Candidates.{candidate_at};
+ghost use Rattle.is_candidate.specs.Candidates.{base_of, candidate_at, nowhere};
+ghost use Rattle.is_candidate.specs.Priorities.{candidate_priority, check_priority};
+ghost use Rattle.is_agent.specs.Kept.{TOO_HIGH, NoneTooHigh};
 ghost use Rattle.is_agent.specs.RequestView.{request_view};
 ghost use Rattle.is_agent.specs.Places.{is_at, is_live, is_reached, local_place, is_sender, IsGreatestBelow, IsGreatestPlace, IsRemotePlace, remote_index};
 
 use crate::request::Request;
-use is_candidate::Candidate;
 use is_candidate::candidate::address::{same_address, same_protocol};
-use is_candidate::candidate::inner::is_discarded;
+use is_candidate::candidate::internals::{base, is_discarded};
 use is_candidate::candidate::kind::is_direct;
+use is_candidate::candidate::priority::check_priority;
+use is_candidate::{Candidate, CandidateKind};
 use is_proto::Protocol;
-use std::net::SocketAddr;
+use std::net::{Ipv4Addr, SocketAddr, SocketAddrV4};
 
 /// Where the remote candidate of a request stands.
 #[derive(Clone, Copy, Debug, PartialEq, Eq)]
@@ -32,6 +35,91 @@ pub(crate) fn candidate_at(candidates: &[Candidate], place: usize) -> &Candidate
 {
     &candidates[place]
 }
+
+/// What a place past the end reads as, where no pair stands.
+fn nowhere() -> SocketAddr
+    ensures { result ≡ nowhere.addr }
+{
+    SocketAddr::V4(SocketAddrV4::new(Ipv4Addr::UNSPECIFIED, 0))
+}
+
+/// The address of the candidate at a place.
+pub(crate) fn address_at(candidates: &[Candidate], place: usize) -> SocketAddr
+    ensures { result ≡ (candidate_at candidates.now place).addr }
+{
+    match candidates.get(place) {
+        Some(c) => c.addr(),
+        None => nowhere(),
+    }
+}
+
+/// The base of the candidate at a place.
+pub(crate) fn base_at(candidates: &[Candidate], place: usize) -> SocketAddr
+    ensures { result ≡ base_of (candidate_at candidates.now place) }
+{
+    match candidates.get(place) {
+        Some(c) => base(c),
+        None => nowhere(),
+    }
+}
+
+/// The protocol of the candidate at a place.
+pub(crate) fn proto_at(candidates: &[Candidate], place: usize) -> Protocol
+    ensures { result ≡ (candidate_at candidates.now place).proto }
+{
+    match candidates.get(place) {
+        Some(c) => c.proto(),
+        None => Protocol::Udp,
+    }
+}
+
+/// The kind of the candidate at a place.
+pub(crate) fn kind_at(candidates: &[Candidate], place: usize) -> CandidateKind
+    ensures { result ≡ (candidate_at candidates.now place).kind }
+{
+    match candidates.get(place) {
+        Some(c) => c.kind(),
+        None => CandidateKind::Host,
+    }
+}
+
+/// Whether the candidate at a place is discarded.
+pub(crate) fn is_discarded_at(candidates: &[Candidate], place: usize) -> bool
+    ensures { result ≡ (candidate_at candidates.now place).discarded }
+{
+    match candidates.get(place) {
+        Some(c) => is_discarded(c),
+        None => true,
+    }
+}
+
+/// The priority of the candidate at a place.
+pub(crate) fn priority_at(candidates: &[Candidate], place: usize) -> u32
+    ensures priority { result ≡ candidate_priority (candidate_at candidates.now place) }
+    ensures low { NoneTooHigh candidates.now → result < TOO_HIGH }
+{
+    match candidates.get(place) {
+        Some(c) => c.prio(),
+        None => NOWHERE_PRIORITY,
+    }
+}
+
+/// What PRIORITY says in a check from the candidate at a place.
+pub(crate) fn check_priority_at(candidates: &[Candidate], place: usize) -> u32
+    ensures priority { result ≡ check_priority (candidate_at candidates.now place) }
+    ensures low { NoneTooHigh candidates.now → result < TOO_HIGH }
+{
+    match candidates.get(place) {
+        Some(c) => check_priority(c),
+        None => NOWHERE_CHECK_PRIORITY,
+    }
+}
+
+/// The priority of what a place past the end reads as: a host candidate over UDP.
+const NOWHERE_PRIORITY: u32 = 126 * 0x100_0000 + 65534 * 0x100 + 255;
+
+/// The same, were it peer reflexive.
+const NOWHERE_CHECK_PRIORITY: u32 = 110 * 0x100_0000 + 65534 * 0x100 + 255;
 
 fn is_at(address: SocketAddr, proto: Protocol, candidate: &Candidate) -> bool
     ensures { result ≡ is_at address proto candidate.now }

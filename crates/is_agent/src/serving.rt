@@ -1,30 +1,36 @@
 //! Serving a Binding request (RFC 8445, section 7.3): a function for each rule, in the order in which they act, each ending
 //! in the next one. Choices are made and room is taken before anything changes; what follows can't be refused.
 
-ghost use Rattle.std.specs.Prelude.{◌≡◌, ◌<◌, Some, None, true, false, length, IfOk, IfErr, IfSome, OnOk, IsOkUnless, vec_len, vec_capacity};
+ghost use Rattle.std.specs.Prelude.{◌≡◌, ◌<◌, ◌&&◌, Some, None, true, false, not, length, IfOk, IfErr, IfSome, OnOk, IsOkUnless, vec_len, vec_capacity};
 ghost use Rattle.is_candidate.specs.Candidates.{candidate_at};
 ghost use Rattle.is_proto.specs.declared.error.IceError.TheVariants as errors;
 ghost use Rattle.is_stun.specs.declared.header.Class.TheVariants as classes;
 ghost use Rattle.is_agent.specs.View.{record_of};
 ghost use Rattle.is_agent.specs.RequestView.{request_view};
-ghost use Rattle.is_agent.specs.Room.{HasServingRoom, HasPacketRoom, HasSourceRoom};
-ghost use Rattle.is_agent.specs.Told.{issued_alone};
-ghost use Rattle.is_agent.specs.Pairs.{IsPairBetween};
-ghost use Rattle.is_agent.specs.Places.{IsRemotePlace, remote_index};
-ghost use Rattle.is_agent.specs.Forming.{priority_between};
-ghost use Rattle.is_agent.specs.Serving.{path_between, names_another, claims_own_role, sender_at, replied, ServesPair, TakesAt, JoinsAt, Settles, Serves, Chooses, wants_pair_at, wants_pair, lacks_number, MayRefuseRequest};
+ghost use Rattle.is_agent.specs.Room.{HasServingRoom, HasPacketRoom, HasNewsRoom};
+ghost use Rattle.is_agent.specs.Pairs.{is_valid_at};
+ghost use Rattle.is_agent.specs.Forming.{formed, with_pair};
+ghost use Rattle.is_stun.specs.Checks.{binding_reply};
+ghost use Rattle.is_stun.specs.Laws.{IsPut};
+ghost use Rattle.is_stun.specs.Writing.{written};
+ghost use Rattle.is_agent.specs.Sending.{carried, with_packet};
+ghost use Rattle.is_agent.specs.Roles.{switched};
+ghost use Rattle.is_agent.specs.Ready.{IsReady};
+ghost use Rattle.is_agent.specs.Serving.{names_another, is_misled, is_admitted, sender_at, pair_served, replied, ServesPair, AddsPair, TakesAt, JoinsAt, Admits, InsistsOnRole, Settles, Serves, Chooses, wants_pair_at, wants_pair, lacks_number, MayRefuseRequest};
 
 use crate::agent::Agent;
-use crate::pairs::{pair_between, serve_pair};
-use crate::places::{RemotePlace, candidate_at, local_place, remote_index, remote_place};
-use crate::reply::{REPLY_LEN, write_reply};
+use crate::forming::pair_of;
+use crate::pairs::{Standing, is_valid_at, pair_between, serve_pair};
+use crate::places::{RemotePlace, is_discarded_at, local_place, remote_index, remote_place};
+use crate::reply::{REPLY_LEN, write_conflict, write_reply};
 use crate::request::Request;
-use crate::told::{Path, Told};
+use crate::roles::Conflict;
+use crate::sides::Sides;
+use crate::told::{Issued, Path, Told};
 use is_candidate::candidate::equality::TEMPORARY_FOUNDATION;
-use is_candidate::candidate::inner::{base, is_discarded};
 use is_candidate::candidate::making::peer_reflexive;
-use is_candidate::{Candidate, CandidateKind, LocalPreference};
-use is_pair::pair::{CandidatePair, PairId};
+use is_candidate::{Candidate, LocalPreference};
+use is_pair::pair::CandidatePair;
 use is_proto::{IceError, Sha1HmacProvider, Text, Transmit};
 use is_stun::stun::Class;
 use std::alloc::AllocError;
@@ -61,20 +67,9 @@ impl<H: Sha1HmacProvider + Drop, P: LocalPreference> Agent<H, P> {
         }
     }
 
-    fn claims_own_role(&self, request: &Request<'_>) -> bool
-        ensures { result ≡ claims_own_role (record_of self.now) (request_view request.now) }
-    {
-        if self.controlling {
-            request.ice_controlling.is_some()
-        } else {
-            request.ice_controlled.is_some()
-        }
-    }
-
     /// Where the request can be served, if it gets to a local candidate.
-    fn places_of(&self, request: &Request<'_>) -> Option<Places>
-        ensures chosen { Chooses (record_of self.now) (request_view request.now) result }
-        ensures within { IfSome result (λ at. at.local < length self.now.local.items) }
+    pub(crate) fn places_of(&self, request: &Request<'_>) -> Option<Places>
+        ensures { Chooses (record_of self.now) (request_view request.now) result }
     {
         if self.names_another(request) {
             return None;
@@ -89,24 +84,16 @@ impl<H: Sha1HmacProvider + Drop, P: LocalPreference> Agent<H, P> {
         })
     }
 
+    /// A pair must be added there, by the conflict of roles and the role behind it.
     fn wants_pair(&self, request: &Request<'_>, at: Places) -> bool
-        requires { at.local < length self.now.local.items }
         ensures { result ≡ wants_pair (record_of self.now) (request_view request.now) at }
     {
-        if self.claims_own_role(request) {
-            return false;
-        }
-        match at.remote {
-            RemotePlace::Barred => false,
-            RemotePlace::Known(_) | RemotePlace::Unknown => {
-                at.pair.is_none() && !is_discarded(candidate_at(&self.local, at.local))
-            }
-        }
+        is_admitted(self.conflict(request), self.controlling, request)
+            && wants_pair_at(at.remote, at.pair, is_discarded_at(&self.local, at.local))
     }
 
     /// A pair must be added, and no number is left.
-    fn lacks_number(&self, request: &Request<'_>, at: Places) -> bool
-        requires { at.local < length self.now.local.items }
+    pub(crate) fn lacks_number(&self, request: &Request<'_>, at: Places) -> bool
         ensures lacks { result ≡ lacks_number (record_of self.now) (request_view request.now) at }
         ensures left { result ≡ false → wants_pair (record_of self.now) (request_view request.now) at ≡ true → self.now.next_number < 18446744073709551615 }
     {
@@ -114,13 +101,41 @@ impl<H: Sha1HmacProvider + Drop, P: LocalPreference> Agent<H, P> {
     }
 }
 
+/// The peer nominates while the agent is controlling.
+fn is_misled(controlling: bool, request: &Request<'_>) -> bool
+    ensures { result ≡ is_misled controlling (request_view request.now) }
+{
+    controlling && request.use_candidate
+}
+
+/// Serving goes on to its places, by the role before it.
+fn is_admitted(conflict: Conflict, controlling: bool, request: &Request<'_>) -> bool
+    ensures { result ≡ is_admitted conflict controlling (request_view request.now) }
+{
+    match conflict {
+        Conflict::Absent => !is_misled(controlling, request),
+        Conflict::Insists => false,
+        Conflict::Yields => !is_misled(!controlling, request),
+    }
+}
+
+/// No pair joins the places, and one would be added.
+fn wants_pair_at(remote: RemotePlace, pair: Option<u64>, discarded: bool) -> bool
+    ensures { result ≡ wants_pair_at remote pair discarded }
+{
+    match remote {
+        RemotePlace::Barred => false,
+        RemotePlace::Known(_) | RemotePlace::Unknown => pair.is_none() && !discarded,
+    }
+}
+
 // ---- room
 
 impl<H: Sha1HmacProvider + Drop, P: LocalPreference> Agent<H, P> {
     /// Makes room for one more source and its event.
-    fn take_source_room(&mut self) -> Result<(), IceError>
+    pub(crate) fn take_source_room(&mut self) -> Result<(), IceError>
         ensures record { record_of self.new ≡ record_of self.old }
-        ensures room { OnOk result (HasSourceRoom self.new) }
+        ensures room { OnOk result (HasNewsRoom 1 self.new) }
         ensures refused { IsOkUnless result errors.OutOfMemory }
     {
         self.seen.reserve(1)?;
@@ -131,14 +146,14 @@ impl<H: Sha1HmacProvider + Drop, P: LocalPreference> Agent<H, P> {
     /// Makes room for all that serving a request can add.
     fn take_serving_room(&mut self) -> Result<(), IceError>
         ensures record { record_of self.new ≡ record_of self.old }
-        ensures room { OnOk result (HasServingRoom self.new × HasSourceRoom self.new) }
+        ensures room { OnOk result (HasServingRoom self.new × HasNewsRoom 2 self.new) }
         ensures refused { IsOkUnless result errors.OutOfMemory }
     {
         self.remote.reserve(1)?;
         self.pairs.reserve(1)?;
         self.packets.reserve(1)?;
         self.seen.reserve(1)?;
-        self.events.reserve(1)?;
+        self.events.reserve(2)?;
         Ok(())
     }
 
@@ -169,7 +184,11 @@ impl<H: Sha1HmacProvider + Drop, P: LocalPreference> Agent<H, P> {
     }
 
     /// Makes what serving the request takes.
-    fn supplies_for(&self, request: &Request<'_>, at: Places) -> Result<Supplies, AllocError>
+    pub(crate) fn supplies_for(
+        &self,
+        request: &Request<'_>,
+        at: Places,
+    ) -> Result<Supplies, AllocError>
         ensures reply { IfOk result (λ supplies. length supplies.reply.items ≡ 76) }
         ensures sender { IfOk result (λ supplies. supplies.sender ≡ sender_at (record_of self.now) (request_view request.now) at.remote) }
     {
@@ -182,36 +201,29 @@ impl<H: Sha1HmacProvider + Drop, P: LocalPreference> Agent<H, P> {
 // ---- the rules
 
 impl<H: Sha1HmacProvider + Drop, P: LocalPreference> Agent<H, P> {
-    /// From the local candidate's base to the remote candidate's address.
-    fn path_between(&self, l: usize, r: usize) -> Path
-        requires local { l < length self.now.local.items }
-        requires remote { r < length self.now.remote.items }
-        ensures { result ≡ path_between (record_of self.now) l r }
+    /// The reply goes out on the path.
+    fn send_reply(&mut self, path: Path, contents: Vec<u8>)
+        requires packets { HasPacketRoom self.old }
+        requires news { HasNewsRoom 1 self.old }
+        ensures sent { record_of self.new ≡ with_packet path contents.items (record_of self.old) }
+        ensures news { HasNewsRoom 1 self.new }
     {
-        let local = candidate_at(&self.local, l);
-        Path {
-            proto: local.proto(),
-            source: base(local),
-            destination: candidate_at(&self.remote, r).addr(),
-        }
-    }
-
-    fn priority_between(&self, l: usize, r: usize) -> u64
-        requires local { l < length self.now.local.items }
-        requires remote { r < length self.now.remote.items }
-        ensures { result ≡ priority_between (record_of self.now) l r }
-    {
-        let local = candidate_at(&self.local, l).prio();
-        let remote = candidate_at(&self.remote, r).prio();
-        CandidatePair::calculate_prio(self.controlling, remote, local)
+        self.packets.push_back_reserved(Transmit {
+            proto: path.proto,
+            source: path.source,
+            destination: path.destination,
+            contents,
+        });
     }
 
     /// The success reply goes out on the path, signed with the local password.
     fn reply(&mut self, request: &Request<'_>, path: Path, mut reply: Vec<u8>)
-        requires room { HasPacketRoom self.old }
+        requires packets { HasPacketRoom self.old }
+        requires news { HasNewsRoom 1 self.old }
         requires reply { length reply.items ≡ 76 }
+        ensures put { IsPut (written (H.mac self.old.provider) (Some self.old.local_creds.pass) (binding_reply request.now.id.0 request.now.path.source)) (binding_reply request.now.id.0 (carried request.now.path.source)) }
         ensures replied { record_of self.new ≡ replied H.mac (request_view request.now) path (record_of self.old) }
-        ensures room { HasSourceRoom self.old → HasSourceRoom self.new }
+        ensures news { HasNewsRoom 1 self.new }
     {
         let password = self.local_creds.pass.as_str();
         write_reply(
@@ -221,15 +233,32 @@ impl<H: Sha1HmacProvider + Drop, P: LocalPreference> Agent<H, P> {
             password,
             &self.provider,
         );
-        self.packets.push_back_reserved(Transmit {
-            proto: path.proto,
-            source: path.source,
-            destination: path.destination,
-            contents: reply,
-        });
+        self.send_reply(path, reply);
     }
 
-    /// The pair takes the request, and the reply goes out.
+    /// A request at the pair has nomination evaluated.
+    fn evaluates_at(&self, number: u64) -> bool
+        ensures { result ≡ (self.now.controlling && is_valid_at number self.now.pairs.items) }
+    {
+        self.controlling && is_valid_at(&self.pairs, number)
+    }
+
+    /// The pair records the request.
+    fn serve_pair(&mut self, request: &Request<'_>, number: u64)
+        requires packets { HasPacketRoom self.old }
+        requires news { HasNewsRoom 2 self.old }
+        ensures served { record_of self.new ≡ pair_served (request_view request.now) number (record_of self.old) }
+        ensures packets { HasPacketRoom self.new }
+        ensures news { HasNewsRoom 2 self.new }
+    {
+        let standing = Standing {
+            controlling: self.controlling,
+            lite: self.lite,
+        };
+        serve_pair(&mut self.pairs, number, request, standing);
+    }
+
+    /// The pair takes the request; a controlling agent evaluates nomination where it is valid; and the reply goes out.
     fn take(
         &mut self,
         request: &Request<'_>,
@@ -238,17 +267,62 @@ impl<H: Sha1HmacProvider + Drop, P: LocalPreference> Agent<H, P> {
         number: u64,
         reply: Vec<u8>,
     ) -> Told
-        requires local { l < length self.old.local.items }
-        requires remote { r < length self.old.remote.items }
-        requires room { HasPacketRoom self.old }
+        requires packets { HasPacketRoom self.old }
+        requires news { HasNewsRoom 2 self.old }
         requires reply { length reply.items ≡ 76 }
         ensures served { ServesPair H.mac (request_view request.now) l r number (record_of self.old) result (record_of self.new) }
-        ensures room { HasSourceRoom self.old → HasSourceRoom self.new }
+        ensures news { HasNewsRoom 1 self.new }
     {
         let path = self.path_between(l, r);
-        serve_pair(&mut self.pairs, number, request, self.controlling);
+        let evaluates = self.evaluates_at(number);
+        self.serve_pair(request, number);
+        let announced = self.nominate_where(evaluates);
         self.reply(request, path, reply);
-        Told::issued_alone(path, Class::Success, request.id)
+        let issued = Issued::new(path, Class::Success, request.id);
+        Told::by(Some(issued), announced, None)
+    }
+
+    /// The pair of two places, under the next number.
+    fn formed(&self, l: usize, r: usize) -> CandidatePair
+        ensures { result ≡ formed (record_of self.now) l r }
+    {
+        let sides = Sides {
+            local: &self.local,
+            remote: &self.remote,
+            controlling: self.controlling,
+            lite: self.lite,
+        };
+        pair_of(*self.pairs.allocator(), sides, (l, r), self.next_number)
+    }
+
+    /// It is added, without limit or redundancy.
+    fn add_pair(&mut self, l: usize, r: usize)
+        requires pairs { vec_len self.old.pairs < vec_capacity self.old.pairs }
+        requires packets { HasPacketRoom self.old }
+        requires news { HasNewsRoom 2 self.old }
+        requires number { self.old.next_number < 18446744073709551615 }
+        ensures added { record_of self.new ≡ with_pair (formed (record_of self.old) l r) (record_of self.old) }
+        ensures packets { HasPacketRoom self.new }
+        ensures news { HasNewsRoom 2 self.new }
+    {
+        let pair = self.formed(l, r);
+        self.pairs.push_reserved(pair);
+        self.next_number += 1;
+    }
+
+    /// A new pair takes the request.
+    fn take_new(&mut self, request: &Request<'_>, l: usize, r: usize, reply: Vec<u8>) -> Told
+        requires pairs { vec_len self.old.pairs < vec_capacity self.old.pairs }
+        requires packets { HasPacketRoom self.old }
+        requires news { HasNewsRoom 2 self.old }
+        requires reply { length reply.items ≡ 76 }
+        requires number { self.old.next_number < 18446744073709551615 }
+        ensures served { AddsPair H.mac (request_view request.now) l r (record_of self.old) result (record_of self.new) }
+        ensures news { HasNewsRoom 1 self.new }
+    {
+        let number = self.next_number;
+        self.add_pair(l, r);
+        self.take(request, l, r, number, reply)
     }
 
     /// A pair of the places takes the request; where there is none, one is added, but none at a discarded local place.
@@ -260,53 +334,30 @@ impl<H: Sha1HmacProvider + Drop, P: LocalPreference> Agent<H, P> {
         pair: Option<u64>,
         reply: Vec<u8>,
     ) -> Told
-        requires local { l < length self.old.local.items }
-        requires remote { r < length self.old.remote.items }
         requires pairs { vec_len self.old.pairs < vec_capacity self.old.pairs }
-        requires room { HasPacketRoom self.old }
+        requires packets { HasPacketRoom self.old }
+        requires news { HasNewsRoom 2 self.old }
         requires reply { length reply.items ≡ 76 }
         requires number { pair ≡ None → (candidate_at self.old.local.items l).discarded ≡ false → self.old.next_number < 18446744073709551615 }
         ensures served { TakesAt H.mac (request_view request.now) l r pair (record_of self.old) result (record_of self.new) }
-        ensures room { HasSourceRoom self.old → HasSourceRoom self.new }
+        ensures news { HasNewsRoom 1 self.new }
     {
         match pair {
             Some(number) => self.take(request, l, r, number, reply),
             None => {
-                if is_discarded(candidate_at(&self.local, l)) {
+                if is_discarded_at(&self.local, l) {
                     return Told::nothing();
                 }
-                let number = self.next_number;
-                let priority = self.priority_between(l, r);
-                let local_kind = candidate_at(&self.local, l).kind();
-                let remote_kind = candidate_at(&self.remote, r).kind();
-                let alloc = *self.pairs.allocator();
-                let pair = CandidatePair::new(
-                    alloc,
-                    PairId(number),
-                    l,
-                    local_kind,
-                    r,
-                    remote_kind,
-                    priority,
-                );
-                self.pairs.push_reserved(pair);
-                self.next_number += 1;
-                self.take(request, l, r, number, reply)
+                self.take_new(request, l, r, reply)
             }
         }
     }
 
     /// Serving goes on at a remote place: an unknown sender is appended, and discarded candidates alone drop it.
     fn join_at(&mut self, request: &Request<'_>, at: Places, supplies: Supplies) -> Told
-        requires local { at.local < length self.old.local.items }
-        requires remote { IsRemotePlace self.old.remote.items (request_view request.now) at.remote }
-        requires pair { IsPairBetween self.old.pairs.items at.local (remote_index self.old.remote.items at.remote) at.pair }
-        requires room { HasServingRoom self.old }
-        requires reply { length supplies.reply.items ≡ 76 }
-        requires sender { supplies.sender ≡ sender_at (record_of self.old) (request_view request.now) at.remote }
-        requires number { wants_pair_at at.remote at.pair (candidate_at self.old.local.items at.local).discarded ≡ true → self.old.next_number < 18446744073709551615 }
+        requires { IsReady (wants_pair_at at.remote at.pair (candidate_at self.old.local.items at.local).discarded) self.old (request_view request.now) at supplies }
         ensures served { JoinsAt H.mac (request_view request.now) at.local at.remote (record_of self.old) result (record_of self.new) }
-        ensures room { HasSourceRoom self.old → HasSourceRoom self.new }
+        ensures news { HasNewsRoom 1 self.new }
     {
         let Supplies { reply, sender } = supplies;
         match (at.remote, sender) {
@@ -320,29 +371,62 @@ impl<H: Sha1HmacProvider + Drop, P: LocalPreference> Agent<H, P> {
         }
     }
 
-    /// A request that claims the agent's own role is dropped; any other one counts, and serving goes on.
-    fn settle(&mut self, request: &Request<'_>, at: Places, supplies: Supplies) -> Told
-        requires local { at.local < length self.old.local.items }
-        requires remote { IsRemotePlace self.old.remote.items (request_view request.now) at.remote }
-        requires pair { IsPairBetween self.old.pairs.items at.local (remote_index self.old.remote.items at.remote) at.pair }
-        requires room { HasServingRoom self.old }
-        requires reply { length supplies.reply.items ≡ 76 }
-        requires sender { supplies.sender ≡ sender_at (record_of self.old) (request_view request.now) at.remote }
-        requires number { wants_pair (record_of self.old) (request_view request.now) at ≡ true → self.old.next_number < 18446744073709551615 }
-        ensures served { Settles H.mac (request_view request.now) at.local (record_of self.old) result (record_of self.new) }
-        ensures room { HasSourceRoom self.old → HasSourceRoom self.new }
+    /// USE-CANDIDATE while controlling is dropped; any other request counts, and serving goes on.
+    fn admit(&mut self, request: &Request<'_>, at: Places, supplies: Supplies) -> Told
+        requires { IsReady (not (is_misled self.old.controlling (request_view request.now)) && wants_pair_at at.remote at.pair (candidate_at self.old.local.items at.local).discarded) self.old (request_view request.now) at supplies }
+        ensures served { Admits H.mac (request_view request.now) at.local (record_of self.old) result (record_of self.new) }
+        ensures news { HasNewsRoom 1 self.new }
     {
-        if self.claims_own_role(request) {
+        if is_misled(self.controlling, request) {
             return Told::nothing();
         }
         self.stats.bind_request_recv = self.stats.bind_request_recv.saturating_add(1);
         self.join_at(request, at, supplies)
     }
 
+    /// The 487 goes back the way that the request came, signed with the local password (RFC 8445, section 7.3.1.1).
+    fn insist(&mut self, request: &Request<'_>, supplies: Supplies) -> Told
+        requires packets { HasPacketRoom self.old }
+        requires news { HasNewsRoom 2 self.old }
+        requires reply { length supplies.reply.items ≡ 76 }
+        ensures insisted { InsistsOnRole H.mac (request_view request.now) (record_of self.old) result (record_of self.new) }
+        ensures news { HasNewsRoom 1 self.new }
+    {
+        let Supplies { mut reply, .. } = supplies;
+        let password = self.local_creds.pass.as_str();
+        write_conflict(&mut reply, request.id, password, &self.provider);
+        let path = request.path.turned();
+        self.send_reply(path, reply);
+        Told::issued_alone(path, Class::Failure, request.id)
+    }
+
+    /// The role switches, and serving goes on.
+    fn yield_role(&mut self, request: &Request<'_>, at: Places, supplies: Supplies) -> Told
+        requires { IsReady (not (is_misled (not self.old.controlling) (request_view request.now)) && wants_pair_at at.remote at.pair (candidate_at self.old.local.items at.local).discarded) self.old (request_view request.now) at supplies }
+        ensures served { Admits H.mac (request_view request.now) at.local (switched (record_of self.old)) result (record_of self.new) }
+        ensures news { HasNewsRoom 1 self.new }
+    {
+        self.switch_role();
+        self.admit(request, at, supplies)
+    }
+
+    /// A sender of the agent's own role: the greater tie-breaker keeps it.
+    pub(crate) fn settle(&mut self, request: &Request<'_>, at: Places, supplies: Supplies) -> Told
+        requires { IsReady (wants_pair (record_of self.old) (request_view request.now) at) self.old (request_view request.now) at supplies }
+        ensures served { Settles H.mac (request_view request.now) at.local (record_of self.old) result (record_of self.new) }
+        ensures news { HasNewsRoom 1 self.new }
+    {
+        match self.conflict(request) {
+            Conflict::Absent => self.admit(request, at, supplies),
+            Conflict::Insists => self.insist(request, supplies),
+            Conflict::Yields => self.yield_role(request, at, supplies),
+        }
+    }
+
     /// Serves a request, or drops it, and tells what came of it. Numbers are looked at before memory.
     pub(crate) fn serve(&mut self, request: &Request<'_>) -> Result<Told, IceError>
         ensures served { IfOk result (λ told. Serves H.mac (request_view request.now) (record_of self.old) told (record_of self.new)) }
-        ensures room { OnOk result (HasSourceRoom self.new) }
+        ensures room { OnOk result (HasNewsRoom 1 self.new) }
         ensures refused { IfErr result (λ error. MayRefuseRequest (record_of self.old) (request_view request.now) error × (record_of self.new ≡ record_of self.old)) }
     {
         let Some(at) = self.places_of(request) else {

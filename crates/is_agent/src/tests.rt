@@ -1,8 +1,10 @@
 //! An agent as its user meets it.
 
+mod answers;
+mod calls;
 mod candidates;
-mod credentials;
 mod memory;
+mod moments;
 mod requests;
 
 use crate::event::IceAgentEvent;

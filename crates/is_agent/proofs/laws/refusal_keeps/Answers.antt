@@ -1,4 +1,4 @@
-use Rattle.is_agent.specs.EffectLaws.{refusal_keeps}
+use Rattle.is_agent.proofs.RefusalLaws.{refusal_keeps}
 use Rattle.is_agent.proofs.laws.refusal_keeps.Goals as goal
 
 pub returns : goal.returns

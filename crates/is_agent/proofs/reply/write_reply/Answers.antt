@@ -1,9 +1,15 @@
-use Rattle.std.proofs.Common.{length, ap, ◌∙◌}
-use Rattle.is_stun.specs.MessageView.{message_view}
-use Rattle.is_agent.proofs.ReplyLemmas.{reply-refused}
+use Rattle.std.proofs.Common.{◌≡◌, arith, subst, Some}
+use Rattle.is_stun.specs.Message.{Message}
+use Rattle.is_stun.specs.Checks.{binding_reply}
+use Rattle.is_stun.specs.Laws.{IsPut, plain}
+use Rattle.is_stun.specs.Writing.{written}
+use Rattle.is_agent.proofs.ReplyLemmas.{plain-reply}
 use Rattle.is_agent.proofs.reply.write_reply.Goals as goal
 
-pub unreachable-requires : goal.unreachable-requires
-unreachable-requires g c =
-    reply-refused c.as_bytes.result.now c.args.id.0 (length c.deref_mut.result.now) (message_view c.binding_reply-message.result)
-    c.args.mapped_address c.in-Err.field-0 c.in-Err.ensures.0 (ap length c.deref_mut.ensures.value ∙ c.requires) c.binding_reply-message.ensures
+pub write_signed-requires-clause-fits : goal.write_signed-requires-clause-fits
+write_signed-requires-clause-fits g c = rw (c.binding_reply-message.ensures, c.requires) (c.replies_fit.ensures.fits _ _ _ 76 (omega arith))
+
+pub returns-clause-put : goal.returns-clause-put
+returns-clause-put g c =
+    subst (IsPut _) (plain-reply c.args.id.0 c.args.mapped_address)
+    (subst (λ (m : Message). IsPut (written (g.H.Sha1HmacProvider.mac c.args.provider.now) (Some c.args.password.now) m) (plain m)) c.binding_reply-message.ensures c.write_signed.ensures.put)

@@ -1,0 +1,84 @@
+-- Requests that wait, and their views.
+use Rattle.std.proofs.Common.{◌≡◌, ℕ, Bool, true, false, List, [], ◌∷◌, map, length, drop, take_while, slice_get, option_map, Option, Some, None, refl, ap, zero, suc, cond, ◌++◌, if◌then◌else◌, IfErr, MatchOption, Result, Ok, Err}
+use Rattle.std.proofs.lemmas.Option.{slice_get-map}
+use Rattle.std.proofs.lemmas.List.Sums.{take_while-cons}
+use Rattle.is_proto.specs.Lists.{head}
+use Rattle.is_stun.specs.declared.timing.StunTiming.{StunTiming}
+use Rattle.is_agent.specs.declared.credentials.IceCreds.{IceCreds}
+use Rattle.is_agent.specs.declared.event.IceAgentEvent.{IceAgentEvent}
+use Rattle.is_agent.specs.declared.event.IceConnectionState.{IceConnectionState}
+use Rattle.is_agent.specs.declared.waking.Waking.{Waking}
+use Rattle.is_agent.specs.declared.request.Waiting.{Waiting as Waiter}
+use Rattle.is_agent.specs.Request.{RequestRecord}
+use Rattle.is_agent.specs.RequestView.{waiting_view}
+use Rattle.is_agent.specs.Agent.{AgentRecord}
+use Rattle.is_agent.specs.Queue.{is_outdated, queue_left, first_taken, request_at}
+use Rattle.is_agent.specs.States.{same_state, with_state}
+use Rattle.is_agent.specs.declared.event.IceAgentEvent.TheVariants.{IceRestart}
+use Rattle.is_agent.specs.declared.event.IceConnectionState.TheVariants.{New}
+use Rattle.is_agent.specs.Waking.{with_start, start_event, outdated, IsWaking}
+use Rattle.is_agent.specs.Timeouts.{awake, start_told, MayRefuseMoment}
+use Rattle.is_agent.specs.Serving.{MayRefuseRequest}
+use Rattle.is_proto.specs.declared.error.IceError.{IceError}
+use Rattle.is_proto.specs.declared.error.IceError.TheVariants.{BadCandidate, OutOfMemory, PairIdsExhausted, MtuTooSmall, CredentialsTooLong, PriorityTooHigh}
+
+-- as many views pass at the front
+pub front-views : {X Y : Type 0} (view : X → Y) (test : Y → Bool) (xs : List X) → length (take_while (λ x. test (view x)) xs) ≡ length (take_while test (map view xs))
+front-views view test [] = refl
+front-views view test (x ∷ xs) =
+    rw (take_while-cons, take_while-cons)
+    (elim (test (view x)) as (λ b. length (cond b (x ∷ take_while (λ y. test (view y)) xs) []) ≡ length (cond b (view x ∷ take_while test (map view xs)) [])) [
+      | true ↦ ap suc (front-views view test xs)
+      | false ↦ refl
+    ])
+
+pub head-behind : {X : Type 0} (xs : List X) (k : ℕ) → head (drop k xs) ≡ slice_get xs k
+head-behind [] zero = refl
+head-behind [] (suc k) = refl
+head-behind (x ∷ xs) zero = refl
+head-behind (x ∷ xs) (suc k) = head-behind xs k
+
+module _ {H P : Type 0} where
+  pub outdated-left : (now : ℕ) (t : StunTiming) (creds : Option IceCreds) (a : AgentRecord H P) → drop (outdated now t creds a) a.queue ≡ queue_left now t creds a.queue
+  outdated-left now t None a = refl
+  outdated-left now t (Some peer) a = refl
+
+  -- the start is told of in New alone
+  start-told : (a : AgentRecord H P) → with_start (start_event a.state a.local_creds) a.events ≡ (start_told a).events
+  start-told a = told (same_state a.state New) where
+    told : (b : Bool) → with_start (if b then Some (IceRestart a.local_creds) else None) a.events ≡ (if b then a.events ++ IceRestart a.local_creds ∷ [] else a.events)
+    told true = refl
+    told false = refl
+
+  -- what waking changes
+  pub wakes : (now : ℕ) (a : AgentRecord H P) (w : Waking) (state : IceConnectionState) (events : List IceAgentEvent) (queue : List RequestRecord) → IsWaking now a w
+      → state ≡ w.state → events ≡ (with_state w.state (record a { events = with_start w.start a.events })).events → queue ≡ drop w.outdated a.queue
+      → record a { state = state; events = events; queue = queue } ≡ awake now a
+  wakes now a w state events queue is s e q = rw (s, e, q, is.0, is.1, is.2, start-told a, outdated-left now a.timing a.remote_creds a) refl
+
+  -- the first request that is left
+  pub request-left : (now : ℕ) (a : AgentRecord H P) (peer : IceCreds) (items : List Waiter) (k : ℕ) → a.queue ≡ map waiting_view items → a.remote_creds ≡ Some peer
+      → k ≡ outdated now a.timing a.remote_creds a → option_map waiting_view (slice_get items k) ≡ request_at now a
+  request-left now a peer items k views creds many =
+      let front : k ≡ length (take_while (is_outdated now a.timing) a.queue) = rw (creds) at many in
+      rw (creds, head-behind, ← front, views, slice_get-map) refl
+
+  -- waking changes nothing that a refusal looks at
+  pub refused-awake : (now : ℕ) (a : AgentRecord H P) (q : RequestRecord) (error : IceError) → MayRefuseRequest a q error → MayRefuseRequest (first_taken (awake now a)) q error
+  refused-awake now a q PairIdsExhausted may = may
+  refused-awake now a q OutOfMemory may = may
+  refused-awake now a q (BadCandidate message) may = may
+  refused-awake now a q MtuTooSmall may = may
+  refused-awake now a q CredentialsTooLong may = may
+  refused-awake now a q PriorityTooHigh may = may
+
+  -- why the moment is refused that serves this request, or none
+  pub refused-late : (now : ℕ) (a : AgentRecord H P) (o : Option RequestRecord) (error : IceError) → o ≡ request_at now a
+      → MatchOption o (error ≡ OutOfMemory) (λ q. MayRefuseRequest a q error) → MayRefuseMoment now a error
+  refused-late now a None error is may = rw (← is) may
+  refused-late now a (Some q) error is may = rw (← is) (refused-awake now a q error may)
+
+  pub refused-moment : {X : Type 0} (now : ℕ) (a : AgentRecord H P) (o : Option RequestRecord) (r : Result X IceError) → o ≡ request_at now a
+      → IfErr r (λ error. MatchOption o (error ≡ OutOfMemory) (λ q. MayRefuseRequest a q error)) → IfErr r (λ error. MayRefuseMoment now a error)
+  refused-moment now a o (Ok x) is may = may
+  refused-moment now a o (Err error) is may = refused-late now a o error is may

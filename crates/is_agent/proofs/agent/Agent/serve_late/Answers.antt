@@ -1,0 +1,24 @@
+use Rattle.std.proofs.Common.{◌≡◌, ℕ, false, List, Some, ap, subst, ◌∙◌}
+use Rattle.is_agent.specs.declared.told.Told.{Told}
+use Rattle.is_agent.specs.Agent.{AgentRecord}
+use Rattle.is_agent.specs.Places.{local_place}
+use Rattle.is_agent.specs.Request.{RequestRecord}
+use Rattle.is_agent.specs.RequestView.{request_view}
+use Rattle.is_agent.specs.View.{record_of}
+use Rattle.is_agent.specs.Serving.{names_another, Settles, Serves}
+use Rattle.is_agent.specs.Queue.{first_taken}
+use Rattle.is_agent.specs.Timeouts.{awake}
+use Rattle.is_agent.proofs.agent.Agent.serve_late.Goals as goal
+
+-- it names the peer, and gets to its local place
+served-here : {H P : Type 0} (mac : H → List ℕ → List ℕ → List ℕ) (q : RequestRecord) (l : ℕ) (s : AgentRecord H P) (told : Told) (new : AgentRecord H P)
+    → names_another s q ≡ false → local_place s.local q ≡ Some l → Settles mac q l s told new → Serves mac q s told new
+served-here mac q l s told new names gets here = rw (names, gets) here
+
+pub returns-clause-served : goal.returns-clause-served
+returns-clause-served g c =
+    let mac = g.H.Sha1HmacProvider.mac in let q = request_view c.args.request.now in let now = c.args.now.0 in
+    let old = record_of c.args.self.now in let new = record_of c.settle.new.self in let chosen = c.in-Some.ensures in
+    let begun = c.wake_first-2.ensures.awake ∙ ap (λ (a : AgentRecord g.row.H.Denot g.row.P.Denot). first_taken (awake now a)) c.take_late_room.ensures.record in
+    served-here mac q c.in-Some.at.local (first_taken (awake now old)) c.settle.result new chosen.0 chosen.1
+    (subst (λ (s : AgentRecord g.row.H.Denot g.row.P.Denot). Settles mac q c.in-Some.at.local s c.settle.result new) begun c.settle.ensures.served)

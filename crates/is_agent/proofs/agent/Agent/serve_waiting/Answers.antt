@@ -1,0 +1,12 @@
+use Rattle.std.proofs.Common.{IfOk, subst}
+use Rattle.is_agent.specs.Request.{RequestRecord}
+use Rattle.is_agent.specs.View.{record_of}
+use Rattle.is_agent.specs.Serving.{Serves}
+use Rattle.is_agent.specs.Queue.{first_taken}
+use Rattle.is_agent.specs.Timeouts.{awake}
+use Rattle.is_agent.proofs.agent.Agent.serve_waiting.Goals as goal
+
+pub returns-clause-served : goal.returns-clause-served
+returns-clause-served g c =
+    let begun = first_taken (awake c.args.now.0 (record_of c.args.self.now)) in let new = record_of c.serve_late.new.self in
+    subst (λ (q : RequestRecord). IfOk c.serve_late.result (λ told. Serves g.H.Sha1HmacProvider.mac q begun told new)) c.request-request.ensures c.serve_late.ensures.served

@@ -1,0 +1,103 @@
+//! What a check of the agent's own says, and where it goes (RFC 8445, section 7.2).
+
+ghost use Rattle.std.specs.Prelude.{◌≡◌, ◌<◌, Some, OnOk, IfSome, length, string_bytes};
+ghost use Rattle.is_stun.specs.Laws.{IsPut};
+ghost use Rattle.is_stun.specs.Writing.{written};
+ghost use Rattle.is_pair.specs.Pairs.{PairRecord};
+ghost use Rattle.is_agent.specs.declared.credentials.IceCreds as model;
+ghost use Rattle.is_agent.specs.Fitting.{MTU_FLOOR};
+ghost use Rattle.is_agent.specs.View.{record_of};
+ghost use Rattle.is_agent.specs.Due.{pair_at, Drafts};
+ghost use Rattle.is_agent.specs.Room.{HasUsername};
+ghost use Rattle.is_agent.specs.Sending.{path_between};
+ghost use Rattle.is_agent.specs.Checking.{username_between, check_message};
+
+use crate::agent::Agent;
+use crate::credentials::IceCreds;
+use crate::places::{address_at, base_at, check_priority_at, proto_at};
+use crate::reply::write_signed;
+use crate::told::Path;
+use is_candidate::LocalPreference;
+use is_pair::pair::CandidatePair;
+use is_proto::Sha1HmacProvider;
+use is_stun::laws::checks_fit;
+use is_stun::stun::{StunMessage, TransId};
+use std::alloc::AllocError;
+
+/// Writes the peer's user fragment, a colon and the own one over the name.
+pub(crate) fn write_username(
+    name: &mut String,
+    peer: &IceCreds,
+    own: &IceCreds,
+) -> Result<(), AllocError>
+    ensures { OnOk result (string_bytes name.new ≡ username_between peer.now own.now) }
+{
+    name.clear();
+    name.push_str(peer.ufrag.as_str())?;
+    name.push_str(":")?;
+    name.push_str(own.ufrag.as_str())
+}
+
+/// What a check says of its pair, and where it goes.
+#[derive(Clone, Copy)]
+pub(crate) struct Draft {
+    pub(crate) path: Path,
+    pub(crate) priority: u32,
+    pub(crate) nominated: bool,
+}
+
+impl<H: Sha1HmacProvider + Drop, P: LocalPreference> Agent<H, P> {
+    /// From the local candidate's base to the remote candidate's address.
+    pub(crate) fn path_between(&self, l: usize, r: usize) -> Path
+        ensures { result ≡ path_between (record_of self.now) l r }
+    {
+        Path {
+            proto: proto_at(&self.local, l),
+            source: base_at(&self.local, l),
+            destination: address_at(&self.remote, r),
+        }
+    }
+
+    pub(crate) fn path_of(&self, pair: &CandidatePair) -> Path
+        ensures { result ≡ path_between (record_of self.now) pair.now.local pair.now.remote }
+    {
+        self.path_between(pair.local_idx(), pair.remote_idx())
+    }
+
+    /// What a check of the pair at the place says.
+    pub(crate) fn draft(&self, place: usize) -> Draft
+        requires { place < length self.now.pairs.items }
+        ensures { Drafts (record_of self.now) (pair_at self.now.pairs.items place) result }
+    {
+        let pair = &self.pairs[place];
+        Draft {
+            path: self.path_of(pair),
+            priority: check_priority_at(&self.local, pair.local_idx()),
+            nominated: pair.is_nominated(),
+        }
+    }
+
+    /// The bytes of the check, written over these.
+    pub(crate) fn check_bytes(&self, mut contents: Vec<u8>, id: TransId, draft: Draft) -> Vec<u8>
+        requires username { HasUsername self.now }
+        requires contents { IfSome self.now.remote_creds (λ _. length contents.items ≡ MTU_FLOOR) }
+        ensures put { (peer : model.IceCreds) (p : PairRecord) → self.now.remote_creds ≡ Some peer → Drafts (record_of self.now) p draft → IsPut (written (H.mac self.now.provider) (Some peer.pass) (check_message (record_of self.now) peer p id.0)) (check_message (record_of self.now) peer p id.0) }
+        ensures written { (peer : model.IceCreds) (p : PairRecord) → self.now.remote_creds ≡ Some peer → Drafts (record_of self.now) p draft → result.items ≡ written (H.mac self.now.provider) (Some peer.pass) (check_message (record_of self.now) peer p id.0) }
+    {
+        if let Some(peer) = &self.remote_creds {
+            let username = self.username.as_str();
+            let nominates = self.controlling && draft.nominated;
+            checks_fit();
+            let request = StunMessage::binding_request(
+                username,
+                id,
+                self.controlling,
+                self.tie_breaker,
+                draft.priority,
+                nominates,
+            );
+            write_signed(&mut contents, request, peer.pass.as_str(), &self.provider);
+        }
+        contents
+    }
+}

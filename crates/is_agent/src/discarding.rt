@@ -1,0 +1,128 @@
+//! Candidates that go. A discarded one keeps its place, and its pairs go.
+
+ghost use Rattle.std.specs.Prelude.{◌≡◌, ◌≤◌, ◌<◌, ◌+◌, filter, length, position, IfSome, vec_len, vec_capacity};
+ghost use Rattle.is_candidate.specs.Equality.{is_equivalent};
+ghost use Rattle.is_agent.specs.Kept.{NoneTooHigh};
+ghost use Rattle.is_agent.specs.View.{record_of};
+ghost use Rattle.is_agent.specs.Room.{HasLocalRoom};
+ghost use Rattle.is_agent.specs.Discarding.{discarded, change_place, is_local_elsewhere, is_remote_elsewhere, live_at, place_to_discard, local_discarded, remote_discarded, Invalidates};
+
+use crate::agent::Agent;
+use crate::places::candidate_at;
+use is_candidate::candidate::equality::is_equivalent;
+use is_candidate::candidate::internals::{discard, is_discarded};
+use is_candidate::{Candidate, LocalPreference};
+use is_pair::pair::CandidatePair;
+use is_proto::Sha1HmacProvider;
+
+/// Marks the candidate at the place as discarded.
+fn discard_at(candidates: &mut Vec<Candidate>, place: usize)
+    requires { place < length candidates.old.items }
+    ensures items { candidates.new.items ≡ change_place place discarded candidates.old.items }
+    ensures low { NoneTooHigh candidates.old.items → NoneTooHigh candidates.new.items }
+    ensures len { vec_len candidates.new ≡ vec_len candidates.old }
+    ensures capacity { vec_capacity candidates.new ≡ vec_capacity candidates.old }
+{
+    discard(&mut candidates[place]);
+}
+
+/// The pairs of the local candidate at the place go.
+fn drop_local(pairs: &mut Vec<CandidatePair>, place: usize)
+    ensures items { pairs.new.items ≡ filter (is_local_elsewhere place) pairs.old.items }
+    ensures bound { vec_len pairs.new ≤ vec_len pairs.old }
+    ensures capacity { vec_capacity pairs.new ≡ vec_capacity pairs.old }
+{
+    pairs.retain(|pair| pair.local_idx() != place);
+}
+
+/// The pairs of the remote candidate at the place go.
+fn drop_remote(pairs: &mut Vec<CandidatePair>, place: usize)
+    ensures { pairs.new.items ≡ filter (is_remote_elsewhere place) pairs.old.items }
+{
+    pairs.retain(|pair| pair.remote_idx() != place);
+}
+
+fn position_of(candidates: &[Candidate], candidate: &Candidate) -> Option<usize>
+    ensures place { result ≡ position (is_equivalent candidate.now) candidates.now }
+    ensures within { IfSome result (λ place. place < length candidates.now) }
+{
+    candidates
+        .iter()
+        .position(|other| is_equivalent(candidate, other))
+}
+
+/// The first candidate that is equivalent, where that one is not discarded.
+fn place_to_discard(candidates: &[Candidate], candidate: &Candidate) -> Option<usize>
+    ensures place { result ≡ place_to_discard candidate.now candidates.now }
+    ensures within { IfSome result (λ place. place < length candidates.now) }
+{
+    match position_of(candidates, candidate) {
+        None => None,
+        Some(place) => {
+            if is_discarded(candidate_at(candidates, place)) {
+                None
+            } else {
+                Some(place)
+            }
+        }
+    }
+}
+
+impl<H: Sha1HmacProvider + Drop, P: LocalPreference> Agent<H, P> {
+    /// The local candidate at the place goes.
+    pub(crate) fn discard_local(&mut self, place: usize)
+        requires { place < length self.old.local.items }
+        ensures discarded { record_of self.new ≡ local_discarded place (record_of self.old) }
+        ensures local { vec_len self.new.local ≡ vec_len self.old.local }
+        ensures local_capacity { vec_capacity self.new.local ≡ vec_capacity self.old.local }
+        ensures pairs { vec_len self.new.pairs ≤ vec_len self.old.pairs }
+        ensures pairs_capacity { vec_capacity self.new.pairs ≡ vec_capacity self.old.pairs }
+    {
+        discard_at(&mut self.local, place);
+        drop_local(&mut self.pairs, place);
+    }
+
+    fn discard_remote(&mut self, place: usize)
+        requires { place < length self.old.remote.items }
+        ensures { record_of self.new ≡ remote_discarded place (record_of self.old) }
+    {
+        discard_at(&mut self.remote, place);
+        drop_remote(&mut self.pairs, place);
+    }
+
+    fn local_to_discard(&self, candidate: &Candidate) -> Option<usize>
+        ensures place { result ≡ place_to_discard candidate.now (record_of self.now).local }
+        ensures within { IfSome result (λ place. place < length self.now.local.items) }
+    {
+        place_to_discard(&self.local, candidate)
+    }
+
+    fn remote_to_discard(&self, candidate: &Candidate) -> Option<usize>
+        ensures place { result ≡ place_to_discard candidate.now (record_of self.now).remote }
+        ensures within { IfSome result (λ place. place < length self.now.remote.items) }
+    {
+        place_to_discard(&self.remote, candidate)
+    }
+
+    /// A candidate that is gone, as an interface that went away: the first local candidate that equals it in address,
+    /// base, protocol, kind and related address, where that one is not discarded, else the first remote one likewise, is
+    /// discarded, and its pairs go. Whether there was one. Takes no memory.
+    pub fn invalidate_candidate(&mut self, candidate: &Candidate) -> bool
+        ensures { Invalidates (record_of self.old) candidate.now result (record_of self.new) }
+    {
+        match (
+            self.local_to_discard(candidate),
+            self.remote_to_discard(candidate),
+        ) {
+            (Some(place), _) => {
+                self.discard_local(place);
+                true
+            }
+            (None, Some(place)) => {
+                self.discard_remote(place);
+                true
+            }
+            (None, None) => false,
+        }
+    }
+}

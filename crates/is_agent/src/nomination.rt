@@ -1,0 +1,215 @@
+//! Nomination (RFC 8445, section 8.1.1): of the eligible pairs, one of greatest priority is announced.
+
+ghost use Rattle.std.specs.Prelude.{◌≡◌, ℕ, map, vec_len, vec_capacity};
+ghost use Rattle.std.specs.Option.{option_copied};
+ghost use Rattle.is_agent.specs.View.{record_of};
+ghost use Rattle.is_agent.specs.FormingView.{sides_view};
+ghost use Rattle.is_agent.specs.Kept.{AreRising};
+ghost use Rattle.is_agent.specs.Room.{KeepFewer, HasEventRoom, HasNewsRoom, HasPacketRoom, HasCheckRoom};
+ghost use Rattle.is_agent.specs.Pairs.{change_at, change_pair, is_numbered, pair_numbered, IsGreatest};
+ghost use Rattle.is_agent.specs.Nominating.{is_eligible, nominated_by_self, announced_pair, stands_at, selection, path_in, path_told, Names, Nominates, NominatesWhere};
+
+use crate::agent::Agent;
+use crate::event::IceAgentEvent;
+use crate::places::{address_at, base_at, proto_at};
+use crate::sides::Sides;
+use crate::told::Path;
+use crate::tops::{PairTest, top_of};
+use is_candidate::LocalPreference;
+use is_pair::pair::{CandidatePair, CheckState};
+use is_proto::Sha1HmacProvider;
+
+/// Whether a pair may be announced.
+#[derive(Clone, Copy)]
+struct Eligible {
+    controlling: bool,
+}
+
+impl PairTest for Eligible {
+    ghost use Rattle.is_agent.specs.Nominating.{is_eligible};
+
+    ghost passes = { λ t p. is_eligible t.controlling p };
+
+    fn passes(&self, pair: &CandidatePair) -> bool {
+        pair.state() == CheckState::Succeeded && (self.controlling || pair.is_nominated())
+    }
+}
+
+/// Of the pairs that may be announced, one of greatest priority.
+fn top_eligible(pairs: &[CandidatePair], controlling: bool) -> Option<&CandidatePair>
+    ensures { IsGreatest (is_eligible controlling) pairs.now (option_copied result) }
+{
+    top_of(pairs, &Eligible { controlling })
+}
+
+fn has_number(pair: &CandidatePair, number: u64) -> bool
+    ensures { result ≡ is_numbered number pair.now }
+{
+    pair.id().0 == number
+}
+
+fn pair_numbered(pairs: &[CandidatePair], number: u64) -> Option<&CandidatePair>
+    ensures { option_copied result ≡ pair_numbered number pairs.now }
+{
+    pairs.iter().find(|pair| has_number(pair, number))
+}
+
+/// The pair that was announced last, while it stands.
+pub(crate) fn announced_pair(
+    announced: Option<u64>,
+    pairs: &[CandidatePair],
+) -> Option<&CandidatePair>
+    ensures { option_copied result ≡ announced_pair announced pairs.now }
+{
+    match announced {
+        Some(number) => pair_numbered(pairs, number),
+        None => None,
+    }
+}
+
+/// It stands, with this priority.
+fn stands_at(announced: Option<u64>, priority: u64, pairs: &[CandidatePair]) -> bool
+    ensures { result ≡ stands_at announced priority pairs.now }
+{
+    match announced_pair(announced, pairs) {
+        Some(pair) => pair.prio() == priority,
+        None => false,
+    }
+}
+
+fn nominate_one(pair: &mut CandidatePair, controlling: bool, lite: bool)
+    ensures { pair.new ≡ nominated_by_self controlling lite pair.old }
+{
+    if !pair.is_nominated() && (controlling || lite) {
+        pair.nominate(lite);
+    }
+}
+
+fn nominate_at(pair: &mut CandidatePair, number: u64, controlling: bool, lite: bool)
+    ensures { pair.new ≡ change_at number (nominated_by_self controlling lite) pair.old }
+{
+    if pair.id().0 == number {
+        nominate_one(pair, controlling, lite);
+    }
+}
+
+fn nominate_each(pairs: &mut [CandidatePair], number: u64, controlling: bool, lite: bool)
+    ensures { pairs.new ≡ change_pair number (nominated_by_self controlling lite) pairs.old }
+{
+    for pair in pairs.iter_mut() {
+        nominate_at(pair, number, controlling, lite);
+    }
+}
+
+/// The pair of the number is nominated by the agent itself, where it was not.
+fn nominate_pair(pairs: &mut Vec<CandidatePair>, number: u64, controlling: bool, lite: bool)
+    ensures items { pairs.new.items ≡ change_pair number (nominated_by_self controlling lite) pairs.old.items }
+    ensures len { vec_len pairs.new ≡ vec_len pairs.old }
+    ensures capacity { vec_capacity pairs.new ≡ vec_capacity pairs.old }
+{
+    nominate_each(pairs, number, controlling, lite);
+}
+
+fn path_in(sides: Sides<'_>, pair: &CandidatePair) -> Path
+    ensures { result ≡ path_in (sides_view sides.entry) pair.now }
+{
+    Path {
+        proto: proto_at(sides.local, pair.local_idx()),
+        source: base_at(sides.local, pair.local_idx()),
+        destination: address_at(sides.remote, pair.remote_idx()),
+    }
+}
+
+/// The pair of the number is nominated by the agent itself; none keeps more checks then.
+fn nominate_kept(pairs: &mut Vec<CandidatePair>, number: u64, controlling: bool, lite: bool)
+    ensures items { pairs.new.items ≡ change_pair number (nominated_by_self controlling lite) pairs.old.items }
+    ensures fewer { (n : ℕ) → KeepFewer n pairs.old.items → KeepFewer n pairs.new.items }
+    ensures rising { AreRising pairs.old.items → AreRising pairs.new.items }
+{
+    nominate_pair(pairs, number, controlling, lite);
+}
+
+/// An eligible pair of greatest priority is announced, unless the announced one has that priority.
+pub(crate) fn name(
+    sides: Sides<'_>,
+    pairs: &mut Vec<CandidatePair>,
+    announced: &mut Option<u64>,
+) -> Option<Path>
+    ensures named { Names (sides_view sides.entry) (selection pairs.old.items announced.old) result (selection pairs.new.items announced.new) }
+    ensures fewer { (n : ℕ) → KeepFewer n pairs.old.items → KeepFewer n pairs.new.items }
+    ensures rising { AreRising pairs.old.items → AreRising pairs.new.items }
+{
+    match top_eligible(pairs, sides.controlling) {
+        None => None,
+        Some(top) => {
+            if stands_at(*announced, top.prio(), pairs) {
+                return None;
+            }
+            let number = top.id().0;
+            let path = path_in(sides, top);
+            nominate_kept(pairs, number, sides.controlling, sides.lite);
+            *announced = Some(number);
+            Some(path)
+        }
+    }
+}
+
+impl<H: Sha1HmacProvider + Drop, P: LocalPreference> Agent<H, P> {
+    /// The path was announced, where there is one.
+    pub(crate) fn tell_path(&mut self, path: Option<Path>)
+        requires room { HasEventRoom 1 self.old }
+        ensures told { record_of self.new ≡ path_told path (record_of self.old) }
+        ensures events { HasEventRoom 2 self.old → HasEventRoom 1 self.new }
+        ensures more { HasEventRoom 3 self.old → HasEventRoom 2 self.new }
+        ensures news { HasNewsRoom 2 self.old → HasNewsRoom 1 self.new }
+        ensures more_news { HasNewsRoom 3 self.old → HasNewsRoom 2 self.new }
+        ensures packets { HasPacketRoom self.old → HasPacketRoom self.new }
+        ensures checks { HasCheckRoom self.old → HasCheckRoom self.new }
+    {
+        let Some(path) = path else { return };
+        self.events
+            .push_back_reserved(IceAgentEvent::NominatedSend {
+                proto: path.proto,
+                source: path.source,
+                destination: path.destination,
+            });
+        self.stats.nomination_send_count = self.stats.nomination_send_count.saturating_add(1);
+    }
+
+    /// Of the eligible pairs, one of greatest priority is announced, unless the announced one has that priority. Tells
+    /// the path that was announced.
+    pub(crate) fn evaluate_nomination(&mut self) -> Option<Path>
+        requires room { HasEventRoom 1 self.old }
+        ensures nominates { Nominates (record_of self.old) result (record_of self.new) }
+        ensures room { HasNewsRoom 2 self.old → HasNewsRoom 1 self.new }
+        ensures more { HasNewsRoom 3 self.old → HasNewsRoom 2 self.new }
+        ensures one { HasEventRoom 2 self.old → HasEventRoom 1 self.new }
+        ensures two { HasEventRoom 3 self.old → HasEventRoom 2 self.new }
+        ensures packets { HasPacketRoom self.old → HasPacketRoom self.new }
+        ensures checks { HasCheckRoom self.old → HasCheckRoom self.new }
+    {
+        let sides = Sides {
+            local: &self.local,
+            remote: &self.remote,
+            controlling: self.controlling,
+            lite: self.lite,
+        };
+        let path = name(sides, &mut self.pairs, &mut self.announced);
+        self.tell_path(path);
+        path
+    }
+
+    /// Nomination is evaluated, where it is to be.
+    pub(crate) fn nominate_where(&mut self, evaluates: bool) -> Option<Path>
+        requires room { HasNewsRoom 2 self.old }
+        ensures nominates { NominatesWhere evaluates (record_of self.old) result (record_of self.new) }
+        ensures room { HasNewsRoom 1 self.new }
+        ensures packets { HasPacketRoom self.old → HasPacketRoom self.new }
+    {
+        if evaluates {
+            self.evaluate_nomination()
+        } else {
+            None
+        }
+    }
+}

@@ -1,0 +1,201 @@
+//! What an agent answers with no change.
+
+ghost use Rattle.std.specs.Prelude.{◌≡◌, option_map};
+ghost use Rattle.std.specs.List.{list_any};
+ghost use Rattle.std.specs.Option.{option_copied};
+ghost use Rattle.is_agent.specs.View.{record_of};
+ghost use Rattle.is_agent.specs.Listed.{local_left, remote_left};
+ghost use Rattle.is_agent.specs.Questions.{live, is_viable_at, has_viable_remote, FindsEquivalent, nominated_pair, nominated_rtt, nominated_total_rtt, nominated_responses};
+
+use crate::agent::Agent;
+use crate::event::IceAgentStats;
+use crate::nomination::announced_pair;
+use crate::places::address_at;
+use crate::remote::has_equivalent;
+use crate::tops::{PairTest, top_of};
+use is_candidate::candidate::address::same_address;
+use is_candidate::candidate::internals::is_discarded;
+use is_candidate::{Candidate, LocalPreference};
+use is_pair::pair::{CandidatePair, CheckState};
+use is_proto::{Duration, Sha1HmacProvider};
+use std::net::SocketAddr;
+
+/// The candidates of a list that are not discarded.
+#[derive(Clone, Drop)]
+struct LiveCandidates<'a> {
+    rest: &'a [Candidate],
+}
+
+impl<'a> Iterator for LiveCandidates<'a> {
+    type Item = &'a Candidate;
+
+    ghost use Rattle.std.specs.Iterator.{YieldsFirstRef, item_count};
+    ghost use Rattle.is_agent.specs.Listed.{live_left};
+
+    ghost next_gives = { YieldsFirstRef live_left };
+
+    ghost remaining = { item_count live_left };
+
+    fn next(&mut self) -> Option<&'a Candidate> {
+        while let Some((first, others)) = self.rest.split_first() {
+            self.rest = others;
+            if !is_discarded(first) {
+                return Some(first);
+            }
+        }
+        None
+    }
+}
+
+/// The local candidates that are not discarded, in the order in which they were added: each once, and then none.
+#[derive(Clone, Drop)]
+pub struct LocalCandidates<'a> {
+    live: LiveCandidates<'a>,
+}
+
+impl<'a> Iterator for LocalCandidates<'a> {
+    type Item = &'a Candidate;
+
+    ghost use Rattle.std.specs.Iterator.{YieldsFirstRef, item_count};
+    ghost use Rattle.is_agent.specs.Listed.{local_left};
+
+    ghost next_gives = { YieldsFirstRef local_left };
+
+    ghost remaining = { item_count local_left };
+
+    fn next(&mut self) -> Option<&'a Candidate> {
+        self.live.next()
+    }
+}
+
+/// The remote candidates that are not discarded, in the order in which they came: each once, and then none.
+#[derive(Clone, Drop)]
+pub struct RemoteCandidates<'a> {
+    live: LiveCandidates<'a>,
+}
+
+impl<'a> Iterator for RemoteCandidates<'a> {
+    type Item = &'a Candidate;
+
+    ghost use Rattle.std.specs.Iterator.{YieldsFirstRef, item_count};
+    ghost use Rattle.is_agent.specs.Listed.{remote_left};
+
+    ghost next_gives = { YieldsFirstRef remote_left };
+
+    ghost remaining = { item_count remote_left };
+
+    fn next(&mut self) -> Option<&'a Candidate> {
+        self.live.next()
+    }
+}
+
+fn is_viable_at(remote: &[Candidate], address: SocketAddr, pair: &CandidatePair) -> bool
+    ensures { result ≡ is_viable_at remote.now address pair.now }
+{
+    pair.state() == CheckState::Succeeded
+        && same_address(address_at(remote, pair.remote_idx()), address)
+}
+
+fn any_viable_at(remote: &[Candidate], address: SocketAddr, pairs: &[CandidatePair]) -> bool
+    ensures { result ≡ list_any (is_viable_at remote.now address) pairs.now }
+{
+    pairs.iter().any(|pair| is_viable_at(remote, address, pair))
+}
+
+/// Whether a pair's remote candidate equals a candidate.
+#[derive(Clone, Copy)]
+struct Equivalent<'a> {
+    remote: &'a [Candidate],
+    candidate: &'a Candidate,
+}
+
+impl PairTest for Equivalent<'_> {
+    ghost use Rattle.is_agent.specs.Remote.{has_equivalent};
+
+    ghost passes = { λ t p. has_equivalent t.remote.now t.candidate.now p };
+
+    fn passes(&self, pair: &CandidatePair) -> bool {
+        has_equivalent(self.remote, self.candidate, pair)
+    }
+}
+
+impl<H: Sha1HmacProvider + Drop, P: LocalPreference> Agent<H, P> {
+    /// The local candidates that are not discarded. Takes no memory.
+    pub fn local_candidates(&self) -> LocalCandidates<'_>
+        ensures { local_left result ≡ live (record_of self.now).local }
+    {
+        let rest = &self.local;
+        LocalCandidates {
+            live: LiveCandidates { rest },
+        }
+    }
+
+    /// The remote candidates that are not discarded. Takes no memory.
+    pub fn remote_candidates(&self) -> RemoteCandidates<'_>
+        ensures { remote_left result ≡ live (record_of self.now).remote }
+    {
+        let rest = &self.remote;
+        RemoteCandidates {
+            live: LiveCandidates { rest },
+        }
+    }
+
+    /// How often things happened since the last restart.
+    pub fn stats(&self) -> IceAgentStats
+        ensures { result ≡ (record_of self.now).stats }
+    {
+        self.stats
+    }
+
+    /// Whether a check succeeded on a pair whose remote candidate has this address. Takes no memory.
+    pub fn has_viable_remote_candidate(&self, address: SocketAddr) -> bool
+        ensures { result ≡ has_viable_remote (record_of self.now) address }
+    {
+        any_viable_at(&self.remote, address, &self.pairs)
+    }
+
+    /// A pair whose remote candidate equals this one in address, base, protocol, kind and related address: one of greatest
+    /// priority among them. Takes no memory.
+    pub fn find_pair_for_equivalent_remote_candidate(
+        &self,
+        candidate: &Candidate,
+    ) -> Option<&CandidatePair>
+        ensures { FindsEquivalent (record_of self.now) candidate.now (option_copied result) }
+    {
+        let test = Equivalent {
+            remote: &self.remote,
+            candidate,
+        };
+        top_of(&self.pairs, &test)
+    }
+    /// The pair that was announced last, while it stands.
+    fn nominated_pair(&self) -> Option<&CandidatePair>
+        ensures { option_copied result ≡ nominated_pair (record_of self.now) }
+    {
+        announced_pair(self.announced, &self.pairs)
+    }
+
+    /// How long the last answered check took of the pair that was announced last. None where that pair is gone, or has
+    /// no answered check.
+    pub fn nominated_pair_rtt(&self) -> Option<Duration>
+        ensures { option_map (λ time. time.0) result ≡ nominated_rtt (record_of self.now) }
+    {
+        self.nominated_pair()?.last_successful_rtt()
+    }
+
+    /// How long all answered checks took together of the pair that was announced last, each answer counted. None where
+    /// that pair is gone.
+    pub fn nominated_pair_total_rtt(&self) -> Option<Duration>
+        ensures { option_map (λ time. time.0) result ≡ nominated_total_rtt (record_of self.now) }
+    {
+        Some(self.nominated_pair()?.total_round_trip_time())
+    }
+
+    /// How many answers came to checks of the pair that was announced last, repeated ones counted. None where that pair
+    /// is gone.
+    pub fn nominated_pair_responses_received(&self) -> Option<u64>
+        ensures { result ≡ nominated_responses (record_of self.now) }
+    {
+        Some(self.nominated_pair()?.responses_received())
+    }
+}

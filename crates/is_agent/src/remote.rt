@@ -1,0 +1,187 @@
+//! Remote candidates (RFC 8445, section 5.4).
+
+ghost use Rattle.std.specs.Prelude.{◌≡◌, ◌≤◌, ◌<◌, ◌+◌, IfSome, IsOkUnless, OnOk, position, length, vec_len, vec_capacity};
+ghost use Rattle.std.specs.List.{list_any};
+ghost use Rattle.is_agent.specs.View.{record_of};
+ghost use Rattle.is_agent.specs.Room.{HasFormingRoom};
+ghost use Rattle.is_agent.specs.Forming.{HasNumbers, FormsAll, remote_combinations};
+ghost use Rattle.is_agent.specs.Remote.{has_other_ufrag, has_equivalent, is_placeholder, as_remote, stored, place_or_end, is_ignored, StoresAt, JoinsRemote, AddsRemote};
+
+use crate::agent::Agent;
+use crate::forming::{form_each, has_numbers_for, remote_combinations};
+use crate::sides::Sides;
+use is_candidate::candidate::address::same_address;
+use is_candidate::candidate::equality::{is_equivalent, is_temporary};
+use is_candidate::candidate::internals::{clear_ufrag, component, enable};
+use is_candidate::{Candidate, LocalPreference};
+use is_pair::pair::CandidatePair;
+use is_proto::{IceError, Sha1HmacProvider};
+
+pub(crate) fn has_equivalent(
+    remote: &[Candidate],
+    candidate: &Candidate,
+    pair: &CandidatePair,
+) -> bool
+    ensures { result ≡ has_equivalent remote.now candidate.now pair.now }
+{
+    match remote.get(pair.remote_idx()) {
+        Some(other) => is_equivalent(candidate, other),
+        None => false,
+    }
+}
+
+/// A pair's remote candidate is equal to this one.
+fn is_paired(pairs: &[CandidatePair], remote: &[Candidate], candidate: &Candidate) -> bool
+    ensures { result ≡ list_any (has_equivalent remote.now candidate.now) pairs.now }
+{
+    pairs
+        .iter()
+        .any(|pair| has_equivalent(remote, candidate, pair))
+}
+
+fn is_placeholder(candidate: &Candidate, other: &Candidate) -> bool
+    ensures { result ≡ is_placeholder candidate.now other.now }
+{
+    is_temporary(other) && same_address(other.addr(), candidate.addr())
+}
+
+/// The first place of a candidate that a request brought, at the address of this one.
+fn place_of_placeholder(remote: &[Candidate], candidate: &Candidate) -> Option<usize>
+    ensures place { result ≡ position (is_placeholder candidate.now) remote.now }
+    ensures within { IfSome result (λ place. place < length remote.now) }
+{
+    remote
+        .iter()
+        .position(|other| is_placeholder(candidate, other))
+}
+
+fn place_or_end(place: Option<usize>, remote: &[Candidate]) -> usize
+    ensures { result ≡ place_or_end place remote.now }
+{
+    match place {
+        Some(place) => place,
+        None => remote.len(),
+    }
+}
+
+/// The candidate as one of the peer's: no user fragment, no discard mark.
+fn as_remote(mut candidate: Candidate) -> Candidate
+    ensures { result ≡ as_remote candidate }
+{
+    clear_ufrag(&mut candidate);
+    enable(&mut candidate);
+    candidate
+}
+
+/// Overwrites what stands at the place, or appends within the room that there is.
+fn store(remote: &mut Vec<Candidate>, place: Option<usize>, candidate: Candidate)
+    requires room { vec_len remote.old < vec_capacity remote.old }
+    requires within { IfSome place (λ place. place < length remote.old.items) }
+    ensures { remote.new.items ≡ stored candidate place remote.old.items }
+{
+    match place {
+        Some(place) => remote[place] = candidate,
+        None => remote.push_reserved(candidate),
+    }
+}
+
+impl<H: Sha1HmacProvider + Drop, P: LocalPreference> Agent<H, P> {
+    fn has_other_ufrag(&self, candidate: &Candidate) -> bool
+        ensures { result ≡ has_other_ufrag (record_of self.now).remote_creds candidate.now.ufrag }
+    {
+        match (&self.remote_creds, candidate.ufrag()) {
+            (Some(peer), Some(ufrag)) => ufrag != peer.ufrag.as_str(),
+            _ => false,
+        }
+    }
+
+    fn is_ignored(&self, candidate: &Candidate) -> bool
+        ensures { result ≡ is_ignored (record_of self.now) candidate.now }
+    {
+        component(candidate) != 1
+            || self.has_other_ufrag(candidate)
+            || is_paired(&self.pairs, &self.remote, candidate)
+    }
+
+    /// The combinations become pairs, within the room that there is, and then the limit holds.
+    pub(crate) fn form(&mut self, all: &[(usize, usize)])
+        requires room { vec_len self.old.pairs + length all.now ≤ vec_capacity self.old.pairs }
+        requires numbers { HasNumbers self.old.next_number (length all.now) }
+        ensures { FormsAll (record_of self.old) all.now (record_of self.new) }
+    {
+        let sides = Sides {
+            local: &self.local,
+            remote: &self.remote,
+            controlling: self.controlling,
+            lite: self.lite,
+        };
+        form_each(
+            sides,
+            self.max_pairs,
+            all,
+            &mut self.pairs,
+            &mut self.next_number,
+        );
+    }
+
+    /// Adds a candidate of the peer's, and forms pairs with it (RFC 8445, section 6.1.2). It takes the place of one that a
+    /// request from its address brought. A candidate of another component than 1, or of another user fragment than the
+    /// peer's, is ignored, and so is one that equals the remote candidate of a pair.
+    ///
+    /// Refused with `PairIdsExhausted` where no number is left for a pair, and with `OutOfMemory`; the agent is then as it
+    /// was.
+    pub fn add_remote_candidate(&mut self, candidate: Candidate) -> Result<(), IceError>
+        ensures { AddsRemote (record_of self.old) candidate result (record_of self.new) }
+    {
+        if self.is_ignored(&candidate) {
+            return Ok(());
+        }
+        self.join_remote(as_remote(candidate))
+    }
+
+    fn place_for(&self, candidate: &Candidate) -> Option<usize>
+        ensures place { result ≡ position (is_placeholder candidate.now) (record_of self.now).remote }
+        ensures within { IfSome result (λ place. place < length self.now.remote.items) }
+    {
+        place_of_placeholder(&self.remote, candidate)
+    }
+
+    /// Makes room for one more candidate and so many pairs.
+    fn take_forming_room(&mut self, pairs: usize) -> Result<(), IceError>
+        ensures record { record_of self.new ≡ record_of self.old }
+        ensures room { OnOk result (HasFormingRoom pairs self.new) }
+        ensures refused { IsOkUnless result IceError.OutOfMemory }
+    {
+        self.pairs.reserve(pairs)?;
+        self.remote.reserve(1)?;
+        Ok(())
+    }
+
+    /// Stores the candidate at its place, and forms pairs with it.
+    fn join_remote(&mut self, candidate: Candidate) -> Result<(), IceError>
+        ensures { JoinsRemote (record_of self.old) candidate result (record_of self.new) }
+    {
+        if !has_numbers_for(self.next_number, &candidate, &self.local) {
+            return Err(IceError::PairIdsExhausted);
+        }
+        let place = self.place_for(&candidate);
+        let end = place_or_end(place, &self.remote);
+        let alloc = *self.pairs.allocator();
+        let all = remote_combinations(alloc, &candidate, end, &self.local)?;
+        self.take_forming_room(all.len())?;
+        self.store_at(candidate, place, &all);
+        Ok(())
+    }
+
+    /// Stores the candidate at this place, and forms these combinations.
+    fn store_at(&mut self, candidate: Candidate, place: Option<usize>, all: &[(usize, usize)])
+        requires room { HasFormingRoom (length all.now) self.old }
+        requires within { IfSome place (λ place. place < length self.old.remote.items) }
+        requires numbers { HasNumbers self.old.next_number (length all.now) }
+        requires all { all.now ≡ remote_combinations candidate (place_or_end place self.old.remote.items) self.old.local.items }
+        ensures { StoresAt (record_of self.old) candidate place (record_of self.new) }
+    {
+        store(&mut self.remote, place, candidate);
+        self.form(all);
+    }
+}

@@ -1,0 +1,180 @@
+//! Restarts (RFC 8445, section 9), and pairs that are formed anew.
+
+ghost use Rattle.std.specs.Prelude.{◌≡◌, ◌≤◌, ◌+◌, ◌↔◌, IsTrue, None, false, IfOk, OnOk, length, map, vec_len, vec_capacity};
+ghost use Rattle.std.specs.VecDeque.{deque_len, deque_capacity};
+ghost use Rattle.is_agent.specs.Fitting.{are_too_long};
+ghost use Rattle.is_agent.specs.Forming.{live_combinations};
+ghost use Rattle.is_agent.specs.Kept.{NoneTooHigh};
+ghost use Rattle.is_agent.specs.Room.{HasEventRoom, HasPairRoom};
+ghost use Rattle.is_agent.specs.View.{record_of};
+ghost use Rattle.is_agent.specs.Restarting.{with_ufrag, kept_local, restarted, Restarts, HasNumbersForAll, Recreates};
+
+use crate::agent::Agent;
+use crate::credentials::{IceCreds, are_too_long};
+use crate::event::{IceAgentEvent, IceAgentStats, IceConnectionState};
+use crate::forming::{has_numbers_for_all, live_combinations};
+use crate::states::tell_state;
+use is_candidate::{Candidate, LocalPreference};
+use is_proto::{IceError, Sha1HmacProvider, Text};
+use std::alloc::{AllocError, Global};
+
+/// A copy of the candidate under this user fragment.
+fn renamed(candidate: &Candidate, ufrag: &Text, alloc: Global) -> Result<Candidate, AllocError>
+    ensures { IfOk result (λ c. c ≡ with_ufrag ufrag.now candidate.now) }
+{
+    let mut copy = candidate.clone()?;
+    match copy.set_ufrag(alloc, ufrag.as_str()) {
+        Ok(()) => Ok(copy),
+        Err(_) => Err(AllocError),
+    }
+}
+
+/// Copies of the candidates under this user fragment.
+fn all_renamed(
+    alloc: Global,
+    local: &[Candidate],
+    ufrag: &Text,
+) -> Result<Vec<Candidate>, AllocError>
+    ensures { IfOk result (λ kept. kept.items ≡ map (with_ufrag ufrag.now) local.now) }
+{
+    let mut kept = Vec::new(alloc);
+    for candidate in local {
+        kept.push(renamed(candidate, ufrag, alloc)?)?;
+    }
+    Ok(kept)
+}
+
+/// What is left of the local candidates.
+fn kept_local(
+    alloc: Global,
+    keep: bool,
+    ufrag: &Text,
+    local: &[Candidate],
+) -> Result<Vec<Candidate>, AllocError>
+    ensures kept { IfOk result (λ kept. kept.items ≡ kept_local keep ufrag.now local.now) }
+    ensures low { NoneTooHigh local.now → IfOk result (λ kept. NoneTooHigh kept.items) }
+{
+    if keep {
+        all_renamed(alloc, local, ufrag)
+    } else {
+        Ok(Vec::new(alloc))
+    }
+}
+
+/// What a restart takes.
+#[derive(Drop)]
+struct Beginning {
+    local: Vec<Candidate>,
+    creds: IceCreds,
+}
+
+impl<H: Sha1HmacProvider + Drop, P: LocalPreference> Agent<H, P> {
+    fn beginning(&self, creds: &IceCreds, keep: bool) -> Result<Beginning, AllocError>
+        ensures local { IfOk result (λ b. b.local.items ≡ kept_local keep creds.now.ufrag (record_of self.now).local) }
+        ensures low { IfOk result (λ b. NoneTooHigh b.local.items) }
+        ensures creds { IfOk result (λ b. b.creds ≡ creds.now) }
+    {
+        let local = kept_local(*self.local.allocator(), keep, &creds.ufrag, &self.local)?;
+        let creds = creds.clone()?;
+        Ok(Beginning { local, creds })
+    }
+
+    fn take_event_room(&mut self, events: usize) -> Result<(), AllocError>
+        ensures record { record_of self.new ≡ record_of self.old }
+        ensures room { OnOk result (HasEventRoom events self.new) }
+    {
+        self.events.reserve(events)
+    }
+
+    /// A session begins anew.
+    fn begin(&mut self, creds: IceCreds, keep: bool, beginning: Beginning)
+        requires fit { are_too_long creds None ≡ false }
+        requires room { HasEventRoom 2 self.old }
+        requires local { beginning.local.items ≡ kept_local keep creds.ufrag self.old.local.items }
+        requires low { NoneTooHigh beginning.local.items }
+        requires creds { beginning.creds ≡ creds }
+        ensures { record_of self.new ≡ restarted creds keep (record_of self.old) }
+    {
+        let Beginning { local, creds: told } = beginning;
+        self.local_creds = creds;
+        self.remote_creds = None;
+        self.local = local;
+        self.remote.clear();
+        self.pairs.clear();
+        self.packets.clear();
+        self.seen.clear();
+        self.stats = IceAgentStats::default();
+        self.events.clear();
+        self.events
+            .push_back_reserved(IceAgentEvent::IceRestart(told));
+        tell_state(
+            &mut self.state,
+            &mut self.events,
+            IceConnectionState::Checking,
+        );
+    }
+
+    /// Restarts the session under new credentials (RFC 8445, section 9): remote credentials, remote candidates, pairs,
+    /// packets, events, sources and statistics go. Local candidates stay, under the new user fragment, or go too. Role,
+    /// requests that wait, and the count of pairs stay.
+    ///
+    /// Refused with `CredentialsTooLong` where the user fragment and a colon are longer than 508 bytes, and with
+    /// `OutOfMemory`; the agent is then as it was.
+    pub fn ice_restart(&mut self, creds: IceCreds, keep: bool) -> Result<(), IceError>
+        ensures { Restarts (record_of self.old) creds keep result (record_of self.new) }
+    {
+        if are_too_long(&creds, &None) {
+            return Err(IceError::CredentialsTooLong);
+        }
+        let beginning = self.beginning(&creds, keep)?;
+        self.take_event_room(2)?;
+        self.begin(creds, keep, beginning);
+        Ok(())
+    }
+
+    // ---- pairs anew
+
+    fn has_numbers_for_all(&self) -> bool
+        ensures { IsTrue result ↔ HasNumbersForAll (record_of self.now) }
+    {
+        has_numbers_for_all(self.next_number, &self.local, &self.remote)
+    }
+
+    fn live_combinations(&self) -> Result<Vec<(usize, usize)>, AllocError>
+        ensures { IfOk result (λ all. all.items ≡ live_combinations (record_of self.now).local (record_of self.now).remote) }
+    {
+        live_combinations(*self.pairs.allocator(), &self.local, &self.remote)
+    }
+
+    /// Makes room for so many pairs and an event.
+    fn take_recreation_room(&mut self, pairs: usize) -> Result<(), AllocError>
+        ensures record { record_of self.new ≡ record_of self.old }
+        ensures room { OnOk result (HasPairRoom pairs self.new × HasEventRoom 1 self.new) }
+    {
+        self.pairs.reserve(pairs)?;
+        self.events.reserve(1)?;
+        Ok(())
+    }
+
+    /// Forms pairs anew, of all candidates that are not discarded; the state is Checking then.
+    ///
+    /// Refused with `PairIdsExhausted` where no number is left for a pair, and with `OutOfMemory`; the agent is then as it
+    /// was.
+    pub fn recreate_candidate_pairs(&mut self) -> Result<(), IceError>
+        ensures { Recreates (record_of self.old) result (record_of self.new) }
+    {
+        if !self.has_numbers_for_all() {
+            return Err(IceError::PairIdsExhausted);
+        }
+        let all = self.live_combinations()?;
+        self.take_recreation_room(all.len())?;
+        self.pairs.clear();
+        tell_state(
+            &mut self.state,
+            &mut self.events,
+            IceConnectionState::Checking,
+        );
+        self.form(&all);
+        Ok(())
+    }
+}

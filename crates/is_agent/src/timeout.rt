@@ -1,0 +1,277 @@
+//! What a moment does: nomination, pairs that are given up, and a check.
+//!
+//! Room for all of it is made before the agent changes; what follows can't be refused.
+
+ghost use Rattle.std.specs.Prelude.{◌≡◌, ◌<◌, Some, false, IfOk, IfErr, OnOk, IsOkUnless, MatchOption, length};
+ghost use Rattle.std.specs.List.{list_any};
+ghost use Rattle.is_proto.specs.declared.error.IceError.TheVariants as errors;
+ghost use Rattle.is_stun.specs.Laws.{IsPut};
+ghost use Rattle.is_stun.specs.Writing.{written};
+ghost use Rattle.is_stun.specs.declared.header.Class.TheVariants as classes;
+ghost use Rattle.is_agent.specs.declared.credentials.IceCreds as model;
+ghost use Rattle.is_agent.specs.View.{record_of, told_of};
+ghost use Rattle.is_agent.specs.Room.{HasPacketRoom, HasEventRoom, HasCheckRoom, IsPrepared};
+ghost use Rattle.is_agent.specs.Checking.{check_message, ChecksPair, ChecksNext, MayCheck};
+ghost use Rattle.is_agent.specs.Due.{pair_at, Drafts, check_counted};
+ghost use Rattle.is_pair.specs.Pairs.{PairRecord};
+ghost use Rattle.is_agent.specs.Queue.{request_at};
+ghost use Rattle.is_agent.specs.Sending.{with_packet};
+ghost use Rattle.is_agent.specs.States.{evaluated};
+ghost use Rattle.is_agent.specs.Told.{issued_as};
+ghost use Rattle.is_agent.specs.Waking.{IsWaking};
+ghost use Rattle.is_agent.specs.Timeouts.{awake, is_given_up, given_up_gone, GivesUp, MayRefuseMoment, ServesQueued, Proceeds, TimesOut};
+
+use crate::agent::Agent;
+use crate::checking::{Draft, write_username};
+use crate::due::next_due;
+use crate::rounds::{
+    are_rising, ask_kept, attempt_at, drop_given_up, hear_all, is_given_up, reserve_spare_of,
+};
+use crate::settings::MTU_FLOOR;
+use crate::states::tell_state;
+use crate::told::{Issued, Path, Told};
+use crate::waking::Waking;
+use is_candidate::LocalPreference;
+use is_proto::{IceError, Instant, Sha1HmacProvider, Transmit};
+use is_stun::stun::{Class, TransId};
+use rand_core::Rng;
+use std::alloc::AllocError;
+
+// ---- pairs that are given up
+
+impl<H: Sha1HmacProvider + Drop, P: LocalPreference> Agent<H, P> {
+    fn any_given_up(&self, now: Instant) -> bool
+        ensures { result ≡ list_any (is_given_up now.0 (record_of self.now)) self.now.pairs.items }
+    {
+        self.pairs
+            .iter()
+            .any(|pair| is_given_up(pair, self.lite, now, &self.timing))
+    }
+
+    fn drop_given_up(&mut self, now: Instant)
+        ensures gone { record_of self.new ≡ given_up_gone now.0 (record_of self.old) }
+        ensures events { HasEventRoom 2 self.old → HasEventRoom 2 self.new }
+        ensures checks { HasCheckRoom self.old → HasCheckRoom self.new }
+    {
+        drop_given_up(&mut self.pairs, self.lite, now, &self.timing);
+    }
+
+    fn evaluate_at(&mut self, now: Instant)
+        requires room { HasEventRoom 1 self.old }
+        ensures evaluated { record_of self.new ≡ evaluated now.0 (record_of self.old) }
+        ensures checks { HasCheckRoom self.old → HasCheckRoom self.new }
+    {
+        let state = self.state_at(now);
+        tell_state(&mut self.state, &mut self.events, state);
+    }
+
+    /// Pairs that are not possible any more go; where one does, nomination and state are evaluated.
+    fn give_up(&mut self, now: Instant) -> Option<Path>
+        requires room { HasEventRoom 2 self.old }
+        ensures given_up { GivesUp now.0 (record_of self.old) result (record_of self.new) }
+        ensures checks { HasCheckRoom self.old → HasCheckRoom self.new }
+    {
+        if !self.any_given_up(now) {
+            return None;
+        }
+        self.drop_given_up(now);
+        let path = self.evaluate_nomination();
+        self.evaluate_at(now);
+        path
+    }
+}
+
+// ---- a check
+
+impl<H: Sha1HmacProvider + Drop, P: LocalPreference> Agent<H, P> {
+    /// The check goes out, and counts.
+    fn send(&mut self, draft: Draft, id: TransId) -> Issued
+        requires packets { HasPacketRoom self.old }
+        requires prepared { IsPrepared self.old }
+        ensures issued { result ≡ issued_as draft.path classes.Request id.0 }
+        ensures put { (peer : model.IceCreds) (p : PairRecord) → self.old.remote_creds ≡ Some peer → Drafts (record_of self.old) p draft → IsPut (written (H.mac self.old.provider) (Some peer.pass) (check_message (record_of self.old) peer p id.0)) (check_message (record_of self.old) peer p id.0) }
+        ensures sent { (peer : model.IceCreds) (p : PairRecord) → self.old.remote_creds ≡ Some peer → Drafts (record_of self.old) p draft → record_of self.new ≡ with_packet draft.path (written (H.mac self.old.provider) (Some peer.pass) (check_message (record_of self.old) peer p id.0)) (check_counted (record_of self.old)) }
+    {
+        let empty = Vec::new(*self.packets.allocator());
+        let contents = std::mem::replace(&mut self.contents, empty);
+        let contents = self.check_bytes(contents, id, draft);
+        self.stats.bind_request_sent = self.stats.bind_request_sent.saturating_add(1);
+        let path = draft.path;
+        self.packets.push_back_reserved(Transmit {
+            proto: path.proto,
+            source: path.source,
+            destination: path.destination,
+            contents,
+        });
+        Issued::new(path, Class::Request, id)
+    }
+
+    /// The pair at the place is checked.
+    fn check_at<R: Rng>(&mut self, place: usize, now: Instant, rng: &mut R) -> Issued
+        requires within { place < length self.old.pairs.items }
+        requires room { HasCheckRoom self.old }
+        requires prepared { IsPrepared self.old }
+        ensures { (peer : model.IceCreds) → self.old.remote_creds ≡ Some peer → ChecksPair H.mac now.0 peer (pair_at self.old.pairs.items place) (record_of self.old) (R.stream rng.old) (Some result) (record_of self.new) (R.stream rng.new) }
+    {
+        let draft = self.draft(place);
+        let id = attempt_at(
+            &mut self.pairs,
+            place,
+            now,
+            &self.timing,
+            self.controlling,
+            rng,
+            &mut self.spare,
+        );
+        self.send(draft, id)
+    }
+
+    /// The pair that is due first is checked. The pairs were asked for their due moments.
+    fn check_next<R: Rng>(&mut self, now: Instant, rng: &mut R) -> Option<Issued>
+        requires room { HasCheckRoom self.old }
+        requires prepared { IsPrepared self.old }
+        ensures { (peer : model.IceCreds) → self.old.remote_creds ≡ Some peer → ChecksNext H.mac now.0 peer (record_of self.old) (R.stream rng.old) result (record_of self.new) (R.stream rng.new) }
+    {
+        match next_due(&self.pairs, now) {
+            None => None,
+            Some(place) => Some(self.check_at(place, now, rng)),
+        }
+    }
+
+    /// The same, where the peer is known: each pair is asked for its due moment first. A lite agent sends no check.
+    fn may_check<R: Rng>(&mut self, now: Instant, rng: &mut R) -> Option<Issued>
+        requires { HasCheckRoom self.old }
+        ensures { MayCheck H.mac now.0 (record_of self.old).remote_creds (record_of self.old) (R.stream rng.old) result (record_of self.new) (R.stream rng.new) }
+    {
+        match self.remote_creds {
+            None => None,
+            Some(_) => {
+                if self.lite {
+                    hear_all(&mut self.pairs, now);
+                    return None;
+                }
+                ask_kept(&mut self.pairs, now, &self.timing);
+                self.check_next(now, rng)
+            }
+        }
+    }
+}
+
+// ---- room
+
+impl<H: Sha1HmacProvider + Drop, P: LocalPreference> Agent<H, P> {
+    /// Makes ready what a check says, where the agent may send one.
+    fn prepare_check(&mut self) -> Result<(), AllocError>
+        ensures record { record_of self.new ≡ record_of self.old }
+        ensures prepared { OnOk result (self.new.lite ≡ false → IsPrepared self.new) }
+    {
+        let Some(peer) = &self.remote_creds else {
+            return Ok(());
+        };
+        if self.lite {
+            return Ok(());
+        }
+        write_username(&mut self.username, peer, &self.local_creds)?;
+        self.contents.resize(MTU_FLOOR, 0)
+    }
+
+    /// Makes room for a packet, and for one more check of any pair. The pairs have numbers of their own, or none is made.
+    fn take_check_room(&mut self) -> Result<(), IceError>
+        ensures record { record_of self.new ≡ record_of self.old }
+        ensures room { OnOk result (HasCheckRoom self.new) }
+        ensures refused { IsOkUnless result errors.OutOfMemory }
+    {
+        if !are_rising(&self.pairs) {
+            return Err(IceError::OutOfMemory);
+        }
+        self.prepare_check()?;
+        self.packets.reserve(1)?;
+        reserve_spare_of(&mut self.spare, &self.pairs)?;
+        Ok(())
+    }
+
+    /// Makes room for five events, and for a check.
+    fn take_round_room(&mut self) -> Result<(), IceError>
+        ensures record { record_of self.new ≡ record_of self.old }
+        ensures events { OnOk result (HasEventRoom 5 self.new) }
+        ensures checks { OnOk result (HasCheckRoom self.new) }
+        ensures refused { IsOkUnless result errors.OutOfMemory }
+    {
+        self.take_check_room()?;
+        self.events.reserve(5)?;
+        Ok(())
+    }
+}
+
+// ---- the moment
+
+impl<H: Sha1HmacProvider + Drop, P: LocalPreference> Agent<H, P> {
+    /// All that the moment does behind waking, with room for it.
+    fn proceed<R: Rng>(&mut self, now: Instant, rng: &mut R) -> Told
+        requires events { HasEventRoom 3 self.old }
+        requires checks { HasCheckRoom self.old }
+        ensures { Proceeds H.mac now.0 (record_of self.old) (R.stream rng.old) result (record_of self.new) (R.stream rng.new) }
+    {
+        self.last_moment = Some(now);
+        let first = self.evaluate_nomination();
+        let second = self.give_up(now);
+        let issued = self.may_check(now, rng);
+        Told::by(issued, first, second)
+    }
+
+    /// The moment begins, and all follows, with room for both.
+    fn wake_and_proceed<R: Rng>(&mut self, now: Instant, rng: &mut R, waking: Waking) -> Told
+        requires waking { IsWaking now.0 (record_of self.old) waking }
+        requires events { HasEventRoom 5 self.old }
+        requires checks { HasCheckRoom self.old }
+        ensures { Proceeds H.mac now.0 (awake now.0 (record_of self.old)) (R.stream rng.old) result (record_of self.new) (R.stream rng.new) }
+    {
+        self.wake(now, waking);
+        self.proceed(now, rng)
+    }
+
+    /// All that this moment does where it serves no request.
+    fn advance<R: Rng>(&mut self, now: Instant, rng: &mut R) -> Result<Told, IceError>
+        ensures advanced { IfOk result (λ told. Proceeds H.mac now.0 (awake now.0 (record_of self.old)) (R.stream rng.old) told (record_of self.new) (R.stream rng.new)) }
+        ensures refused { IsOkUnless result errors.OutOfMemory }
+        ensures unchanged { IfErr result (λ _. (record_of self.new ≡ record_of self.old) × (R.stream rng.new ≡ R.stream rng.old)) }
+    {
+        let waking = self.waking(now)?;
+        self.take_round_room()?;
+        Ok(self.wake_and_proceed(now, rng, waking))
+    }
+
+    /// The request that waited is served; where there is none, the agent advances.
+    fn pass<R: Rng>(&mut self, now: Instant, rng: &mut R) -> Result<Told, IceError>
+        ensures passed { IfOk result (λ told. MatchOption (request_at now.0 (record_of self.old)) (Proceeds H.mac now.0 (awake now.0 (record_of self.old)) (R.stream rng.old) told (record_of self.new) (R.stream rng.new)) (λ q. ServesQueued H.mac q (awake now.0 (record_of self.old)) (R.stream rng.old) told (record_of self.new) (R.stream rng.new))) }
+        ensures refused { IfErr result (λ error. MayRefuseMoment now.0 (record_of self.old) error) }
+        ensures unchanged { IfErr result (λ _. (record_of self.new ≡ record_of self.old) × (R.stream rng.new ≡ R.stream rng.old)) }
+    {
+        match self.late_request(now)? {
+            Some(waiting) => self.serve_waiting(now, &waiting),
+            None => self.advance(now, rng),
+        }
+    }
+
+    /// Tells the agent of a moment. In New the start is told of, and the state is evaluated. A request that waited is
+    /// served, once remote credentials are known; where there is none, a pair is nominated, pairs that are not possible any
+    /// more go, and the pair that is due first is checked (RFC 8445, sections 6.1.4.2, 7.2.4 and 8.1.1). Nothing is
+    /// allocated but what the events and the packet that it issues take.
+    ///
+    /// Refused with `PairIdsExhausted` where a request is served, a pair must be added and no number is left, and with
+    /// `OutOfMemory`; the agent is then as it was, and nothing was drawn.
+    pub fn handle_timeout<R: Rng>(&mut self, now: Instant, rng: &mut R) -> Result<(), IceError>
+        ensures { TimesOut H.mac now.0 (record_of self.old) (R.stream rng.old) result (told_of self.new) (record_of self.new) (R.stream rng.new) }
+    {
+        match self.pass(now, rng) {
+            Ok(told) => {
+                self.told = told;
+                Ok(())
+            }
+            Err(error) => {
+                self.told = Told::nothing();
+                Err(error)
+            }
+        }
+    }
+}

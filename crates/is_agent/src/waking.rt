@@ -1,0 +1,224 @@
+//! What a moment begins with: the start is told of, the state is evaluated, and outdated requests go.
+
+ghost use Rattle.std.specs.Prelude.{◌≡◌, ◌<◌, ◌≤◌, ◌+◌, true, false, IfOk, IfErr, IfSome, OnOk, IsOkUnless, length, MatchOption, option_map, slice_get, take_while};
+ghost use Rattle.std.specs.VecDeque.{deque_len, deque_capacity};
+ghost use Rattle.std.specs.Option.{option_copied};
+ghost use Rattle.is_agent.specs.RequestView.{request_view, waiting_view};
+ghost use Rattle.is_agent.specs.Room.{HasEventRoom, HasNewsRoom, HasServingRoom, HasPacketRoom, HasCheckRoom};
+ghost use Rattle.is_agent.specs.Serving.{Serves, LacksNumber, AlwaysLacksNumber, MayRefuseRequest};
+ghost use Rattle.is_proto.specs.declared.error.IceError.TheVariants as errors;
+ghost use Rattle.is_agent.specs.View.{record_of};
+ghost use Rattle.is_agent.specs.Queue.{request_at, is_outdated, first_taken};
+ghost use Rattle.is_agent.specs.Waking.{start_event, with_start, outdated, waking_state, IsWaking};
+ghost use Rattle.is_agent.specs.Timeouts.{awake, MayRefuseMoment};
+
+use crate::agent::Agent;
+use crate::event::{IceAgentEvent, IceConnectionState};
+use crate::queue::{count_outdated, drop_first};
+use crate::request::{Request, Waiting};
+use crate::states::{same_state, tell_state};
+use crate::told::Told;
+use is_candidate::LocalPreference;
+use is_proto::{IceError, Instant, Sha1HmacProvider};
+use std::alloc::AllocError;
+use std::collections::VecDeque;
+
+/// What a moment begins with.
+#[derive(Drop)]
+pub(crate) struct Waking {
+    /// The start of the first session.
+    pub(crate) start: Option<IceAgentEvent>,
+    pub(crate) state: IceConnectionState,
+    /// How many requests are outdated.
+    pub(crate) outdated: usize,
+}
+
+fn waiting_at(queue: &VecDeque<Waiting>, place: usize) -> Option<&Waiting>
+    ensures { option_copied result ≡ slice_get queue.now.items place }
+{
+    queue.get(place)
+}
+
+/// The start is told of, where there is one.
+fn tell_start(events: &mut VecDeque<IceAgentEvent>, start: Option<IceAgentEvent>)
+    requires room { deque_len events.old < deque_capacity events.old }
+    ensures items { events.new.items ≡ with_start start events.old.items }
+    ensures len { deque_len events.new ≤ deque_len events.old + 1 }
+    ensures capacity { deque_capacity events.new ≡ deque_capacity events.old }
+{
+    if let Some(event) = start {
+        events.push_back_reserved(event);
+    }
+}
+
+impl<H: Sha1HmacProvider + Drop, P: LocalPreference> Agent<H, P> {
+    fn start_event(&self) -> Result<Option<IceAgentEvent>, AllocError>
+        ensures { IfOk result (λ event. event ≡ start_event (record_of self.now).state (record_of self.now).local_creds) }
+    {
+        if !same_state(self.state, IceConnectionState::New) {
+            return Ok(None);
+        }
+        Ok(Some(IceAgentEvent::IceRestart(self.local_creds.clone()?)))
+    }
+
+    fn outdated(&self, now: Instant) -> usize
+        ensures { result ≡ outdated now.0 (record_of self.now).timing (record_of self.now).remote_creds (record_of self.now) }
+    {
+        match self.remote_creds {
+            None => 0,
+            Some(_) => count_outdated(&self.queue, now, &self.timing),
+        }
+    }
+
+    /// What this moment begins with.
+    pub(crate) fn waking(&self, now: Instant) -> Result<Waking, AllocError>
+        ensures { IfOk result (λ waking. IsWaking now.0 (record_of self.now) waking) }
+    {
+        let start = self.start_event()?;
+        Ok(Waking {
+            start,
+            state: self.state_at(now),
+            outdated: self.outdated(now),
+        })
+    }
+
+    /// The moment begins, within room for two events.
+    pub(crate) fn wake(&mut self, now: Instant, waking: Waking)
+        requires waking { IsWaking now.0 (record_of self.old) waking }
+        requires room { HasEventRoom 2 self.old }
+        ensures awake { record_of self.new ≡ awake now.0 (record_of self.old) }
+        ensures serving { HasServingRoom self.old → HasServingRoom self.new }
+        ensures packets { HasPacketRoom self.old → HasPacketRoom self.new }
+        ensures events { HasEventRoom 5 self.old → HasEventRoom 3 self.new }
+        ensures news { HasNewsRoom 4 self.old → HasNewsRoom 2 self.new }
+        ensures checks { HasCheckRoom self.old → HasCheckRoom self.new }
+    {
+        let Waking {
+            start,
+            state,
+            outdated,
+        } = waking;
+        tell_start(&mut self.events, start);
+        tell_state(&mut self.state, &mut self.events, state);
+        drop_first(&mut self.queue, outdated);
+    }
+
+    /// Serving the request would need a number, and none is left.
+    fn lacks_at(&self, request: &Request<'_>) -> bool
+        ensures lacks { result ≡ true → LacksNumber (record_of self.now) (request_view request.now) }
+        ensures has { result ≡ false → ¬ AlwaysLacksNumber (record_of self.now) (request_view request.now) }
+    {
+        match self.places_of(request) {
+            None => false,
+            Some(at) => self.lacks_number(request, at),
+        }
+    }
+
+    /// A copy of the request at the place, where there is one. Numbers are looked at before memory.
+    fn late_at(&self, place: usize) -> Result<Option<Waiting>, IceError>
+        ensures copy { IfOk result (λ copy. option_map waiting_view copy ≡ option_map waiting_view (slice_get self.now.queue.items place)) }
+        ensures has { IfOk result (λ copy. IfSome copy (λ q. ¬ AlwaysLacksNumber (record_of self.now) (waiting_view q))) }
+        ensures refused { IfErr result (λ error. MatchOption (option_map waiting_view (slice_get self.now.queue.items place)) (error ≡ errors.OutOfMemory) (λ q. MayRefuseRequest (record_of self.now) q error)) }
+    {
+        match waiting_at(&self.queue, place) {
+            None => Ok(None),
+            Some(waiting) => {
+                let request = waiting.request();
+                if self.lacks_at(&request) {
+                    return Err(IceError::PairIdsExhausted);
+                }
+                match Waiting::new(*self.queue.allocator(), &request) {
+                    Ok(copy) => Ok(Some(copy)),
+                    Err(_) => Err(IceError::OutOfMemory),
+                }
+            }
+        }
+    }
+
+    /// A copy of the request that this moment serves, if there is one. Numbers are looked at before memory.
+    pub(crate) fn late_request(&self, now: Instant) -> Result<Option<Waiting>, IceError>
+        ensures copy { IfOk result (λ copy. option_map waiting_view copy ≡ request_at now.0 (record_of self.now)) }
+        ensures has { IfOk result (λ copy. IfSome copy (λ q. ¬ AlwaysLacksNumber (record_of self.now) (waiting_view q))) }
+        ensures refused { IfErr result (λ error. MayRefuseMoment now.0 (record_of self.now) error) }
+    {
+        match self.remote_creds {
+            None => Ok(None),
+            Some(_) => self.late_at(self.outdated(now)),
+        }
+    }
+
+    /// The moment begins, and the request, the first that is left, is served.
+    pub(crate) fn serve_waiting(
+        &mut self,
+        now: Instant,
+        waiting: &Waiting,
+    ) -> Result<Told, IceError>
+        requires has { ¬ AlwaysLacksNumber (record_of self.old) (waiting_view waiting.now) }
+        ensures served { IfOk result (λ told. Serves H.mac (waiting_view waiting.now) (first_taken (awake now.0 (record_of self.old))) told (record_of self.new)) }
+        ensures refused { IfErr result (λ error. MayRefuseRequest (record_of self.old) (waiting_view waiting.now) error × (record_of self.new ≡ record_of self.old)) }
+    {
+        let waking = self.waking(now)?;
+        let request = waiting.request();
+        self.serve_late(now, waking, &request)
+    }
+
+    /// The same, and the first request that is left goes.
+    fn wake_first(&mut self, now: Instant, waking: Waking)
+        requires waking { IsWaking now.0 (record_of self.old) waking }
+        requires room { HasEventRoom 2 self.old }
+        ensures awake { record_of self.new ≡ first_taken (awake now.0 (record_of self.old)) }
+        ensures serving { HasServingRoom self.old → HasServingRoom self.new }
+        ensures news { HasNewsRoom 4 self.old → HasNewsRoom 2 self.new }
+    {
+        self.wake(now, waking);
+        drop_first(&mut self.queue, 1);
+    }
+
+    fn take_waking_room(&mut self) -> Result<(), IceError>
+        ensures record { record_of self.new ≡ record_of self.old }
+        ensures room { OnOk result (HasEventRoom 2 self.new) }
+        ensures refused { IsOkUnless result errors.OutOfMemory }
+    {
+        self.events.reserve(2)?;
+        Ok(())
+    }
+
+    /// Makes room for all that the moment and serving a request that waited can add.
+    fn take_late_room(&mut self) -> Result<(), IceError>
+        ensures record { record_of self.new ≡ record_of self.old }
+        ensures room { OnOk result (HasServingRoom self.new × HasNewsRoom 4 self.new) }
+        ensures refused { IsOkUnless result errors.OutOfMemory }
+    {
+        self.remote.reserve(1)?;
+        self.pairs.reserve(1)?;
+        self.packets.reserve(1)?;
+        self.seen.reserve(1)?;
+        self.events.reserve(4)?;
+        Ok(())
+    }
+
+    /// The moment begins, and the request, the first that is left, is served. Numbers are looked at before memory.
+    fn serve_late(
+        &mut self,
+        now: Instant,
+        waking: Waking,
+        request: &Request<'_>,
+    ) -> Result<Told, IceError>
+        requires waking { IsWaking now.0 (record_of self.old) waking }
+        ensures served { IfOk result (λ told. Serves H.mac (request_view request.now) (first_taken (awake now.0 (record_of self.old))) told (record_of self.new)) }
+        ensures refused { IfErr result (λ error. MayRefuseRequest (record_of self.old) (request_view request.now) error × (record_of self.new ≡ record_of self.old)) }
+    {
+        let Some(at) = self.places_of(request) else {
+            self.take_waking_room()?;
+            self.wake_first(now, waking);
+            return Ok(Told::nothing());
+        };
+        if self.lacks_number(request, at) {
+            return Err(IceError::PairIdsExhausted);
+        }
+        let supplies = self.supplies_for(request, at)?;
+        self.take_late_room()?;
+        self.wake_first(now, waking);
+        Ok(self.settle(request, at, supplies))
+    }
+}
