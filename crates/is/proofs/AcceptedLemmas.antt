@@ -8,14 +8,14 @@ use Rattle.is_candidate.specs.Candidates.{CandidateRecord}
 use Rattle.is_agent.specs.declared.told.Path.{Path}
 use Rattle.is_agent.specs.declared.told.Told.{Told}
 use Rattle.is_agent.specs.Agent.{AgentRecord}
-use Rattle.is_agent.specs.Accepting.{IsAccepted, HandlesPacket}
+use Rattle.is_agent.specs.Accepting.{IsAcceptedOn, HandlesPacket}
 use Rattle.is_agent.specs.Steps.{Entry, Flag, answer_by, Receives, Step, ReceivePacket}
-use Rattle.is.specs.Log.{Logged}
+use Rattle.is_agent.specs.Logs.{Logged}
 use Rattle.is.specs.Accepted.{IsSettled, PacketsAreSettled}
 
 module _ {H P : Type 0} (mac : H → List ℕ → List ℕ → List ℕ) where
   handled : (old new : AgentRecord H P) (now : ℕ) (way : Path) (bytes : List ℕ) (m : Message) (r : Result Bool IceError) (told : Told) (e : Entry)
-      → Reads bytes m → e ≡ record { answer = answer_by Flag r; told = told } → HandlesPacket mac now old way m r told new → IsSettled mac old bytes e new
+      → Reads bytes m → e ≡ record { answer = answer_by Flag r; told = told } → HandlesPacket mac now old way m r told new → IsSettled mac old way bytes e new
   handled old new now way bytes m (Ok true) told e reads is did = record {
     unaccepted = λ no. absurd (no (m, reads, did.0));
     accepted = λ _. inl (ap (λ (x : Entry). x.answer) is);
@@ -27,7 +27,7 @@ module _ {H P : Type 0} (mac : H → List ℕ → List ℕ → List ℕ) where
       answer = inl (ap (λ (x : Entry). x.answer) is);
     };
     accepted = λ (n, other, accepted).
-        absurd (unaccepted (subst (λ (k : Message). IsAccepted mac old k) (other.spelled ∙ sym reads.spelled) accepted));
+        absurd (unaccepted (subst (λ (k : Message). IsAcceptedOn mac old way k) (other.spelled ∙ sym reads.spelled) accepted));
   }
   handled old new now way bytes m (Err error) told e reads is (may, nothing, same) = record {
     unaccepted = λ no. absurd (no (m, reads, may.0));
@@ -36,7 +36,7 @@ module _ {H P : Type 0} (mac : H → List ℕ → List ℕ → List ℕ) where
 
 module _ {H P : Type 0} (mac : H → List ℕ → List ℕ → List ℕ) (answers : P → CandidateRecord → ℕ → ℕ → Type 0) where
   settled : (old new : AgentRecord H P) (now : ℕ) (way : Path) (bytes : List ℕ) (e : Entry)
-      → Receives mac answers now old way bytes e new → IsSettled mac old bytes e new
+      → Receives mac answers now old way bytes e new → IsSettled mac old way bytes e new
   settled old new now way bytes e (inl (fault, fails, is, same)) = record {
     unaccepted = λ _. record {
       same = same;
@@ -48,7 +48,6 @@ module _ {H P : Type 0} (mac : H → List ℕ → List ℕ → List ℕ) (answer
   settled old new now way bytes e (inr (m, reads, (r, told, is, did))) = handled mac old new now way bytes m r told e reads is did
 
   pub packets_are_settled : (first : AgentRecord H P) (s : Stream) (log : List (Logged P)) → PacketsAreSettled mac answers first s log
-  packets_are_settled first s log before mid after x now way bytes point is =
-      let step = point.led.2.1 in
-      let received : Step mac answers mid point.led.0 (ReceivePacket now way bytes) x.entry after point.led.2.0 = rw is at step in
+  packets_are_settled first s log before mid after x point now way bytes is =
+      let received : Step mac answers mid point.at (ReceivePacket now way bytes) x.entry after point.behind = rw is at point.step in
       settled mid after now way bytes x.entry received.0

@@ -1,5 +1,14 @@
 mod Logs
-mod Addresses
-mod Served
 mod AcceptedLemmas
-mod RepliesLemmas
+mod QueuesLemmas
+mod Turned
+mod WorldLogs
+mod Seen
+mod SeenGrow
+mod SeenClaims
+mod SeenCarried
+mod SeenRuns
+mod Following
+mod Settled
+mod Traced
+mod MarkLemmas

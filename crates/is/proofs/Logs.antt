@@ -1,5 +1,5 @@
 -- A log grows by a call and its entry.
-use Rattle.std.proofs.Common.{◌≡◌, List, [], ◌∷◌, ◌++◌, length, ◌<◌, true, false, refl, arith, ap, ◌∙◌, append_assoc, length-append, ◌+◌, ℕ}
+use Rattle.std.proofs.Common.{◌≡◌, List, [], ◌∷◌, ◌++◌, length, ◌<◌, true, false, refl, arith, ap, ◌∙◌, append_assoc, length-append, ◌+◌, ℕ, subst, sym}
 use Rattle.std.specs.Prelude.{MatchBool}
 use Rattle.rand_core.specs.Stream.{Stream}
 use Rattle.is.specs.declared.calls.AgentCall.{AgentCall}
@@ -7,7 +7,9 @@ use Rattle.is.specs.declared.calls.Entry.{Entry}
 use Rattle.is.specs.declared.runs.RunLog.{RunLog}
 use Rattle.is_candidate.specs.Candidates.{CandidateRecord}
 use Rattle.is_agent.specs.Agent.{AgentRecord}
-use Rattle.is.specs.Log.{Logged, logged_as, logged, log_of, Run, IsRunLog}
+use Rattle.is_agent.specs.Logs.{Logged}
+use Rattle.is_agent.specs.Runs.{Run, Point, EntriesArePoints}
+use Rattle.is.specs.Log.{logged_as, logged, log_of, IsRunLog, EntriesStand}
 
 pub logged-push : {P : Type 0} (log : List (Logged P)) (calls : List (AgentCall P)) (entries : List Entry) (c : AgentCall P) (e : Entry) → length entries ≡ length calls → logged log (calls ++ c ∷ []) (entries ++ e ∷ []) ≡ logged_as c e ∷ logged log calls entries
 logged-push log [] [] c e h = refl
@@ -32,6 +34,14 @@ module _ {H P : Type 0} (mac : H → List ℕ → List ℕ → List ℕ) (answer
   run_of old new s t calls log is =
       elim log.stopped as (λ b. MatchBool b ((log.entries.items ≡ []) × (new ≡ old) × (t ≡ s)) ((length log.entries.items ≡ length calls) × Run mac answers old s (log_of calls log) new t) → Run mac answers old s (log_of calls log) new t)
       [ true ↦ λ h. rw (h.0, logged-none) (h.1, h.2) | false ↦ λ h. h.1 ] is
+
+  -- each entry of a run's log stands between two records
+  pub entries_stand : EntriesArePoints mac answers → (first last : AgentRecord H P) (s t : Stream) (log : List (Logged P)) → Run mac answers first s log last t
+      → EntriesStand mac answers first s log
+  entries_stand law first last s t log run rest before x split =
+      let at : (mid after : AgentRecord H P) × Point mac answers first s (rest ++ x ∷ before) before mid x after =
+      law first last s t rest before x (subst (λ (l : List (Logged P)). Run mac answers first s l last t) split run) in
+      subst (λ (l : List (Logged P)). (mid after : AgentRecord H P) × Point mac answers first s l before mid x after) (sym split) at
 
 -- a call is left, so fewer were made than there are
 pub fewer : {P : Type 0} (made left all more : List (AgentCall P)) (c : AgentCall P) → made ++ left ≡ all → left ≡ c ∷ more → length made < length all

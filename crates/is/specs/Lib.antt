@@ -2,7 +2,12 @@
 pub mod Views
 pub mod Log
 pub mod Accepted
-pub mod Replies
+pub mod Queues
+pub mod World
+pub mod WorldRoles
+pub mod Traces
+pub mod Marks
+pub mod WorldLaws
 pub use Rattle.is_proto.specs.Moments
 pub use Rattle.is_proto.specs.Packets
 pub use Rattle.is_proto.specs.Words
@@ -20,3 +25,5 @@ pub use Rattle.is_agent.specs.View
 pub use Rattle.is_agent.specs.Accepting
 pub use Rattle.is_agent.specs.Serving
 pub use Rattle.is_agent.specs.Steps
+pub use Rattle.is_agent.specs.Logs
+pub use Rattle.is_agent.specs.Runs

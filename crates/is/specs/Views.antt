@@ -1,19 +1,36 @@
 -- What specs see of calls, answers and entries: no room of vectors, and no parts of packets apart.
 use Rattle.std.specs.Prelude.{option_map}
+use Rattle.std.specs.Range.{range_inclusive_start, range_inclusive_end}
 use Rattle.is_proto.specs.Packets.{packet_of}
 use Rattle.is_agent.specs.Steps as agent
 use Rattle.is.specs.declared.calls.AgentCall.{AgentCall}
-use Rattle.is.specs.declared.calls.AgentCall.TheVariants.{SetLocalPreference, SetRemoteCredentials, AddLocalCandidate, Packet, PollTransmit, PollTimeout, PollEvent}
+use Rattle.is.specs.declared.calls.AgentCall.TheVariants.{SetMtu, SetControlTieBreaker, SetMaxCandidatePairs, SetIceLite, SetTimingAdvance, SetInitialStunRto, SetMaxStunRto, SetMaxStunRetransmits, SetLocalPreference, SetControlling, SetLocalCredentials, SetRemoteCredentials, SkipPairIds, AddLocalCandidate, AddRemoteCandidate, InvalidateCandidate, RestartIce, RecreateCandidatePairs, Packet, HandleTimeout, PollTransmit, PollTimeout, PollEvent}
 use Rattle.is.specs.declared.calls.Answer.{Answer}
 use Rattle.is.specs.declared.calls.Answer.TheVariants.{Done, Added, NotAdded, Flag, Transmit, Event, Wake, Unparsed, Refused, NotCalled, NotInWorld, NoSuchPacket}
 use Rattle.is.specs.declared.calls.Entry.{Entry}
 
 abbrev pub call_view : {P : Type 0} → AgentCall P → agent.Call P
+call_view (SetMtu mtu) = agent.SetMtu (range_inclusive_start mtu) (range_inclusive_end mtu)
+call_view (SetControlTieBreaker tie_breaker) = agent.SetControlTieBreaker tie_breaker
+call_view (SetMaxCandidatePairs limit) = agent.SetMaxCandidatePairs limit
+call_view (SetIceLite lite) = agent.SetIceLite lite
+call_view (SetTimingAdvance advance) = agent.SetTimingAdvance advance.0
+call_view (SetInitialStunRto rto) = agent.SetInitialStunRto rto.0
+call_view (SetMaxStunRto rto) = agent.SetMaxStunRto rto.0
+call_view (SetMaxStunRetransmits limit) = agent.SetMaxStunRetransmits limit
 call_view (SetLocalPreference object) = agent.SetLocalPreference object
+call_view (SetControlling controlling) = agent.SetControlling controlling
+call_view (SetLocalCredentials creds) = agent.SetLocalCredentials creds
 call_view (SetRemoteCredentials creds) = agent.SetRemoteCredentials creds
+call_view (SkipPairIds number) = agent.SkipPairIds number
 call_view (AddLocalCandidate c) = agent.AddLocalCandidate c
+call_view (AddRemoteCandidate c) = agent.AddRemoteCandidate c
+call_view (InvalidateCandidate c) = agent.InvalidateCandidate c
+call_view (RestartIce creds keep) = agent.RestartIce creds keep
+call_view RecreateCandidatePairs = agent.RecreateCandidatePairs
 call_view (Packet now proto source destination bytes) =
     agent.ReceivePacket now.0 (record { proto = proto; source = source; destination = destination }) bytes.items
+call_view (HandleTimeout now) = agent.HandleTimeout now.0
 call_view PollTransmit = agent.PollTransmit
 call_view PollTimeout = agent.PollTimeout
 call_view PollEvent = agent.PollEvent

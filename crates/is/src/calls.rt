@@ -2,8 +2,9 @@
 use is_agent::told::{Issued, Path};
 use is_agent::{IceAgentEvent, IceCreds};
 use is_candidate::{Candidate, LocalPreference};
-use is_proto::{IceError, Instant, ParseFault, Protocol, Transmit};
+use is_proto::{Duration, IceError, Instant, ParseFault, Protocol, Transmit};
 use std::net::SocketAddr;
+use std::ops::RangeInclusive;
 
 /// A call of an `IceAgent`.
 pub type Call = AgentCall<Box<dyn LocalPreference>>;
@@ -12,12 +13,47 @@ pub type Call = AgentCall<Box<dyn LocalPreference>>;
 /// by an object of `P`.
 #[derive(Drop)]
 pub enum AgentCall<P> {
+    /// `set_mtu`, which answers `Done`.
+    SetMtu(RangeInclusive<usize>),
+    /// `set_control_tie_breaker`, which answers `Done`.
+    SetControlTieBreaker(u64),
+    /// `set_max_candidate_pairs`, which answers `Done`.
+    SetMaxCandidatePairs(usize),
+    /// `set_ice_lite`, which answers `Done`.
+    SetIceLite(bool),
+    /// `set_timing_advance`, which answers `Done`.
+    SetTimingAdvance(Duration),
+    /// `set_initial_stun_rto`, which answers `Done`.
+    SetInitialStunRto(Duration),
+    /// `set_max_stun_rto`, which answers `Done`.
+    SetMaxStunRto(Duration),
+    /// `set_max_stun_retransmits`, which answers `Done`; `NotCalled` where the limit is 0.
+    SetMaxStunRetransmits(usize),
     /// `set_local_preference`, which answers `Done`.
     SetLocalPreference(P),
+    /// `set_controlling`, which answers `Done`.
+    SetControlling(bool),
+    /// `set_local_credentials`, which answers `Done`.
+    SetLocalCredentials(IceCreds),
     /// `set_remote_credentials`, which answers `Done`.
     SetRemoteCredentials(IceCreds),
+    /// `skip_pair_ids`, which answers `Done`.
+    SkipPairIds(u64),
     /// `add_local_candidate`, which answers `Added` or `NotAdded`.
     AddLocalCandidate(Candidate),
+    /// `add_remote_candidate`, which answers `Done`.
+    AddRemoteCandidate(Candidate),
+    /// `invalidate_candidate`, which answers `Flag`.
+    InvalidateCandidate(Candidate),
+    /// `ice_restart`, which answers `Done`.
+    RestartIce {
+        /// The new local credentials.
+        creds: IceCreds,
+        /// Whether the local candidates stay.
+        keep: bool,
+    },
+    /// `recreate_candidate_pairs`, which answers `Done`.
+    RecreateCandidatePairs,
     /// `handle_packet` of the message that the bytes read as, which answers `Flag`; `Unparsed` where they read as none.
     Packet {
         /// When the packet came.
@@ -31,6 +67,8 @@ pub enum AgentCall<P> {
         /// The whole packet, as it came.
         bytes: Vec<u8>,
     },
+    /// `handle_timeout` at this moment, which answers `Done`.
+    HandleTimeout(Instant),
     /// `poll_transmit`, which answers `Transmit`.
     PollTransmit,
     /// `poll_timeout`, which answers `Wake`.

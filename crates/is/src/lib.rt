@@ -3,11 +3,15 @@
 //!
 //! A session is a loop over an [`IceAgent`]: `handle_packet` for each packet that came, then `poll_transmit` and
 //! `poll_event` until each gives nothing, and `poll_timeout` for when to come back. [`run`] makes a whole list of such
-//! calls, with packets as raw bytes, and logs what became of each.
+//! calls, with packets as raw bytes, and logs what became of each. A [`World`] is two agents and the packets between them.
 #![tactic(auto)]
 
 mod calls;
 mod runs;
+mod steps;
+mod traces;
+mod world;
+mod world_laws;
 
 pub use calls::{AgentCall, Answer, Call, Entry};
 pub use is_agent::told::{Issued, Path};
@@ -21,6 +25,8 @@ pub use is_proto::{
     SocketText, StunError, TcpType, Text, Transmit,
 };
 pub use runs::{RunLog, run};
+pub use traces::Trace;
+pub use world::{AgentSpec, Letter, Side, TwoAgents, World, WorldEntry, WorldEvent, WorldLog};
 
 /// The type states of `CandidateBuilder`.
 pub mod candidate {

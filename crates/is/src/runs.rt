@@ -1,20 +1,18 @@
 //! Runs of calls on an agent, with a log of what became of each.
 ghost use Rattle.std.specs.Prelude.{◌≡◌};
 ghost use Rattle.is_agent.specs.View.{record_of};
-ghost use Rattle.is_agent.specs.Steps as steps;
-ghost use Rattle.is_agent.specs.Steps.{Receives, Step};
-ghost use Rattle.is.specs.Views.{call_view, answer_view, entry_view};
-ghost use Rattle.is.specs.Log.{GivesCandidate, IsRunLog, log_of};
+ghost use Rattle.is_agent.specs.Logs.{NeverLite, replies, requests};
+ghost use Rattle.is_agent.specs.Owed.{AreAmong};
+ghost use Rattle.is_agent.specs.Runs.{IsFresh, PathsAreAnswered, PathsAreAskedFor, LastPathsAreTop, SuccessesMakeValid, RequestsNominate};
+ghost use Rattle.is.specs.Log.{IsRunLog, log_of, EntriesStand};
 ghost use Rattle.is.specs.Accepted.{PacketsAreSettled};
-ghost use Rattle.is.specs.Replies.{IssuesAreQueued, AreAmong, IsFresh, replies, requests};
+ghost use Rattle.is.specs.Queues.{OthersIssueNone, QueuesAreKept};
 
-use crate::calls::{AgentCall, Answer, Entry};
-use is_agent::Agent;
-use is_agent::local::add_local;
-use is_agent::told::{Path, last_announced, last_issued};
+use crate::calls::{AgentCall, Entry};
+use crate::steps::step;
+use is_agent::{Agent, laws};
 use is_candidate::LocalPreference;
-use is_proto::{IceError, Instant, Sha1HmacProvider, StunError};
-use is_stun::stun::{StunMessage, StunPacket};
+use is_proto::Sha1HmacProvider;
 use rand_core::Rng;
 
 /// What became of the calls of a run.
@@ -24,124 +22,6 @@ pub struct RunLog {
     pub entries: Vec<Entry>,
     /// Room for the entries was refused: no call was made, and there is no entry.
     pub stopped: bool,
-}
-
-/// The entry of a call that issues and announces nothing.
-fn quiet(number: usize, answer: Answer) -> Entry
-    ensures told { entry_view result ≡ steps.quiet (answer_view answer) }
-    ensures numbered { result.number ≡ number }
-{
-    Entry {
-        number,
-        answer,
-        issued: None,
-        announced: [None, None],
-    }
-}
-
-fn done_or_refused(outcome: Result<(), IceError>) -> Answer
-    ensures { answer_view result ≡ steps.answer_by steps.done outcome }
-{
-    match outcome {
-        Ok(()) => Answer::Done,
-        Err(error) => Answer::Refused(error),
-    }
-}
-
-fn added_or_refused(outcome: Result<Option<usize>, IceError>) -> Answer
-    ensures { answer_view result ≡ steps.answer_by steps.added outcome }
-{
-    match outcome {
-        Ok(Some(_)) => Answer::Added,
-        Ok(None) => Answer::NotAdded,
-        Err(error) => Answer::Refused(error),
-    }
-}
-
-fn flag_or_refused(outcome: Result<bool, IceError>) -> Answer
-    ensures { answer_view result ≡ steps.answer_by steps.Flag outcome }
-{
-    match outcome {
-        Ok(flag) => Answer::Flag(flag),
-        Err(error) => Answer::Refused(error),
-    }
-}
-
-/// A packet that came, as bytes.
-fn take_packet<H: Sha1HmacProvider + Drop, P: LocalPreference>(
-    agent: &mut Agent<H, P>,
-    number: usize,
-    now: Instant,
-    path: Path,
-    bytes: &[u8],
-) -> Entry
-    ensures did { Receives H.mac P.answers now.0 (record_of agent.old) path bytes.now (entry_view result) (record_of agent.new) }
-    ensures numbered { result.number ≡ number }
-{
-    match StunMessage::parse(bytes) {
-        Ok(message) => {
-            let packet = StunPacket {
-                proto: path.proto,
-                source: path.source,
-                destination: path.destination,
-                message,
-            };
-            let answer = flag_or_refused(agent.handle_packet(now, packet));
-            let issued = last_issued(agent);
-            let announced = last_announced(agent);
-            Entry {
-                number,
-                answer,
-                issued,
-                announced,
-            }
-        }
-        Err(StunError::Parse(fault)) => quiet(number, Answer::Unparsed(fault)),
-        Err(_) => unreachable!(),
-    }
-}
-
-/// One call, the one of this number.
-fn step<H: Sha1HmacProvider + Drop, P: LocalPreference, R: Rng>(
-    agent: &mut Agent<H, P>,
-    number: usize,
-    call: AgentCall<P>,
-    rng: &mut R,
-) -> Entry
-    ensures did { Step H.mac P.answers (record_of agent.old) (R.stream rng.old) (call_view call) (entry_view result) (record_of agent.new) (R.stream rng.new) }
-    ensures numbered { result.number ≡ number }
-    ensures given { GivesCandidate (call_view call) }
-{
-    let _source = rng;
-    match call {
-        AgentCall::SetLocalPreference(object) => {
-            agent.set_local_preference(object);
-            quiet(number, Answer::Done)
-        }
-        AgentCall::SetRemoteCredentials(creds) => {
-            quiet(number, done_or_refused(agent.set_remote_credentials(creds)))
-        }
-        AgentCall::AddLocalCandidate(candidate) => {
-            quiet(number, added_or_refused(add_local(agent, candidate)))
-        }
-        AgentCall::Packet {
-            now,
-            proto,
-            source,
-            destination,
-            bytes,
-        } => {
-            let path = Path {
-                proto,
-                source,
-                destination,
-            };
-            take_packet(agent, number, now, path, &bytes)
-        }
-        AgentCall::PollTransmit => quiet(number, Answer::Transmit(agent.poll_transmit())),
-        AgentCall::PollTimeout => quiet(number, Answer::Wake(agent.poll_timeout())),
-        AgentCall::PollEvent => quiet(number, Answer::Event(agent.poll_event())),
-    }
 }
 
 /// Room for all entries is taken before the first call.
@@ -181,14 +61,52 @@ pub fn run<H: Sha1HmacProvider + Drop, P: LocalPreference, R: Rng>(
     // The log is a run of the agent's steps: one entry for each call, in order, or nothing done.
     ensures log { IsRunLog H.mac P.answers (record_of agent.old) (R.stream rng.old) calls.items result (record_of agent.new) (R.stream rng.new) }
 
-    // Bytes that the agent does not accept change nothing, issue nothing and announce nothing.
+    // Each entry stands between two records that the run passes, of which the clauses below speak.
+    ensures entries { EntriesStand H.mac P.answers (record_of agent.old) (R.stream rng.old) (log_of calls.items result) }
+
+    // Bytes that the agent does not accept, on the way that they came, change nothing, issue nothing and announce nothing.
     ensures unaccepted { PacketsAreSettled H.mac P.answers (record_of agent.old) (R.stream rng.old) (log_of calls.items result) }
 
-    // A packet issues at most one packet, and no other call issues any.
-    ensures issues { IssuesAreQueued H.mac P.answers (record_of agent.old) (R.stream rng.old) (log_of calls.items result) }
+    // Never lite: each announced path met an authentic success, on its way back, to a check sent since the last clear.
+    ensures answered { IsFresh (record_of agent.old) → NeverLite (log_of calls.items result)
+        → PathsAreAnswered H.mac P.answers (record_of agent.old) (R.stream rng.old) (log_of calls.items result) }
 
-    // Each reply is to an accepted Binding request of its own, with its id and on its way back.
+    // Never lite: each path announced while the agent was controlled since the last clear was asked for by an accepted
+    // request with USE-CANDIDATE.
+    ensures asked_for { IsFresh (record_of agent.old) → NeverLite (log_of calls.items result)
+        → PathsAreAskedFor H.mac P.answers (record_of agent.old) (R.stream rng.old) (log_of calls.items result) }
+
+    // Behind an accepted success, and behind a moment that served no queued request, the path announced last since the last
+    // clear is that of an eligible pair of greatest stored priority, wherever a pair is eligible.
+    ensures nomination { IsFresh (record_of agent.old)
+        → LastPathsAreTop H.mac P.answers (record_of agent.old) (R.stream rng.old) (log_of calls.items result) }
+
+    // At an accepted success a pair that keeps its check, on its path, is valid.
+    ensures takers { IsFresh (record_of agent.old)
+        → SuccessesMakeValid H.mac P.answers (record_of agent.old) (R.stream rng.old) (log_of calls.items result) }
+
+    // Where a request with USE-CANDIDATE is answered with success, and the agent is controlled behind it, a pair of the
+    // reply's path is nominated.
+    ensures nominated { IsFresh (record_of agent.old)
+        → RequestsNominate H.mac P.answers (record_of agent.old) (R.stream rng.old) (log_of calls.items result) }
+
+    // A packet and a moment issue at most one packet each, and no other call issues any.
+    ensures issues { OthersIssueNone H.mac P.answers (record_of agent.old) (R.stream rng.old) (log_of calls.items result) }
+
+    // The replies are, as a bag, among the accepted Binding requests, each with its id and on its way back.
     ensures replies { IsFresh (record_of agent.old) → AreAmong (replies (log_of calls.items result)) (requests (log_of calls.items result)) }
+
+    // Packets and events are polled in the order of issue, and a restart empties both queues before its own events.
+    ensures order { QueuesAreKept H.mac P.answers (record_of agent.old) (R.stream rng.old) (log_of calls.items result) }
 {
+    // what the clauses behind the first rest on
+    laws::entries_are_points::<H, P>();
+    laws::announced_are_answered::<H, P>();
+    laws::announced_are_asked_for::<H, P>();
+    laws::points_are_top::<H, P>();
+    laws::takers_are_valid::<H, P>();
+    laws::asked_are_nominated::<H, P>();
+    laws::replies_are_among::<H, P>();
+    laws::queues_are_kept::<H, P>();
     run_calls(agent, calls, rng)
 }

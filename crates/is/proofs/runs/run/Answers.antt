@@ -1,19 +1,34 @@
-use Rattle.is_agent.specs.View.{record_of}
-use Rattle.is.proofs.Logs.{run_of}
+use Rattle.is.proofs.Logs.{run_of, entries_stand}
 use Rattle.is.proofs.AcceptedLemmas.{packets_are_settled}
-use Rattle.is.proofs.RepliesLemmas.{issues_are_queued, replies_among_requests}
+use Rattle.is.proofs.QueuesLemmas.{others_issue_none, queues_are_kept}
 use Rattle.is.proofs.runs.run.Goals as goal
 
+pub returns-clause-entries : goal.returns-clause-entries
+returns-clause-entries g c = entries_stand _ _ c.entries_are_points.ensures _ _ _ _ _ (run_of _ _ _ _ _ _ c.args.calls.items c.run_calls.result c.run_calls.ensures)
+
 pub returns-clause-unaccepted : goal.returns-clause-unaccepted
-returns-clause-unaccepted g c =
-    packets_are_settled g.H.Sha1HmacProvider.mac g.P.LocalPreference.answers (record_of c.args.agent.now) (g.R.Rng.stream c.args.rng.now) _
+returns-clause-unaccepted g c = packets_are_settled _ _ _ _ _
+
+pub returns-clause-answered : goal.returns-clause-answered
+returns-clause-answered g c = c.announced_are_answered.ensures _ _ _
+
+pub returns-clause-asked_for : goal.returns-clause-asked_for
+returns-clause-asked_for g c = c.announced_are_asked_for.ensures _ _ _
+
+pub returns-clause-nomination : goal.returns-clause-nomination
+returns-clause-nomination g c = c.points_are_top.ensures _ _ _
+
+pub returns-clause-takers : goal.returns-clause-takers
+returns-clause-takers g c = c.takers_are_valid.ensures _ _ _
+
+pub returns-clause-nominated : goal.returns-clause-nominated
+returns-clause-nominated g c = c.asked_are_nominated.ensures _ _ _
 
 pub returns-clause-issues : goal.returns-clause-issues
-returns-clause-issues g c =
-    issues_are_queued g.H.Sha1HmacProvider.mac g.P.LocalPreference.answers (record_of c.args.agent.now) (g.R.Rng.stream c.args.rng.now) _
+returns-clause-issues g c = others_issue_none _ _ _ _ _
 
 pub returns-clause-replies : goal.returns-clause-replies
-returns-clause-replies g c = λ fresh.
-    let mac = g.H.Sha1HmacProvider.mac in
-    let answers = g.P.LocalPreference.answers in
-    replies_among_requests mac answers _ _ _ _ _ fresh (run_of mac answers _ _ _ _ c.args.calls.items c.run_calls.result c.run_calls.ensures)
+returns-clause-replies g c = λ fresh. c.replies_are_among.ensures _ _ _ _ _ fresh (run_of _ _ _ _ _ _ c.args.calls.items c.run_calls.result c.run_calls.ensures)
+
+pub returns-clause-order : goal.returns-clause-order
+returns-clause-order g c = queues_are_kept _ _ c.queues_are_kept.ensures _ _ _

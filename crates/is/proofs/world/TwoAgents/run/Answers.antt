@@ -1,0 +1,13 @@
+use Rattle.is.proofs.world.TwoAgents.run.Goals as goal
+
+pub returns-clause-keeps : goal.returns-clause-keeps
+returns-clause-keeps g c = c.greater_keeps.ensures _ _ _ _ _ c.run_events.result c.run_events.ensures
+
+pub returns-clause-yields : goal.returns-clause-yields
+returns-clause-yields g c = c.lesser_yields_once.ensures _ _ _ _ _ c.run_events.result c.run_events.ensures
+
+pub returns-clause-differ : goal.returns-clause-differ
+returns-clause-differ g c = c.roles_differ_once_met.ensures _ _ _
+
+pub returns-clause-traced : goal.returns-clause-traced
+returns-clause-traced g c = c.announced_are_traced.ensures _ _ _ _ _ c.run_events.result c.run_events.ensures

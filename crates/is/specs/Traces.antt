@@ -1,0 +1,93 @@
+-- Announced paths, traced through the log to the other agent.
+use Rattle.std.specs.Prelude.{◌≡◌, ℕ, suc, ◌<◌, ◌≤◌, true, false, List, Option, Some, ◌⊎◌, MatchOption, slice_get}
+use Rattle.std.specs.List.{AllByRecursion}
+use Rattle.is_stun.specs.declared.header.Class.{Class}
+use Rattle.is_stun.specs.declared.header.Class.TheVariants as class
+use Rattle.is_stun.specs.declared.trans_id.TransId.{TransId}
+use Rattle.is_agent.specs.declared.told.Path.{Path}
+use Rattle.is_agent.specs.Steps as agent
+use Rattle.is.specs.declared.calls.Answer.TheVariants as answer
+use Rattle.is.specs.declared.world.Side.{Side}
+use Rattle.is.specs.declared.traces.Trace.{Trace}
+use Rattle.is.specs.declared.world.WorldEntry.{WorldEntry}
+use Rattle.is.specs.World as world
+use Rattle.is.specs.World.{WorldRecord, Logged, Event, other}
+use Rattle.is.specs.WorldRoles.{IsFairWorld}
+
+-- ---- what an entry tells
+
+-- the side issued the packet
+abbrev pub Issues : Side → Path → Class → TransId → WorldEntry → Type 0
+Issues side path class id e = (e.side ≡ Some side) × (e.issued ≡ Some record { path = path; class = class; id = id })
+
+-- a message of this class and id was delivered to the side, and accepted
+abbrev pub Takes : Side → Class → TransId → WorldEntry → Type 0
+Takes side class id e = (e.side ≡ Some side) × (e.answer ≡ answer.Flag true) × (e.moved ≡ Some (class, id))
+
+-- the side announced the path, the one at this place of its paths
+abbrev pub Announces : Side → Path → ℕ → WorldEntry → Type 0
+Announces side path place e = (e.side ≡ Some side) × (slice_get e.announced place ≡ Some (Some path))
+
+-- the entry of this number is such
+abbrev pub IsAt : List WorldEntry → ℕ → (WorldEntry → Type 0) → Type 0
+IsAt es n Is = (e : WorldEntry) × (slice_get es n ≡ Some e) × Is e
+
+-- no clear of the side in these entries
+abbrev pub IsUncleared : List WorldEntry → Side → ℕ → ℕ → Type 0
+IsUncleared es side first end = (n : ℕ) (e : WorldEntry) → first ≤ n → n < end → slice_get es n ≡ Some e → e.side ≡ Some side → e.clear ≡ false
+
+-- ---- traces
+
+-- the check of this id that the side had sent reached the other agent; that answered it with success, and the answer came back, all
+-- of it before the entry `end`
+pub record HasAnswer (es : List WorldEntry) (side : Side) (id : TransId) (end : ℕ) (t : Trace) : Type 0 where
+  pub delivery : IsAt es t.delivered (Takes (other side) class.Request id)
+  pub reply : IsAt es t.replied (λ e. (reply_path : Path) × Issues (other side) reply_path class.Success id e)
+  pub answer : IsAt es t.answered (Takes side class.Success id)
+  pub in_order : (t.checked < t.delivered) × (t.delivered ≤ t.replied) × (t.replied < t.answered) × (t.answered < end)
+
+-- the side sent a check on the path, which has such an answer, and did not clear its pairs since
+pub record IsTrace (es : List WorldEntry) (side : Side) (path : Path) (end : ℕ) (t : Trace) : Type 0 where
+  pub id : TransId
+  pub check : IsAt es t.checked (Issues side path class.Request id)
+  pub answered : HasAnswer es side id end t
+  pub uncleared : IsUncleared es side t.checked end
+
+-- in order of `checked`, then `delivered`, `replied`, `answered`
+abbrev pub IsNoLater : Trace → Trace → Type 0
+IsNoLater t u =
+    (t.checked < u.checked) ⊎ ((t.checked ≡ u.checked)
+    × ((t.delivered < u.delivered) ⊎ ((t.delivered ≡ u.delivered)
+    × ((t.replied < u.replied) ⊎ ((t.replied ≡ u.replied)
+    × (t.answered ≤ u.answered))))))
+
+-- a trace of what the entry announced at this place, up to that entry
+abbrev pub IsTraceOf : List WorldEntry → ℕ → ℕ → Trace → Type 0
+IsTraceOf es n place t = (side : Side) × (path : Path) × IsAt es n (Announces side path place) × IsTrace es side path (suc n) t
+
+-- the first trace, and none only where there is none
+abbrev pub IsFirstTrace : List WorldEntry → ℕ → ℕ → Option Trace → Type 0
+IsFirstTrace es n place result =
+    MatchOption result ((t : Trace) → ¬ IsTraceOf es n place t) (λ first. IsTraceOf es n place first × ((t : Trace) → IsTraceOf es n place t → IsNoLater first t))
+
+-- ---- the promise
+
+-- the side is not made lite
+abbrev pub StaysFull : {P : Type 0} → Side → Event P → Type 0
+StaysFull side (world.Call s (agent.SetIceLite lite)) = s ≡ side → lite ≡ false
+StaysFull side _ = Unit {0}
+
+abbrev pub IsNeverLite : {P : Type 0} → Side → List (Logged P) → Type 0
+IsNeverLite side log = AllByRecursion (λ x. StaysFull side x.event) log
+
+-- the event is a delivery from the path's remote address to its base
+abbrev pub ComesBack : {P : Type 0} → Path → Event P → Type 0
+ComesBack path (world.Deliver packet now way) = (way.source ≡ path.destination) × (way.destination ≡ path.source)
+ComesBack path _ = ⊥
+
+-- each path that a side announced which is never lite has a trace, and the answer of each of its traces came back on the path
+abbrev pub AnnouncedAreTraced : {H P : Type 0} → WorldRecord H P → List (Logged P) → List WorldEntry → Type 0
+AnnouncedAreTraced first log es =
+    (greater side : Side) → IsFairWorld first greater log → IsNeverLite side log → (n place : ℕ) (path : Path) → IsAt es n (Announces side path place)
+    → ((t : Trace) × IsTrace es side path (suc n) t)
+    × ((t : Trace) → IsTrace es side path (suc n) t → (x : Logged _) × (slice_get log t.answered ≡ Some x) × ComesBack path x.event)

@@ -1,0 +1,212 @@
+-- Two agents and the bag of packets between them.
+use Rattle.std.specs.Prelude.{◌≡◌, ℕ, Bool, true, false, MatchBool, List, [], ◌∷◌, ◌++◌, map, suc, Option, Some, None, ◌⊎◌, slice_get, length, Result, Ok, Err}
+use Rattle.rand_core.specs.Stream.{Stream}
+use Rattle.is_proto.specs.Packets.{Packet, packet_of}
+use Rattle.is_proto.specs.declared.error.IceError.{IceError}
+use Rattle.is_proto.specs.declared.error.IceError.TheVariants.{OutOfMemory}
+use Rattle.is_proto.specs.declared.error.ParseFault.{ParseFault}
+use Rattle.is_candidate.specs.Candidates.{CandidateRecord}
+use Rattle.is_stun.specs.declared.header.Class.{Class}
+use Rattle.is_stun.specs.declared.trans_id.TransId.{TransId}
+use Rattle.is_stun.specs.Message.{Message}
+use Rattle.is_stun.specs.Reading.{fault_of, message_of}
+use Rattle.is_agent.specs.declared.told.Path.{Path}
+use Rattle.is_agent.specs.Steps as agent
+use Rattle.is_agent.specs.Steps.{quiet, Answer, Flag, Refused, NotInWorld, NoSuchPacket}
+use Rattle.is_agent.specs.Agent.{AgentRecord, fresh, MakesAgent}
+use Rattle.is_agent.specs.Fitting.{are_too_long}
+use Rattle.is_agent.specs.View.{record_of}
+use Rattle.is_agent.specs.Polls.{PollsTransmit}
+use Rattle.is_agent.specs.Steps.{Step}
+use Rattle.is_agent.specs.Sound.{GivesBased}
+use Rattle.is_agent.specs.Effects.{clears}
+use Rattle.is.specs.declared.world.Side.{Side}
+use Rattle.is.specs.declared.world.Side.TheVariants.{A, B}
+use Rattle.is.specs.declared.world.AgentSpec.{AgentSpec}
+use Rattle.is.specs.declared.world.Letter as code
+use Rattle.is.specs.declared.world.TwoAgents.{TwoAgents}
+use Rattle.is.specs.declared.world.WorldEvent.{WorldEvent}
+use Rattle.is.specs.declared.world.WorldEvent.TheVariants as event
+use Rattle.is.specs.declared.world.WorldEntry.{WorldEntry}
+use Rattle.is.specs.declared.world.WorldLog.{WorldLog}
+use Rattle.is.specs.Views.{call_view, answer_view}
+
+-- ---- what is seen of a world
+
+-- a packet that was sent off, and its sender
+pub record LetterRecord : Type 0 where
+  pub sender : Side
+  pub packet : Packet
+
+pub record WorldRecord (H P : Type 0) : Type 0 where
+  pub a : AgentRecord H P
+  pub b : AgentRecord H P
+  pub bag : List LetterRecord
+
+abbrev pub letter_of : code.Letter → LetterRecord
+letter_of l = record { sender = l.sender; packet = packet_of l.packet }
+
+abbrev pub world_of : {H P : Type 0} → TwoAgents H P → WorldRecord H P
+world_of w = record { a = record_of w.a; b = record_of w.b; bag = map letter_of w.bag.items }
+
+abbrev pub other : Side → Side
+other A = B
+other B = A
+
+abbrev pub at : {H P : Type 0} → Side → WorldRecord H P → AgentRecord H P
+at A w = w.a
+at B w = w.b
+
+abbrev pub put : {H P : Type 0} → Side → AgentRecord H P → WorldRecord H P → WorldRecord H P
+put A r w = record w { a = r }
+put B r w = record w { b = r }
+
+-- A's role first
+abbrev pub roles_of : {H P : Type 0} → WorldRecord H P → List Bool
+roles_of w = w.a.controlling ∷ w.b.controlling ∷ []
+
+-- ---- a world as it is made
+
+module _ {H P : Type 0} where
+  -- an agent as it is made, in its role
+  abbrev pub MakesMember : AgentSpec H → Result (AgentRecord H P) IceError → Type 0
+  MakesMember spec (Ok a) =
+      (are_too_long spec.creds None ≡ false) × (a ≡ record (fresh spec.provider spec.creds spec.tie_breaker) { controlling = spec.controlling })
+  MakesMember spec (Err error) = MakesAgent {P = P} spec.provider spec.creds spec.tie_breaker (Err error)
+
+  abbrev pub made_world : Result (TwoAgents H P) IceError → Result (WorldRecord H P) IceError
+  made_world (Ok w) = Ok (world_of w)
+  made_world (Err error) = Err error
+
+  -- `TwoAgents::new`
+  abbrev pub MakesWorld : AgentSpec H → AgentSpec H → Result (WorldRecord H P) IceError → Type 0
+  MakesWorld a b (Ok w) = MakesMember a (Ok w.a) × MakesMember b (Ok w.b) × (w.bag ≡ [])
+  MakesWorld a b (Err error) = MakesMember a (Err error) ⊎ MakesMember b (Err error)
+
+-- ---- events and entries
+
+pub data Event (P : Type 0) : Type 0 where
+  Call : Side → agent.Call P → Event P
+  Poll : Side → Event P
+  -- a packet of the bag, the moment, and the way by which it arrives
+  Deliver : ℕ → ℕ → Path → Event P
+
+abbrev pub event_view : {P : Type 0} → WorldEvent P → Event P
+event_view (event.Call side c) = Call side (call_view c)
+event_view (event.Poll side) = Poll side
+event_view (event.Deliver packet now proto source destination) =
+    Deliver packet now.0 (record { proto = proto; source = source; destination = destination })
+
+-- what became of an event: what the agent answered and told, both roles behind it, the side that acted, whether that cleared its
+-- pairs, and what a delivered packet reads as
+pub record Outcome : Type 0 where
+  pub entry : agent.Entry
+  pub controlling : List Bool
+  pub side : Option Side
+  pub clear : Bool
+  pub moved : Option (Class × TransId)
+
+abbrev pub outcome_of : WorldEntry → Outcome
+outcome_of e = record {
+  entry = record { answer = answer_view e.answer; told = record { issued = e.issued; announced = e.announced } };
+  controlling = e.controlling;
+  side = e.side;
+  clear = e.clear;
+  moved = e.moved;
+}
+
+-- what bytes read as: none where they have a fault
+abbrev pub read_unless : Option ParseFault → Message → Option (Class × TransId)
+read_unless None m = Some (m.class, record { 0 = m.id })
+read_unless (Some fault) m = None
+
+abbrev pub moved_by : {P : Type 0} → agent.Call P → Option (Class × TransId)
+moved_by (agent.ReceivePacket now way bytes) = read_unless (fault_of bytes) (message_of bytes)
+moved_by _ = None
+
+-- ---- what happens
+
+-- calls that are steps of a world: packets come from the bag alone, and no role or tie-breaker is set
+abbrev pub in_world : {P : Type 0} → agent.Call P → Bool
+in_world (agent.ReceivePacket now way bytes) = false
+in_world (agent.SetControlling controlling) = false
+in_world (agent.SetControlTieBreaker tie_breaker) = false
+in_world _ = true
+
+-- an agent's packet moves into the bag, or there is none, or no room
+abbrev pub PolledInto : {H P : Type 0} → AgentRecord H P → List LetterRecord → Side → Answer → AgentRecord H P → List LetterRecord → Type 0
+PolledInto old bag side answer new bag' =
+    ((answer ≡ Refused OutOfMemory) × (new ≡ old) × (bag' ≡ bag))
+    ⊎ (((answer ≡ Flag false) × PollsTransmit old None new × (bag' ≡ bag))
+    ⊎ ((p : Packet) × PollsTransmit old (Some p) new × (answer ≡ Flag true) × (bag' ≡ bag ++ record { sender = side; packet = p } ∷ [])))
+
+-- an outcome that tells no more than its answer, its side and the roles
+abbrev pub plain : Answer → Option Side → List Bool → Outcome
+plain answer side roles = record { entry = quiet answer; controlling = roles; side = side; clear = false; moved = None }
+
+module _ {H P : Type 0} (mac : H → List ℕ → List ℕ → List ℕ) (answers : P → CandidateRecord → ℕ → ℕ → Type 0) where
+  -- nothing happens, and the entry says why
+  abbrev pub Stands : WorldRecord H P → Stream → Answer → Option Side → Outcome → WorldRecord H P → Stream → Type 0
+  Stands w s answer side e w' t = (w' ≡ w) × (t ≡ s) × (e ≡ plain answer side (roles_of w))
+
+  -- one agent makes a call
+  pub record Turns (w : WorldRecord H P) (s : Stream) (side : Side) (c : agent.Call P) (e : Outcome) (w' : WorldRecord H P) (t : Stream) : Type 0 where
+    pub new : AgentRecord H P
+    pub step : Step mac answers (at side w) s c e.entry new t
+    pub given : GivesBased c
+    pub world : w' ≡ put side new w
+    pub roles : e.controlling ≡ roles_of w'
+    pub side_is : e.side ≡ Some side
+    pub clear : e.clear ≡ clears c e.entry.answer
+    pub moved : e.moved ≡ moved_by c
+
+  -- a packet moves into the bag
+  pub record Polls (w : WorldRecord H P) (s : Stream) (side : Side) (e : Outcome) (w' : WorldRecord H P) (t : Stream) : Type 0 where
+    pub answer : Answer
+    pub new : AgentRecord H P
+    pub bag : List LetterRecord
+    pub polled : PolledInto (at side w) w.bag side answer new bag
+    pub world : w' ≡ record (put side new w) { bag = bag }
+    pub told : e ≡ plain answer (Some side) (roles_of w')
+    pub stream : t ≡ s
+
+  abbrev pub Delivers : WorldRecord H P → Stream → Option LetterRecord → ℕ → Path → Outcome → WorldRecord H P → Stream → Type 0
+  Delivers w s None now way e w' t = Stands w s NoSuchPacket None e w' t
+  Delivers w s (Some l) now way e w' t = Turns w s (other l.sender) (agent.ReceivePacket now way l.packet.contents) e w' t
+
+  -- one event
+  abbrev pub Happens : WorldRecord H P → Stream → Event P → Outcome → WorldRecord H P → Stream → Type 0
+  Happens w s (Call side c) e w' t = MatchBool (in_world c) (Turns w s side c e w' t) (Stands w s NotInWorld (Some side) e w' t)
+  Happens w s (Poll side) e w' t = Polls w s side e w' t
+  Happens w s (Deliver place now way) e w' t = Delivers w s (slice_get w.bag place) now way e w' t
+
+-- ---- the log
+
+-- an event beside what became of it, and the number that its entry has
+pub record Logged (P : Type 0) : Type 0 where
+  pub number : ℕ
+  pub event : Event P
+  pub outcome : Outcome
+
+abbrev pub logged_as : {P : Type 0} → WorldEvent P → WorldEntry → Logged P
+logged_as v e = record { number = e.number; event = event_view v; outcome = outcome_of e }
+
+-- in order
+abbrev pub logged : {P : Type 0} → List (WorldEvent P) → List WorldEntry → List (Logged P)
+logged [] entries = []
+logged (v ∷ events) [] = []
+logged (v ∷ events) (e ∷ entries) = logged_as v e ∷ logged events entries
+
+module _ {H P : Type 0} (mac : H → List ℕ → List ℕ → List ℕ) (answers : P → CandidateRecord → ℕ → ℕ → Type 0) where
+  -- the log, in order, may be that of a run from the first world to the last; its entries are numbered from n
+  abbrev pub Run : WorldRecord H P → Stream → ℕ → List (Logged P) → WorldRecord H P → Stream → Type 0
+  Run first s n [] last t = (last ≡ first) × (t ≡ s)
+  Run first s n (x ∷ rest) last t =
+      (mid : WorldRecord H P) × (u : Stream) × (x.number ≡ n) × Happens mac answers first s x.event x.outcome mid u × Run mid u (suc n) rest last t
+
+  -- one entry for each event, in order, or nothing done
+  abbrev pub IsWorldLog : WorldRecord H P → Stream → List (WorldEvent P) → WorldLog → WorldRecord H P → Stream → Type 0
+  IsWorldLog old s events log new t =
+      MatchBool log.stopped
+      ((log.entries.items ≡ []) × (new ≡ old) × (t ≡ s))
+      ((length log.entries.items ≡ length events) × Run old s 0 (logged events log.entries.items) new t)

@@ -1,0 +1,106 @@
+-- Roles of two agents over any network (RFC 8445, section 7.3.1.1).
+use Rattle.std.specs.List.{AllByRecursion}
+use Rattle.std.specs.Prelude.{◌≡◌, ◌≢◌, ℕ, ◌+◌, ◌<◌, ◌≤◌, Bool, true, false, List, [], ◌∷◌, ◌++◌, map, Some, ◌⊎◌, slice_get, if◌then◌else◌}
+use Rattle.rand_core.specs.Stream.{Stream}
+use Rattle.is_proto.specs.Lists.{same}
+use Rattle.is_candidate.specs.Candidates.{CandidateRecord}
+use Rattle.is_stun.specs.declared.header.Class.TheVariants as class
+use Rattle.is_stun.specs.Message.{Message}
+use Rattle.is_agent.specs.declared.credentials.IceCreds.{IceCreds}
+use Rattle.is_agent.specs.declared.told.Path.{Path}
+use Rattle.is_agent.specs.Request.{RequestRecord}
+use Rattle.is_agent.specs.Agent.{AgentRecord, fresh}
+use Rattle.is_agent.specs.Answers.{is_role_conflict}
+use Rattle.is_agent.specs.Steps as agent
+use Rattle.is_agent.specs.Brought.{Brings, IsServing, IsServedPastTests}
+use Rattle.is_agent.specs.Told.{issued_as}
+use Rattle.is.specs.declared.world.Side.{Side}
+use Rattle.is.specs.declared.world.Side.TheVariants.{A, B}
+use Rattle.is.specs.World as world
+use Rattle.is.specs.World.{WorldRecord, LetterRecord, Outcome, Logged, Event, at, other, in_world}
+
+-- ---- the premises
+
+module _ {H P : Type 0} where
+  -- an agent as it is made, in either role
+  abbrev pub IsNewAgent : AgentRecord H P → Type 0
+  IsNewAgent a =
+      (creds : IceCreds) × (tie_breaker : ℕ) × (controlling : Bool) × (a ≡ record (fresh a.provider creds tie_breaker) { controlling = controlling })
+
+-- no two of the entries issued checks with the same transaction id
+abbrev pub HaveDistinctIds : {P : Type 0} → List (Logged P) → Type 0
+HaveDistinctIds log =
+    (i j : ℕ) (id : List ℕ) (p q : Path) (x y : Logged _) → slice_get log i ≡ Some x → slice_get log j ≡ Some y
+    → x.outcome.entry.told.issued ≡ Some (issued_as p class.Request id) → y.outcome.entry.told.issued ≡ Some (issued_as q class.Request id) → i ≡ j
+
+-- both agents are as they are made, nothing is between them, `greater` has the greater tie-breaker, and no check's id comes twice
+pub record IsFairWorld {H P : Type 0} (first : WorldRecord H P) (greater : Side) (log : List (Logged P)) : Type 0 where
+  pub new : (side : Side) → IsNewAgent (at side first)
+  pub empty : first.bag ≡ []
+  pub tie : (at (other greater) first).tie_breaker < (at greater first).tie_breaker
+  pub distinct : HaveDistinctIds log
+
+-- ---- roles in the log
+
+-- the role of a side, where A's comes first
+abbrev pub role_at : Side → List Bool → Bool
+role_at A (a ∷ rest) = a
+role_at B (a ∷ b ∷ rest) = b
+role_at _ _ = false
+
+abbrev pub role_in : {P : Type 0} → Side → Logged P → Bool
+role_in side x = role_at side x.outcome.controlling
+
+-- how often a role changes along the list
+abbrev pub changes : Bool → List Bool → ℕ
+changes role [] = 0
+changes role (next ∷ roles) = (if same role next then 0 else 1) + changes next roles
+
+module _ {H P : Type 0} where
+  -- the role of the greater tie-breaker is the same behind every event
+  abbrev pub GreaterKeeps : WorldRecord H P → List (Logged P) → Type 0
+  GreaterKeeps first log =
+      (greater : Side) → IsFairWorld first greater log → AllByRecursion (λ x. role_in greater x ≡ (at greater first).controlling) log
+
+  -- the role of the other one changes in at most one event
+  abbrev pub LesserYieldsOnce : WorldRecord H P → List (Logged P) → Type 0
+  LesserYieldsOnce first log =
+      (greater : Side) → IsFairWorld first greater log → changes (at (other greater) first).controlling (map (role_in (other greater)) log) ≤ 1
+
+  -- ---- once they met
+
+  -- the event makes the side do the call
+  abbrev pub Makes : WorldRecord H P → Event P → Side → agent.Call P → Type 0
+  Makes w (world.Call s c) side d = (s ≡ side) × (d ≡ c) × (in_world c ≡ true)
+  Makes w (world.Poll s) side d = ⊥
+  Makes w (world.Deliver place now way) side d =
+      (l : LetterRecord) × (slice_get w.bag place ≡ Some l) × (other l.sender ≡ side) × (d ≡ agent.ReceivePacket now way l.packet.contents)
+
+  -- at this event the side serves a request past the tests of its user name and its destination, directly or from its queue, or
+  -- accepts a failure answer of code 487
+  abbrev pub Meets : Side → WorldRecord H P → Logged P → Type 0
+  Meets side w x =
+      (c : agent.Call P) × Makes w x.event side c
+      × (((q : RequestRecord) × IsServing (at side w) c x.outcome.entry q × IsServedPastTests (at side w) q)
+      ⊎ ((now : ℕ) × (way : Path) × (m : Message) × Brings c x.outcome.entry now way m × (m.class ≡ class.Failure) × (is_role_conflict m ≡ true)))
+
+module _ {H P : Type 0} (mac : H → List ℕ → List ℕ → List ℕ) (answers : P → CandidateRecord → ℕ → ℕ → Type 0) where
+  -- x stands in the log, with the world before it
+  pub record Point (first : WorldRecord H P) (s : Stream) (log : List (Logged P)) (mid : WorldRecord H P) (x : Logged P) (rest : List (Logged P)) : Type 0 where
+    pub before : List (Logged P)
+    pub split : log ≡ before ++ x ∷ rest
+    pub after : WorldRecord H P
+    pub last : WorldRecord H P
+    pub u : Stream
+    pub v : Stream
+    pub t : Stream
+    pub n : ℕ
+    pub led : world.Run mac answers first s 0 before mid u
+    pub happens : world.Happens mac answers mid u x.event x.outcome after v
+    pub leads : world.Run mac answers after v n rest last t
+
+  -- from the event on at which the lesser met the greater's role the roles differ
+  abbrev pub RolesDifferOnceMet : WorldRecord H P → Stream → List (Logged P) → Type 0
+  RolesDifferOnceMet first s log =
+      (greater : Side) → IsFairWorld first greater log → (mid : WorldRecord H P) (x : Logged P) (rest : List (Logged P)) → Point first s log mid x rest
+      → Meets (other greater) mid x → AllByRecursion (λ y. role_in A y ≢ role_in B y) (x ∷ rest)

@@ -1,0 +1,225 @@
+//! One call of a run.
+ghost use Rattle.std.specs.Prelude.{◌≡◌};
+ghost use Rattle.rand_core.specs.Stream.{Stream};
+ghost use Rattle.is_agent.specs.View.{record_of, told_of};
+ghost use Rattle.is_agent.specs.Steps as steps;
+ghost use Rattle.is_agent.specs.Steps.{Receives, Step};
+ghost use Rattle.is_agent.specs.Sound.{GivesBased};
+ghost use Rattle.is.specs.Views.{call_view, answer_view, entry_view};
+
+use crate::calls::{AgentCall, Answer, Entry};
+use is_agent::Agent;
+use is_agent::local::add_local;
+use is_agent::told::{Path, last_announced, last_issued};
+use is_candidate::LocalPreference;
+use is_proto::{IceError, Instant, Sha1HmacProvider, StunError};
+use is_stun::stun::{StunMessage, StunPacket};
+use rand_core::Rng;
+
+/// The entry of a call that issues and announces nothing.
+pub(crate) fn quiet(number: usize, answer: Answer) -> Entry
+    ensures told { entry_view result ≡ steps.quiet (answer_view answer) }
+    ensures numbered { result.number ≡ number }
+{
+    Entry {
+        number,
+        answer,
+        issued: None,
+        announced: [None, None],
+    }
+}
+
+/// The entry of a packet or a moment: what it made the agent do is asked for.
+fn telling<H, P>(agent: &Agent<H, P>, number: usize, answer: Answer) -> Entry
+    ensures told { entry_view result ≡ record { answer = answer_view answer; told = told_of agent.now } }
+    ensures numbered { result.number ≡ number }
+{
+    let issued = last_issued(agent);
+    let announced = last_announced(agent);
+    Entry {
+        number,
+        answer,
+        issued,
+        announced,
+    }
+}
+
+fn done_or_refused(outcome: Result<(), IceError>) -> Answer
+    ensures { answer_view result ≡ steps.answer_by steps.done outcome }
+{
+    match outcome {
+        Ok(()) => Answer::Done,
+        Err(error) => Answer::Refused(error),
+    }
+}
+
+fn added_or_refused(outcome: Result<Option<usize>, IceError>) -> Answer
+    ensures { answer_view result ≡ steps.answer_by steps.added outcome }
+{
+    match outcome {
+        Ok(Some(_)) => Answer::Added,
+        Ok(None) => Answer::NotAdded,
+        Err(error) => Answer::Refused(error),
+    }
+}
+
+fn flag_or_refused(outcome: Result<bool, IceError>) -> Answer
+    ensures { answer_view result ≡ steps.answer_by steps.Flag outcome }
+{
+    match outcome {
+        Ok(flag) => Answer::Flag(flag),
+        Err(error) => Answer::Refused(error),
+    }
+}
+
+/// A packet that came, as bytes.
+pub(crate) fn take_packet<H: Sha1HmacProvider + Drop, P: LocalPreference>(
+    agent: &mut Agent<H, P>,
+    number: usize,
+    now: Instant,
+    path: Path,
+    bytes: &[u8],
+) -> Entry
+    ensures did { Receives H.mac P.answers now.0 (record_of agent.old) path bytes.now (entry_view result) (record_of agent.new) }
+    ensures numbered { result.number ≡ number }
+{
+    match StunMessage::parse(bytes) {
+        Ok(message) => {
+            let packet = StunPacket {
+                proto: path.proto,
+                source: path.source,
+                destination: path.destination,
+                message,
+            };
+            let answer = flag_or_refused(agent.handle_packet(now, packet));
+            telling(agent, number, answer)
+        }
+        Err(StunError::Parse(fault)) => quiet(number, Answer::Unparsed(fault)),
+        Err(_) => unreachable!(),
+    }
+}
+
+/// A moment.
+fn take_moment<H: Sha1HmacProvider + Drop, P: LocalPreference, R: Rng>(
+    agent: &mut Agent<H, P>,
+    number: usize,
+    now: Instant,
+    rng: &mut R,
+) -> Entry
+    ensures did { Step H.mac P.answers (record_of agent.old) (R.stream rng.old) (steps.HandleTimeout now.0) (entry_view result) (record_of agent.new) (R.stream rng.new) }
+    ensures numbered { result.number ≡ number }
+{
+    let answer = done_or_refused(agent.handle_timeout(now, rng));
+    telling(agent, number, answer)
+}
+
+/// A retransmit limit. None at all breaks a condition of the agent.
+fn take_limit<H: Sha1HmacProvider + Drop, P: LocalPreference>(
+    agent: &mut Agent<H, P>,
+    number: usize,
+    limit: usize,
+) -> Entry
+    ensures did { (s : Stream) → steps.SetsRetransmits H.mac P.answers limit (record_of agent.old) s (entry_view result) (record_of agent.new) s }
+    ensures numbered { result.number ≡ number }
+{
+    if limit == 0 {
+        return quiet(number, Answer::NotCalled);
+    }
+    agent.set_max_stun_retransmits(limit);
+    quiet(number, Answer::Done)
+}
+
+/// One call, the one of this number.
+pub(crate) fn step<H: Sha1HmacProvider + Drop, P: LocalPreference, R: Rng>(
+    agent: &mut Agent<H, P>,
+    number: usize,
+    call: AgentCall<P>,
+    rng: &mut R,
+) -> Entry
+    ensures did { Step H.mac P.answers (record_of agent.old) (R.stream rng.old) (call_view call) (entry_view result) (record_of agent.new) (R.stream rng.new) }
+    ensures numbered { result.number ≡ number }
+    ensures given { GivesBased (call_view call) }
+{
+    match call {
+        AgentCall::SetMtu(mtu) => quiet(number, done_or_refused(agent.set_mtu(mtu))),
+        AgentCall::SetControlTieBreaker(tie_breaker) => {
+            agent.set_control_tie_breaker(tie_breaker);
+            quiet(number, Answer::Done)
+        }
+        AgentCall::SetMaxCandidatePairs(limit) => {
+            agent.set_max_candidate_pairs(limit);
+            quiet(number, Answer::Done)
+        }
+        AgentCall::SetIceLite(lite) => {
+            agent.set_ice_lite(lite);
+            quiet(number, Answer::Done)
+        }
+        AgentCall::SetTimingAdvance(advance) => {
+            agent.set_timing_advance(advance);
+            quiet(number, Answer::Done)
+        }
+        AgentCall::SetInitialStunRto(rto) => {
+            agent.set_initial_stun_rto(rto);
+            quiet(number, Answer::Done)
+        }
+        AgentCall::SetMaxStunRto(rto) => {
+            agent.set_max_stun_rto(rto);
+            quiet(number, Answer::Done)
+        }
+        AgentCall::SetMaxStunRetransmits(limit) => take_limit(agent, number, limit),
+        AgentCall::SetLocalPreference(object) => {
+            agent.set_local_preference(object);
+            quiet(number, Answer::Done)
+        }
+        AgentCall::SetControlling(controlling) => {
+            agent.set_controlling(controlling);
+            quiet(number, Answer::Done)
+        }
+        AgentCall::SetLocalCredentials(creds) => {
+            quiet(number, done_or_refused(agent.set_local_credentials(creds)))
+        }
+        AgentCall::SetRemoteCredentials(creds) => {
+            quiet(number, done_or_refused(agent.set_remote_credentials(creds)))
+        }
+        AgentCall::SkipPairIds(least) => {
+            agent.skip_pair_ids(least);
+            quiet(number, Answer::Done)
+        }
+        AgentCall::AddLocalCandidate(candidate) => {
+            quiet(number, added_or_refused(add_local(agent, candidate)))
+        }
+        AgentCall::AddRemoteCandidate(candidate) => {
+            quiet(
+                number,
+                done_or_refused(agent.add_remote_candidate(candidate)),
+            )
+        }
+        AgentCall::InvalidateCandidate(candidate) => {
+            quiet(number, Answer::Flag(agent.invalidate_candidate(&candidate)))
+        }
+        AgentCall::RestartIce { creds, keep } => {
+            quiet(number, done_or_refused(agent.ice_restart(creds, keep)))
+        }
+        AgentCall::RecreateCandidatePairs => {
+            quiet(number, done_or_refused(agent.recreate_candidate_pairs()))
+        }
+        AgentCall::Packet {
+            now,
+            proto,
+            source,
+            destination,
+            bytes,
+        } => {
+            let path = Path {
+                proto,
+                source,
+                destination,
+            };
+            take_packet(agent, number, now, path, &bytes)
+        }
+        AgentCall::HandleTimeout(now) => take_moment(agent, number, now, rng),
+        AgentCall::PollTransmit => quiet(number, Answer::Transmit(agent.poll_transmit())),
+        AgentCall::PollTimeout => quiet(number, Answer::Wake(agent.poll_timeout())),
+        AgentCall::PollEvent => quiet(number, Answer::Event(agent.poll_event())),
+    }
+}

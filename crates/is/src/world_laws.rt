@@ -1,0 +1,43 @@
+//! What holds of each run of a world. Each law is the contract of a function that does nothing.
+
+ghost use Rattle.is.specs.WorldLaws.{KeepsLaw, YieldsLaw, DiffersLaw, TracedLaw};
+
+use is_agent::laws::{fresh_is_sound, path_effect, role_effect};
+use is_candidate::LocalPreference;
+use is_proto::Sha1HmacProvider;
+
+/// Between two agents over any network the greater tie-breaker keeps its role.
+pub(crate) fn greater_keeps<H: Sha1HmacProvider, P: LocalPreference>()
+    ensures { KeepsLaw H.mac P.answers }
+{
+    path_effect::<H, P>();
+    role_effect::<H, P>();
+    fresh_is_sound::<H, P>();
+}
+
+/// The other one yields at most once.
+pub(crate) fn lesser_yields_once<H: Sha1HmacProvider, P: LocalPreference>()
+    ensures { YieldsLaw H.mac P.answers }
+{
+    path_effect::<H, P>();
+    role_effect::<H, P>();
+    fresh_is_sound::<H, P>();
+}
+
+/// Once they met the roles differ.
+pub(crate) fn roles_differ_once_met<H: Sha1HmacProvider, P: LocalPreference>()
+    ensures { DiffersLaw H.mac P.answers }
+{
+    path_effect::<H, P>();
+    role_effect::<H, P>();
+    fresh_is_sound::<H, P>();
+}
+
+/// Each path that an agent announces which is never lite was answered by the other agent.
+pub(crate) fn announced_are_traced<H: Sha1HmacProvider, P: LocalPreference>()
+    ensures { TracedLaw H.mac P.answers }
+{
+    path_effect::<H, P>();
+    role_effect::<H, P>();
+    fresh_is_sound::<H, P>();
+}
