@@ -15,6 +15,8 @@ pub enum Fault {
     Missing(&'static str),
     /// The first field of the call, in the table's order, whose value is none of its kind.
     Bad(&'static str),
+    /// No packet of the number was sent.
+    NoPacket,
 }
 
 impl fmt::Display for Fault {
@@ -25,6 +27,7 @@ impl fmt::Display for Fault {
             Fault::NoAgent => f.write_str("no agent"),
             Fault::Missing(field) => write!(f, "missing {field}"),
             Fault::Bad(field) => write!(f, "bad {field}"),
+            Fault::NoPacket => f.write_str("no packet"),
         }
     }
 }

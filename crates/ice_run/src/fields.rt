@@ -1,7 +1,7 @@
 //! The fields of a script line, each read as what it stands for.
 use crate::fault::{Fault, Stop};
 use hex::FromHexError;
-use is::{Instant, Protocol, SocketText, Text};
+use is::{Duration, IceCreds, Instant, Protocol, SocketText, Text};
 use serde_json::Value;
 use std::alloc::Global;
 use std::net::SocketAddr;
@@ -23,16 +23,24 @@ impl<'a> Fields<'a> {
         Ok(Fields { object })
     }
 
-    fn str_at(&self, name: &'static str) -> Result<&'a str, Fault> {
+    /// A text as it stands in the line.
+    pub fn line(&self, name: &'static str) -> Result<&'a str, Fault> {
         self.object
             .get(name)
             .and_then(Value::as_str)
             .ok_or(Fault::Bad(name))
     }
 
-    /// Any text.
-    pub fn text(&self, alloc: Global, name: &'static str) -> Result<Text, Stop> {
-        Ok(Text::from_str(alloc, self.str_at(name)?)?)
+    /// The credentials of `ufrag` and `pass`.
+    pub fn creds(&self, alloc: Global) -> Result<IceCreds, Stop> {
+        Ok(IceCreds {
+            ufrag: self.text(alloc, "ufrag")?,
+            pass: self.text(alloc, "pass")?,
+        })
+    }
+
+    fn text(&self, alloc: Global, name: &'static str) -> Result<Text, Stop> {
+        Ok(Text::from_str(alloc, self.line(name)?)?)
     }
 
     /// A whole number of 64 bits.
@@ -43,6 +51,35 @@ impl<'a> Fields<'a> {
             .ok_or(Fault::Bad(name))
     }
 
+    /// A truth value.
+    pub fn flag(&self, name: &'static str) -> Result<bool, Fault> {
+        self.object
+            .get(name)
+            .and_then(Value::as_bool)
+            .ok_or(Fault::Bad(name))
+    }
+
+    /// How many of something.
+    pub fn count(&self, name: &'static str) -> Result<usize, Fault> {
+        match usize::try_from(self.number(name)?) {
+            Ok(count) => Ok(count),
+            Err(_) => Err(Fault::Bad(name)),
+        }
+    }
+
+    /// How many of something, at least one.
+    pub fn positive(&self, name: &'static str) -> Result<usize, Fault> {
+        match self.count(name)? {
+            0 => Err(Fault::Bad(name)),
+            count => Ok(count),
+        }
+    }
+
+    /// A length of time, in nanoseconds.
+    pub fn duration(&self, name: &'static str) -> Result<Duration, Fault> {
+        Ok(Duration(self.number(name)?))
+    }
+
     /// A moment, in nanoseconds.
     pub fn moment(&self, name: &'static str) -> Result<Instant, Fault> {
         Ok(Instant(self.number(name)?))
@@ -50,12 +87,12 @@ impl<'a> Fields<'a> {
 
     /// The word of a protocol, in either case.
     pub fn protocol(&self, name: &'static str) -> Result<Protocol, Fault> {
-        Protocol::from_text(self.str_at(name)?).ok_or(Fault::Bad(name))
+        Protocol::from_text(self.line(name)?).ok_or(Fault::Bad(name))
     }
 
     /// `IPv4:port` or `[IPv6]:port`.
     pub fn socket(&self, name: &'static str) -> Result<SocketAddr, Fault> {
-        match SocketText::from_text(self.str_at(name)?) {
+        match SocketText::from_text(self.line(name)?) {
             Some(SocketText(address)) => Ok(address),
             None => Err(Fault::Bad(name)),
         }
@@ -63,7 +100,7 @@ impl<'a> Fields<'a> {
 
     /// Bytes as two digits each, in either case.
     pub fn bytes(&self, alloc: Global, name: &'static str) -> Result<Vec<u8>, Stop> {
-        match hex::decode(alloc, self.str_at(name)?) {
+        match hex::decode(alloc, self.line(name)?) {
             Ok(bytes) => Ok(bytes),
             Err(FromHexError::OutOfMemory) => Err(Stop::Broken),
             Err(_) => Err(Stop::Line(Fault::Bad(name))),

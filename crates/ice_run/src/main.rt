@@ -4,7 +4,6 @@
 mod counter;
 mod fault;
 mod fields;
-mod fraction;
 mod play;
 mod print;
 mod script;

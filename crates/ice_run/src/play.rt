@@ -2,10 +2,8 @@
 use crate::counter::Counter;
 use crate::fault::{Fault, Stop};
 use crate::print::{AnswerText, EventText, HexText, WakeText};
-use crate::script::{ScriptCall, ScriptLine, Side, read_script};
-use is::{
-    Answer, Call, Candidate, DefaultSha1HmacProvider, IceAgent, IceCreds, IceError, SocketText, run,
-};
+use crate::script::{ScriptCall, ScriptLine, Sent, Side, read_script};
+use is::{Answer, Call, DefaultSha1HmacProvider, IceAgent, IceCreds, IceError, SocketText, run};
 use std::alloc::Global;
 use std::io::{Read, Write};
 
@@ -31,7 +29,7 @@ pub fn play<R: Read, W: Write, E: Write>(
     let mut agents = Agents { a: None, b: None };
     let mut shared = Shared {
         random: Counter::new(),
-        sent: 0,
+        sent: Vec::new(alloc),
     };
     let mut number = 0u64;
     for line in text.as_str().split('\n') {
@@ -61,8 +59,8 @@ struct Agents {
 #[derive(Drop)]
 struct Shared {
     random: Counter,
-    /// How many packets both agents sent.
-    sent: u64,
+    /// The packets that both agents sent, in order.
+    sent: Vec<Sent>,
 }
 
 fn play_line<W: Write>(
@@ -93,7 +91,7 @@ fn play_on<W: Write>(
     if agent.is_none() && !line.makes_agent() {
         return Err(Stop::Line(Fault::NoAgent));
     }
-    let call = line.call(alloc)?;
+    let call = line.call(alloc, &shared.sent)?;
     let answer = answer(alloc, agent, call, &mut shared.random)?;
     let answer = AnswerText(&answer);
     writeln!(output, "{} {} {answer}", line.side, line.word())?;
@@ -110,35 +108,9 @@ fn answer(
     random: &mut Counter,
 ) -> Result<Answer, Stop> {
     match call {
-        ScriptCall::Agent {
-            ufrag,
-            pass,
-            tie_breaker,
-        } => make(alloc, agent, IceCreds { ufrag, pass }, tie_breaker),
-        ScriptCall::Remote { ufrag, pass } => {
-            let creds = IceCreds { ufrag, pass };
-            make_call(alloc, agent, Call::SetRemoteCredentials(creds), random)
-        }
-        ScriptCall::Host { addr, proto } => match Candidate::host(alloc, addr, proto) {
-            Ok(candidate) => { make_call(alloc, agent, Call::AddLocalCandidate(candidate), random) }
-            Err(error) => refused(error),
-        },
-        ScriptCall::Packet {
-            now,
-            proto,
-            source,
-            destination,
-            bytes,
-        } => {
-            let packet = Call::Packet {
-                now,
-                proto,
-                source,
-                destination,
-                bytes,
-            };
-            make_call(alloc, agent, packet, random)
-        }
+        ScriptCall::Agent { creds, tie_breaker } => make(alloc, agent, creds, tie_breaker),
+        ScriptCall::Call(call) => make_call(alloc, agent, call, random),
+        ScriptCall::Refused(error) => Ok(Answer::Refused(error)),
     }
 }
 
@@ -190,7 +162,7 @@ fn refused(error: IceError) -> Result<Answer, Stop> {
 fn poll<W: Write>(
     side: Side,
     agent: &mut Agent,
-    sent: &mut u64,
+    sent: &mut Vec<Sent>,
     output: &mut W,
 ) -> Result<(), Stop> {
     while let Some(packet) = agent.poll_transmit() {
@@ -198,11 +170,12 @@ fn poll<W: Write>(
         let destination = SocketText(packet.destination);
         let bytes = HexText(&packet.contents);
         let proto = packet.proto;
+        let number = sent.len();
         writeln!(
             output,
-            "{side} send {sent} {proto} {source} {destination} {bytes}"
+            "{side} send {number} {proto} {source} {destination} {bytes}"
         )?;
-        *sent = sent.saturating_add(1);
+        sent.push(Sent { side, packet })?;
     }
     while let Some(event) = agent.poll_event() {
         writeln!(output, "{side} event {}", EventText(&event))?;

@@ -1,13 +1,12 @@
 //! Script lines: each is one JSON object that names a call, an agent and the call's fields.
 use crate::fault::{Fault, Stop};
 use crate::fields::Fields;
-use crate::fraction::holds_fraction;
-use is::{Instant, Protocol, Text};
+use is::{Call, Candidate, IceCreds, IceError, Transmit};
+use is_candidate::candidate::fraction::holds_fraction;
 use serde_json::Value;
 use std::alloc::Global;
 use std::fmt;
 use std::io::Read;
-use std::net::SocketAddr;
 
 /// The most bytes that a script may have.
 const LIMIT: u64 = 16777216;
@@ -32,9 +31,23 @@ impl fmt::Display for Side {
 #[derive(Clone, Copy, Debug, PartialEq, Eq)]
 pub enum CallName {
     Agent,
+    Controlling,
+    Lite,
     Remote,
+    Pairs,
+    Retransmits,
+    Rto,
+    MaxRto,
     Host,
+    Srflx,
+    Relay,
+    Candidate,
+    Invalidate,
+    Restart,
+    Recreate,
+    Timeout,
     Packet,
+    Deliver,
 }
 
 /// A row of the table of calls.
@@ -46,11 +59,22 @@ struct Row {
     fields: &'static [&'static str],
 }
 
-static CALLS: [Row; 4] = [
+/// The calls of scripts: the word of each, and the fields that it takes.
+static CALLS: [Row; 18] = [
     Row {
         word: "agent",
         name: CallName::Agent,
         fields: &["ufrag", "pass", "tie"],
+    },
+    Row {
+        word: "controlling",
+        name: CallName::Controlling,
+        fields: &["flag"],
+    },
+    Row {
+        word: "lite",
+        name: CallName::Lite,
+        fields: &["flag"],
     },
     Row {
         word: "remote",
@@ -58,44 +82,93 @@ static CALLS: [Row; 4] = [
         fields: &["ufrag", "pass"],
     },
     Row {
+        word: "pairs",
+        name: CallName::Pairs,
+        fields: &["number"],
+    },
+    Row {
+        word: "retransmits",
+        name: CallName::Retransmits,
+        fields: &["number"],
+    },
+    Row {
+        word: "rto",
+        name: CallName::Rto,
+        fields: &["number"],
+    },
+    Row {
+        word: "maxrto",
+        name: CallName::MaxRto,
+        fields: &["number"],
+    },
+    Row {
         word: "host",
         name: CallName::Host,
         fields: &["addr", "proto"],
+    },
+    Row {
+        word: "srflx",
+        name: CallName::Srflx,
+        fields: &["addr", "base", "proto"],
+    },
+    Row {
+        word: "relay",
+        name: CallName::Relay,
+        fields: &["addr", "base", "proto"],
+    },
+    Row {
+        word: "candidate",
+        name: CallName::Candidate,
+        fields: &["text"],
+    },
+    Row {
+        word: "invalidate",
+        name: CallName::Invalidate,
+        fields: &["text"],
+    },
+    Row {
+        word: "restart",
+        name: CallName::Restart,
+        fields: &["ufrag", "pass", "flag"],
+    },
+    Row {
+        word: "recreate",
+        name: CallName::Recreate,
+        fields: &[],
+    },
+    Row {
+        word: "timeout",
+        name: CallName::Timeout,
+        fields: &["now"],
     },
     Row {
         word: "packet",
         name: CallName::Packet,
         fields: &["now", "proto", "from", "to", "hex"],
     },
+    Row {
+        word: "deliver",
+        name: CallName::Deliver,
+        fields: &["packet", "now"],
+    },
 ];
 
-/// A call with its fields, each of its kind.
+/// What a line asks for.
 #[derive(Drop)]
 pub enum ScriptCall {
     /// Makes or replaces the agent.
-    Agent {
-        ufrag: Text,
-        pass: Text,
-        tie_breaker: u64,
-    },
-    /// Sets the remote credentials.
-    Remote {
-        ufrag: Text,
-        pass: Text,
-    },
-    /// Adds a local host candidate.
-    Host {
-        addr: SocketAddr,
-        proto: Protocol,
-    },
-    /// Hands in a packet.
-    Packet {
-        now: Instant,
-        proto: Protocol,
-        source: SocketAddr,
-        destination: SocketAddr,
-        bytes: Vec<u8>,
-    },
+    Agent { creds: IceCreds, tie_breaker: u64 },
+    /// Makes this call of the agent.
+    Call(Call),
+    /// The candidate that the call needs was refused.
+    Refused(IceError),
+}
+
+/// A packet that an agent sent. Its number is its place among all of them.
+#[derive(Drop)]
+pub struct Sent {
+    pub side: Side,
+    pub packet: Transmit,
 }
 
 /// A line whose agent and call are known, and whose fields are still to be read.
@@ -125,32 +198,128 @@ impl ScriptLine {
         self.row.name == CallName::Agent
     }
 
-    /// The call with its fields. Refused where one is missing, else where one is bad.
-    pub fn call(&self, alloc: Global) -> Result<ScriptCall, Stop> {
+    /// What the line asks for, where these packets were sent before. Refused where a field is missing, else where
+    /// one is bad.
+    pub fn call(&self, alloc: Global, sent: &[Sent]) -> Result<ScriptCall, Stop> {
         let fields = Fields::of(&self.object, self.row.fields)?;
-        Ok(match self.row.name {
-            CallName::Agent => ScriptCall::Agent {
-                ufrag: fields.text(alloc, "ufrag")?,
-                pass: fields.text(alloc, "pass")?,
-                tie_breaker: fields.number("tie")?,
-            },
-            CallName::Remote => ScriptCall::Remote {
-                ufrag: fields.text(alloc, "ufrag")?,
-                pass: fields.text(alloc, "pass")?,
-            },
-            CallName::Host => ScriptCall::Host {
-                addr: fields.socket("addr")?,
-                proto: fields.protocol("proto")?,
-            },
-            CallName::Packet => ScriptCall::Packet {
-                now: fields.moment("now")?,
-                proto: fields.protocol("proto")?,
-                source: fields.socket("from")?,
-                destination: fields.socket("to")?,
-                bytes: fields.bytes(alloc, "hex")?,
-            },
-        })
+        let name = self.row.name;
+        match name {
+            CallName::Agent => agent_call(alloc, fields),
+            CallName::Host | CallName::Srflx | CallName::Relay => {
+                on_candidate(name, local_candidate(alloc, name, fields)?)
+            }
+            CallName::Candidate | CallName::Invalidate => {
+                on_candidate(
+                    name,
+                    Candidate::from_sdp_string(alloc, fields.line("text")?),
+                )
+            }
+            CallName::Remote | CallName::Restart => session_call(alloc, name, fields),
+            CallName::Packet => packet_call(alloc, fields),
+            CallName::Deliver => delivery(self.side, fields, sent),
+            _ => Ok(ScriptCall::Call(plain_call(name, fields)?)),
+        }
     }
+}
+
+fn agent_call(alloc: Global, fields: Fields<'_>) -> Result<ScriptCall, Stop> {
+    Ok(ScriptCall::Agent {
+        creds: fields.creds(alloc)?,
+        tie_breaker: fields.number("tie")?,
+    })
+}
+
+/// The local candidate of a `host`, `srflx` or `relay` call, or its refusal.
+fn local_candidate(
+    alloc: Global,
+    name: CallName,
+    fields: Fields<'_>,
+) -> Result<Result<Candidate, IceError>, Fault> {
+    let addr = fields.socket("addr")?;
+    if name == CallName::Host {
+        return Ok(Candidate::host(alloc, addr, fields.protocol("proto")?));
+    }
+    let base = fields.socket("base")?;
+    let proto = fields.protocol("proto")?;
+    Ok(if name == CallName::Srflx {
+        Candidate::server_reflexive(alloc, addr, base, proto)
+    } else {
+        Candidate::relayed(alloc, addr, base, proto)
+    })
+}
+
+/// The call on a candidate. Want of memory ends the script; any other refusal is the call's answer.
+fn on_candidate(name: CallName, made: Result<Candidate, IceError>) -> Result<ScriptCall, Stop> {
+    match made {
+        Ok(candidate) => Ok(ScriptCall::Call(match name {
+            CallName::Candidate => Call::AddRemoteCandidate(candidate),
+            CallName::Invalidate => Call::InvalidateCandidate(candidate),
+            _ => Call::AddLocalCandidate(candidate),
+        })),
+        Err(IceError::OutOfMemory) => Err(Stop::Broken),
+        Err(error) => Ok(ScriptCall::Refused(error)),
+    }
+}
+
+fn session_call(alloc: Global, name: CallName, fields: Fields<'_>) -> Result<ScriptCall, Stop> {
+    let creds = fields.creds(alloc)?;
+    Ok(ScriptCall::Call(if name == CallName::Restart {
+        Call::RestartIce {
+            creds,
+            keep: fields.flag("flag")?,
+        }
+    } else {
+        Call::SetRemoteCredentials(creds)
+    }))
+}
+
+fn packet_call(alloc: Global, fields: Fields<'_>) -> Result<ScriptCall, Stop> {
+    Ok(ScriptCall::Call(Call::Packet {
+        now: fields.moment("now")?,
+        proto: fields.protocol("proto")?,
+        source: fields.socket("from")?,
+        destination: fields.socket("to")?,
+        bytes: fields.bytes(alloc, "hex")?,
+    }))
+}
+
+/// A packet that the other agent sent, with the addresses and the protocol that it was sent with.
+fn delivery(side: Side, fields: Fields<'_>, sent: &[Sent]) -> Result<ScriptCall, Stop> {
+    let number = fields.number("packet")?;
+    let found = match usize::try_from(number) {
+        Ok(number) => sent.get(number),
+        Err(_) => None,
+    };
+    if let Some(own) = found
+        && own.side == side
+    {
+        return Err(Stop::Line(Fault::Bad("packet")));
+    }
+    let now = fields.moment("now")?;
+    let Some(Sent { packet, .. }) = found else {
+        return Err(Stop::Line(Fault::NoPacket));
+    };
+    Ok(ScriptCall::Call(Call::Packet {
+        now,
+        proto: packet.proto,
+        source: packet.source,
+        destination: packet.destination,
+        bytes: packet.contents.clone()?,
+    }))
+}
+
+/// A call of numbers and truth values alone.
+fn plain_call(name: CallName, fields: Fields<'_>) -> Result<Call, Fault> {
+    Ok(match name {
+        CallName::Controlling => Call::SetControlling(fields.flag("flag")?),
+        CallName::Lite => Call::SetIceLite(fields.flag("flag")?),
+        CallName::Pairs => Call::SetMaxCandidatePairs(fields.count("number")?),
+        CallName::Retransmits => Call::SetMaxStunRetransmits(fields.positive("number")?),
+        CallName::Rto => Call::SetInitialStunRto(fields.duration("number")?),
+        CallName::MaxRto => Call::SetMaxStunRto(fields.duration("number")?),
+        CallName::Timeout => Call::HandleTimeout(fields.moment("now")?),
+        _ => Call::RecreateCandidatePairs,
+    })
 }
 
 /// The whole input, where it is UTF-8 of at most the limit.

@@ -10,6 +10,8 @@ use std::io::{Read, Write};
 use std::net::{Ipv4Addr, SocketAddr, SocketAddrV4};
 use std::test::Fail;
 
+mod sessions;
+
 /// The agent of the published request: its ufrag, its password, its host candidate and the other ufrag.
 const AGENT: &str = r#"{"call":"agent","ufrag":"p9KA","pass":"xJcE9AQAR7kczUDVOXRUCl","tie":1}
 {"call":"remote","ufrag":"SQAt","pass":"x"}
@@ -112,7 +114,13 @@ fn each_fault_of_a_line_ends_the_script(rt: HostRuntime) -> Result<(), Fail> {
         (r#"{"call":"sleep","x":-0}"#, "not a script line"),
         (r#"{"call":"sleep","on":"C"}"#, "not a script line"),
         (r#"{"call":"sleep"}"#, "unknown call"),
-        (r#"{"call":"timeout","now":0}"#, "unknown call"),
+        (r#"{"call":"timeout"}"#, "missing now"),
+        (r#"{"call":"timeout","now":null}"#, "bad now"),
+        (r#"{"call":"retransmits","number":0}"#, "bad number"),
+        (r#"{"call":"lite","flag":1}"#, "bad flag"),
+        (r#"{"call":"srflx","addr":"10.0.0.1:1"}"#, "missing base"),
+        (r#"{"call":"deliver","packet":0,"now":-1}"#, "bad now"),
+        (r#"{"call":"deliver","packet":0,"now":1}"#, "no packet"),
         (r#"{"call":"host","on":"B"}"#, "no agent"),
         (r#"{"call":"host","addr":"x"}"#, "missing proto"),
         (r#"{"call":"host","addr":"x","proto":1}"#, "bad addr"),
@@ -153,8 +161,45 @@ fn each_fault_of_a_line_ends_the_script(rt: HostRuntime) -> Result<(), Fail> {
 }
 
 #[test]
+fn an_agent_gets_no_packet_of_its_own(rt: HostRuntime) -> Result<(), Fail> {
+    let alloc = rt.alloc();
+    let own = "{\"call\":\"deliver\",\"packet\":0,\"now\":\"x\"}";
+    let request = packet_line(alloc, HEADER, USERNAME, INTEGRITY)?;
+    let script = format!(in alloc; "{AGENT}{request}{own}\n")?;
+    let expected = format!(in alloc; "{AGENT_MADE}{SERVED}")?;
+    let played = play_script(alloc, script.as_bytes());
+    assert_eq!(&rt; played.status, 1);
+    assert_eq!(&rt;
+        played.errors.as_slice(),
+        b"line 5: bad packet\n".as_slice()
+    );
+    assert_eq!(&rt; played.output.as_slice(), expected.as_bytes());
+    Ok(())
+}
+
+#[test]
+fn refused_candidates_change_nothing(rt: HostRuntime) -> Result<(), Fail> {
+    let lines = "{\"call\":\"candidate\",\"text\":\"candidate:1\"}\n\
+    {\"call\":\"srflx\",\"addr\":\"10.0.0.1:1\",\"base\":\"[::1]:1\",\"proto\":\"udp\"}\n\
+    {\"call\":\"relay\",\"addr\":\"0.0.0.0:1\",\"base\":\"10.0.0.1:1\",\"proto\":\"tls\"}\n\
+    {\"call\":\"invalidate\",\"text\":\"candidate:1 1 udp 1 10.0.0.9 1 typ host\"}\n";
+    let script = format!(in rt.alloc(); "{AGENT}{lines}")?;
+    let expected = format!(in rt.alloc();
+        "{AGENT_MADE}{}{}{}{}",
+        "A candidate refused BadCandidate\nA wake none\n",
+        "A srflx refused BadCandidate\nA wake none\n",
+        "A relay refused BadCandidate\nA wake none\n",
+        "A invalidate false\nA wake none\n"
+    )?;
+    let played = play_script(rt.alloc(), script.as_bytes());
+    assert_eq!(&rt; played.status, 0);
+    assert_eq!(&rt; played.output.as_slice(), expected.as_bytes());
+    Ok(())
+}
+
+#[test]
 fn two_agents_take_their_own_calls(rt: HostRuntime) -> Result<(), Fail> {
-    let long = "u".repeat(rt.alloc(), 128)?;
+    let long = "u".repeat(rt.alloc(), 508)?;
     let script = format!(in rt.alloc();
         "{}{}{}{long}{}{}{}",
         "{\"call\":\"agent\",\"ufrag\":\"AAAA\",\"pass\":\"PPPP\",\"tie\":1.0e0,\"tie\":1}\n",

@@ -1,0 +1,67 @@
+//! The lines of the input, and which case each names.
+
+use crate::checksum::Checksum;
+use crate::{candidates, messages, pairs};
+use is_proto::IceError;
+use std::alloc::Global;
+use std::io::{Read, Write};
+
+/// The longest input, in bytes.
+const LIMIT: u64 = 65536;
+
+/// Runs the case of each line, and gives the exit status: 0 where each line named one; 1 where one did not; 2 where memory, a
+/// read or a write was refused, or where the input is longer than 65536 bytes or no UTF-8.
+pub fn bench<R: Read, W: Write>(alloc: Global, input: &mut R, output: &mut W) -> u8 {
+    let Some(text) = read_lines(alloc, input) else {
+        return 2;
+    };
+    for line in text.as_str().lines() {
+        let Some((name, rounds)) = case_of(line) else {
+            return 1;
+        };
+        match sum_of(alloc, name, rounds) {
+            Ok(Some(sum)) => {
+                if writeln!(output, "{name} {rounds} {sum}").is_err() {
+                    return 2;
+                }
+            }
+            Ok(None) => return 1,
+            Err(_) => return 2,
+        }
+    }
+    0
+}
+
+fn read_lines<R: Read>(alloc: Global, input: &mut R) -> Option<String> {
+    let mut bytes = Vec::new(alloc);
+    if input.take(LIMIT + 1).read_to_end(&mut bytes).is_err() || bytes.len() as u64 > LIMIT {
+        return None;
+    }
+    String::from_utf8(bytes).ok()
+}
+
+/// The name of a case and its rounds.
+fn case_of(line: &str) -> Option<(&str, u64)> {
+    let (name, rounds) = line.split_once(' ')?;
+    Some((name, rounds.parse::<u64>().ok()?))
+}
+
+/// The checksum of the case of this name after so many rounds, or none where no case has the name.
+fn sum_of(alloc: Global, name: &str, rounds: u64) -> Result<Option<u64>, IceError> {
+    let mut sum = Checksum(0);
+    match name {
+        "parse_request" => messages::parse_request(rounds, &mut sum),
+        "parse_reply" => messages::parse_reply(rounds, &mut sum),
+        "verify_request" => messages::verify_request(rounds, &mut sum),
+        "write_request" => messages::write_request(rounds, &mut sum),
+        "write_reply" => messages::write_reply(rounds, &mut sum),
+        "write_unsigned" => messages::write_unsigned(rounds, &mut sum),
+        "crc" => messages::crc(rounds, &mut sum),
+        "hmac" => messages::hmac(rounds, &mut sum),
+        "read_line" => candidates::read_line(alloc, rounds, &mut sum)?,
+        "print_line" => candidates::print_line(alloc, rounds, &mut sum)?,
+        "pair" => pairs::pair(alloc, rounds, &mut sum)?,
+        _ => return Ok(None),
+    }
+    Ok(Some(sum.0))
+}

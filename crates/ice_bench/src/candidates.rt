@@ -1,0 +1,25 @@
+//! Candidate lines.
+
+use crate::checksum::Checksum;
+use is_candidate::Candidate;
+use is_proto::IceError;
+use std::alloc::Global;
+
+const LINE: &str = "candidate:1 1 udp 2113929471 203.0.113.100 10100 typ host";
+
+pub fn read_line(alloc: Global, rounds: u64, sum: &mut Checksum) -> Result<(), IceError> {
+    for _ in 0..rounds {
+        let candidate = Candidate::from_sdp_string(alloc, LINE)?;
+        sum.add(u64::from(candidate.prio()));
+    }
+    Ok(())
+}
+
+pub fn print_line(alloc: Global, rounds: u64, sum: &mut Checksum) -> Result<(), IceError> {
+    let candidate = Candidate::from_sdp_string(alloc, LINE)?;
+    for _ in 0..rounds {
+        let text = candidate.to_sdp_string(alloc)?;
+        sum.add_bytes(text.as_bytes());
+    }
+    Ok(())
+}

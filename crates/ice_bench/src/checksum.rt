@@ -1,0 +1,18 @@
+//! What a case adds up, so that none of its results can be left out.
+
+/// A sum in which each number and its place count.
+#[derive(Clone, Copy)]
+pub struct Checksum(pub u64);
+
+impl Checksum {
+    pub fn add(&mut self, number: u64) {
+        self.0 = self.0.rotate_left(5) ^ number;
+    }
+
+    pub fn add_bytes(&mut self, bytes: &[u8]) {
+        self.add(bytes.len() as u64);
+        if let Some(byte) = bytes.last() {
+            self.add(u64::from(*byte));
+        }
+    }
+}
