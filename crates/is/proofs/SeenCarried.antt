@@ -9,7 +9,7 @@ use Rattle.is_agent.specs.declared.told.Path.{Path}
 use Rattle.is_agent.specs.Request.{RequestRecord}
 use Rattle.is.specs.declared.world.Side.{Side}
 use Rattle.is.specs.declared.world.Side.TheVariants.{A, B}
-use Rattle.is_agent.specs.Standing.{Mail, Kept, Standing, Deed, RoleEffect, Claims, Says, IsBrought, IsAnswered, IsRefusedBy}
+use Rattle.is_agent.specs.Standing.{Mail, Kept, Standing, Deed, RoleEffect, Claims, Conveys, IsCarriedIn, MeetsSuccess, MeetsConflict}
 use Rattle.is.specs.World.{other}
 use Rattle.is.proofs.Seen.{Letter, Seen, Told, at, roles_of, role_at}
 use Rattle.is.proofs.Seen.{Issues, Takes, NoClear, Trace, DistinctChecks}
@@ -211,7 +211,7 @@ module _ (z : Setting) (es : List Told) (side : Side) (old new : Standing) (d : 
   takes_now c id accepted moved = record { entry = e; found = get-last es e; side_is = t.side_is; accepted = accepted; moved = moved }
 
   -- a request that the delivery brings now
-  brought_now : (q : RequestRecord) → IsBrought d q → Arrived z es side e q
+  brought_now : (q : RequestRecord) → IsCarriedIn d q → Arrived z es side e q
   brought_now q is =
       let m = is.mail in
       let b = t.brought m is.accepted in
@@ -247,7 +247,7 @@ module _ (z : Setting) (es : List Told) (side : Side) (old new : Standing) (d : 
 
   -- what a message that goes out says
   says_fact : (path : Path) (m : Mail) (c : Class) → (side ≡ z.greater → old.controlling ≡ z.role) → d.issued ≡ Some record { path = path; class = c; id = m.id }
-      → Says c old d m new.controlling → Fact z (es ++ e ∷ []) side c m
+      → Conveys c old d m new.controlling → Fact z (es ++ e ∷ []) side c m
   says_fact path m class.Request greater issued says = record {
     role = old.controlling;
     claims = subst (λ tie. Claims m.ice_controlling m.ice_controlled old.controlling tie) h.tie says.0;
@@ -292,7 +292,7 @@ module _ (z : Setting) (es : List Told) (side : Side) (old new : Standing) (d : 
   cleared_or = elim d.clears as (λ b. d.clears ≡ b → (e.clear ≡ false) ⊎ IsBare) [ true ↦ λ is. inr (t.effect.cleared is) | false ↦ λ is. inl (t.clear_is ∙ is) ] refl
 
   -- the answer of a kept check came: the check reached the other side, which answered it
-  met_trace : (path : Path) → DistinctChecks es → e.clear ≡ false → IsAnswered old d path → Trace (es ++ e ∷ []) side path
+  met_trace : (path : Path) → DistinctChecks es → e.clear ≡ false → MeetsSuccess old d path → Trace (es ++ e ∷ []) side path
   met_trace path distinct go is =
       let m = is.mail in
       let b = t.brought m is.accepted in
@@ -391,7 +391,7 @@ module _ (z : Setting) (es : List Told) (side : Side) (old new : Standing) (d : 
   ]
 
   -- a refusal that a side takes is of a check that carried the greater's role
-  refused_role : DistinctChecks es → IsRefusedBy old d new → new.controlling ≡ not z.role
+  refused_role : DistinctChecks es → MeetsConflict old d new → new.controlling ≡ not z.role
   refused_role distinct by =
       let m = by.mail in
       let b = t.brought m by.accepted in

@@ -3,8 +3,8 @@ use Rattle.std.proofs.Common.{◌≡◌, ℕ, ◌<◌, ◌≤◌, Bool, true, fa
 use Rattle.std.specs.Prelude.{if◌then◌else◌}
 use Rattle.std.specs.Option.{option_map_or}
 use Rattle.std.proofs.lemmas.Bool.Decides.{nat_tests}
-use Rattle.is_agent.specs.Request.{RequestRecord}
-use Rattle.is_agent.specs.Standing.{Standing, Claims, rival, insists, yields}
+use Rattle.is_agent.specs.Request.{RequestRecord, rival_in}
+use Rattle.is_agent.specs.Standing.{Standing, Claims, insists, yields}
 
 -- the rival's tie-breaker is the claimed one where the claimed role is the own one, and else there is none
 abbrev Rivals : Bool → Bool → ℕ → Option ℕ → Type 0
@@ -13,7 +13,7 @@ Rivals false false tie r = r ≡ Some tie
 Rivals true false tie r = r ≡ None
 Rivals false true tie r = r ≡ None
 
-rivals : (own role : Bool) (tie : ℕ) (q : RequestRecord) → Claims q.ice_controlling q.ice_controlled role tie → Rivals own role tie (rival own q)
+rivals : (own role : Bool) (tie : ℕ) (q : RequestRecord) → Claims q.ice_controlling q.ice_controlled role tie → Rivals own role tie (rival_in own q)
 rivals true true tie q c = c.0
 rivals true false tie q c = c.0
 rivals false true tie q c = c.1
@@ -30,7 +30,7 @@ tested test false true tie r is h = (let k = sym (ap (λ x. option_map_or test x
 pub insists-claims : (s : Standing) (q : RequestRecord) (role : Bool) (tie : ℕ) → Claims q.ice_controlling q.ice_controlled role tie → insists s q ≡ true
     → (s.controlling ≡ role) × (tie ≤ s.tie_breaker)
 insists-claims s q role tie c h =
-    let k = tested (λ t. nat_le t s.tie_breaker) s.controlling role tie (rival s.controlling q) (rivals s.controlling role tie q c) h in
+    let k = tested (λ t. nat_le t s.tie_breaker) s.controlling role tie (rival_in s.controlling q) (rivals s.controlling role tie q c) h in
     let le : nat_le tie s.tie_breaker ≡ true = k.1 in
     (k.0, grind (arith, nat_tests))
 
@@ -38,7 +38,7 @@ insists-claims s q role tie c h =
 pub yields-claims : (s : Standing) (q : RequestRecord) (role : Bool) (tie : ℕ) → Claims q.ice_controlling q.ice_controlled role tie → yields s q ≡ true
     → (s.controlling ≡ role) × (s.tie_breaker < tie)
 yields-claims s q role tie c h =
-    let k = tested (λ t. nat_lt s.tie_breaker t) s.controlling role tie (rival s.controlling q) (rivals s.controlling role tie q c) h in
+    let k = tested (λ t. nat_lt s.tie_breaker t) s.controlling role tie (rival_in s.controlling q) (rivals s.controlling role tie q c) h in
     let lt : nat_lt s.tie_breaker tie ≡ true = k.1 in
     (k.0, grind (arith, nat_tests))
 
@@ -54,4 +54,4 @@ pub settled-claims : (s : Standing) (q : RequestRecord) (role : Bool) (tie : ℕ
     → (if yields s q then not s.controlling else s.controlling) ≡ not role
 settled-claims s q role tie c less =
     let lt : nat_lt s.tie_breaker tie ≡ true = grind (arith, nat_tests) in
-    switched (λ t. nat_lt s.tie_breaker t) s.controlling role tie (rival s.controlling q) (rivals s.controlling role tie q c) lt
+    switched (λ t. nat_lt s.tie_breaker t) s.controlling role tie (rival_in s.controlling q) (rivals s.controlling role tie q c) lt

@@ -4,7 +4,8 @@ use Rattle.std.proofs.lemmas.Grind.{common_steps}
 use Rattle.is_proto.specs.Lists.{Has}
 use Rattle.is_pair.specs.Pairs.{PairRecord}
 use Rattle.is_agent.specs.Pairs.{is_numbered, without, Drops}
-use Rattle.is_agent.specs.Cuts.{IsRising, IsCut}
+use Rattle.is_agent.specs.Cuts.{IsCut}
+use Rattle.is_agent.specs.Kept.{AreRising}
 
 -- the pairs but that of the number
 abbrev is_other : ℕ → PairRecord → Bool
@@ -60,16 +61,16 @@ has-filtered t (x ∷ xs) q h passes =
 
 -- ---- numbers
 
-pub rising-filter : (t : PairRecord → Bool) (xs : List PairRecord) → IsRising xs → IsRising (filter t xs)
+pub rising-filter : (t : PairRecord → Bool) (xs : List PairRecord) → AreRising xs → AreRising (filter t xs)
 rising-filter t [] h = h
 rising-filter t (x ∷ xs) h =
-    elim (t x) as (λ b. IsRising (if b then x ∷ filter t xs else filter t xs)) [
+    elim (t x) as (λ b. AreRising (if b then x ∷ filter t xs else filter t xs)) [
       | true ↦ ((λ q its. h.0 q (filtered-had t xs q its)), rising-filter t xs h.1)
       | false ↦ rising-filter t xs h.1
     ]
 
 -- a number names one pair
-pub named-once : (xs : List PairRecord) (p q : PairRecord) → IsRising xs → Has xs p → Has xs q → p.number ≡ q.number → p ≡ q
+pub named-once : (xs : List PairRecord) (p q : PairRecord) → AreRising xs → Has xs p → Has xs q → p.number ≡ q.number → p ≡ q
 named-once [] p q h a b same = elim a [ ]
 named-once (x ∷ xs) p q h (inl a) (inl b) same = sym a ∙ b
 named-once (x ∷ xs) p q h (inl a) (inr b) same = let above = h.0 q b in absurd (omega (arith, above, same, ap (λ (r : PairRecord). r.number) a))
@@ -83,7 +84,7 @@ all-stay n (x ∷ xs) above =
     let other : x.number == n ≡ false = grind (arith, common_steps, above x (inl refl)) in
     rw other (ap suc (all-stay n xs (λ q h. above q (inr h))))
 
-pub one-goes : (n : ℕ) (xs : List PairRecord) → IsRising xs → length xs ≤ length (others n xs) + 1
+pub one-goes : (n : ℕ) (xs : List PairRecord) → AreRising xs → length xs ≤ length (others n xs) + 1
 one-goes n [] h = omega arith
 one-goes n (x ∷ xs) h =
     elim (x.number == n) as (λ b. x.number == n ≡ b → suc (length xs) ≤ length (if not b then x ∷ others n xs else others n xs) + 1) [
@@ -94,7 +95,7 @@ one-goes n (x ∷ xs) h =
       | false ↦ λ is. let rest = one-goes n xs h.1 in omega (arith, rest)
     ] refl
 
-pub goes : (limit : ℕ) (gone old new : List PairRecord) → IsRising old → Drops limit gone old new → IsCut limit old new
+pub goes : (limit : ℕ) (gone old new : List PairRecord) → AreRising old → Drops limit gone old new → IsCut limit old new
 goes limit [] old new rising h = (
   (λ p. true),
   h.1 ∙ filter-all old,

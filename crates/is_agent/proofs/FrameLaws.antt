@@ -41,7 +41,7 @@ use Rattle.is_agent.specs.Timeouts.{awake, at_moment, Proceeds, ServesQueued, Ti
 use Rattle.is_agent.specs.Steps.{Call, SetMtu, SetControlTieBreaker, SetMaxCandidatePairs, SetIceLite, SetTimingAdvance, SetInitialStunRto, SetMaxStunRto, SetMaxStunRetransmits, SetLocalPreference, SetControlling, SetLocalCredentials, SetRemoteCredentials, SkipPairIds, AddLocalCandidate, AddRemoteCandidate, InvalidateCandidate, RestartIce, RecreateCandidatePairs, ReceivePacket, HandleTimeout, PollTransmit, PollTimeout, PollEvent, Becomes, MayDo, Receives, Step}
 use Rattle.is_agent.specs.Brought.{Brings, IsServing, IsServedPastTests, YieldsTo, IsRefusedBy, IsRoleSet, role_once}
 use Rattle.is_agent.specs.Issuing.{Queues, Waits, WaitsPast, IsQueued}
-use Rattle.is_agent.specs.Effects.{tie_set_by, lite_set_by, local_after, remote_after, PacketsAreQueued}
+use Rattle.is_agent.specs.Effects.{tie_set_by, lite_set_by, local_after, remote_after}
 use Rattle.is_agent.proofs.RefusalLaws.{mtu_kept, local_kept, remote_kept, restart_kept, recreation_kept, enrolment_kept, storing_kept}
 use Rattle.is_agent.proofs.Frames.{Frame, either, frame_of, packet_along, nominates_frame, Stays, Turns, drops, serves, serves_role, takes_success, gives_up}
 use Rattle.is_agent.proofs.Enrolments.{by_adding_local, by_adding_remote, by_waking}
@@ -523,6 +523,3 @@ module _ {H P : Type 0} where
         (λ at made. same_record (record old { pairs = map (asked at old.timing) old.pairs }) new made)) refl refl refl refl (λ k. k) (λ k. inl k) (λ q h. absurd h.3) (λ at by m h. absurd h))
     framed PollEvent (given, is, (polled, made), drawn) = moved old new (record old { events = new.events }) _ e _ is made
         (plain old (record old { events = new.events }) _ _ refl refl refl refl refl refl (inl refl) (inl refl) (λ q h. absurd h.3) (λ at by m h. absurd h))
-
-  pub packets_queued : (mac : H → List ℕ → List ℕ → List ℕ) (answers : P → CandidateRecord → ℕ → ℕ → Type 0) → PacketsAreQueued mac answers
-  packets_queued mac answers old new s t call e step = (framed mac answers old new s t e call step).sends

@@ -240,7 +240,7 @@ module _ {H P : Type 0} (mac : H → List ℕ → List ℕ → List ℕ) (old ne
   unset (SetControlling controlling) role h k = let wrong : true ≡ false = h in cc
   unset call role h k = k
 
-  brought : (q : RequestRecord) → IsBrought call e q → roles.IsBrought D q
+  brought : (q : RequestRecord) → IsBrought call e q → roles.IsCarriedIn D q
   brought q (at, by, m, brings, request, is) = record {
     mail = mail_of m;
     accepted = (brings_to call e at by m brings).0;
@@ -250,7 +250,7 @@ module _ {H P : Type 0} (mac : H → List ℕ → List ℕ → List ℕ) (old ne
     ice_controlled = ap (λ (x : RequestRecord). x.ice_controlled) is;
   }
 
-  answered : (path : Path) → IsAnswered mac old call e path → roles.IsAnswered (standing_of old) D path
+  answered : (path : Path) → IsAnswered mac old call e path → roles.MeetsSuccess (standing_of old) D path
   answered path (at, by, m, role, peer, brings, success, kept, known, signed, back) =
       let ends = both (same_address by.source path.destination) (same_address by.destination path.source) back in record {
         mail = mail_of m;
@@ -263,7 +263,7 @@ module _ {H P : Type 0} (mac : H → List ℕ → List ℕ → List ℕ) (old ne
         back = (same_address-sound by.source path.destination ends.0, same_address-sound by.destination path.source ends.1);
       }
 
-  refused : IsRefusedBy old call e new → roles.IsRefusedBy (standing_of old) D (standing_of new)
+  refused : IsRefusedBy old call e new → roles.MeetsConflict (standing_of old) D (standing_of new)
   refused (at, by, path, m, role, brings, failure, conflict, kept, gives) = record {
     mail = mail_of m;
     role = role;
@@ -284,7 +284,7 @@ module _ {H P : Type 0} (mac : H → List ℕ → List ℕ → List ℕ) (old ne
         let same : SameMessage n m = put.reads n reads in record {
           path = way_out packet;
           issued = out same.class same.id;
-          says = subst (λ k. roles.Says k (standing_of old) D (mail_of n) new.controlling) (sym (same.class ∙ is_c)) (
+          says = subst (λ k. roles.Conveys k (standing_of old) D (mail_of n) new.controlling) (sym (same.class ∙ is_c)) (
             (
               ap (λ (a : AttributesRecord). a.ice_controlling) same.attributes ∙ ap (λ (k : Message). k.attributes.ice_controlling) m_is,
               ap (λ (a : AttributesRecord). a.ice_controlled) same.attributes ∙ ap (λ (k : Message). k.attributes.ice_controlled) m_is,
@@ -296,13 +296,13 @@ module _ {H P : Type 0} (mac : H → List ℕ → List ℕ → List ℕ) (old ne
         let same = put.reads n reads in record {
           path = way_out packet;
           issued = out (same.class ∙ sym is_c) (same.id ∙ sym (ap (λ (k : Message). k.id) m_is));
-          says = subst (λ k. roles.Says k (standing_of old) D (mail_of n) new.controlling) (sym same.class) (q, serves_to old call e q serving, sym same.id);
+          says = subst (λ k. roles.Conveys k (standing_of old) D (mail_of n) new.controlling) (sym same.class) (q, serves_to old call e q serving, sym same.id);
         }
     by class.Failure is_c (q, serving, m_is, way, put, insists, role) =
         let same = put.reads n reads in record {
           path = way_out packet;
           issued = out same.class same.id;
-          says = subst (λ k. roles.Says k (standing_of old) D (mail_of n) new.controlling) (sym (same.class ∙ is_c))
+          says = subst (λ k. roles.Conveys k (standing_of old) D (mail_of n) new.controlling) (sym (same.class ∙ is_c))
               (q, serves_to old call e q serving, sym (same.id ∙ ap (λ (k : Message). k.id) m_is), insists_by old.tie_breaker (rival old q) insists, role);
         }
     by class.Indication is_c h = absurd h

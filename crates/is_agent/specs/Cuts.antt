@@ -1,13 +1,9 @@
 -- The limit, said of what stays and what goes.
-use Rattle.std.specs.Prelude.{◌≡◌, ℕ, ◌<◌, ◌≤◌, Bool, false, List, [], ◌∷◌, filter, length, min}
+use Rattle.std.specs.Prelude.{◌≡◌, ℕ, ◌≤◌, Bool, false, List, filter, length, min}
 use Rattle.is_proto.specs.Lists.{Has}
 use Rattle.is_pair.specs.Pairs.{PairRecord}
+use Rattle.is_agent.specs.Kept.{AreRising}
 use Rattle.is_agent.specs.Pairs.{Evicts}
-
--- numbers rise along the list
-abbrev pub IsRising : List PairRecord → Type 0
-IsRising [] = Unit {0}
-IsRising (p ∷ ps) = ((q : PairRecord) → Has ps q → p.number < q.number) × IsRising ps
 
 -- as many stay as the limit lets, and nothing that went is above what stays. Ties are free
 abbrev pub IsCut : ℕ → List PairRecord → List PairRecord → Type 0
@@ -16,4 +12,4 @@ IsCut limit old new =
     × ((p q : PairRecord) → Has old p → keep p ≡ false → Has new q → p.priority ≤ q.priority)
 
 abbrev pub EvictionCuts : Type 0
-EvictionCuts = (limit : ℕ) (old new : List PairRecord) → IsRising old → Evicts limit old new → IsCut limit old new
+EvictionCuts = (limit : ℕ) (old new : List PairRecord) → AreRising old → Evicts limit old new → IsCut limit old new

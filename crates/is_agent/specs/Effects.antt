@@ -157,12 +157,6 @@ module _ {H P : Type 0} where
         (old new : AgentRecord H P) (s t : Stream) (call : Call P) (e : Entry)
         → IsSound old → GivesBased call → Step mac answers old s call e new t → TradeEffect old call e new
 
-    -- what a call does to the queue of packets, whatever the record is
-    abbrev pub PacketsAreQueued : (P → CandidateRecord → ℕ → ℕ → Type 0) → Type 0
-    PacketsAreQueued answers =
-        (old new : AgentRecord H P) (s t : Stream) (call : Call P) (e : Entry)
-        → Step mac answers old s call e new t → Queues call e old.packets new.packets
-
     -- a refused call keeps the record and the stream
     abbrev pub RefusalKeeps : (P → CandidateRecord → ℕ → ℕ → Type 0) → Type 0
     RefusalKeeps answers =

@@ -1,5 +1,5 @@
 -- A Binding request, as the agent serves it (RFC 8445, section 7.3).
-use Rattle.std.specs.Prelude.{ℕ, Bool, List, [], Option, unwrap_or}
+use Rattle.std.specs.Prelude.{ℕ, Bool, List, [], Option, unwrap_or, if◌then◌else◌}
 use Rattle.std.specs.Option.{option_map_or}
 use Rattle.is_stun.specs.Message.{Message, split_username}
 use Rattle.is_agent.specs.declared.told.Path.{Path}
@@ -34,3 +34,7 @@ request_in now path m = record {
   ice_controlling = m.attributes.ice_controlling;
   ice_controlled = m.attributes.ice_controlled;
 }
+
+-- the tie-breaker of a sender that claims the role too; the attribute of the other role says nothing (RFC 8445, section 7.3.1.1)
+abbrev pub rival_in : Bool → RequestRecord → Option ℕ
+rival_in controlling q = if controlling then q.ice_controlling else q.ice_controlled

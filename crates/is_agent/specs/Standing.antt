@@ -6,7 +6,7 @@ use Rattle.is_proto.specs.Lists.{Has}
 use Rattle.is_stun.specs.declared.header.Class.{Class}
 use Rattle.is_stun.specs.declared.header.Class.TheVariants as class
 use Rattle.is_agent.specs.declared.told.Path.{Path}
-use Rattle.is_agent.specs.Request.{RequestRecord}
+use Rattle.is_agent.specs.Request.{RequestRecord, rival_in}
 
 -- what the bytes of a packet read as, as far as roles and transactions go
 pub record Mail : Type 0 where
@@ -62,20 +62,16 @@ pub record Deed : Type 0 where
 abbrev pub Claims : Option ℕ → Option ℕ → Bool → ℕ → Type 0
 Claims controlling controlled role tie = (controlling ≡ (if role then Some tie else None)) × (controlled ≡ (if role then None else Some tie))
 
--- the tie-breaker of a request that claims the agent's own role (RFC 8445, section 7.3.1.1)
-abbrev pub rival : Bool → RequestRecord → Option ℕ
-rival controlling q = if controlling then q.ice_controlling else q.ice_controlled
-
 abbrev pub insists : Standing → RequestRecord → Bool
-insists s q = option_map_or (λ tie. nat_le tie s.tie_breaker) (rival s.controlling q) false
+insists s q = option_map_or (λ tie. nat_le tie s.tie_breaker) (rival_in s.controlling q) false
 
 abbrev pub yields : Standing → RequestRecord → Bool
-yields s q = option_map_or (λ tie. nat_lt s.tie_breaker tie) (rival s.controlling q) false
+yields s q = option_map_or (λ tie. nat_lt s.tie_breaker tie) (rival_in s.controlling q) false
 
 -- ---- what a step did
 
 -- the request is the one that came
-pub record IsBrought (d : Deed) (q : RequestRecord) : Type 0 where
+pub record IsCarriedIn (d : Deed) (q : RequestRecord) : Type 0 where
   pub mail : Mail
   pub accepted : d.accepts ≡ Some mail
   pub class : mail.class ≡ class.Request
@@ -84,28 +80,28 @@ pub record IsBrought (d : Deed) (q : RequestRecord) : Type 0 where
   pub ice_controlled : q.ice_controlled ≡ mail.ice_controlled
 
 -- what a message says that goes out, by its class; `role` is the one after the step
-abbrev pub Says : Class → Standing → Deed → Mail → Bool → Type 0
+abbrev pub Conveys : Class → Standing → Deed → Mail → Bool → Type 0
 -- a check claims the role, which stays
-Says class.Request old d m role = Claims m.ice_controlling m.ice_controlled old.controlling old.tie_breaker × (role ≡ old.controlling)
+Conveys class.Request old d m role = Claims m.ice_controlling m.ice_controlled old.controlling old.tie_breaker × (role ≡ old.controlling)
 -- a success has the id of the request that was served
-Says class.Success old d m role = (q : RequestRecord) × (d.serves ≡ Some q) × (q.id ≡ m.id)
+Conveys class.Success old d m role = (q : RequestRecord) × (d.serves ≡ Some q) × (q.id ≡ m.id)
 -- a 487 too, which claimed the own role with no greater tie-breaker; the role stays
-Says class.Failure old d m role = (q : RequestRecord) × (d.serves ≡ Some q) × (q.id ≡ m.id) × (insists old q ≡ true) × (role ≡ old.controlling)
-Says class.Indication old d m role = ⊥
-Says class.Unknown old d m role = ⊥
+Conveys class.Failure old d m role = (q : RequestRecord) × (d.serves ≡ Some q) × (q.id ≡ m.id) × (insists old q ≡ true) × (role ≡ old.controlling)
+Conveys class.Indication old d m role = ⊥
+Conveys class.Unknown old d m role = ⊥
 
 -- a message goes out, and is told of
 pub record IsPosted (old : Standing) (d : Deed) (m : Mail) (role : Bool) : Type 0 where
   pub path : Path
   pub issued : d.issued ≡ Some record { path = path; class = m.class; id = m.id }
-  pub says : Says m.class old d m role
+  pub says : Conveys m.class old d m role
 
 -- a check of the id is kept
 abbrev pub Keeps : Standing → List ℕ → Bool → Type 0
 Keeps s id controlling = (path : Path) × Has s.kept (record { path = path; id = id; controlling = controlling })
 
 -- a success came back on the path, with the id of a check that was kept there
-pub record IsAnswered (old : Standing) (d : Deed) (path : Path) : Type 0 where
+pub record MeetsSuccess (old : Standing) (d : Deed) (path : Path) : Type 0 where
   pub mail : Mail
   pub role : Bool
   pub accepted : d.accepts ≡ Some mail
@@ -120,7 +116,7 @@ abbrev pub Yields : Standing → Deed → Standing → Type 0
 Yields old d new = (q : RequestRecord) × (d.serves ≡ Some q) × (yields old q ≡ true) × (new.controlling ≡ not old.controlling)
 
 -- a 487 came to a check, whose role the agent does not have after it
-pub record IsRefusedBy (old : Standing) (d : Deed) (new : Standing) : Type 0 where
+pub record MeetsConflict (old : Standing) (d : Deed) (new : Standing) : Type 0 where
   pub mail : Mail
   pub role : Bool
   pub accepted : d.accepts ≡ Some mail
@@ -136,23 +132,23 @@ pub record RoleEffect (old : Standing) (d : Deed) (new : Standing) : Type 0 wher
   -- a packet was there, or goes out now
   pub packets : (m : Mail) → Has new.packets (Some m) → Has old.packets (Some m) ⊎ IsPosted old d m new.controlling
   -- a request that waits had waited, or came now; and so one that is served
-  pub queue : (q : RequestRecord) → Has new.queue q → Has old.queue q ⊎ IsBrought d q
-  pub serves : (q : RequestRecord) → d.serves ≡ Some q → Has old.queue q ⊎ IsBrought d q
+  pub queue : (q : RequestRecord) → Has new.queue q → Has old.queue q ⊎ IsCarriedIn d q
+  pub serves : (q : RequestRecord) → d.serves ≡ Some q → Has old.queue q ⊎ IsCarriedIn d q
   -- a check that is kept was kept on its path, or goes out now under the role, which stays
   pub kept : (k : Kept) → Has new.kept k → Has old.kept k
       ⊎ ((d.issued ≡ Some record { path = k.path; class = class.Request; id = k.id }) × (k.controlling ≡ old.controlling) × (new.controlling ≡ old.controlling))
   -- a valid path was valid, or is answered now; so was one that is announced
-  pub valid : old.lite ≡ false → d.makes_lite ≡ false → (path : Path) → Has new.valid path → Has old.valid path ⊎ IsAnswered old d path
-  pub announced : old.lite ≡ false → d.makes_lite ≡ false → (path : Path) → Has d.announced path → Has old.valid path ⊎ IsAnswered old d path
+  pub valid : old.lite ≡ false → d.makes_lite ≡ false → (path : Path) → Has new.valid path → Has old.valid path ⊎ MeetsSuccess old d path
+  pub announced : old.lite ≡ false → d.makes_lite ≡ false → (path : Path) → Has d.announced path → Has old.valid path ⊎ MeetsSuccess old d path
   -- clearing leaves none, and announces nothing
   pub cleared : d.clears ≡ true → (new.kept ≡ []) × (new.valid ≡ []) × (d.announced ≡ [])
   -- the role stays, or is given up to a request or at a 487
-  pub role : d.sets ≡ false → (new.controlling ≡ old.controlling) ⊎ (Yields old d new ⊎ IsRefusedBy old d new)
+  pub role : d.sets ≡ false → (new.controlling ≡ old.controlling) ⊎ (Yields old d new ⊎ MeetsConflict old d new)
   -- it is given up to each request that is served past the tests and claims it with a greater tie-breaker, and to no other
   pub settled : (q : RequestRecord) → d.serves ≡ Some q → old.passes q ≡ true
       → new.controlling ≡ (if yields old q then not old.controlling else old.controlling)
   -- and at each 487
-  pub given_up : (m : Mail) → d.accepts ≡ Some m → m.class ≡ class.Failure → m.is_conflict ≡ true → IsRefusedBy old d new
+  pub given_up : (m : Mail) → d.accepts ≡ Some m → m.class ≡ class.Failure → m.is_conflict ≡ true → MeetsConflict old d new
 
 -- ---- an agent as it is made, whatever its role is
 

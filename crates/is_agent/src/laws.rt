@@ -1,7 +1,7 @@
 //! What holds of each step of an agent, and of each run. Each law is the contract of a function that does nothing.
 
 ghost use Rattle.is_agent.specs.Sound.{FreshIsSound};
-ghost use Rattle.is_agent.specs.Effects.{PathLaw, TradeLaw, PacketsAreQueued, RefusalKeeps};
+ghost use Rattle.is_agent.specs.Effects.{PathLaw, TradeLaw, RefusalKeeps};
 ghost use Rattle.is_agent.specs.Runs.{EntriesArePoints, RunsAreSound, AnnouncedAreAnswered, AnnouncedAreAskedFor, PointsAreTop, TakersAreValid, AskedAreNominated, RepliesAreAmong, UnacceptedChangeNothing};
 ghost use Rattle.is_agent.specs.Reporting.{QueuesLaw};
 ghost use Rattle.is_agent.specs.RoleView.{FreshIsNew, RoleLaw};
@@ -27,11 +27,6 @@ pub fn path_effect<H: Sha1HmacProvider, P: LocalPreference>()
 /// Each step of a sound agent has its effect on packets and roles.
 pub fn trade_effect<H: Sha1HmacProvider, P: LocalPreference>()
     ensures { TradeLaw H.mac P.answers }
-{}
-
-/// A poll hands out the first packet, a restart empties the queue, and any other call appends the packet that it tells of, or none.
-pub fn packets_are_queued<H: Sha1HmacProvider, P: LocalPreference>()
-    ensures { PacketsAreQueued H.mac P.answers }
 {}
 
 /// A run from a fresh agent leaves a sound one.

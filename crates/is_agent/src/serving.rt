@@ -157,7 +157,7 @@ impl<H: Sha1HmacProvider + Drop, P: LocalPreference> Agent<H, P> {
         Ok(())
     }
 
-    /// The peer reflexive candidate that an unknown sender becomes.
+    /// The peer reflexive candidate that an unknown sender becomes (RFC 8445, section 7.3.1.3).
     fn sender_at(
         &self,
         request: &Request<'_>,
@@ -216,7 +216,7 @@ impl<H: Sha1HmacProvider + Drop, P: LocalPreference> Agent<H, P> {
         });
     }
 
-    /// The success reply goes out on the path, signed with the local password.
+    /// The success reply goes out on the path, signed with the local password (RFC 8445, section 7.3.1.2; RFC 8489, section 9.1.3).
     fn reply(&mut self, request: &Request<'_>, path: Path, mut reply: Vec<u8>)
         requires packets { HasPacketRoom self.old }
         requires news { HasNewsRoom 1 self.old }
@@ -236,7 +236,7 @@ impl<H: Sha1HmacProvider + Drop, P: LocalPreference> Agent<H, P> {
         self.send_reply(path, reply);
     }
 
-    /// A request at the pair has nomination evaluated.
+    /// A request at the pair has nomination evaluated (RFC 8445, section 7.3.1.5).
     fn evaluates_at(&self, number: u64) -> bool
         ensures { result ≡ (self.now.controlling && is_valid_at number self.now.pairs.items) }
     {
@@ -325,7 +325,8 @@ impl<H: Sha1HmacProvider + Drop, P: LocalPreference> Agent<H, P> {
         self.take(request, l, r, number, reply)
     }
 
-    /// A pair of the places takes the request; where there is none, one is added, but none at a discarded local place.
+    /// A pair of the places takes the request; where there is none, one is added, but none at a discarded local place (RFC
+    /// 8445, section 7.3.1.4).
     fn take_at(
         &mut self,
         request: &Request<'_>,
@@ -353,7 +354,8 @@ impl<H: Sha1HmacProvider + Drop, P: LocalPreference> Agent<H, P> {
         }
     }
 
-    /// Serving goes on at a remote place: an unknown sender is appended, and discarded candidates alone drop it.
+    /// Serving goes on at a remote place: an unknown sender is appended (RFC 8445, section 7.3.1.3), and discarded candidates
+    /// alone drop it.
     fn join_at(&mut self, request: &Request<'_>, at: Places, supplies: Supplies) -> Told
         requires { IsReady (wants_pair_at at.remote at.pair (candidate_at self.old.local.items at.local).discarded) self.old (request_view request.now) at supplies }
         ensures served { JoinsAt H.mac (request_view request.now) at.local at.remote (record_of self.old) result (record_of self.new) }
@@ -371,7 +373,8 @@ impl<H: Sha1HmacProvider + Drop, P: LocalPreference> Agent<H, P> {
         }
     }
 
-    /// USE-CANDIDATE while controlling is dropped; any other request counts, and serving goes on.
+    /// USE-CANDIDATE while controlling is dropped, since the controlling agent alone nominates (RFC 8445, section 8.1.1); any
+    /// other request counts, and serving goes on.
     fn admit(&mut self, request: &Request<'_>, at: Places, supplies: Supplies) -> Told
         requires { IsReady (not (is_misled self.old.controlling (request_view request.now)) && wants_pair_at at.remote at.pair (candidate_at self.old.local.items at.local).discarded) self.old (request_view request.now) at supplies }
         ensures served { Admits H.mac (request_view request.now) at.local (record_of self.old) result (record_of self.new) }
@@ -410,7 +413,7 @@ impl<H: Sha1HmacProvider + Drop, P: LocalPreference> Agent<H, P> {
         self.admit(request, at, supplies)
     }
 
-    /// A sender of the agent's own role: the greater tie-breaker keeps it.
+    /// A sender of the agent's own role: the greater tie-breaker keeps it (RFC 8445, section 7.3.1.1).
     pub(crate) fn settle(&mut self, request: &Request<'_>, at: Places, supplies: Supplies) -> Told
         requires { IsReady (wants_pair (record_of self.old) (request_view request.now) at) self.old (request_view request.now) at supplies }
         ensures served { Settles H.mac (request_view request.now) at.local (record_of self.old) result (record_of self.new) }
@@ -423,7 +426,7 @@ impl<H: Sha1HmacProvider + Drop, P: LocalPreference> Agent<H, P> {
         }
     }
 
-    /// Serves a request, or drops it, and tells what came of it. Numbers are looked at before memory.
+    /// Serves a request (RFC 8445, section 7.3), or drops it, and tells what came of it. Numbers are looked at before memory.
     pub(crate) fn serve(&mut self, request: &Request<'_>) -> Result<Told, IceError>
         ensures served { IfOk result (λ told. Serves H.mac (request_view request.now) (record_of self.old) told (record_of self.new)) }
         ensures room { OnOk result (HasNewsRoom 1 self.new) }
