@@ -11,6 +11,3 @@ pub use candidate::builder::{
 };
 pub use candidate::kind::CandidateKind;
 pub use preference::{FnPreference, LocalPreference, PreferenceFunction, default_local_preference};
-
-#[cfg(test)]
-mod tests;

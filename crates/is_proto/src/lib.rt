@@ -11,6 +11,3 @@ pub use error::{IceError, ParseFault, StunError};
 pub use hmac_provider::DefaultSha1HmacProvider;
 pub use proto::{Duration, Instant, Protocol, Sha1HmacProvider, SocketText, TcpType, Transmit};
 pub use text::Text;
-
-#[cfg(test)]
-mod tests;

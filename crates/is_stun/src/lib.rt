@@ -33,6 +33,3 @@ pub mod stun {
     pub use crate::timing::{DEFAULT_MAX_RETRANSMITS, StunTiming};
     pub use crate::trans_id::TransId;
 }
-
-#[cfg(test)]
-mod tests;

@@ -107,6 +107,3 @@ fn doubled(number: u64, times: usize, greatest: u64) -> u64
     let doubled = u128::from(number) << times.min(64);
     doubled.min(u128::from(greatest)) as u64
 }
-
-#[cfg(test)]
-mod tests;

@@ -85,14 +85,3 @@ impl fmt::Display for Computed<'_> {
         write!(f, "{reversed:08x}{hash:x}")
     }
 }
-
-#[cfg(test)]
-mod tests {
-    use super::*;
-
-    #[test]
-    fn hashes_the_vectors_of_fnv(rt: HostRuntime) {
-        assert_eq!(rt; fnv_from(FNV_START, b"a"), 0xaf63dc4c8601ec8c);
-        assert_eq!(rt; fnv_from(FNV_START, b"foobar"), 0x85944171f73967e8);
-    }
-}

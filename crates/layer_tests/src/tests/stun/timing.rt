@@ -1,7 +1,7 @@
 //! The delays between checks, and how long a run of checks takes.
 
-use super::StunTiming;
 use is_proto::Duration;
+use is_stun::stun::StunTiming;
 
 /// So many milliseconds.
 fn millis(n: u64) -> Duration {

@@ -2,8 +2,8 @@
 
 ghost use Rattle.std.specs.Prelude.{◌≤◌, length};
 
-use crate::stun::*;
 use is_proto::{ParseFault, StunError};
+use is_stun::stun::*;
 use std::test::*;
 
 /// The types of a Binding request, success and failure. A failure need not carry anything.

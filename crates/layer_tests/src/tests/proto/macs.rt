@@ -1,6 +1,6 @@
 //! HMAC-SHA1 against published vectors.
 
-use crate::{DefaultSha1HmacProvider, Sha1HmacProvider};
+use is_proto::{DefaultSha1HmacProvider, Sha1HmacProvider};
 use std::alloc::{AllocError, Global};
 use std::fmt::Write;
 use std::test::Fail;

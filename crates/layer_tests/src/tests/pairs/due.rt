@@ -1,7 +1,7 @@
 //! When a pair is due, and when it is given up.
 
 use super::{Path, at, host_pair};
-use crate::reset_next_binding_attempt;
+use is_pair::reset_next_binding_attempt;
 use is_proto::{Duration, Instant};
 use std::test::Fail;
 

@@ -1,6 +1,6 @@
 //! Every text of every fault and refusal.
 
-use crate::{IceError, ParseFault, StunError};
+use is_proto::{IceError, ParseFault, StunError};
 use std::test::Fail;
 
 #[test]

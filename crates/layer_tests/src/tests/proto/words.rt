@@ -1,6 +1,6 @@
 //! Words for protocols and TCP roles, and owned texts.
 
-use crate::{Protocol, TcpType, Text};
+use is_proto::{Protocol, TcpType, Text};
 use std::test::Fail;
 
 #[test]

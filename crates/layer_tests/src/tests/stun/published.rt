@@ -1,9 +1,7 @@
 //! Messages whose bytes others published.
 
-use crate::crc::crc32;
-use crate::numbers::FINGERPRINT_MASK;
-use crate::stun::*;
 use is_proto::DefaultSha1HmacProvider;
+use is_stun::stun::*;
 use std::net::{Ipv4Addr, Ipv6Addr, SocketAddr, SocketAddrV4, SocketAddrV6};
 use std::test::*;
 
@@ -105,15 +103,4 @@ fn reads_the_sample_responses(rt: HostRuntime) -> Result<(), Fail> {
     assert_eq!(rt; ipv6.mapped_address(), Some(address));
     assert!(rt; ipv6.verify(RFC_PASSWORD, &DefaultSha1HmacProvider));
     Ok(())
-}
-
-/// The check value of CRC-32 (ISO-HDLC), and the fingerprint of the same bytes.
-#[test]
-fn computes_the_check_value(rt: HostRuntime) {
-    assert_eq!(rt; crc32(b"123456789"), 0xcbf43926);
-    assert_eq!(rt; crc32(b"123456789") ^ FINGERPRINT_MASK, 0x98a06c68);
-    assert_eq!(rt;
-        crc32(&BROWSER_REQUEST[..92]) ^ FINGERPRINT_MASK,
-        0x360e219f
-    );
 }

@@ -1,7 +1,7 @@
 //! Candidate lines, read and printed.
 
-use crate::parse::parse_candidate;
-use crate::{Candidate, CandidateKind};
+use is_candidate::parse::parse_candidate;
+use is_candidate::{Candidate, CandidateKind};
 use is_proto::{IceError, Protocol, TcpType};
 use std::alloc::Global;
 use std::test::Fail;

@@ -1,6 +1,6 @@
 //! Local preferences.
 
-use crate::{
+use is_candidate::{
     Candidate, FnPreference, LocalPreference, PreferenceFunction, default_local_preference,
 };
 use is_proto::Protocol;

@@ -1,6 +1,6 @@
 //! Candidate info, as browsers signal candidates.
 
-use crate::Candidate;
+use is_candidate::Candidate;
 use is_proto::{IceError, Protocol};
 use serde_json::Value;
 use std::alloc::Global;

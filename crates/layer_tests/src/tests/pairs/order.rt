@@ -1,8 +1,8 @@
 //! Priorities, equality and order.
 
 use super::{host_pair, pair_at};
-use crate::pair::{CandidatePair, CheckState, PairId};
 use is_candidate::Candidate;
+use is_pair::pair::{CandidatePair, CheckState, PairId};
 use is_proto::Protocol;
 use std::alloc::Global;
 use std::cmp::Ordering;

@@ -1,6 +1,6 @@
 //! Moments and lengths of time.
 
-use crate::{Duration, Instant};
+use is_proto::{Duration, Instant};
 
 #[test]
 fn moments_stay_within_their_ends(rt: HostRuntime) {

@@ -1,7 +1,7 @@
 //! What is written, and what is not.
 
-use crate::stun::*;
 use is_proto::{DefaultSha1HmacProvider, StunError};
+use is_stun::stun::*;
 use std::net::{Ipv4Addr, Ipv6Addr, SocketAddr, SocketAddrV4, SocketAddrV6};
 use std::str;
 use std::test::*;

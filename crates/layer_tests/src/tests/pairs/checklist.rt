@@ -5,9 +5,9 @@ ghost use Rattle.is_pair.specs.Bag.{are_below};
 ghost use Rattle.is_pair.specs.Checklists.{bag_of};
 
 use super::at;
-use crate::checklist::{Checklist, PairPriority, PairTest};
-use crate::pair::{CandidatePair, PairId};
 use is_candidate::CandidateKind;
+use is_pair::checklist::{Checklist, PairPriority, PairTest};
+use is_pair::pair::{CandidatePair, PairId};
 use is_proto::IceError;
 use is_stun::stun::{StunTiming, TransId};
 use rand_core::SeedableRng;

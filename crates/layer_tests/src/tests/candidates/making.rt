@@ -1,11 +1,11 @@
 //! Host and peer reflexive candidates.
 
-use crate::candidate::copy::clone_with_ufrag;
-use crate::candidate::equality::is_temporary;
-use crate::candidate::internals::{base, give_ufrag};
-use crate::candidate::making::peer_reflexive;
-use crate::candidate::priority::check_priority;
-use crate::{Candidate, CandidateKind};
+use is_candidate::candidate::copy::clone_with_ufrag;
+use is_candidate::candidate::equality::is_temporary;
+use is_candidate::candidate::internals::{base, give_ufrag};
+use is_candidate::candidate::making::peer_reflexive;
+use is_candidate::candidate::priority::check_priority;
+use is_candidate::{Candidate, CandidateKind};
 use is_proto::{IceError, Protocol, TcpType, Text};
 use std::alloc::Global;
 use std::net::SocketAddr;

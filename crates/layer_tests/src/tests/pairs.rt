@@ -9,8 +9,8 @@ mod checks;
 mod due;
 mod order;
 
-use crate::pair::{CandidatePair, PairId};
 use is_candidate::CandidateKind;
+use is_pair::pair::{CandidatePair, PairId};
 use is_proto::{Duration, IceError, Instant};
 use is_stun::stun::{StunTiming, TransId};
 use rand_core::SeedableRng;

@@ -1,6 +1,6 @@
 //! Address texts: each rule of reading beside its nearest refusal, and each rule of printing.
 
-use crate::SocketText;
+use is_proto::SocketText;
 use std::alloc::Global;
 use std::net::{IpAddr, Ipv4Addr, Ipv6Addr, SocketAddr};
 use std::test::Fail;

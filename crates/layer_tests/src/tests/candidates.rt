@@ -1,5 +1,6 @@
 //! Candidates as a user meets them.
 
+mod foundations;
 mod infos;
 mod lines;
 mod making;

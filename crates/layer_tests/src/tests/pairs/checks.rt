@@ -1,8 +1,8 @@
 //! Checks, their answers, and nomination.
 
 use super::{Path, at};
-use crate::pair::CheckState;
-use crate::take_over;
+use is_pair::pair::CheckState;
+use is_pair::take_over;
 use is_proto::Duration;
 use std::alloc::Global;
 use std::test::Fail;

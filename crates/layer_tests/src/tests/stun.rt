@@ -1,0 +1,7 @@
+//! Messages with published bytes, each fault with the shortest bytes that have it, what is written, and delays.
+
+mod faults;
+mod fingerprints;
+mod published;
+mod timing;
+mod written;
