@@ -92,10 +92,6 @@ impl LocalPreference for Falling {
     }
 }
 
-fn prefer(alloc: Global) -> Result<Call, Fail> {
-    Ok(AgentCall::SetLocalPreference(Box::new(alloc, Falling)?))
-}
-
 /// Random credentials of the agent's own.
 fn rename(alloc: Global) -> Result<Call, Fail> {
     let creds = IceCreds::new(alloc, &mut Pcg32::seed_from_u64(SEED))?;
@@ -107,7 +103,7 @@ fn invalidate(alloc: Global) -> Result<Call, Fail> {
     Ok(AgentCall::InvalidateCandidate(candidate))
 }
 
-/// The candidates' calls, behind which the host goes twice.
+/// The calls of candidates; behind a restart that keeps it the host goes.
 fn candidates(alloc: Global) -> Result<Vec<Call>, Fail> {
     let steps = [
         Step::Remote,
@@ -138,7 +134,7 @@ const CANDIDATE_ANSWERS: [Answer; 9] = [
 #[test]
 fn each_call_with_memory_has_its_entry(rt: HostRuntime) -> Result<(), Fail> {
     let mut all = candidates(rt.alloc())?;
-    all.push(prefer(rt.alloc())?)?;
+    all.push(AgentCall::SetLocalPreference(Box::new(rt.alloc(), Falling)?))?;
     all.push(rename(rt.alloc())?)?;
     let log = run_on_fresh(rt.alloc(), all)?;
     assert!(rt; are_in_number(&log, CANDIDATE_ANSWERS.len()));

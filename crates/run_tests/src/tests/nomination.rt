@@ -61,6 +61,8 @@ fn a_lesser_pair_is_not_announced_behind_it(rt: HostRuntime) -> Result<(), Fail>
     let played = with_two_answers(rt.alloc(), greater, lesser)?;
     assert!(rt; takes(&played.log, 7, true) && takes(&played.log, 8, true));
     assert!(rt; announces(&played.log, &[(7, path_to(at(2, 2000)))]));
+    // it is valid all the same
+    assert!(rt; played.agent.has_viable_remote_candidate(at(3, 3000)));
     Ok(())
 }
 

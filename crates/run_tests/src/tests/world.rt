@@ -196,6 +196,11 @@ fn begins_with(log: &WorldLog, table: &[(Answer, Option<Side>)]) -> bool {
     !log.stopped
 }
 
+const BOTH_CONTROLLING: Start = Start {
+    tie_breakers: [10, 5],
+    controlling: [true, true],
+};
+
 const BOTH_CONTROLLED: Start = Start {
     tie_breakers: [10, 5],
     controlling: [false, false],

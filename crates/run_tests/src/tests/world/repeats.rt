@@ -2,11 +2,6 @@
 
 use super::*;
 
-const BOTH_CONTROLLING: Start = Start {
-    tie_breakers: [10, 5],
-    controlling: [true, true],
-};
-
 /// The packet arrives three times.
 fn thrice(events: &mut Vec<Event>, packet: usize, ms: u64, to: Side) -> Result<(), Fail> {
     for _ in 0..3 {
@@ -15,7 +10,8 @@ fn thrice(events: &mut Vec<Event>, packet: usize, ms: u64, to: Side) -> Result<(
     Ok(())
 }
 
-/// A check of the side is sent off as the packet of this number, and then the three answers to it.
+/// The next packet of the side is sent off under this number, and then three of the other's: where the first is a check that
+/// nothing waits before, they are its answers.
 fn exchange(events: &mut Vec<Event>, first: usize, ms: u64, side: Side) -> Result<(), Fail> {
     events.push(Event::Poll(side))?;
     thrice(events, first, ms, other(side))?;
@@ -54,7 +50,7 @@ fn fill(events: &mut Vec<Event>, count: usize) -> Result<(), Fail> {
     Ok(())
 }
 
-/// 200 events: the checks of the opening, and nine rounds.
+/// 200 events: the packets of the opening, which are eight in all, and nine rounds.
 fn repeated(alloc: Global) -> Result<Vec<Event>, Fail> {
     let mut events = Vec::from_array(alloc, opening())?;
     exchange(&mut events, 0, 10, Side::A)?;
@@ -86,18 +82,14 @@ fn is_traced(log: &WorldLog, entry: &WorldEntry) -> bool {
     }
 }
 
-/// Each announced path is traced, and so many entries announce one.
-fn are_traced(log: &WorldLog, announced: usize) -> bool {
-    let mut count = 0usize;
+/// Each announced path is traced.
+fn are_traced(log: &WorldLog) -> bool {
     for entry in &log.entries {
         if !is_traced(log, entry) {
             return false;
         }
-        if entry.announced != [None, None] {
-            count = count.saturating_add(1);
-        }
     }
-    count == announced
+    true
 }
 
 #[test]
@@ -108,8 +100,9 @@ fn packets_that_come_three_times_change_no_role_again(rt: HostRuntime) -> Result
     assert_eq!(rt; polled_and_delivered(&log), (44, 132));
     // A's check comes to B in entry 9
     assert!(rt; has_roles(&log, &[(0, [true, true]), (9, [true, false])]));
-    // A announces at the first answer to its first check, and B once A's nominating check came and one of its own is answered
-    assert!(rt; are_traced(&log, 2));
+    // A announces at the first answer to its check, and B, whom A's second check asked, at the first answer to its own second one
+    let paths = [(17, path_of(Side::A)), (63, path_of(Side::B))];
+    assert!(rt; world_announces(&log, &paths) && are_traced(&log));
     Ok(())
 }
 

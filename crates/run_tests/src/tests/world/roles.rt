@@ -2,11 +2,6 @@
 
 use super::*;
 
-const BOTH_CONTROLLING: Start = Start {
-    tie_breakers: [10, 5],
-    controlling: [true, true],
-};
-
 /// Both checks are polled, as packets 0 and 1. B's comes to A, which answers as packet 2.
 fn with_answer_of_a(last: [Event; 4]) -> [Event; 8] {
     let [first, second, third, fourth] = last;
