@@ -100,7 +100,7 @@ fn packets_that_come_three_times_change_no_role_again(rt: HostRuntime) -> Result
     assert_eq!(rt; polled_and_delivered(&log), (44, 132));
     // A's check comes to B in entry 9
     assert!(rt; has_roles(&log, &[(0, [true, true]), (9, [true, false])]));
-    // A announces at the first answer to its check, and B, whom A's second check asked, at the first answer to its own second one
+    // A announces at the first answer to its check; B, whom A's second check asked, at the first to its own second
     let paths = [(17, path_of(Side::A)), (63, path_of(Side::B))];
     assert!(rt; world_announces(&log, &paths) && are_traced(&log));
     Ok(())
