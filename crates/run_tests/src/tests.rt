@@ -1,0 +1,337 @@
+//! Scripts of calls, the runs that they make, and what the logs say.
+
+mod answered;
+mod calls;
+mod nomination;
+mod order;
+mod replies;
+mod world;
+
+use is::stun::{Class, StunMessage, TransId};
+use is::{
+    AgentCall, Answer, Call, Candidate, DefaultSha1HmacProvider, IceAgent, IceCreds, Instant,
+    Issued, Path, Protocol, RunLog, Side, Text, run,
+};
+use rand_core::SeedableRng;
+use rand_pcg::Pcg32;
+use std::alloc::{AllocError, Global};
+use std::net::{Ipv4Addr, SocketAddr, SocketAddrV4};
+use std::test::Fail;
+
+type Agent = IceAgent<DefaultSha1HmacProvider>;
+
+const MS: u64 = 1_000_000;
+
+/// From this number on generators of the tests are seeded.
+const SEED: u64 = 1;
+
+/// The tie-breaker of the agent that is run.
+const TIE_BREAKER: u64 = 10;
+
+/// A host, and its address in these tests: 10.0.0.1:1000 is that of A, 10.0.0.2:2000 that of B.
+fn at(host: u8, port: u16) -> SocketAddr {
+    SocketAddr::V4(SocketAddrV4::new(Ipv4Addr::new(10, 0, 0, host), port))
+}
+
+fn home(side: Side) -> SocketAddr {
+    match side {
+        Side::A => at(1, 1000),
+        Side::B => at(2, 2000),
+    }
+}
+
+fn other(side: Side) -> Side {
+    match side {
+        Side::A => Side::B,
+        Side::B => Side::A,
+    }
+}
+
+fn password(side: Side) -> &'static str {
+    match side {
+        Side::A => "nearpass",
+        Side::B => "farpass",
+    }
+}
+
+fn ufrag(side: Side) -> &'static str {
+    match side {
+        Side::A => "near",
+        Side::B => "farr",
+    }
+}
+
+fn creds(alloc: Global, side: Side) -> Result<IceCreds, AllocError> {
+    Ok(IceCreds {
+        ufrag: Text::from_str(alloc, ufrag(side))?,
+        pass: Text::from_str(alloc, password(side))?,
+    })
+}
+
+/// The way from A to the address.
+fn path_to(destination: SocketAddr) -> Path {
+    Path {
+        proto: Protocol::Udp,
+        source: home(Side::A),
+        destination,
+    }
+}
+
+/// The id of the check of this number, counted from 0: each draws the next twelve bytes of the generator.
+fn check_id(number: usize) -> TransId {
+    let mut rng = Pcg32::seed_from_u64(SEED);
+    let mut id = TransId::new(&mut rng);
+    for _ in 0..number {
+        id = TransId::new(&mut rng);
+    }
+    id
+}
+
+/// The id of a request of B's.
+fn request_id(number: u8) -> TransId {
+    TransId([number; 12])
+}
+
+/// What a packet says to A.
+#[derive(Clone, Copy)]
+enum Said {
+    /// Three bytes.
+    Nothing,
+    /// B's success to the check of this number.
+    Success(usize),
+    /// The same, under another password.
+    ForgedSuccess(usize),
+    /// B's 487 to the check of this number.
+    Conflict(usize),
+    /// B's request of this number, in the other role than this one.
+    Request { number: u8, controlling: bool },
+    /// The same, with USE-CANDIDATE.
+    Nominating { number: u8 },
+    /// The same, under another password.
+    ForgedRequest(u8),
+    /// A request for an agent of another name.
+    Misaddressed(u8),
+}
+
+/// B's request for the agent of this user name.
+fn request(username: &str, number: u8, controlling: bool, nominates: bool) -> StunMessage<'_> {
+    let id = request_id(number);
+    StunMessage::binding_request(username, id, controlling, 5, 1853824767, nominates)
+}
+
+fn message(said: Said) -> StunMessage<'static> {
+    let mapped = home(Side::A);
+    match said {
+        Said::Success(check) | Said::ForgedSuccess(check) => {
+            StunMessage::binding_reply(check_id(check), mapped)
+        }
+        Said::Conflict(check) => StunMessage::binding_role_conflict_reply(check_id(check)),
+        Said::Request {
+            number,
+            controlling,
+        } => request("near:farr", number, controlling, false),
+        Said::Nominating { number } => request("near:farr", number, true, true),
+        Said::ForgedRequest(number) => request("near:farr", number, true, false),
+        Said::Misaddressed(number) => request("nobody:farr", number, true, false),
+        Said::Nothing => StunMessage::binding_reply(request_id(0), mapped),
+    }
+}
+
+fn key(said: Said) -> &'static str {
+    match said {
+        Said::Success(_) | Said::Conflict(_) => password(Side::B),
+        Said::ForgedSuccess(_) | Said::ForgedRequest(_) => "other",
+        _ => password(Side::A),
+    }
+}
+
+fn bytes(alloc: Global, said: Said) -> Result<Vec<u8>, Fail> {
+    let mut bytes = vec![in alloc; 0; 128]?;
+    let key = key(said).as_bytes();
+    let len = message(said).to_bytes(Some(key), &mut bytes, &DefaultSha1HmacProvider)?;
+    match said {
+        Said::Nothing => bytes.truncate(3),
+        _ => bytes.truncate(len),
+    }
+    Ok(bytes)
+}
+
+/// A call of an agent, by what differs.
+#[derive(Clone, Copy)]
+enum Step {
+    Controlling(bool),
+    TieBreaker(u64),
+    Lite,
+    /// The other agent's credentials become known.
+    Remote,
+    Host(SocketAddr),
+    /// A host candidate of the other agent becomes known.
+    Peer(SocketAddr),
+    /// The candidate of this line becomes known.
+    PeerLine(&'static str),
+    Moment(u64),
+    Packet {
+        ms: u64,
+        from: SocketAddr,
+        to: SocketAddr,
+        said: Said,
+    },
+    PollPacket,
+    PollEvent,
+    Restart,
+    Recreate,
+}
+
+fn remote(alloc: Global, side: Side) -> Result<Call, Fail> {
+    Ok(AgentCall::SetRemoteCredentials(creds(alloc, other(side))?))
+}
+
+fn host(alloc: Global, address: SocketAddr) -> Result<Call, Fail> {
+    let candidate = Candidate::host(alloc, address, Protocol::Udp)?;
+    Ok(AgentCall::AddLocalCandidate(candidate))
+}
+
+fn peer(alloc: Global, address: SocketAddr) -> Result<Call, Fail> {
+    let candidate = Candidate::host(alloc, address, Protocol::Udp)?;
+    Ok(AgentCall::AddRemoteCandidate(candidate))
+}
+
+fn peer_line(alloc: Global, line: &str) -> Result<Call, Fail> {
+    let candidate = Candidate::from_sdp_string(alloc, line)?;
+    Ok(AgentCall::AddRemoteCandidate(candidate))
+}
+
+fn restart(alloc: Global, side: Side) -> Result<Call, Fail> {
+    let creds = creds(alloc, side)?;
+    Ok(AgentCall::RestartIce { creds, keep: true })
+}
+
+fn moment(ms: u64) -> Instant {
+    Instant(ms.saturating_mul(MS))
+}
+
+fn packet(
+    alloc: Global,
+    ms: u64,
+    from: SocketAddr,
+    to: SocketAddr,
+    said: Said,
+) -> Result<Call, Fail> {
+    Ok(AgentCall::Packet {
+        now: moment(ms),
+        proto: Protocol::Udp,
+        source: from,
+        destination: to,
+        bytes: bytes(alloc, said)?,
+    })
+}
+
+/// The call that the side makes.
+fn call(alloc: Global, side: Side, step: Step) -> Result<Call, Fail> {
+    match step {
+        Step::Controlling(controlling) => Ok(AgentCall::SetControlling(controlling)),
+        Step::TieBreaker(number) => Ok(AgentCall::SetControlTieBreaker(number)),
+        Step::Lite => Ok(AgentCall::SetIceLite(true)),
+        Step::Remote => remote(alloc, side),
+        Step::Host(address) => host(alloc, address),
+        Step::Peer(address) => peer(alloc, address),
+        Step::PeerLine(line) => peer_line(alloc, line),
+        Step::Moment(ms) => Ok(AgentCall::HandleTimeout(moment(ms))),
+        Step::Packet { ms, from, to, said } => packet(alloc, ms, from, to, said),
+        Step::PollPacket => Ok(AgentCall::PollTransmit),
+        Step::PollEvent => Ok(AgentCall::PollEvent),
+        Step::Restart => restart(alloc, side),
+        Step::Recreate => Ok(AgentCall::RecreateCandidatePairs),
+    }
+}
+
+/// The calls that the steps make of A.
+fn calls_of(alloc: Global, steps: &[Step]) -> Result<Vec<Call>, Fail> {
+    let mut calls = Vec::new(alloc);
+    for step in steps {
+        calls.push(call(alloc, Side::A, *step)?)?;
+    }
+    Ok(calls)
+}
+
+/// An agent behind its run, and the log.
+#[derive(Drop)]
+struct Played {
+    agent: Agent,
+    log: RunLog,
+}
+
+fn make(alloc: Global, agent: &mut Agent, steps: &[Step]) -> Result<RunLog, Fail> {
+    let calls = calls_of(alloc, steps)?;
+    Ok(run(agent, calls, &mut Pcg32::seed_from_u64(SEED)))
+}
+
+/// The steps on an agent as it is made.
+fn play(alloc: Global, steps: &[Step]) -> Result<Played, Fail> {
+    let mut agent = Agent::new(alloc, creds(alloc, Side::A)?, TIE_BREAKER)?;
+    let log = make(alloc, &mut agent, steps)?;
+    Ok(Played { agent, log })
+}
+
+// ---- what a log says
+
+/// What the table has for the number.
+fn wanted<T: Copy>(table: &[(usize, T)], number: usize) -> Option<T> {
+    for (place, value) in table {
+        if *place == number {
+            return Some(*value);
+        }
+    }
+    None
+}
+
+/// These entries announce these paths, and no other announces any.
+fn announces(log: &RunLog, paths: &[(usize, Path)]) -> bool {
+    for entry in &log.entries {
+        if entry.announced != [wanted(paths, entry.number), None] {
+            return false;
+        }
+    }
+    !log.stopped
+}
+
+/// These entries issue these packets, and no other issues any.
+fn issues(log: &RunLog, packets: &[(usize, Issued)]) -> bool {
+    for entry in &log.entries {
+        if entry.issued != wanted(packets, entry.number) {
+            return false;
+        }
+    }
+    !log.stopped
+}
+
+/// The entry has the answer.
+fn answers(log: &RunLog, number: usize, answer: &Answer) -> bool {
+    match log.entries.get(number) {
+        Some(entry) => entry.answer == *answer,
+        None => false,
+    }
+}
+
+/// The packet of the entry was accepted, or not.
+fn takes(log: &RunLog, number: usize, accepted: bool) -> bool {
+    answers(log, number, &Answer::Flag(accepted))
+}
+
+/// A's check of this number to the address.
+fn check(number: usize, destination: SocketAddr) -> Issued {
+    Issued {
+        path: path_to(destination),
+        class: Class::Request,
+        id: check_id(number),
+    }
+}
+
+/// A's answer to B's request of this number.
+fn reply(number: u8, class: Class) -> Issued {
+    Issued {
+        path: path_to(home(Side::B)),
+        class,
+        id: request_id(number),
+    }
+}

@@ -1,0 +1,143 @@
+//! Each call has its entry, in order.
+
+use super::*;
+use is::{Duration, IceError, LocalPreference};
+
+/// One entry for each call, in order.
+fn are_in_number(log: &RunLog, count: usize) -> bool {
+    let mut next = 0usize;
+    for entry in &log.entries {
+        if entry.number != next {
+            return false;
+        }
+        next = next.saturating_add(1);
+    }
+    next == count && !log.stopped
+}
+
+/// Calls that take no memory.
+fn settings(alloc: Global) -> Result<Vec<Call>, Fail> {
+    Ok(Vec::from_array(
+        alloc,
+        [
+            AgentCall::SetMtu(588..=1280),
+            AgentCall::SetMtu(587..=1280),
+            AgentCall::SetControlTieBreaker(3),
+            AgentCall::SetMaxCandidatePairs(10),
+            AgentCall::SetIceLite(false),
+            AgentCall::SetTimingAdvance(Duration(50_000_000)),
+            AgentCall::SetInitialStunRto(Duration(250_000_000)),
+            AgentCall::SetMaxStunRto(Duration(3_000_000_000)),
+            AgentCall::SetMaxStunRetransmits(0),
+            AgentCall::SetMaxStunRetransmits(9),
+            AgentCall::SetControlling(true),
+            AgentCall::SkipPairIds(7),
+            AgentCall::PollTimeout,
+        ],
+    )?)
+}
+
+/// A refused call has its entry as any other, and the run goes on.
+const SETTINGS_ANSWERS: [Answer; 13] = [
+    Answer::Done,
+    Answer::Refused(IceError::MtuTooSmall),
+    Answer::Done,
+    Answer::Done,
+    Answer::Done,
+    Answer::Done,
+    Answer::Done,
+    Answer::Done,
+    Answer::NotCalled,
+    Answer::Done,
+    Answer::Done,
+    Answer::Done,
+    Answer::Wake(None),
+];
+
+/// The entries have these answers.
+fn have_answers(log: &RunLog, answers: &[Answer]) -> bool {
+    for (entry, answer) in log.entries.iter().zip(answers) {
+        if entry.answer != *answer {
+            return false;
+        }
+    }
+    true
+}
+
+fn run_on_fresh(alloc: Global, calls: Vec<Call>) -> Result<RunLog, Fail> {
+    let mut agent = Agent::new(alloc, creds(alloc, Side::A)?, TIE_BREAKER)?;
+    Ok(run(&mut agent, calls, &mut Pcg32::seed_from_u64(SEED)))
+}
+
+#[test]
+fn each_setting_has_its_entry(rt: HostRuntime) -> Result<(), Fail> {
+    let calls = settings(rt.alloc())?;
+    let log = run_on_fresh(rt.alloc(), calls)?;
+    assert!(rt; are_in_number(&log, SETTINGS_ANSWERS.len()));
+    assert!(rt; have_answers(&log, &SETTINGS_ANSWERS));
+    Ok(())
+}
+
+/// 65535, less one for each candidate of the kind that came before.
+#[derive(Drop)]
+struct Falling;
+
+impl LocalPreference for Falling {
+    ghost use Rattle.std.specs.Prelude.{◌≡◌, ◌-◌, min};
+
+    ghost answers = { λ _ _ before r. r ≡ 65535 - min before 65535 };
+
+    fn calculate(&self, _c: &Candidate, same_kind: usize) -> u32 {
+        65535 - same_kind.min(65535) as u32
+    }
+}
+
+/// Random credentials of the agent's own.
+fn rename(alloc: Global) -> Result<Call, Fail> {
+    let creds = IceCreds::new(alloc, &mut Pcg32::seed_from_u64(SEED))?;
+    Ok(AgentCall::SetLocalCredentials(creds))
+}
+
+fn invalidate(alloc: Global) -> Result<Call, Fail> {
+    let candidate = Candidate::host(alloc, at(1, 1000), Protocol::Udp)?;
+    Ok(AgentCall::InvalidateCandidate(candidate))
+}
+
+/// The calls of candidates; behind a restart that keeps it the host goes.
+fn candidates(alloc: Global) -> Result<Vec<Call>, Fail> {
+    let steps = [
+        Step::Remote,
+        Step::Host(at(1, 1000)),
+        Step::Host(at(1, 1000)),
+        Step::Peer(at(2, 2000)),
+        Step::Recreate,
+        Step::Restart,
+    ];
+    let mut all = calls_of(alloc, &steps)?;
+    all.push(invalidate(alloc)?)?;
+    Ok(all)
+}
+
+/// The host comes a second time with less priority, since one of its kind came before.
+const CANDIDATE_ANSWERS: [Answer; 9] = [
+    Answer::Done,
+    Answer::Added,
+    Answer::NotAdded,
+    Answer::Done,
+    Answer::Done,
+    Answer::Done,
+    Answer::Flag(true),
+    Answer::Done,
+    Answer::Done,
+];
+
+#[test]
+fn each_call_with_memory_has_its_entry(rt: HostRuntime) -> Result<(), Fail> {
+    let mut all = candidates(rt.alloc())?;
+    all.push(AgentCall::SetLocalPreference(Box::new(rt.alloc(), Falling)?))?;
+    all.push(rename(rt.alloc())?)?;
+    let log = run_on_fresh(rt.alloc(), all)?;
+    assert!(rt; are_in_number(&log, CANDIDATE_ANSWERS.len()));
+    assert!(rt; have_answers(&log, &CANDIDATE_ANSWERS));
+    Ok(())
+}

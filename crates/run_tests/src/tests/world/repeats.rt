@@ -1,0 +1,167 @@
+//! Packets that arrive late, and again and again.
+
+use super::*;
+
+/// The packet arrives three times.
+fn thrice(events: &mut Vec<Event>, packet: usize, ms: u64, to: Side) -> Result<(), Fail> {
+    for _ in 0..3 {
+        events.push(deliver(packet, ms, to))?;
+    }
+    Ok(())
+}
+
+/// The next packet of the side is sent off under this number, and then three of the other's: where the first is a check that
+/// nothing waits before, they are its answers.
+fn exchange(events: &mut Vec<Event>, first: usize, ms: u64, side: Side) -> Result<(), Fail> {
+    events.push(Event::Poll(side))?;
+    thrice(events, first, ms, other(side))?;
+    for answer in 1..4 {
+        events.push(Event::Poll(other(side)))?;
+        thrice(events, first.saturating_add(answer), ms, side)?;
+    }
+    Ok(())
+}
+
+/// A moment comes to the side, and the check that it makes goes there and back.
+fn round(events: &mut Vec<Event>, first: usize, ms: u64, side: Side) -> Result<(), Fail> {
+    events.push(Event::Do(side, Step::Moment(ms)))?;
+    exchange(events, first, ms, side)
+}
+
+/// Rounds every two seconds, of each side in turn; an exchange has four packets.
+fn rounds(events: &mut Vec<Event>, first: usize, count: usize) -> Result<(), Fail> {
+    let mut packet = first;
+    let mut ms = 0u64;
+    let mut side = Side::A;
+    for _ in 0..count {
+        ms = ms.saturating_add(2000);
+        round(events, packet, ms, side)?;
+        packet = packet.saturating_add(4);
+        side = other(side);
+    }
+    Ok(())
+}
+
+/// Events are polled until there are so many.
+fn fill(events: &mut Vec<Event>, count: usize) -> Result<(), Fail> {
+    for _ in events.len()..count {
+        events.push(Event::Do(Side::B, Step::PollEvent))?;
+    }
+    Ok(())
+}
+
+/// 200 events: the packets of the opening, which are eight in all, and nine rounds.
+fn repeated(alloc: Global) -> Result<Vec<Event>, Fail> {
+    let mut events = Vec::from_array(alloc, opening())?;
+    exchange(&mut events, 0, 10, Side::A)?;
+    exchange(&mut events, 4, 20, Side::B)?;
+    rounds(&mut events, 8, 9)?;
+    fill(&mut events, 200)?;
+    Ok(events)
+}
+
+/// How many entries sent a packet off, and how many delivered one.
+fn polled_and_delivered(log: &WorldLog) -> (usize, usize) {
+    let mut polled = 0usize;
+    let mut delivered = 0usize;
+    for entry in &log.entries {
+        if entry.moved.is_some() {
+            delivered = delivered.saturating_add(1);
+        } else if entry.answer == Answer::Flag(true) {
+            polled = polled.saturating_add(1);
+        }
+    }
+    (polled, delivered)
+}
+
+/// The first path of the entry was announced and is traced to that entry or one before it, or there is none.
+fn is_traced(log: &WorldLog, entry: &WorldEntry) -> bool {
+    match log.trace(entry.number, 0) {
+        Some(trace) => trace.checked < trace.delivered && trace.answered <= entry.number,
+        None => entry.announced == [None, None],
+    }
+}
+
+/// Each announced path is traced.
+fn are_traced(log: &WorldLog) -> bool {
+    for entry in &log.entries {
+        if !is_traced(log, entry) {
+            return false;
+        }
+    }
+    true
+}
+
+#[test]
+fn packets_that_come_three_times_change_no_role_again(rt: HostRuntime) -> Result<(), Fail> {
+    let events = repeated(rt.alloc())?;
+    let log = happen(rt.alloc(), BOTH_CONTROLLING, &events)?;
+    assert_eq!(rt; log.entries.len(), 200);
+    assert_eq!(rt; polled_and_delivered(&log), (44, 132));
+    // A's check comes to B in entry 9
+    assert!(rt; has_roles(&log, &[(0, [true, true]), (9, [true, false])]));
+    // A announces at the first answer to its check; B, whom A's second check asked, at the first to its own second
+    let paths = [(17, path_of(Side::A)), (63, path_of(Side::B))];
+    assert!(rt; world_announces(&log, &paths) && are_traced(&log));
+    Ok(())
+}
+
+/// B's check comes to A, whose refusal is packet 2, behind its own check.
+fn refused(alloc: Global) -> Result<Vec<Event>, Fail> {
+    let mut events = Vec::from_array(alloc, opening())?;
+    let polls = [
+        Event::Poll(Side::B),
+        deliver(0, 10, Side::A),
+        Event::Poll(Side::A),
+        Event::Poll(Side::A),
+    ];
+    events.extend_from_slice(&polls)?;
+    Ok(events)
+}
+
+/// A's check is answered, and two rounds follow: 50 events.
+fn in_between(events: &mut Vec<Event>) -> Result<(), Fail> {
+    let answered = [
+        deliver(1, 20, Side::B),
+        Event::Poll(Side::B),
+        deliver(3, 30, Side::A),
+    ];
+    events.extend_from_slice(&answered)?;
+    rounds(events, 4, 2)?;
+    fill(events, 62)
+}
+
+#[test]
+fn a_late_refusal_changes_no_role_again(rt: HostRuntime) -> Result<(), Fail> {
+    let mut events = refused(rt.alloc())?;
+    in_between(&mut events)?;
+    thrice(&mut events, 2, 6000, Side::B)?;
+    let log = happen(rt.alloc(), BOTH_CONTROLLING, &events)?;
+    assert_eq!(rt; log.entries.len(), 65);
+    assert!(rt; takes_all(&log, 62, 3, Side::B, true));
+    assert!(rt; has_roles(&log, &[(0, [true, true]), (12, [true, false])]));
+    Ok(())
+}
+
+/// Moments come to both, every 20 ms: 50 events.
+fn moments(events: &mut Vec<Event>) -> Result<(), Fail> {
+    let mut ms = 0u64;
+    for _ in 0..25 {
+        ms = ms.saturating_add(20);
+        events.push(Event::Do(Side::A, Step::Moment(ms)))?;
+        events.push(Event::Do(Side::B, Step::Moment(ms)))?;
+    }
+    Ok(())
+}
+
+#[test]
+fn a_late_refusal_changes_the_role_once(rt: HostRuntime) -> Result<(), Fail> {
+    let mut events = refused(rt.alloc())?;
+    moments(&mut events)?;
+    thrice(&mut events, 2, 510, Side::B)?;
+    let log = happen(rt.alloc(), BOTH_CONTROLLING, &events)?;
+    assert_eq!(rt; log.entries.len(), 65);
+    assert!(rt; takes_all(&log, 62, 3, Side::B, true));
+    assert!(rt; has_roles(&log, &[(0, [true, true]), (62, [true, false])]));
+    Ok(())
+}
