@@ -1,0 +1,242 @@
+//! An agent in a story's words: moments in milliseconds, addresses of 10.0.0.0/24, and a truth value for what came of a
+//! call. These functions have no contract, so that what the agent promises stays out of the stories' proofs.
+
+use super::*;
+use rand_core::SeedableRng;
+use rand_pcg::Pcg32;
+
+/// The address 10.0.0.HOST:PORT.
+pub(super) fn at(host: u8, port: u16) -> SocketAddr {
+    SocketAddr::V4(SocketAddrV4::new(Ipv4Addr::new(10, 0, 0, host), port))
+}
+
+/// The moment so many milliseconds behind the beginning.
+pub(super) fn later(ms: u64) -> Instant {
+    Instant(ms.saturating_mul(1_000_000))
+}
+
+pub(super) fn creds(alloc: Global, ufrag: &str, pass: &str) -> Result<IceCreds, AllocError> {
+    Ok(IceCreds {
+        ufrag: Text::from_str(alloc, ufrag)?,
+        pass: Text::from_str(alloc, pass)?,
+    })
+}
+
+/// The generator of the published example of PCG.
+pub(super) fn generator() -> Pcg32 {
+    Pcg32::new(42, 54)
+}
+
+/// An agent, its random source and memory, the packet that it sent last, and the bytes that come to it next.
+#[derive(Drop)]
+pub(super) struct Player {
+    pub(super) agent: Agent,
+    pub(super) rng: Pcg32,
+    pub(super) alloc: Global,
+    pub(super) sent: Option<Transmit>,
+    coming: Vec<u8>,
+}
+
+impl Player {
+    /// A controlled agent; two of different tie-breakers draw different ids.
+    pub(super) fn new(
+        alloc: Global,
+        ufrag: &str,
+        pass: &str,
+        tie_breaker: u64,
+    ) -> Result<Player, Fail> {
+        Ok(Player {
+            agent: Agent::new(alloc, creds(alloc, ufrag, pass)?, tie_breaker)?,
+            rng: Pcg32::seed_from_u64(tie_breaker),
+            alloc,
+            sent: None,
+            coming: Vec::new(alloc),
+        })
+    }
+}
+
+// ---- what it is told: whether each call was done
+
+impl Player {
+    /// Tells the credentials of the peer.
+    pub(super) fn knows(&mut self, ufrag: &str, pass: &str) -> bool {
+        match creds(self.alloc, ufrag, pass) {
+            Ok(creds) => self.agent.set_remote_credentials(creds).is_ok(),
+            Err(_) => false,
+        }
+    }
+
+    /// Gives other credentials.
+    pub(super) fn is_renamed(&mut self, ufrag: &str, pass: &str) -> bool {
+        match creds(self.alloc, ufrag, pass) {
+            Ok(creds) => self.agent.set_local_credentials(creds).is_ok(),
+            Err(_) => false,
+        }
+    }
+
+    /// Restarts under other credentials.
+    pub(super) fn restarts(&mut self, ufrag: &str, pass: &str, keep: bool) -> bool {
+        match creds(self.alloc, ufrag, pass) {
+            Ok(creds) => self.agent.ice_restart(creds, keep).is_ok(),
+            Err(_) => false,
+        }
+    }
+
+    /// Adds a local candidate; whether it stands then.
+    pub(super) fn adds(&mut self, candidate: Candidate) -> bool {
+        matches!(self.agent.add_local_candidate(candidate), Ok(Some(_)))
+    }
+
+    /// A host candidate over UDP.
+    pub(super) fn host_at(&self, address: SocketAddr) -> Option<Candidate> {
+        match Candidate::host(self.alloc, address, Protocol::Udp) {
+            Ok(candidate) => Some(candidate),
+            Err(_) => None,
+        }
+    }
+
+    /// Adds a local host candidate over UDP.
+    pub(super) fn host(&mut self, address: SocketAddr) -> bool {
+        match self.host_at(address) {
+            Some(candidate) => self.adds(candidate),
+            None => false,
+        }
+    }
+
+    /// Adds a local candidate as a line tells of it.
+    pub(super) fn own(&mut self, line: &str) -> bool {
+        match Candidate::from_sdp_string(self.alloc, line) {
+            Ok(candidate) => self.adds(candidate),
+            Err(_) => false,
+        }
+    }
+
+    /// Adds a remote candidate as a line tells of it.
+    pub(super) fn hears(&mut self, line: &str) -> bool {
+        match Candidate::from_sdp_string(self.alloc, line) {
+            Ok(candidate) => self.agent.add_remote_candidate(candidate).is_ok(),
+            Err(_) => false,
+        }
+    }
+
+    /// Takes a candidate back as a line tells of it; whether there was one.
+    pub(super) fn loses(&mut self, line: &str) -> bool {
+        match Candidate::from_sdp_string(self.alloc, line) {
+            Ok(candidate) => self.agent.invalidate_candidate(&candidate),
+            Err(_) => false,
+        }
+    }
+
+    /// Tells the moment.
+    pub(super) fn timeout(&mut self, ms: u64) -> bool {
+        self.agent.handle_timeout(later(ms), &mut self.rng).is_ok()
+    }
+
+    /// Tells the moment, at which it sends a packet.
+    pub(super) fn checks(&mut self, ms: u64) -> bool {
+        self.timeout(ms) && self.sends()
+    }
+}
+
+// ---- what comes to it
+
+impl Player {
+    /// The next bytes that come are this message, signed with the password.
+    pub(super) fn expects(&mut self, message: StunMessage<'_>, pass: &str) -> bool {
+        match signed(self.alloc, message, pass) {
+            Some(bytes) => {
+                self.coming = bytes;
+                true
+            }
+            None => false,
+        }
+    }
+
+    /// The next bytes that come are the answer to the packet that was sent last, with this mapped address.
+    pub(super) fn expects_answer(&mut self, mapped: SocketAddr) -> bool {
+        match self.sent_id() {
+            Some(id) => self.expects(StunMessage::binding_reply(id, mapped), "farpass"),
+            None => false,
+        }
+    }
+
+    /// They come over UDP; whether the agent takes them.
+    pub(super) fn takes(&mut self, ms: u64, source: SocketAddr, destination: SocketAddr) -> bool {
+        match packet(&self.coming, source, destination) {
+            Some(packet) => matches!(self.agent.handle_packet(later(ms), packet), Ok(true)),
+            None => false,
+        }
+    }
+
+    /// They come from 10.0.0.2:2000 to 10.0.0.1:1000.
+    pub(super) fn hears_peer(&mut self, ms: u64) -> bool {
+        self.takes(ms, at(2, 2000), at(1, 1000))
+    }
+
+    /// It sends a check at 0, whose answer with this mapped address comes at 50.
+    pub(super) fn is_answered(&mut self, mapped: SocketAddr) -> bool {
+        self.checks(0) && self.expects_answer(mapped) && self.hears_peer(50)
+    }
+
+    /// The packet that another one sent last comes to it; whether it takes it.
+    pub(super) fn gets(&mut self, ms: u64, other: &Player) -> bool {
+        let Some(sent) = &other.sent else {
+            return false;
+        };
+        match packet(&sent.contents, sent.source, sent.destination) {
+            Some(packet) => matches!(self.agent.handle_packet(later(ms), packet), Ok(true)),
+            None => false,
+        }
+    }
+
+    /// The request of 100 bytes comes from 10.0.0.2:2000; whether it takes it.
+    pub(super) fn is_asked(&mut self, ms: u64, destination: SocketAddr) -> bool {
+        match packet(&REQUEST, at(2, 2000), destination) {
+            Some(packet) => matches!(self.agent.handle_packet(later(ms), packet), Ok(true)),
+            None => false,
+        }
+    }
+
+    /// Whether it would take what comes, addresses apart.
+    pub(super) fn accepts(&self) -> bool {
+        match StunMessage::parse(&self.coming) {
+            Ok(message) => self.agent.accepts_message(&message),
+            Err(_) => false,
+        }
+    }
+
+    /// Whether it would take what comes, from there to there.
+    pub(super) fn accepts_from(&self, source: SocketAddr, destination: SocketAddr) -> bool {
+        match packet(&self.coming, source, destination) {
+            Some(packet) => self.agent.accepts_packet(&packet),
+            None => false,
+        }
+    }
+}
+
+/// The message's bytes, signed with the password, where there is room for them.
+fn signed(alloc: Global, message: StunMessage<'_>, pass: &str) -> Option<Vec<u8>> {
+    let Ok(mut bytes) = vec![in alloc; 0; 600] else {
+        return None;
+    };
+    match message.to_bytes(Some(pass.as_bytes()), &mut bytes, &DefaultSha1HmacProvider) {
+        Ok(len) => {
+            bytes.truncate(len);
+            Some(bytes)
+        }
+        Err(_) => None,
+    }
+}
+
+/// The bytes as a packet over UDP, if they read as a message.
+fn packet(bytes: &[u8], source: SocketAddr, destination: SocketAddr) -> Option<StunPacket<'_>> {
+    match StunMessage::parse(bytes) {
+        Ok(message) => Some(StunPacket {
+            proto: Protocol::Udp,
+            source,
+            destination,
+            message,
+        }),
+        Err(_) => None,
+    }
+}
