@@ -39,6 +39,3 @@ pub use agent::{Agent, IceAgent};
 pub use credentials::IceCreds;
 pub use event::{IceAgentEvent, IceAgentStats, IceConnectionState};
 pub use questions::{LocalCandidates, RemoteCandidates};
-
-#[cfg(test)]
-mod tests;
