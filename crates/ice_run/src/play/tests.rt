@@ -10,6 +10,7 @@ use std::io::{Read, Write};
 use std::net::{Ipv4Addr, SocketAddr, SocketAddrV4};
 use std::test::Fail;
 
+mod roles;
 mod sessions;
 
 /// The agent of the published request: its ufrag, its password, its host candidate and the other ufrag.
