@@ -162,6 +162,23 @@ fn each_fault_of_a_line_ends_the_script(rt: HostRuntime) -> Result<(), Fail> {
 }
 
 #[test]
+fn no_retransmits_are_refused(rt: HostRuntime) -> Result<(), Fail> {
+    let script = "{\"call\":\"agent\",\"ufrag\":\"AAAA\",\"pass\":\"PPPP\",\"tie\":1}\n\
+        {\"call\":\"retransmits\",\"number\":0}\n";
+    let played = play_script(rt.alloc(), script.as_bytes());
+    assert_eq!(&rt; played.status, 1);
+    assert_eq!(&rt;
+        played.output.as_slice(),
+        b"A agent ok\nA wake none\n".as_slice()
+    );
+    assert_eq!(&rt;
+        played.errors.as_slice(),
+        b"line 2: bad number\n".as_slice()
+    );
+    Ok(())
+}
+
+#[test]
 fn an_agent_gets_no_packet_of_its_own(rt: HostRuntime) -> Result<(), Fail> {
     let alloc = rt.alloc();
     let own = "{\"call\":\"deliver\",\"packet\":0,\"now\":\"x\"}";
