@@ -1,7 +1,7 @@
 //! The lines of the input, and which case each names.
 
 use crate::checksum::Checksum;
-use crate::{candidates, messages, pairs};
+use crate::{agents, candidates, messages, pairs};
 use is_proto::IceError;
 use std::alloc::Global;
 use std::io::{Read, Write};
@@ -61,7 +61,10 @@ fn sum_of(alloc: Global, name: &str, rounds: u64) -> Result<Option<u64>, IceErro
         "read_line" => candidates::read_line(alloc, rounds, &mut sum)?,
         "print_line" => candidates::print_line(alloc, rounds, &mut sum)?,
         "pair" => pairs::pair(alloc, rounds, &mut sum)?,
-        _ => return Ok(None),
+        _ => match agents::case_of(name) {
+            Some((turn, pairs)) => agents::turns(alloc, turn, pairs, rounds, &mut sum)?,
+            None => return Ok(None),
+        },
     }
     Ok(Some(sum.0))
 }

@@ -3,6 +3,7 @@
 //! difference of the times by that of the rounds.
 #![tactic(auto)]
 
+mod agents;
 mod bench;
 mod candidates;
 mod checksum;

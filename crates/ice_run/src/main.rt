@@ -10,11 +10,19 @@ mod script;
 
 use play::play;
 use std::io;
+use std::io::{BufWriter, Write};
 use std::process::ExitCode;
 
 fn main(rt: HostRuntime) -> ExitCode {
     let mut input = rt.reader();
-    let mut output = io::writer(&rt);
     let mut errors = rt.stderr();
-    ExitCode::from(play(rt.alloc(), &mut input, &mut output, &mut errors))
+    // a script prints in small pieces, each of which would be a write of its own
+    let Ok(mut output) = BufWriter::new(rt.alloc(), io::writer(&rt)) else {
+        return ExitCode::from(2);
+    };
+    let status = play(rt.alloc(), &mut input, &mut output, &mut errors);
+    match output.flush() {
+        Ok(()) => ExitCode::from(status),
+        Err(_) => ExitCode::from(2),
+    }
 }

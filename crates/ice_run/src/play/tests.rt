@@ -10,6 +10,7 @@ use std::io::{Read, Write};
 use std::net::{Ipv4Addr, SocketAddr, SocketAddrV4};
 use std::test::Fail;
 
+mod roles;
 mod sessions;
 
 /// The agent of the published request: its ufrag, its password, its host candidate and the other ufrag.
@@ -157,6 +158,23 @@ fn each_fault_of_a_line_ends_the_script(rt: HostRuntime) -> Result<(), Fail> {
         );
         assert_eq!(&rt; played.errors.as_slice(), told.as_bytes(), "at {line}");
     }
+    Ok(())
+}
+
+#[test]
+fn no_retransmits_are_refused(rt: HostRuntime) -> Result<(), Fail> {
+    let script = "{\"call\":\"agent\",\"ufrag\":\"AAAA\",\"pass\":\"PPPP\",\"tie\":1}\n\
+        {\"call\":\"retransmits\",\"number\":0}\n";
+    let played = play_script(rt.alloc(), script.as_bytes());
+    assert_eq!(&rt; played.status, 1);
+    assert_eq!(&rt;
+        played.output.as_slice(),
+        b"A agent ok\nA wake none\n".as_slice()
+    );
+    assert_eq!(&rt;
+        played.errors.as_slice(),
+        b"line 2: bad number\n".as_slice()
+    );
     Ok(())
 }
 

@@ -1,0 +1,224 @@
+//! Agents: what a request, an answer, a moment with a check and an idle moment cost, by the number of pairs.
+
+use crate::checksum::Checksum;
+use crate::messages::BROWSER_REQUEST;
+use is_agent::{IceAgent, IceCreds};
+use is_candidate::Candidate;
+use is_proto::{DefaultSha1HmacProvider, Duration, IceError, Instant, Protocol, Text, Transmit};
+use is_stun::stun::{StunMessage, StunPacket};
+use rand_core::SeedableRng;
+use rand_pcg::Pcg32;
+use std::alloc::Global;
+use std::net::{Ipv4Addr, SocketAddr, SocketAddrV4};
+
+type Agent = IceAgent<DefaultSha1HmacProvider>;
+
+const PASSWORD: &str = "xJcE9AQAR7kczUDVOXRUCl";
+
+const PEER_PASSWORD: &str = "VOkJxbRl1RmTxUk/WvJxBt";
+
+/// When a case begins: late enough for a nominated pair to go before the others by its 60 s.
+const START: Instant = Instant(60_000_000_000);
+
+/// The port of the peer's first address. The others follow it.
+const FIRST_PORT: u16 = 2000;
+
+/// What happens in each round.
+#[derive(Clone, Copy, Debug, PartialEq, Eq)]
+pub enum Turn {
+    /// The request of the pair that came last is read, taken and answered.
+    Request,
+    /// The answer to the check of the pair that came last is read and taken.
+    Answer,
+    /// The agent is told of a moment, and checks a pair.
+    Check,
+    /// The agent is told of a moment, and has nothing to do.
+    Idle,
+}
+
+/// What the case of this name does, and with how many pairs.
+pub fn case_of(name: &str) -> Option<(Turn, u16)> {
+    let (word, pairs) = name.rsplit_once('_')?;
+    let turn = match word {
+        "request" => Turn::Request,
+        "answer" => Turn::Answer,
+        "check" => Turn::Check,
+        "idle" => Turn::Idle,
+        _ => return None,
+    };
+    let pairs = match pairs {
+        "1" => 1,
+        "10" => 10,
+        "100" => 100,
+        _ => return None,
+    };
+    Some((turn, pairs))
+}
+
+/// Makes an agent with so many pairs, and then takes that many turns.
+pub fn turns(
+    alloc: Global,
+    turn: Turn,
+    pairs: u16,
+    rounds: u64,
+    sum: &mut Checksum,
+) -> Result<(), IceError> {
+    match turn {
+        Turn::Request => requests(alloc, pairs, rounds, sum),
+        Turn::Answer => answers(alloc, pairs, rounds, sum),
+        Turn::Check => checks(alloc, pairs, rounds, sum),
+        Turn::Idle => idle_moments(alloc, pairs, rounds, sum),
+    }
+}
+
+fn requests(alloc: Global, pairs: u16, rounds: u64, sum: &mut Checksum) -> Result<(), IceError> {
+    let mut agent = met(alloc, pairs)?;
+    for _ in 0..rounds {
+        take(&mut agent, port_of(pairs), &BROWSER_REQUEST)?;
+        poll(&mut agent, sum);
+    }
+    Ok(())
+}
+
+fn answers(alloc: Global, pairs: u16, rounds: u64, sum: &mut Checksum) -> Result<(), IceError> {
+    let (mut agent, last) = checking(alloc, pairs)?;
+    let mut buf = [0; 128];
+    let answer = answer_to(&last, &mut buf);
+    for _ in 0..rounds {
+        sum.add(u64::from(take(&mut agent, port_of(pairs), answer)?));
+        poll(&mut agent, sum);
+    }
+    Ok(())
+}
+
+fn checks(alloc: Global, pairs: u16, rounds: u64, sum: &mut Checksum) -> Result<(), IceError> {
+    let mut agent = met(alloc, pairs)?;
+    // a pair that was checked is due again at once, and the peer was heard of too lately for it to be given up
+    agent.set_initial_stun_rto(Duration(0));
+    let mut rng = Pcg32::seed_from_u64(1);
+    for round in 0..rounds {
+        tell(&mut agent, Instant(START.0.saturating_add(round)), &mut rng)?;
+        poll(&mut agent, sum);
+    }
+    Ok(())
+}
+
+fn idle_moments(
+    alloc: Global,
+    pairs: u16,
+    rounds: u64,
+    sum: &mut Checksum,
+) -> Result<(), IceError> {
+    let (mut agent, _) = checking(alloc, pairs)?;
+    let mut rng = Pcg32::seed_from_u64(1);
+    for _ in 0..rounds {
+        tell(&mut agent, START, &mut rng)?;
+        sum.add(wake(&mut agent));
+    }
+    Ok(())
+}
+
+/// The agent that the request is for, at 10.0.0.1:1000.
+fn alone(alloc: Global) -> Result<Agent, IceError> {
+    let mut agent = Agent::new(alloc, creds(alloc, "p9KA", PASSWORD)?, 1)?;
+    agent.set_remote_credentials(creds(alloc, "SQAt", PEER_PASSWORD)?)?;
+    let _ = agent.add_local_candidate(Candidate::host(alloc, at(1, 1000), Protocol::Udp)?)?;
+    Ok(agent)
+}
+
+/// The agent behind a request from each of so many ports of 10.0.0.2, and so with a pair for each.
+fn met(alloc: Global, pairs: u16) -> Result<Agent, IceError> {
+    let mut agent = alone(alloc)?;
+    let mut unused = Checksum(0);
+    for pair in 0..pairs {
+        take(
+            &mut agent,
+            FIRST_PORT.saturating_add(pair),
+            &BROWSER_REQUEST,
+        )?;
+        poll(&mut agent, &mut unused);
+    }
+    Ok(agent)
+}
+
+/// The same agent, each of whose pairs was checked once, and the last check.
+fn checking(alloc: Global, pairs: u16) -> Result<(Agent, Option<Transmit>), IceError> {
+    let mut agent = met(alloc, pairs)?;
+    let mut rng = Pcg32::seed_from_u64(1);
+    let mut last = None;
+    for _ in 0..pairs {
+        tell(&mut agent, START, &mut rng)?;
+        last = packet_of(&mut agent);
+    }
+    Ok((agent, last))
+}
+
+/// The signed answer to the check, and nothing where there is none.
+fn answer_to<'a>(check: &Option<Transmit>, buf: &'a mut [u8; 128]) -> &'a [u8] {
+    let Some(check) = check else { return &[] };
+    let Ok(message) = StunMessage::parse(&check.contents) else {
+        return &[];
+    };
+    let reply = StunMessage::binding_reply(message.trans_id(), check.source);
+    let password = PEER_PASSWORD.as_bytes();
+    match reply.to_bytes(Some(password), buf, &DefaultSha1HmacProvider) {
+        Ok(len) => buf.get(..len).unwrap_or(&[]),
+        Err(_) => &[],
+    }
+}
+
+fn creds(alloc: Global, ufrag: &str, pass: &str) -> Result<IceCreds, IceError> {
+    Ok(IceCreds {
+        ufrag: Text::from_str(alloc, ufrag)?,
+        pass: Text::from_str(alloc, pass)?,
+    })
+}
+
+fn at(host: u8, port: u16) -> SocketAddr {
+    SocketAddr::V4(SocketAddrV4::new(Ipv4Addr::new(10, 0, 0, host), port))
+}
+
+/// The port of the last of so many pairs.
+fn port_of(pairs: u16) -> u16 {
+    FIRST_PORT.saturating_add(pairs.saturating_sub(1))
+}
+
+// ---- the calls, without their contracts
+
+/// The bytes come from this port of 10.0.0.2. Whether they were for the agent.
+fn take(agent: &mut Agent, port: u16, bytes: &[u8]) -> Result<bool, IceError> {
+    let Ok(message) = StunMessage::parse(bytes) else {
+        return Ok(false);
+    };
+    let packet = StunPacket {
+        proto: Protocol::Udp,
+        source: at(2, port),
+        destination: at(1, 1000),
+        message,
+    };
+    agent.handle_packet(START, packet)
+}
+
+fn tell(agent: &mut Agent, now: Instant, rng: &mut Pcg32) -> Result<(), IceError> {
+    agent.handle_timeout(now, rng)
+}
+
+fn packet_of(agent: &mut Agent) -> Option<Transmit> {
+    agent.poll_transmit()
+}
+
+/// Adds the next packet, where there is one, and whether there is an event.
+fn poll(agent: &mut Agent, sum: &mut Checksum) {
+    if let Some(packet) = agent.poll_transmit() {
+        sum.add_bytes(&packet.contents);
+    }
+    sum.add(u64::from(agent.poll_event().is_some()));
+}
+
+/// The moment of the next call.
+fn wake(agent: &mut Agent) -> u64 {
+    match agent.poll_timeout() {
+        Some(at) => at.0,
+        None => 0,
+    }
+}
