@@ -20,7 +20,7 @@ pub enum Step {
     Candidate(&'static str),
     /// `handle_timeout`.
     Timeout(u64),
-    /// `handle_timeout` at a moment at which nothing is due.
+    /// `handle_timeout` at a moment at which no check is due, behind another such moment.
     Idle(u64),
     /// `handle_packet` at 0 of a browser's request to this port.
     Browser(u16),
@@ -248,9 +248,12 @@ pub static LISTS: [List; 9] = [
             Step::Candidate(HOST_LINE),
             Step::Timeout(0),
             Step::Polls,
-            Step::Idle(10),
+            // makes ready what the next check takes
+            Step::Timeout(10),
             Step::Polls,
             Step::Idle(20),
+            Step::Polls,
+            Step::Idle(30),
             Step::Polls,
         ],
     },

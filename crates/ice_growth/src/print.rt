@@ -3,6 +3,7 @@
 use crate::calls::Agent;
 use crate::packets::at;
 use crate::seen::nominated;
+use is::stun::{Class, StunMessage, TransId};
 use is::{IceAgentEvent, IceError, Instant, SocketText, Transmit};
 use std::io::Write;
 use std::{fmt, io};
@@ -32,7 +33,34 @@ impl fmt::Display for HexText<'_> {
     }
 }
 
-pub fn print_packet<W: Write>(packet: &Transmit, output: &mut W) -> io::Result<()> {
+/// Prints the packets that wait, and keeps the id of the first check, where none is kept.
+pub fn print_packets<W: Write>(
+    agent: &mut Agent,
+    first: &mut Option<TransId>,
+    output: &mut W,
+) -> io::Result<()> {
+    while let Some(packet) = agent.poll_transmit() {
+        if first.is_none() {
+            *first = check_id(&packet.contents);
+        }
+        print_packet(&packet, output)?;
+    }
+    Ok(())
+}
+
+/// The id of the message, where it is a request.
+fn check_id(bytes: &[u8]) -> Option<TransId> {
+    let Ok(message) = StunMessage::parse(bytes) else {
+        return None;
+    };
+    if message.class() == Class::Request {
+        Some(message.trans_id())
+    } else {
+        None
+    }
+}
+
+fn print_packet<W: Write>(packet: &Transmit, output: &mut W) -> io::Result<()> {
     let source = SocketText(packet.source);
     let destination = SocketText(packet.destination);
     let proto = packet.proto;

@@ -173,16 +173,28 @@ fn print_entry<W: Write>(number: usize, entry: &Entry, output: &mut W) -> io::Re
     }
 }
 
+/// Polls the packets, and counts them.
+fn count_packets(agent: &mut Agent) -> u64 {
+    let mut count = 0u64;
+    while agent.poll_transmit().is_some() {
+        count = count.saturating_add(1);
+    }
+    count
+}
+
+/// Polls the events, and counts them.
+fn count_events(agent: &mut Agent) -> u64 {
+    let mut count = 0u64;
+    while agent.poll_event().is_some() {
+        count = count.saturating_add(1);
+    }
+    count
+}
+
 /// Prints how many packets and events wait, and the wake-up.
 fn print_end<W: Write>(agent: &mut Agent, output: &mut W) -> io::Result<()> {
-    let mut packets = 0u64;
-    while agent.poll_transmit().is_some() {
-        packets = packets.saturating_add(1);
-    }
-    let mut events = 0u64;
-    while agent.poll_event().is_some() {
-        events = events.saturating_add(1);
-    }
+    let packets = count_packets(agent);
+    let events = count_events(agent);
     let wake = agent.poll_timeout();
     writeln!(output, "packets {packets}, events {events}, wake {wake:?}")
 }

@@ -3,9 +3,9 @@
 use crate::calls::{self, Agent, Outcome};
 use crate::lists::Step;
 use crate::packets::{answer_to, packet_of};
-use crate::print::{print_events, print_getters, print_packet, refusal_name};
+use crate::print::{print_events, print_getters, print_packets, refusal_name};
 use crate::seen::Seen;
-use is::stun::{Class, StunMessage, TransId};
+use is::stun::TransId;
 use is::{Candidate, DefaultSha1HmacProvider, IceError};
 use rand_pcg::Pcg32;
 use std::alloc::Global;
@@ -146,27 +146,9 @@ fn use_messages(first: Option<TransId>) -> &'static str {
 
 /// Prints the packets that wait, and keeps the id of the first check.
 fn poll_packets<W: Write>(stage: &mut Stage, output: &mut W) -> io::Result<()> {
-    let Some(agent) = &mut stage.agent else {
-        return Ok(());
-    };
-    while let Some(packet) = agent.poll_transmit() {
-        if stage.first.is_none() {
-            stage.first = check_id(&packet.contents);
-        }
-        print_packet(&packet, output)?;
-    }
-    Ok(())
-}
-
-/// The id of the message, where it is a request.
-fn check_id(bytes: &[u8]) -> Option<TransId> {
-    let Ok(message) = StunMessage::parse(bytes) else {
-        return None;
-    };
-    if message.class() == Class::Request {
-        Some(message.trans_id())
-    } else {
-        None
+    match &mut stage.agent {
+        Some(agent) => print_packets(agent, &mut stage.first, output),
+        None => Ok(()),
     }
 }
 
