@@ -72,7 +72,7 @@ fn with_candidate(sum: u64, candidate: &Candidate) -> u64 {
     with_text(sum, candidate.ufrag().unwrap_or("no ufrag"))
 }
 
-pub fn local_sum(agent: &Agent) -> u64 {
+fn local_sum(agent: &Agent) -> u64 {
     let mut sum = 1;
     for candidate in agent.local_candidates() {
         sum = with_candidate(sum, candidate);
@@ -80,7 +80,7 @@ pub fn local_sum(agent: &Agent) -> u64 {
     sum
 }
 
-pub fn remote_sum(agent: &Agent) -> u64 {
+fn remote_sum(agent: &Agent) -> u64 {
     let mut sum = 1;
     for candidate in agent.remote_candidates() {
         sum = with_candidate(sum, candidate);

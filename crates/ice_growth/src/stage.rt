@@ -15,8 +15,8 @@ use std::io::Write;
 #[derive(Drop)]
 pub struct Stage {
     alloc: Global,
-    pub agent: Option<Agent>,
-    pub random: Pcg32,
+    agent: Option<Agent>,
+    random: Pcg32,
     /// The transaction id of the first check.
     first: Option<TransId>,
     /// The candidate of `Keep`.
@@ -35,7 +35,7 @@ impl Stage {
     }
 
     /// What a refused call must leave: what the agent shows, and the state of the random source.
-    pub fn seen(&mut self) -> (Option<Seen>, u64) {
+    fn seen(&mut self) -> (Option<Seen>, u64) {
         let shown = match &mut self.agent {
             Some(agent) => Some(Seen::of(agent)),
             None => None,
