@@ -93,6 +93,8 @@ fn play_on<W: Write>(
     }
     let call = line.call(alloc, &shared.sent)?;
     let answer = answer(alloc, agent, call, &mut shared.random)?;
+    // a call issues one packet at most; from here on no memory is refused, so that a line is printed whole or not at all
+    shared.sent.reserve(1)?;
     let answer = AnswerText(&answer);
     writeln!(output, "{} {} {answer}", line.side, line.word())?;
     match agent {

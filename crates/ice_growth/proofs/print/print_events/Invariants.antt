@@ -1,0 +1,10 @@
+-- Each poll takes from a queue.
+use Rattle.std.proofs.Common.{length}
+use Rattle.is.specs.View.{record_of}
+use Rattle.ice_growth.proofs.print.print_events.Given as goal
+
+abbrev pub invariant-loop-event : goal.invariant-loop-event
+invariant-loop-event g l = Unit {0}
+
+abbrev pub decreases-loop-event : goal.decreases-loop-event
+decreases-loop-event g l = length (record_of l.agent).events

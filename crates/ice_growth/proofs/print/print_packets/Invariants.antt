@@ -1,0 +1,10 @@
+-- Each poll takes from a queue.
+use Rattle.std.proofs.Common.{length}
+use Rattle.is.specs.View.{record_of}
+use Rattle.ice_growth.proofs.print.print_packets.Given as goal
+
+abbrev pub invariant-loop-packet : goal.invariant-loop-packet
+invariant-loop-packet g l = Unit {0}
+
+abbrev pub decreases-loop-packet : goal.decreases-loop-packet
+decreases-loop-packet g l = length (record_of l.agent).packets

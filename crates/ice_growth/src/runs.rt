@@ -1,0 +1,200 @@
+//! A run of calls. No call of it depends on an earlier one, so that one that was refused can be made behind the run.
+
+use crate::calls::{Agent, add_host, add_remote, creds, make_agent, moment, name_peer};
+use crate::packets::{at, numbered_request};
+use crate::print::{HexText, refusal_name};
+use crate::seen::Seen;
+use is::{Answer, Call, Candidate, Entry, IceError, Protocol, RunLog, run};
+use rand_pcg::Pcg32;
+use std::alloc::Global;
+use std::io;
+use std::io::Write;
+
+/// How many calls the run has.
+const CALLS: usize = 6;
+
+/// The candidate that the agent knows.
+const LINE: &str = "candidate:1 1 udp 2130706175 10.0.0.2 2000 typ host";
+
+/// One that no local candidate has the protocol of.
+const TCP_LINE: &str = "candidate:1 1 tcp 2105524479 10.0.0.3 9 typ host tcptype active";
+
+/// The call of this number.
+fn call_of(alloc: Global, number: usize) -> Result<Call, IceError> {
+    Ok(match number {
+        0 => request_call(alloc, 1)?,
+        1 => request_call(alloc, 2)?,
+        2 => Call::SetRemoteCredentials(creds(alloc, "BBBB", "QQQQ")?),
+        3 => request_call(alloc, 3)?,
+        4 => Call::AddRemoteCandidate(Candidate::from_sdp_string(alloc, TCP_LINE)?),
+        _ => Call::HandleTimeout(moment(0)),
+    })
+}
+
+fn request_call(alloc: Global, number: u8) -> Result<Call, IceError> {
+    let mut bytes = Vec::new(alloc);
+    bytes.extend_from_slice(numbered_request(number).bytes())?;
+    Ok(Call::Packet {
+        now: moment(0),
+        proto: Protocol::Udp,
+        source: at(2, 2000),
+        destination: at(1, 1000),
+        bytes,
+    })
+}
+
+fn calls_of(alloc: Global) -> Result<Vec<Call>, IceError> {
+    let mut calls = Vec::new(alloc);
+    for number in 0..CALLS {
+        calls.push(call_of(alloc, number)?)?;
+    }
+    Ok(calls)
+}
+
+fn one_call(alloc: Global, number: usize) -> Result<Vec<Call>, IceError> {
+    let mut calls = Vec::new(alloc);
+    calls.push(call_of(alloc, number)?)?;
+    Ok(calls)
+}
+
+/// The agent of the run: it knows its peer and one pair.
+fn paired(alloc: Global) -> Result<Agent, IceError> {
+    let mut agent = make_agent(alloc, "AAAA", "PPPP")?;
+    name_peer(&mut agent, alloc, "BBBB", "QQQQ")?;
+    add_host(&mut agent, alloc)?;
+    add_remote(&mut agent, alloc, LINE)?;
+    Ok(agent)
+}
+
+/// What was made, where memory was refused at most once.
+fn paired_twice<W: Write>(alloc: Global, output: &mut W) -> io::Result<Option<Agent>> {
+    if let Ok(agent) = paired(alloc) {
+        return Ok(Some(agent));
+    }
+    writeln!(output, "refused agent")?;
+    match paired(alloc) {
+        Ok(agent) => Ok(Some(agent)),
+        Err(_) => Ok(None),
+    }
+}
+
+fn calls_twice<W: Write>(alloc: Global, output: &mut W) -> io::Result<Option<Vec<Call>>> {
+    if let Ok(calls) = calls_of(alloc) {
+        return Ok(Some(calls));
+    }
+    writeln!(output, "refused calls")?;
+    match calls_of(alloc) {
+        Ok(calls) => Ok(Some(calls)),
+        Err(_) => Ok(None),
+    }
+}
+
+/// Makes the run; where room for its entries is refused it is made once more.
+fn run_twice<W: Write>(
+    agent: &mut Agent,
+    random: &mut Pcg32,
+    alloc: Global,
+    output: &mut W,
+) -> io::Result<Option<RunLog>> {
+    let before = (Seen::of(agent), random.state());
+    let Some(calls) = calls_twice(alloc, output)? else {
+        return Ok(None);
+    };
+    let log = run(agent, calls, random);
+    if !log.stopped {
+        return Ok(Some(log));
+    }
+    writeln!(output, "refused run")?;
+    if !log.entries.is_empty() || before != (Seen::of(agent), random.state()) {
+        writeln!(output, "changed by the refused run")?;
+    }
+    match calls_twice(alloc, output)? {
+        Some(calls) => Ok(Some(run(agent, calls, random))),
+        None => Ok(None),
+    }
+}
+
+/// Makes a run of calls, and each refused call once more, alone. Prints each call's answer and what it issued.
+pub fn play_run<W: Write>(alloc: Global, output: &mut W) -> io::Result<bool> {
+    let Some(mut agent) = paired_twice(alloc, output)? else {
+        writeln!(output, "no agent")?;
+        return Ok(true);
+    };
+    let mut random = Pcg32::new(0, 0);
+    let Some(log) = run_twice(&mut agent, &mut random, alloc, output)? else {
+        writeln!(output, "no run")?;
+        return Ok(true);
+    };
+    writeln!(
+        output,
+        "run {} entries, stopped {}",
+        log.entries.len(),
+        log.stopped
+    )?;
+    for entry in &log.entries {
+        if entry.answer == Answer::Refused(IceError::OutOfMemory) {
+            make_alone(&mut agent, &mut random, alloc, entry.number, output)?;
+        } else {
+            print_entry(entry.number, entry, output)?;
+        }
+    }
+    print_end(&mut agent, output)?;
+    Ok(true)
+}
+
+/// Makes the call of this number, whose entry says that memory was refused.
+fn make_alone<W: Write>(
+    agent: &mut Agent,
+    random: &mut Pcg32,
+    alloc: Global,
+    number: usize,
+    output: &mut W,
+) -> io::Result<()> {
+    writeln!(output, "refused entry {number}")?;
+    let Ok(calls) = one_call(alloc, number) else {
+        return writeln!(output, "no call {number}");
+    };
+    for entry in &run(agent, calls, random).entries {
+        print_entry(number, entry, output)?;
+    }
+    Ok(())
+}
+
+fn print_entry<W: Write>(number: usize, entry: &Entry, output: &mut W) -> io::Result<()> {
+    match &entry.answer {
+        Answer::Done => write!(output, "entry {number} done")?,
+        Answer::Flag(flag) => write!(output, "entry {number} {flag}")?,
+        Answer::Refused(error) => write!(output, "entry {number} {}", refusal_name(error))?,
+        _ => write!(output, "entry {number} another")?,
+    }
+    match entry.issued {
+        Some(issued) => writeln!(output, " {:?} {}", issued.class, HexText(&issued.id.0)),
+        None => writeln!(output),
+    }
+}
+
+/// Polls the packets, and counts them.
+fn count_packets(agent: &mut Agent) -> u64 {
+    let mut count = 0u64;
+    while agent.poll_transmit().is_some() {
+        count = count.saturating_add(1);
+    }
+    count
+}
+
+/// Polls the events, and counts them.
+fn count_events(agent: &mut Agent) -> u64 {
+    let mut count = 0u64;
+    while agent.poll_event().is_some() {
+        count = count.saturating_add(1);
+    }
+    count
+}
+
+/// Prints how many packets and events wait, and the wake-up.
+fn print_end<W: Write>(agent: &mut Agent, output: &mut W) -> io::Result<()> {
+    let packets = count_packets(agent);
+    let events = count_events(agent);
+    let wake = agent.poll_timeout();
+    writeln!(output, "packets {packets}, events {events}, wake {wake:?}")
+}
