@@ -144,33 +144,54 @@ fn give(play: &mut Checking, alloc: Global, now: u64, forgery: &Forgery) -> Resu
     take(&mut play.agent, ms(now), source, destination, &bytes)
 }
 
-/// The answer comes at 50 ms, and the true one behind it.
-fn try_forgery<W: Write>(alloc: Global, forgery: &Forgery, output: &mut W) -> Result<(), Broken> {
-    let mut play = begin(alloc)?;
+/// The answer comes at 50 ms.
+fn write_forgery<W: Write>(
+    play: &mut Checking,
+    alloc: Global,
+    forgery: &Forgery,
+    output: &mut W,
+) -> Result<(), Broken> {
     let before = look(&mut play.agent, &play.peer);
-    let taken = give(&mut play, alloc, 50, forgery)?;
-    let same = is_as(&mut play, alloc, &before)?;
-    let behind = give(&mut play, alloc, 50, &TRUE)?;
-    let told = events(&mut play.agent, alloc)?;
-    let name = forgery.name;
+    let taken = give(play, alloc, 50, forgery)?;
+    let same = is_as(play, alloc, &before)?;
     writeln!(
         output,
-        "answer {name}: {taken:?}, unchanged {same}, the true one {behind:?} with events {told}"
+        "answer {}: {taken:?}, unchanged {same}",
+        forgery.name
     )?;
     Ok(())
 }
 
+fn write_true<W: Write>(
+    play: &mut Checking,
+    alloc: Global,
+    now: u64,
+    output: &mut W,
+) -> Result<(), Broken> {
+    let taken = give(play, alloc, now, &TRUE)?;
+    let told = events(&mut play.agent, alloc)?;
+    let sent = packets(&mut play.agent);
+    writeln!(
+        output,
+        "    the true one at {now} ms: {taken:?}, events {told}, {sent} packets"
+    )?;
+    Ok(())
+}
+
+/// The answer comes, and the true one behind it.
+fn try_forgery<W: Write>(alloc: Global, forgery: &Forgery, output: &mut W) -> Result<(), Broken> {
+    let mut play = begin(alloc)?;
+    write_forgery(&mut play, alloc, forgery, output)?;
+    write_true(&mut play, alloc, 50, output)
+}
+
 /// Prints the figures of the announced pair.
 fn write_figures<W: Write>(agent: &Agent, output: &mut W) -> Result<(), Broken> {
-    let last = agent
-        .nominated_pair_rtt()
-        .unwrap_or(Duration(0))
-        .as_millis();
-    let total = agent
-        .nominated_pair_total_rtt()
-        .unwrap_or(Duration(0))
-        .as_millis();
+    let last = agent.nominated_pair_rtt().unwrap_or(Duration(0));
+    let total = agent.nominated_pair_total_rtt().unwrap_or(Duration(0));
     let count = agent.nominated_pair_responses_received().unwrap_or(0);
+    let last = last.as_millis();
+    let total = total.as_millis();
     writeln!(
         output,
         "    {last} ms the last, {total} ms in all, {count} answers"
@@ -181,14 +202,9 @@ fn write_figures<W: Write>(agent: &Agent, output: &mut W) -> Result<(), Broken> 
 /// The true answer comes at 50 ms, and once more at 60 ms.
 fn try_again<W: Write>(alloc: Global, output: &mut W) -> Result<(), Broken> {
     let mut play = begin(alloc)?;
+    writeln!(output, "answer given twice:")?;
     for now in [50, 60] {
-        let taken = give(&mut play, alloc, now, &TRUE)?;
-        let told = events(&mut play.agent, alloc)?;
-        let sent = packets(&mut play.agent);
-        writeln!(
-            output,
-            "answer that is true at {now}: {taken:?}, events {told}, {sent} packets"
-        )?;
+        write_true(&mut play, alloc, now, output)?;
         write_figures(&play.agent, output)?;
     }
     Ok(())

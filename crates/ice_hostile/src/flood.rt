@@ -70,42 +70,56 @@ fn write_replies<W: Write>(agent: &mut Agent, output: &mut W) -> Result<(), Brok
     Ok(())
 }
 
-/// What the agent sends: the first packet, by its class and length.
-fn write_first<W: Write>(agent: &mut Agent, now: u64, output: &mut W) -> Result<(), Broken> {
-    wake(agent, ms(now), 1)?;
+/// The packet that the agent sends, by its class and length.
+fn write_packet<W: Write>(agent: &mut Agent, now: u64, output: &mut W) -> Result<(), Broken> {
     match next_packet(agent) {
         Some(packet) => {
-            let message = StunMessage::parse(&packet.contents)?;
-            let class = message.class();
+            let class = StunMessage::parse(&packet.contents)?.class();
             let len = packet.contents.len();
             writeln!(output, "flood: at {now} ms a {class:?} of {len} bytes")?;
         }
         None => writeln!(output, "flood: at {now} ms nothing")?,
     }
+    Ok(())
+}
+
+/// What else it sends, and when it wants to be called.
+fn write_wake<W: Write>(agent: &mut Agent, output: &mut W) -> Result<(), Broken> {
     let more = packets(agent);
     match next_wake(agent) {
-        Some(Instant(nanoseconds)) => {
-            writeln!(output, "    {more} more packets, woken at {nanoseconds} ns")?;
-        }
+        Some(Instant(at)) => writeln!(output, "    {more} more packets, woken at {at} ns")?,
         None => writeln!(output, "    {more} more packets, not woken")?,
+    }
+    Ok(())
+}
+
+fn try_moment<W: Write>(agent: &mut Agent, now: u64, output: &mut W) -> Result<(), Broken> {
+    wake(agent, ms(now), 1)?;
+    write_packet(agent, now, output)?;
+    write_wake(agent, output)
+}
+
+fn write_events<W: Write>(agent: &mut Agent, alloc: Global, output: &mut W) -> Result<(), Broken> {
+    let told = events(agent, alloc)?;
+    writeln!(output, "flood: events {told}")?;
+    Ok(())
+}
+
+/// The peer is known now, and what waited is answered as long as it is not too old.
+fn answer<W: Write>(agent: &mut Agent, alloc: Global, output: &mut W) -> Result<(), Broken> {
+    tell_peer(agent, alloc, FAR, FAR_PASS)?;
+    write_replies(agent, output)?;
+    write_events(agent, alloc, output)?;
+    for now in [21500, 21550] {
+        try_moment(agent, now, output)?;
     }
     Ok(())
 }
 
 pub fn play<W: Write>(alloc: Global, output: &mut W) -> Result<(), Broken> {
     let (mut agent, taken) = flooded(alloc)?;
-    let told = events(&mut agent, alloc)?;
     let sent = packets(&mut agent);
-    writeln!(
-        output,
-        "flood: 101 requests, {taken} taken, events {told}, {sent} packets"
-    )?;
-    tell_peer(&mut agent, alloc, FAR, FAR_PASS)?;
-    write_replies(&mut agent, output)?;
-    let told = events(&mut agent, alloc)?;
-    writeln!(output, "flood: events {told}")?;
-    for now in [21500, 21550] {
-        write_first(&mut agent, now, output)?;
-    }
-    Ok(())
+    writeln!(output, "flood: 101 requests, {taken} taken, {sent} packets")?;
+    write_events(&mut agent, alloc, output)?;
+    answer(&mut agent, alloc, output)
 }

@@ -43,36 +43,66 @@ pub fn pair_prio(agent: &Agent, alloc: Global, line: &str) -> Result<Option<u64>
     }
 }
 
+/// How many of the candidates above are in a pair.
+fn paired(agent: &Agent, alloc: Global) -> Result<u32, Broken> {
+    let mut count = 0u32;
+    for line in [FAR_LINE, THIRD_LINE, TCP_LINE] {
+        if pair_prio(agent, alloc, line)?.is_some() {
+            count = count.saturating_add(1);
+        }
+    }
+    Ok(count)
+}
+
+/// Prints what came of a candidate or of a request.
+fn write_step<W: Write>(
+    agent: &Agent,
+    alloc: Global,
+    name: &str,
+    taken: bool,
+    output: &mut W,
+) -> Result<(), Broken> {
+    let pairs = paired(agent, alloc)?;
+    let count = known(agent);
+    writeln!(
+        output,
+        "{name}: taken {taken}, {pairs} pairs, {count} known"
+    )?;
+    Ok(())
+}
+
+fn try_candidate<W: Write>(
+    agent: &mut Agent,
+    alloc: Global,
+    name: &str,
+    line: &str,
+    output: &mut W,
+) -> Result<(), Broken> {
+    let taken = hear_of(agent, alloc, line)?;
+    write_step(agent, alloc, name, taken, output)
+}
+
 /// No pair number is left: a UDP candidate can't be paired, and a TCP one need not be.
 fn write_used_up<W: Write>(alloc: Global, output: &mut W) -> Result<(), Broken> {
     let mut agent = lonely(alloc)?;
     skip(&mut agent, 18446744073709551615);
-    let udp = hear_of(&mut agent, alloc, FAR_LINE)?;
-    let none = known(&agent);
-    let tcp = hear_of(&mut agent, alloc, TCP_LINE)?;
-    let one = known(&agent);
-    writeln!(
-        output,
-        "no pair number left: UDP taken {udp}, {none} known; TCP taken {tcp}, {one} known"
-    )?;
-    Ok(())
+    let name = "no pair number left, a UDP host";
+    try_candidate(&mut agent, alloc, name, FAR_LINE, output)?;
+    let name = "no pair number left, a TCP host";
+    try_candidate(&mut agent, alloc, name, TCP_LINE, output)
 }
 
 /// One pair number is left. Skipping back changes nothing.
 fn write_last_number<W: Write>(alloc: Global, output: &mut W) -> Result<(), Broken> {
     let mut agent = lonely(alloc)?;
     skip(&mut agent, 18446744073709551614);
-    let first = hear_of(&mut agent, alloc, FAR_LINE)?;
-    let paired = pair_prio(&agent, alloc, FAR_LINE)?.is_some();
-    let second = hear_of(&mut agent, alloc, THIRD_LINE)?;
+    let name = "one pair number left, a UDP host";
+    try_candidate(&mut agent, alloc, name, FAR_LINE, output)?;
+    let name = "one pair number left, another";
+    try_candidate(&mut agent, alloc, name, THIRD_LINE, output)?;
     skip(&mut agent, 7);
-    let third = hear_of(&mut agent, alloc, THIRD_LINE)?;
-    let count = known(&agent);
-    writeln!(
-        output,
-        "one pair number left: first taken {first}, paired {paired}; second {second}, behind a smaller skip {third}; {count} known"
-    )?;
-    Ok(())
+    let name = "one pair number left, another behind a smaller skip";
+    try_candidate(&mut agent, alloc, name, THIRD_LINE, output)
 }
 
 /// The peer's request, signed.
@@ -82,22 +112,26 @@ fn request(alloc: Global) -> Result<Vec<u8>, Broken> {
     signed(alloc, message, NEAR_PASS)
 }
 
+fn try_request<W: Write>(
+    agent: &mut Agent,
+    alloc: Global,
+    name: &str,
+    output: &mut W,
+) -> Result<(), Broken> {
+    let bytes = request(alloc)?;
+    let taken = take_here(agent, ms(0), &bytes)? == Taken::True;
+    write_step(agent, alloc, name, taken, output)
+}
+
 /// No pair is allowed: forming leaves none, and a request adds one until pairs are formed next.
 fn write_no_pairs<W: Write>(alloc: Global, output: &mut W) -> Result<(), Broken> {
     let mut agent = lonely(alloc)?;
     allow_pairs(&mut agent, 0);
-    let taken = hear_of(&mut agent, alloc, FAR_LINE)?;
-    let formed = pair_prio(&agent, alloc, FAR_LINE)?.is_some();
-    let asked = take_here(&mut agent, ms(0), &request(alloc)?)? == Taken::True;
-    let added = pair_prio(&agent, alloc, FAR_LINE)?.is_some();
-    let other = hear_of(&mut agent, alloc, THIRD_LINE)?;
-    let kept = pair_prio(&agent, alloc, FAR_LINE)?.is_some();
-    let count = known(&agent);
-    writeln!(
-        output,
-        "no pair allowed: candidate taken {taken}, paired {formed}; request taken {asked}, paired {added}; another taken {other}, paired {kept}; {count} known"
-    )?;
-    Ok(())
+    let name = "no pair allowed, a UDP host";
+    try_candidate(&mut agent, alloc, name, FAR_LINE, output)?;
+    try_request(&mut agent, alloc, "no pair allowed, its request", output)?;
+    let name = "no pair allowed, another";
+    try_candidate(&mut agent, alloc, name, THIRD_LINE, output)
 }
 
 /// The priority of a pair with a remote candidate of priority 0.

@@ -6,11 +6,11 @@ use crate::agents::{
 use crate::breeding::{below, breed};
 use crate::broken::Broken;
 use crate::request::{PASSWORD, PEER, REQUEST, UFRAG};
-use is::stun::{StunMessage, TransId};
+use is::stun::{StunMessage, StunPacket, TransId};
 use is::{Candidate, IceError, Protocol};
-use rand_core::Rng;
 use rand_pcg::Pcg32;
 use std::alloc::Global;
+use std::net::SocketAddr;
 
 /// An agent, its peer, and what went between them last.
 #[derive(Drop)]
@@ -38,6 +38,8 @@ pub enum Did {
     Unparsed,
     /// It refused.
     Refused,
+    /// It took a packet that it had not said that it would, or the other way round.
+    Disagreed,
 }
 
 /// The agent that the seen request is for, in a random role and with or without its peer's candidate.
@@ -105,6 +107,30 @@ fn parent(session: &Session, alloc: Global, random: &mut Pcg32) -> Result<Vec<u8
     }
 }
 
+/// Whether the agent says that it would take the bytes.
+fn would_take(agent: &Agent, source: SocketAddr, destination: SocketAddr, bytes: &[u8]) -> bool {
+    match StunMessage::parse(bytes) {
+        Ok(message) => agent.accepts_packet(&StunPacket {
+            proto: Protocol::Udp,
+            source,
+            destination,
+            message,
+        }),
+        Err(_) => false,
+    }
+}
+
+/// What became of bytes, where the agent had said that it would take them, or that it would not.
+fn came_of(taken: Taken, accepted: bool) -> Did {
+    match (taken, accepted) {
+        (Taken::True, true) => Did::Took,
+        (Taken::Refused, true) => Did::Refused,
+        (Taken::False, false) => Did::False,
+        (Taken::Unparsed, false) => Did::Unparsed,
+        _ => Did::Disagreed,
+    }
+}
+
 /// A packet comes, mostly on the way of the peer's.
 fn packet(session: &mut Session, alloc: Global, random: &mut Pcg32) -> Result<Did, Broken> {
     let mut bytes = parent(session, alloc, random)?;
@@ -120,14 +146,10 @@ fn packet(session: &mut Session, alloc: Global, random: &mut Pcg32) -> Result<Di
         _ => at(1, 1000),
     };
     let now = ms(session.now);
+    let accepted = would_take(&session.agent, source, destination, &bytes);
     let taken = take(&mut session.agent, now, source, destination, &bytes)?;
     session.given = bytes;
-    Ok(match taken {
-        Taken::True => Did::Took,
-        Taken::False => Did::False,
-        Taken::Unparsed => Did::Unparsed,
-        Taken::Refused => Did::Refused,
-    })
+    Ok(came_of(taken, accepted))
 }
 
 /// The host candidate of a random address on this side.

@@ -48,6 +48,7 @@ impl Tally {
             Did::False => one_more(&mut self.false_or_none),
             Did::Unparsed => one_more(&mut self.unparsed),
             Did::Refused => one_more(&mut self.refused),
+            Did::Disagreed => {}
         }
     }
 
@@ -88,7 +89,8 @@ fn take_events(session: &mut Session, tally: &mut Tally) -> u32 {
     count
 }
 
-/// A call that was not done changes no getter, and issues nothing. One that was done issues one packet at most.
+/// A call that was not done changes no getter, and issues nothing. One that was done issues one packet at most. A packet is taken
+/// where the agent says that it would take it, and nowhere else.
 fn try_call(
     session: &mut Session,
     alloc: Global,
@@ -103,6 +105,7 @@ fn try_call(
     tally.count(did);
     let fits = match did {
         Did::Done | Did::Took => packets <= 1,
+        Did::Disagreed => false,
         _ => after == before && packets == 0 && events == 0,
     };
     if !fits {
