@@ -1,0 +1,218 @@
+//! Answers that are not the peer's, answers off their path, and an answer that comes twice.
+use crate::agents::{
+    Agent, FAR_LINE, FAR_PASS, NEAR_PASS, Taken, at, events, ms, next_packet, packets, paired,
+    signed, take, take_here, wake,
+};
+use crate::broken::Broken;
+use crate::seen::{Seen, look};
+use is::stun::{StunMessage, TransId};
+use is::{Candidate, Duration};
+use std::alloc::Global;
+use std::io::Write;
+
+/// An answer to the check of 10.0.0.1:1000 to 10.0.0.2:2000.
+#[derive(Clone, Copy)]
+struct Forgery {
+    name: &'static str,
+    /// It is a 487, and no success.
+    conflict: bool,
+    pass: &'static str,
+    /// It has the id of the check, and no other.
+    known: bool,
+    /// It comes from 10.0.0.N at this port.
+    source: (u8, u16),
+    /// It comes to 10.0.0.N at this port.
+    destination: (u8, u16),
+}
+
+/// A true answer.
+const TRUE: Forgery = Forgery {
+    name: "that is true",
+    conflict: false,
+    pass: FAR_PASS,
+    known: true,
+    source: (2, 2000),
+    destination: (1, 1000),
+};
+
+const FORGERIES: [Forgery; 9] = [
+    Forgery {
+        name: "under another password",
+        pass: "farpast",
+        ..TRUE
+    },
+    Forgery {
+        name: "under the receiver's password",
+        pass: NEAR_PASS,
+        ..TRUE
+    },
+    Forgery {
+        name: "with an id never issued",
+        known: false,
+        ..TRUE
+    },
+    Forgery {
+        name: "from another host",
+        source: (3, 2000),
+        ..TRUE
+    },
+    Forgery {
+        name: "from another port",
+        source: (2, 2001),
+        ..TRUE
+    },
+    Forgery {
+        name: "to another port",
+        destination: (1, 1001),
+        ..TRUE
+    },
+    Forgery {
+        name: "487 under another password",
+        conflict: true,
+        pass: "farpast",
+        ..TRUE
+    },
+    Forgery {
+        name: "487 with an id never issued",
+        conflict: true,
+        known: false,
+        ..TRUE
+    },
+    Forgery {
+        name: "487 from another host",
+        conflict: true,
+        source: (3, 2000),
+        ..TRUE
+    },
+];
+
+/// An agent that has sent its check, the id of the check, and the peer that it was sent to.
+#[derive(Drop)]
+struct Checking {
+    agent: Agent,
+    id: TransId,
+    peer: Candidate,
+}
+
+/// The check is sent at 0, and the events until then are gone.
+fn begin(alloc: Global) -> Result<Checking, Broken> {
+    let mut agent = paired(alloc)?;
+    wake(&mut agent, ms(0), 1)?;
+    let _ = events(&mut agent, alloc)?;
+    let id = check_id(&mut agent)?;
+    let peer = Candidate::from_sdp_string(alloc, FAR_LINE)?;
+    Ok(Checking { agent, id, peer })
+}
+
+fn check_id(agent: &mut Agent) -> Result<TransId, Broken> {
+    match next_packet(agent) {
+        Some(check) => Ok(StunMessage::parse(&check.contents)?.trans_id()),
+        None => Err(Broken),
+    }
+}
+
+fn other_id(id: TransId) -> TransId {
+    let TransId(mut bytes) = id;
+    bytes[11] ^= 1;
+    TransId(bytes)
+}
+
+/// The bytes of an answer. A success maps the agent to its own address.
+fn forge(alloc: Global, forgery: &Forgery, id: TransId) -> Result<Vec<u8>, Broken> {
+    let id = if forgery.known { id } else { other_id(id) };
+    let message = if forgery.conflict {
+        StunMessage::binding_role_conflict_reply(id)
+    } else {
+        StunMessage::binding_reply(id, at(1, 1000))
+    };
+    signed(alloc, message, forgery.pass)
+}
+
+/// Whether the agent is as it was seen, with nothing to send and nothing to tell.
+fn is_as(play: &mut Checking, alloc: Global, before: &Seen) -> Result<bool, Broken> {
+    let same = look(&mut play.agent, &play.peer) == *before;
+    let told = events(&mut play.agent, alloc)?;
+    Ok(same && packets(&mut play.agent) == 0 && told.as_str() == "-")
+}
+
+fn give(play: &mut Checking, alloc: Global, now: u64, forgery: &Forgery) -> Result<Taken, Broken> {
+    let bytes = forge(alloc, forgery, play.id)?;
+    let (from, from_port) = forgery.source;
+    let (to, to_port) = forgery.destination;
+    let source = at(from, from_port);
+    let destination = at(to, to_port);
+    take(&mut play.agent, ms(now), source, destination, &bytes)
+}
+
+/// The answer comes at 50 ms.
+fn write_forgery<W: Write>(
+    play: &mut Checking,
+    alloc: Global,
+    forgery: &Forgery,
+    output: &mut W,
+) -> Result<(), Broken> {
+    let before = look(&mut play.agent, &play.peer);
+    let taken = give(play, alloc, 50, forgery)?;
+    let same = is_as(play, alloc, &before)?;
+    writeln!(
+        output,
+        "answer {}: {taken:?}, unchanged {same}",
+        forgery.name
+    )?;
+    Ok(())
+}
+
+fn write_true<W: Write>(
+    play: &mut Checking,
+    alloc: Global,
+    now: u64,
+    output: &mut W,
+) -> Result<(), Broken> {
+    let taken = give(play, alloc, now, &TRUE)?;
+    let told = events(&mut play.agent, alloc)?;
+    let sent = packets(&mut play.agent);
+    writeln!(
+        output,
+        "    the true one at {now} ms: {taken:?}, events {told}, {sent} packets"
+    )?;
+    Ok(())
+}
+
+/// The answer comes, and the true one behind it.
+fn try_forgery<W: Write>(alloc: Global, forgery: &Forgery, output: &mut W) -> Result<(), Broken> {
+    let mut play = begin(alloc)?;
+    write_forgery(&mut play, alloc, forgery, output)?;
+    write_true(&mut play, alloc, 50, output)
+}
+
+/// Prints the figures of the announced pair.
+fn write_figures<W: Write>(agent: &Agent, output: &mut W) -> Result<(), Broken> {
+    let last = agent.nominated_pair_rtt().unwrap_or(Duration(0));
+    let total = agent.nominated_pair_total_rtt().unwrap_or(Duration(0));
+    let count = agent.nominated_pair_responses_received().unwrap_or(0);
+    let last = last.as_millis();
+    let total = total.as_millis();
+    writeln!(
+        output,
+        "    {last} ms the last, {total} ms in all, {count} answers"
+    )?;
+    Ok(())
+}
+
+/// The true answer comes at 50 ms, and once more at 60 ms.
+fn try_again<W: Write>(alloc: Global, output: &mut W) -> Result<(), Broken> {
+    let mut play = begin(alloc)?;
+    writeln!(output, "answer given twice:")?;
+    for now in [50, 60] {
+        write_true(&mut play, alloc, now, output)?;
+        write_figures(&play.agent, output)?;
+    }
+    Ok(())
+}
+
+pub fn play<W: Write>(alloc: Global, output: &mut W) -> Result<(), Broken> {
+    for forgery in FORGERIES {
+        try_forgery(alloc, &forgery, output)?;
+    }
+    try_again(alloc, output)
+}

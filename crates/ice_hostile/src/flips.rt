@@ -1,0 +1,144 @@
+//! Each byte of the request changed to each other value.
+use crate::agents::{Agent, Taken, asked, next_event, next_packet, take_here};
+use crate::broken::Broken;
+use crate::request::{REPLY, REQUEST};
+use crate::seen::look;
+use is::{Candidate, IceAgentEvent, Instant, Protocol};
+use std::alloc::Global;
+use std::io::Write;
+
+/// The parts of the request, from place to place.
+const PARTS: [(&str, usize, usize); 13] = [
+    ("type", 0, 1),
+    ("length", 2, 3),
+    ("magic cookie", 4, 7),
+    ("transaction id", 8, 19),
+    ("USERNAME", 20, 35),
+    ("NETWORK-COST", 36, 43),
+    ("ICE-CONTROLLING", 44, 55),
+    ("USE-CANDIDATE", 56, 59),
+    ("PRIORITY", 60, 67),
+    ("MESSAGE-INTEGRITY", 68, 91),
+    ("FINGERPRINT type", 92, 93),
+    ("FINGERPRINT length", 94, 95),
+    ("FINGERPRINT value", 96, 99),
+];
+
+/// How often what came of a changed request.
+#[derive(Clone, Copy)]
+struct Tally {
+    unparsed: u32,
+    refused: u32,
+    taken: u32,
+    amiss: u32,
+}
+
+const NOTHING: Tally = Tally {
+    unparsed: 0,
+    refused: 0,
+    taken: 0,
+    amiss: 0,
+};
+
+impl Tally {
+    fn tried(&self) -> u32 {
+        self.unparsed
+            .saturating_add(self.refused)
+            .saturating_add(self.taken)
+    }
+
+    fn count(&mut self, taken: Taken, fits: bool) {
+        match taken {
+            Taken::Unparsed => self.unparsed = self.unparsed.saturating_add(1),
+            Taken::True => self.taken = self.taken.saturating_add(1),
+            Taken::False | Taken::Refused => self.refused = self.refused.saturating_add(1),
+        }
+        if !fits {
+            self.amiss = self.amiss.saturating_add(1);
+        }
+    }
+}
+
+/// The agent has the reply to send, and tells of the source.
+fn answers(agent: &mut Agent) -> bool {
+    let Some(reply) = next_packet(agent) else {
+        return false;
+    };
+    let told = matches!(
+        next_event(agent),
+        Some(IceAgentEvent::DiscoveredRecv { .. })
+    );
+    told && reply.contents.as_slice() == REPLY.as_slice() && is_idle(agent)
+}
+
+fn is_idle(agent: &mut Agent) -> bool {
+    next_packet(agent).is_none() && next_event(agent).is_none()
+}
+
+/// An agent is given the changed request: it answers as it does the request, or nothing changes and it answers the request then.
+fn try_flip(
+    alloc: Global,
+    peer: &Candidate,
+    bytes: &[u8],
+    tally: &mut Tally,
+) -> Result<(), Broken> {
+    let mut agent = asked(alloc)?;
+    let before = look(&mut agent, peer);
+    let taken = take_here(&mut agent, Instant(0), bytes)?;
+    let fits = if taken == Taken::True {
+        answers(&mut agent)
+    } else {
+        look(&mut agent, peer) == before
+            && is_idle(&mut agent)
+            && take_here(&mut agent, Instant(0), &REQUEST)? == Taken::True
+            && answers(&mut agent)
+    };
+    tally.count(taken, fits);
+    Ok(())
+}
+
+fn try_place(
+    alloc: Global,
+    peer: &Candidate,
+    place: usize,
+    tally: &mut Tally,
+) -> Result<(), Broken> {
+    let mut bytes = REQUEST;
+    for change in 1..=255u8 {
+        if let Some(byte) = bytes.get_mut(place) {
+            *byte ^= change;
+        }
+        try_flip(alloc, peer, &bytes, tally)?;
+        if let Some(byte) = bytes.get_mut(place) {
+            *byte ^= change;
+        }
+    }
+    Ok(())
+}
+
+fn try_part(alloc: Global, first: usize, last: usize) -> Result<Tally, Broken> {
+    let peer = Candidate::host(alloc, crate::agents::at(2, 2000), Protocol::Udp)?;
+    let mut tally = NOTHING;
+    for place in first..=last {
+        try_place(alloc, &peer, place, &mut tally)?;
+    }
+    Ok(tally)
+}
+
+pub fn play<W: Write>(alloc: Global, output: &mut W) -> Result<(), Broken> {
+    for (name, first, last) in PARTS {
+        let tally = try_part(alloc, first, last)?;
+        let Tally {
+            unparsed,
+            refused,
+            taken,
+            amiss,
+        } = tally;
+        let tried = tally.tried();
+        writeln!(
+            output,
+            "flip {name} {first}..{last}: {tried} tried, {unparsed} unparsed, {refused} false, {taken} taken, {amiss} amiss"
+        )?;
+    }
+    Ok(())
+}

@@ -1,0 +1,165 @@
+//! Pair numbers, pair limits and priorities at their ends.
+use crate::agents::{
+    Agent, FAR_LINE, NEAR_PASS, Taken, at, hear_of, lonely, ms, signed, take_here, take_role,
+};
+use crate::broken::Broken;
+use is::Candidate;
+use is::pair::CandidatePair;
+use is::stun::{StunMessage, TransId};
+use std::alloc::Global;
+use std::io::Write;
+
+/// Other candidates of the peer's.
+const THIRD_LINE: &str = "candidate:1 1 udp 2130706175 10.0.0.3 2000 typ host";
+
+const TCP_LINE: &str = "candidate:1 1 tcp 2130706175 10.0.0.2 2000 typ host tcptype passive";
+
+const LEAST_LINE: &str = "candidate:1 1 udp 0 10.0.0.2 2000 typ host";
+
+/// Has the next pair take this number at least.
+fn skip(agent: &mut Agent, number: u64) {
+    agent.skip_pair_ids(number);
+}
+
+fn allow_pairs(agent: &mut Agent, number: usize) {
+    agent.set_max_candidate_pairs(number);
+}
+
+/// How many candidates of the peer's are known.
+fn known(agent: &Agent) -> u32 {
+    let mut count = 0u32;
+    for _ in agent.remote_candidates() {
+        count = count.saturating_add(1);
+    }
+    count
+}
+
+/// The priority of the pair with the candidate of the line, where there is one.
+pub fn pair_prio(agent: &Agent, alloc: Global, line: &str) -> Result<Option<u64>, Broken> {
+    let candidate = Candidate::from_sdp_string(alloc, line)?;
+    match agent.find_pair_for_equivalent_remote_candidate(&candidate) {
+        Some(pair) => Ok(Some(pair.prio())),
+        None => Ok(None),
+    }
+}
+
+/// How many of the candidates above are in a pair.
+fn paired(agent: &Agent, alloc: Global) -> Result<u32, Broken> {
+    let mut count = 0u32;
+    for line in [FAR_LINE, THIRD_LINE, TCP_LINE] {
+        if pair_prio(agent, alloc, line)?.is_some() {
+            count = count.saturating_add(1);
+        }
+    }
+    Ok(count)
+}
+
+/// Prints what came of a candidate or of a request.
+fn write_step<W: Write>(
+    agent: &Agent,
+    alloc: Global,
+    name: &str,
+    taken: bool,
+    output: &mut W,
+) -> Result<(), Broken> {
+    let pairs = paired(agent, alloc)?;
+    let count = known(agent);
+    writeln!(
+        output,
+        "{name}: taken {taken}, {pairs} pairs, {count} known"
+    )?;
+    Ok(())
+}
+
+fn try_candidate<W: Write>(
+    agent: &mut Agent,
+    alloc: Global,
+    name: &str,
+    line: &str,
+    output: &mut W,
+) -> Result<(), Broken> {
+    let taken = hear_of(agent, alloc, line)?;
+    write_step(agent, alloc, name, taken, output)
+}
+
+/// No pair number is left: a UDP candidate can't be paired, and a TCP one need not be.
+fn write_used_up<W: Write>(alloc: Global, output: &mut W) -> Result<(), Broken> {
+    let mut agent = lonely(alloc)?;
+    skip(&mut agent, 18446744073709551615);
+    let name = "no pair number left, a UDP host";
+    try_candidate(&mut agent, alloc, name, FAR_LINE, output)?;
+    let name = "no pair number left, a TCP host";
+    try_candidate(&mut agent, alloc, name, TCP_LINE, output)
+}
+
+/// One pair number is left. Skipping back changes nothing.
+fn write_last_number<W: Write>(alloc: Global, output: &mut W) -> Result<(), Broken> {
+    let mut agent = lonely(alloc)?;
+    skip(&mut agent, 18446744073709551614);
+    let name = "one pair number left, a UDP host";
+    try_candidate(&mut agent, alloc, name, FAR_LINE, output)?;
+    let name = "one pair number left, another";
+    try_candidate(&mut agent, alloc, name, THIRD_LINE, output)?;
+    skip(&mut agent, 7);
+    let name = "one pair number left, another behind a smaller skip";
+    try_candidate(&mut agent, alloc, name, THIRD_LINE, output)
+}
+
+/// The peer's request, signed.
+fn request(alloc: Global) -> Result<Vec<u8>, Broken> {
+    let id = TransId(*b"limits of 0.");
+    let message = StunMessage::binding_request("near:farr", id, false, 9, 1862270719, false);
+    signed(alloc, message, NEAR_PASS)
+}
+
+fn try_request<W: Write>(
+    agent: &mut Agent,
+    alloc: Global,
+    name: &str,
+    output: &mut W,
+) -> Result<(), Broken> {
+    let bytes = request(alloc)?;
+    let taken = take_here(agent, ms(0), &bytes)? == Taken::True;
+    write_step(agent, alloc, name, taken, output)
+}
+
+/// No pair is allowed: forming leaves none, and a request adds one until pairs are formed next.
+fn write_no_pairs<W: Write>(alloc: Global, output: &mut W) -> Result<(), Broken> {
+    let mut agent = lonely(alloc)?;
+    allow_pairs(&mut agent, 0);
+    let name = "no pair allowed, a UDP host";
+    try_candidate(&mut agent, alloc, name, FAR_LINE, output)?;
+    try_request(&mut agent, alloc, "no pair allowed, its request", output)?;
+    let name = "no pair allowed, another";
+    try_candidate(&mut agent, alloc, name, THIRD_LINE, output)
+}
+
+/// The priority of a pair with a remote candidate of priority 0.
+fn least(alloc: Global, controlling: bool) -> Result<u64, Broken> {
+    let mut agent = lonely(alloc)?;
+    take_role(&mut agent, controlling);
+    let _ = hear_of(&mut agent, alloc, LEAST_LINE)?;
+    match pair_prio(&agent, alloc, LEAST_LINE)? {
+        Some(prio) => Ok(prio),
+        None => Err(Broken),
+    }
+}
+
+fn write_priorities<W: Write>(alloc: Global, output: &mut W) -> Result<(), Broken> {
+    let greatest = CandidatePair::calculate_prio(false, 4294967295, 4294967294);
+    writeln!(output, "greatest priorities: a pair of {greatest}")?;
+    let controlled = least(alloc, false)?;
+    let controlling = least(alloc, true)?;
+    writeln!(
+        output,
+        "remote priority 0: a pair of {controlled} where controlled, of {controlling} where controlling"
+    )?;
+    Ok(())
+}
+
+pub fn play<W: Write>(alloc: Global, output: &mut W) -> Result<(), Broken> {
+    write_used_up(alloc, output)?;
+    write_last_number(alloc, output)?;
+    write_no_pairs(alloc, output)?;
+    write_priorities(alloc, output)
+}

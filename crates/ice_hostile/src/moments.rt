@@ -1,0 +1,130 @@
+//! Moments and delays at their ends.
+use crate::agents::{
+    Agent, FAR_LINE, events, lonely, ms, next_packet, next_wake, packets, paired, wake,
+};
+use crate::broken::Broken;
+use crate::limits::pair_prio;
+use is::{Duration, Instant};
+use std::alloc::Global;
+use std::io::Write;
+
+/// What ten times of one moment came to.
+#[derive(Clone, Copy)]
+struct Ten {
+    checks: u32,
+    /// How often that moment was told as the next one to wake up at.
+    wakes: u32,
+    /// The pair was there behind the ninth, and is there behind the tenth.
+    ninth: bool,
+    tenth: bool,
+}
+
+fn is_paired(agent: &Agent, alloc: Global) -> Result<bool, Broken> {
+    Ok(pair_prio(agent, alloc, FAR_LINE)?.is_some())
+}
+
+/// Tells the moment, and counts what came of it.
+fn count(agent: &mut Agent, now: Instant, ten: &mut Ten) -> Result<(), Broken> {
+    wake(agent, now, 1)?;
+    if next_packet(agent).is_some() {
+        ten.checks = ten.checks.saturating_add(1);
+    }
+    if next_wake(agent) == Some(now) {
+        ten.wakes = ten.wakes.saturating_add(1);
+    }
+    Ok(())
+}
+
+fn ten_times(agent: &mut Agent, alloc: Global, now: Instant) -> Result<Ten, Broken> {
+    let mut ten = Ten {
+        checks: 0,
+        wakes: 0,
+        ninth: false,
+        tenth: false,
+    };
+    for _ in 0..9 {
+        count(agent, now, &mut ten)?;
+    }
+    ten.ninth = is_paired(agent, alloc)?;
+    count(agent, now, &mut ten)?;
+    ten.tenth = is_paired(agent, alloc)?;
+    Ok(ten)
+}
+
+fn write_ten<W: Write>(ten: Ten, told: &str, output: &mut W) -> Result<(), Broken> {
+    let Ten {
+        checks,
+        wakes,
+        ninth,
+        tenth,
+    } = ten;
+    writeln!(
+        output,
+        "    ten times: {checks} checks, {wakes} wake-ups at it, pair behind the ninth {ninth}, behind the tenth {tenth}, events {told}"
+    )?;
+    Ok(())
+}
+
+fn set_rto(agent: &mut Agent, nanoseconds: u64) {
+    agent.set_initial_stun_rto(Duration(nanoseconds));
+}
+
+/// With a first delay of 0 no check waits for its answer.
+fn write_no_delay<W: Write>(alloc: Global, output: &mut W) -> Result<(), Broken> {
+    let mut agent = paired(alloc)?;
+    set_rto(&mut agent, 0);
+    let Duration(timeout) = agent.ice_timeout();
+    writeln!(output, "first delay 0: given up behind {timeout} ns")?;
+    let ten = ten_times(&mut agent, alloc, Instant(0))?;
+    let told = events(&mut agent, alloc)?;
+    write_ten(ten, told.as_str(), output)
+}
+
+/// At the last moment of all there is none to wait for.
+fn write_last_moment<W: Write>(alloc: Global, output: &mut W) -> Result<(), Broken> {
+    let mut agent = paired(alloc)?;
+    writeln!(output, "moment 18446744073709551615:")?;
+    let ten = ten_times(&mut agent, alloc, Instant(18446744073709551615))?;
+    let told = events(&mut agent, alloc)?;
+    write_ten(ten, told.as_str(), output)
+}
+
+/// A moment before the last one: the pair stays due behind its check.
+fn write_back_in_time<W: Write>(alloc: Global, output: &mut W) -> Result<(), Broken> {
+    let mut agent = paired(alloc)?;
+    wake(&mut agent, ms(1000), 1)?;
+    let checks = packets(&mut agent);
+    wake(&mut agent, ms(0), 1)?;
+    let more = packets(&mut agent);
+    let Some(Instant(due)) = next_wake(&mut agent) else {
+        return Err(Broken);
+    };
+    writeln!(
+        output,
+        "back in time: {checks} checks at 1000 ms, {more} at 0 ms behind it, woken at {due} ns"
+    )?;
+    Ok(())
+}
+
+fn write_retransmits<W: Write>(alloc: Global, output: &mut W) -> Result<(), Broken> {
+    let mut agent = lonely(alloc)?;
+    agent.set_max_stun_retransmits(1);
+    let Duration(one) = agent.ice_timeout();
+    agent.set_max_stun_retransmits(18446744073709551615);
+    let Duration(most) = agent.ice_timeout();
+    set_rto(&mut agent, 0);
+    let Duration(none) = agent.ice_timeout();
+    writeln!(output, "1 retransmit: given up behind {one} ns")?;
+    writeln!(
+        output,
+        "18446744073709551615 retransmits: given up behind {most} ns, with first delay 0 behind {none} ns"
+    )?;
+    Ok(())
+}
+
+pub fn play<W: Write>(alloc: Global, output: &mut W) -> Result<(), Broken> {
+    write_no_delay(alloc, output)?;
+    write_last_moment(alloc, output)?;
+    write_back_in_time(alloc, output)?;
+    write_retransmits(alloc, output)
+}

@@ -1,0 +1,249 @@
+//! One random call of an agent, and whether the agent did it.
+use crate::agents::{
+    Agent, FAR_PASS, Taken, add_host, at, creds, hear_of, make, ms, signed, take, take_role,
+    tell_peer,
+};
+use crate::breeding::{below, breed};
+use crate::broken::Broken;
+use crate::request::{PASSWORD, PEER, REQUEST, UFRAG};
+use is::stun::{StunMessage, StunPacket, TransId};
+use is::{Candidate, IceError, Protocol};
+use rand_pcg::Pcg32;
+use std::alloc::Global;
+use std::net::SocketAddr;
+
+/// An agent, its peer, and what went between them last.
+#[derive(Drop)]
+pub struct Session {
+    pub agent: Agent,
+    pub peer: Candidate,
+    /// In milliseconds.
+    pub now: u64,
+    /// The last packet that the agent sent.
+    pub sent: Vec<u8>,
+    /// The last bytes that it was given.
+    pub given: Vec<u8>,
+}
+
+/// What became of a call.
+#[derive(Clone, Copy, Debug, PartialEq, Eq)]
+pub enum Did {
+    /// The agent did it.
+    Done,
+    /// It took the packet.
+    Took,
+    /// It answered false, or none.
+    False,
+    /// The bytes did not read.
+    Unparsed,
+    /// It refused.
+    Refused,
+    /// It took a packet that it had not said that it would, or the other way round.
+    Disagreed,
+}
+
+/// The agent that the seen request is for, in a random role and with or without its peer's candidate.
+pub fn start(alloc: Global, random: &mut Pcg32) -> Result<Session, Broken> {
+    let mut agent = make(alloc, UFRAG, PASSWORD)?;
+    take_role(&mut agent, below(random, 2) == 0);
+    add_host(&mut agent, alloc, at(1, 1000))?;
+    if below(random, 4) != 0 {
+        tell_peer(&mut agent, alloc, PEER, FAR_PASS)?;
+    }
+    let peer = Candidate::host(alloc, at(2, 2000), Protocol::Udp)?;
+    Ok(Session {
+        agent,
+        peer,
+        now: 0,
+        sent: Vec::new(alloc),
+        given: Vec::new(alloc),
+    })
+}
+
+fn what_became(answer: Result<(), IceError>) -> Result<Did, Broken> {
+    match answer {
+        Ok(()) => Ok(Did::Done),
+        Err(IceError::OutOfMemory) => Err(Broken),
+        Err(_) => Ok(Did::Refused),
+    }
+}
+
+/// Some time passes, or some is taken back.
+fn moment(session: &mut Session, random: &mut Pcg32) -> Result<Did, Broken> {
+    let now = session.now;
+    session.now = match below(random, 8) {
+        0 => now.saturating_sub(100),
+        1 => now,
+        2 | 3 => now.saturating_add(50),
+        4 | 5 => now.saturating_add(300),
+        6 => now.saturating_add(3000),
+        _ => now.saturating_add(16000),
+    };
+    let now = ms(session.now);
+    what_became(session.agent.handle_timeout(now, random))
+}
+
+/// The id of the last packet that the agent sent.
+fn id_of(session: &Session) -> TransId {
+    match StunMessage::parse(&session.sent) {
+        Ok(message) => message.trans_id(),
+        Err(_) => TransId(*b"never issued"),
+    }
+}
+
+/// The request that was seen, an answer to the last packet, that packet itself, or the bytes that were given last.
+fn parent(session: &Session, alloc: Global, random: &mut Pcg32) -> Result<Vec<u8>, Broken> {
+    let id = id_of(session);
+    match below(random, 8) {
+        0 | 1 => Ok(Vec::from_slice(alloc, &REQUEST)?),
+        2 | 3 | 4 => signed(alloc, StunMessage::binding_reply(id, at(1, 1000)), FAR_PASS),
+        5 => signed(
+            alloc,
+            StunMessage::binding_role_conflict_reply(id),
+            FAR_PASS,
+        ),
+        6 => Ok(Vec::from_slice(alloc, &session.sent)?),
+        _ => Ok(Vec::from_slice(alloc, &session.given)?),
+    }
+}
+
+/// Whether the agent says that it would take the bytes.
+fn would_take(agent: &Agent, source: SocketAddr, destination: SocketAddr, bytes: &[u8]) -> bool {
+    match StunMessage::parse(bytes) {
+        Ok(message) => agent.accepts_packet(&StunPacket {
+            proto: Protocol::Udp,
+            source,
+            destination,
+            message,
+        }),
+        Err(_) => false,
+    }
+}
+
+/// What became of bytes, where the agent had said that it would take them, or that it would not.
+fn came_of(taken: Taken, accepted: bool) -> Did {
+    match (taken, accepted) {
+        (Taken::True, true) => Did::Took,
+        (Taken::Refused, true) => Did::Refused,
+        (Taken::False, false) => Did::False,
+        (Taken::Unparsed, false) => Did::Unparsed,
+        _ => Did::Disagreed,
+    }
+}
+
+/// A packet comes, mostly on the way of the peer's.
+fn packet(session: &mut Session, alloc: Global, random: &mut Pcg32) -> Result<Did, Broken> {
+    let mut bytes = parent(session, alloc, random)?;
+    if below(random, 3) != 0 {
+        bytes = breed(alloc, &bytes, random)?;
+    }
+    let source = match below(random, 8) {
+        0 => at(3, 2000),
+        _ => at(2, 2000),
+    };
+    let destination = match below(random, 8) {
+        0 => at(1, 1001),
+        _ => at(1, 1000),
+    };
+    let now = ms(session.now);
+    let accepted = would_take(&session.agent, source, destination, &bytes);
+    let taken = take(&mut session.agent, now, source, destination, &bytes)?;
+    session.given = bytes;
+    Ok(came_of(taken, accepted))
+}
+
+/// The host candidate of a random address on this side.
+fn host(alloc: Global, number: u8, random: &mut Pcg32) -> Result<Candidate, Broken> {
+    let port = match below(random, 3) {
+        0 => 1000,
+        1 => 2000,
+        _ => 3000,
+    };
+    Ok(Candidate::host(alloc, at(number, port), Protocol::Udp)?)
+}
+
+fn add_local(agent: &mut Agent, candidate: Candidate) -> Result<Did, Broken> {
+    match agent.add_local_candidate(candidate) {
+        Ok(Some(_)) => Ok(Did::Done),
+        Ok(None) => Ok(Did::False),
+        Err(IceError::OutOfMemory) => Err(Broken),
+        Err(_) => Ok(Did::Refused),
+    }
+}
+
+fn add_remote(agent: &mut Agent, candidate: Candidate) -> Result<Did, Broken> {
+    what_became(agent.add_remote_candidate(candidate))
+}
+
+fn invalidate(agent: &mut Agent, candidate: &Candidate) -> Did {
+    if agent.invalidate_candidate(candidate) {
+        Did::Done
+    } else {
+        Did::False
+    }
+}
+
+/// A candidate comes or goes.
+fn candidate(session: &mut Session, alloc: Global, random: &mut Pcg32) -> Result<Did, Broken> {
+    let number = match below(random, 2) {
+        0 => 1,
+        _ => 2,
+    };
+    let candidate = host(alloc, number, random)?;
+    match below(random, 4) {
+        0 => Ok(invalidate(&mut session.agent, &candidate)),
+        1 => add_local(&mut session.agent, candidate),
+        _ => add_remote(&mut session.agent, candidate),
+    }
+}
+
+fn restart(session: &mut Session, alloc: Global, keep: bool) -> Result<Did, Broken> {
+    what_became(
+        session
+            .agent
+            .ice_restart(creds(alloc, UFRAG, PASSWORD)?, keep),
+    )
+}
+
+/// Credentials that are longer than any that are taken.
+fn tell_too_long(session: &mut Session, alloc: Global) -> Result<Did, Broken> {
+    let ufrag = "u".repeat(alloc, 509)?;
+    let peer = creds(alloc, ufrag.as_str(), FAR_PASS)?;
+    what_became(session.agent.set_remote_credentials(peer))
+}
+
+fn tell_known(session: &mut Session, alloc: Global) -> Result<Did, Broken> {
+    tell_peer(&mut session.agent, alloc, PEER, FAR_PASS)?;
+    Ok(Did::Done)
+}
+
+fn recreate(session: &mut Session) -> Result<Did, Broken> {
+    what_became(session.agent.recreate_candidate_pairs())
+}
+
+/// The end of the pair numbers comes near.
+fn skip(session: &mut Session) -> Did {
+    session.agent.skip_pair_ids(18446744073709551612);
+    Did::Done
+}
+
+/// What the user does that is no candidate.
+fn setting(session: &mut Session, alloc: Global, random: &mut Pcg32) -> Result<Did, Broken> {
+    match below(random, 8) {
+        0 => restart(session, alloc, true),
+        1 => tell_too_long(session, alloc),
+        2 | 3 => recreate(session),
+        4 => Ok(skip(session)),
+        _ => tell_known(session, alloc),
+    }
+}
+
+/// Makes a random call.
+pub fn call(session: &mut Session, alloc: Global, random: &mut Pcg32) -> Result<Did, Broken> {
+    match below(random, 16) {
+        0 | 1 | 2 | 3 => moment(session, random),
+        4 | 5 => candidate(session, alloc, random),
+        6 => setting(session, alloc, random),
+        _ => packet(session, alloc, random),
+    }
+}

@@ -1,0 +1,140 @@
+//! Random lists of calls: what the agent does not do changes nothing that its caller can see.
+use crate::agents::{next_event, next_packet};
+use crate::breeding::below;
+use crate::broken::Broken;
+use crate::random_calls::{Did, Session, call, start};
+use crate::seen::look;
+use is::IceAgentEvent;
+use rand_core::SeedableRng;
+use rand_pcg::Pcg32;
+use std::alloc::Global;
+use std::io::Write;
+
+const SEEDS: u64 = 10_000;
+
+/// How often what came of the calls.
+#[derive(Clone, Copy)]
+struct Tally {
+    done: u32,
+    took: u32,
+    false_or_none: u32,
+    unparsed: u32,
+    refused: u32,
+    packets: u32,
+    nominations: u32,
+    violations: u32,
+}
+
+const NOTHING: Tally = Tally {
+    done: 0,
+    took: 0,
+    false_or_none: 0,
+    unparsed: 0,
+    refused: 0,
+    packets: 0,
+    nominations: 0,
+    violations: 0,
+};
+
+fn one_more(count: &mut u32) {
+    *count = count.saturating_add(1);
+}
+
+impl Tally {
+    fn count(&mut self, did: Did) {
+        match did {
+            Did::Done => one_more(&mut self.done),
+            Did::Took => one_more(&mut self.took),
+            Did::False => one_more(&mut self.false_or_none),
+            Did::Unparsed => one_more(&mut self.unparsed),
+            Did::Refused => one_more(&mut self.refused),
+            Did::Disagreed => {}
+        }
+    }
+
+    /// Each outcome came a thousand times at least, so the lists were no idle ones.
+    fn is_lively(&self) -> bool {
+        self.done.min(self.took).min(self.false_or_none) >= 1000
+            && self.unparsed.min(self.refused) >= 1000
+            && self.packets.min(self.nominations) >= 1000
+    }
+}
+
+/// Takes the packets that wait, keeps the last, and answers how many there were.
+fn take_packets(session: &mut Session, tally: &mut Tally) -> u32 {
+    let mut count = 0u32;
+    for _ in 0..u64::MAX {
+        let Some(packet) = next_packet(&mut session.agent) else {
+            break;
+        };
+        one_more(&mut count);
+        one_more(&mut tally.packets);
+        session.sent = packet.contents;
+    }
+    count
+}
+
+/// Takes the events that wait, and answers how many there were.
+fn take_events(session: &mut Session, tally: &mut Tally) -> u32 {
+    let mut count = 0u32;
+    for _ in 0..u64::MAX {
+        let Some(event) = next_event(&mut session.agent) else {
+            break;
+        };
+        one_more(&mut count);
+        if matches!(event, IceAgentEvent::NominatedSend { .. }) {
+            one_more(&mut tally.nominations);
+        }
+    }
+    count
+}
+
+/// A call that was not done changes no getter, and issues nothing. One that was done issues one packet at most. A packet is taken
+/// where the agent says that it would take it, and nowhere else.
+fn try_call(
+    session: &mut Session,
+    alloc: Global,
+    random: &mut Pcg32,
+    tally: &mut Tally,
+) -> Result<(), Broken> {
+    let before = look(&mut session.agent, &session.peer);
+    let did = call(session, alloc, random)?;
+    let packets = take_packets(session, tally);
+    let events = take_events(session, tally);
+    let after = look(&mut session.agent, &session.peer);
+    tally.count(did);
+    let fits = match did {
+        Did::Done | Did::Took => packets <= 1,
+        Did::Disagreed => false,
+        _ => after == before && packets == 0 && events == 0,
+    };
+    if !fits {
+        one_more(&mut tally.violations);
+    }
+    Ok(())
+}
+
+/// 10 to 30 calls.
+fn try_seed(alloc: Global, seed: u64, tally: &mut Tally) -> Result<(), Broken> {
+    let mut random = Pcg32::seed_from_u64(seed);
+    let mut session = start(alloc, &mut random)?;
+    let calls = below(&mut random, 21).saturating_add(10);
+    for _ in 0..calls {
+        try_call(&mut session, alloc, &mut random, tally)?;
+    }
+    Ok(())
+}
+
+pub fn play<W: Write>(alloc: Global, output: &mut W) -> Result<(), Broken> {
+    let mut tally = NOTHING;
+    for seed in 0..SEEDS {
+        try_seed(alloc, seed, &mut tally)?;
+    }
+    let violations = tally.violations;
+    let lively = tally.is_lively();
+    writeln!(
+        output,
+        "seeds: {SEEDS} lists of calls, {violations} violations, each outcome a thousand times {lively}"
+    )?;
+    Ok(())
+}
