@@ -1,19 +1,17 @@
 -- Events are appended, in the order in which they happen.
-use Rattle.std.proofs.Common.{◌≡◌, ℕ, ◌==◌, Bool, true, false, not, List, [], ◌∷◌, ◌++◌, length, Option, Some, None, Result, Ok, Err, inl, inr, ◌⊎◌, refl, ap, sym, ◌∙◌, subst, append_assoc, if◌then◌else◌}
+use Rattle.std.proofs.Common.{◌≡◌, ℕ, ◌==◌, Bool, true, false, List, [], ◌∷◌, ◌++◌, length, Option, Some, None, Result, Ok, Err, inl, inr, refl, ap, sym, ◌∙◌, subst, append_assoc, if◌then◌else◌}
 use Rattle.std.specs.Prelude.{MatchBool, MatchOption, ◌&&◌}
 use Rattle.std.specs.List.{list_any}
 use Rattle.std.proofs.lemmas.List.{append-nil}
 use Rattle.rand_core.specs.Stream.{Stream}
 use Rattle.is_proto.specs.Lists.{same}
 use Rattle.is_proto.specs.declared.error.IceError.{IceError}
-use Rattle.is_proto.specs.declared.error.IceError.TheVariants.{OutOfMemory, MtuTooSmall, CredentialsTooLong, PairIdsExhausted}
 use Rattle.is_candidate.specs.Candidates.{CandidateRecord, candidate_at}
 use Rattle.is_pair.specs.Pairs.{PairRecord}
 use Rattle.is_stun.specs.Message.{Message}
 use Rattle.is_stun.specs.declared.header.Class.{Class}
 use Rattle.is_stun.specs.declared.header.Class.TheVariants as class
 use Rattle.is_agent.specs.declared.credentials.IceCreds.{IceCreds}
-use Rattle.is_agent.specs.declared.event.IceAgentEvent.{IceAgentEvent}
 use Rattle.is_agent.specs.declared.event.IceAgentEvent.TheVariants.{IceRestart, IceConnectionStateChange}
 use Rattle.is_agent.specs.declared.event.IceConnectionState.{IceConnectionState}
 use Rattle.is_agent.specs.declared.event.IceConnectionState.TheVariants.{New, Checking}
@@ -31,12 +29,11 @@ use Rattle.is_agent.specs.Agent.{AgentRecord}
 use Rattle.is_agent.specs.Pairs.{is_valid_at}
 use Rattle.is_agent.specs.Forming.{Combination, FormsAll, formed, with_pair}
 use Rattle.is_agent.specs.Roles.{conflict_of, switched}
-use Rattle.is_agent.specs.Settings.{SetsMtu, with_retransmits, with_rtos, numbers_skipped}
-use Rattle.is_agent.specs.Credentials.{SetsLocal, SetsRemote}
-use Rattle.is_agent.specs.Discarding.{InvalidatesAt, place_to_discard, local_discarded, remote_discarded}
+use Rattle.is_agent.specs.Settings.{with_retransmits, with_rtos, numbers_skipped}
+use Rattle.is_agent.specs.Discarding.{InvalidatesAt, place_to_discard, local_discarded}
 use Rattle.is_agent.specs.Local.{AddsLocal, appended, enabled_again}
 use Rattle.is_agent.specs.Remote.{AddsRemote, as_remote, with_remote}
-use Rattle.is_agent.specs.Restarting.{Restarts, Recreates, cleared, restarted, emptied}
+use Rattle.is_agent.specs.Restarting.{restarted, emptied}
 use Rattle.is_agent.specs.States.{same_state, with_state, evaluated}
 use Rattle.is_agent.specs.Nominating.{with_selection, path_told, Nominates, NominatesWhere}
 use Rattle.is_agent.specs.Serving.{pair_served, request_counted, with_sender, is_misled, names_another, ServesPair, TakesAt, JoinsAt, Admits, SettlesBy, Settles, Drops, Serves}
@@ -45,7 +42,7 @@ use Rattle.is_agent.specs.Answers.{TakesSuccess, TakesFailure, GivesUpRole, is_r
 use Rattle.is_agent.specs.Accepting.{Takes, source_told, is_seen, HandlesPacket}
 use Rattle.is_agent.specs.Checking.{all_asked, MayCheck, ChecksTop}
 use Rattle.is_agent.specs.Timeouts.{awake, start_told, at_moment, is_given_up, given_up_gone, GivesUp, Proceeds, ServesQueued, TimesOut}
-use Rattle.is_agent.specs.Steps.{Call, SetMtu, SetControlTieBreaker, SetMaxCandidatePairs, SetIceLite, SetTimingAdvance, SetInitialStunRto, SetMaxStunRto, SetMaxStunRetransmits, SetLocalPreference, SetControlling, SetLocalCredentials, SetRemoteCredentials, SkipPairIds, AddLocalCandidate, AddRemoteCandidate, InvalidateCandidate, RestartIce, RecreateCandidatePairs, ReceivePacket, HandleTimeout, PollTransmit, PollTimeout, PollEvent, Answer, Done, NotCalled, Refused, Entry, quiet, Becomes, MayDo, Receives, Step}
+use Rattle.is_agent.specs.Steps.{Call, SetMtu, SetControlTieBreaker, SetMaxCandidatePairs, SetIceLite, SetTimingAdvance, SetInitialStunRto, SetMaxStunRto, SetMaxStunRetransmits, SetLocalPreference, SetControlling, SetLocalCredentials, SetRemoteCredentials, SkipPairIds, AddLocalCandidate, AddRemoteCandidate, InvalidateCandidate, RestartIce, RecreateCandidatePairs, ReceivePacket, HandleTimeout, PollTransmit, PollTimeout, PollEvent, Done, NotCalled, Entry, quiet, Becomes, Receives, Step}
 use Rattle.is_agent.specs.Reporting.{Extends, Begins, Reports, QueuesLaw}
 use Rattle.is_agent.proofs.Frames.{either}
 use Rattle.is_agent.proofs.RefusalLaws.{mtu_kept, local_kept, remote_kept, restart_kept, recreation_kept, enrolment_kept, storing_kept}

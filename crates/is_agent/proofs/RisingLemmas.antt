@@ -1,11 +1,11 @@
 -- Numbers that rise along the list of pairs.
-use Rattle.std.proofs.Common.{◌≡◌, ◌≢◌, ℕ, ◌+◌, ◌<◌, ◌≤◌, Bool, true, false, List, [], ◌∷◌, ◌++◌, map, filter, length, slice_set, Option, Some, None, IfSome, IsSomeAnd, inl, inr, ◌⊎◌, zero, suc, refl, ap, sym, ◌∙◌, subst, arith, if◌then◌else◌}
+use Rattle.std.proofs.Common.{◌≡◌, ◌≢◌, ℕ, ◌<◌, ◌≤◌, Bool, true, false, List, [], ◌∷◌, ◌++◌, map, filter, length, slice_set, Option, Some, None, IfSome, IsSomeAnd, inl, inr, ◌⊎◌, zero, suc, refl, ap, sym, ◌∙◌, subst, arith, if◌then◌else◌}
 use Rattle.std.proofs.lemmas.Bool.{eq-eqb, ne_eqb}
 use Rattle.is_proto.specs.Lists.{Has}
 use Rattle.is_pair.specs.Pairs.{PairRecord}
-use Rattle.is_agent.specs.Due.{no_pair, pair_at}
+use Rattle.is_agent.specs.Due.{pair_at}
 use Rattle.is_agent.specs.Kept.{AreRising}
-use Rattle.is_agent.specs.Pairs.{change_at, change_pair, is_numbered}
+use Rattle.is_agent.specs.Pairs.{change_at, change_pair}
 
 Has-push : {X : Type 0} (xs : List X) (y x : X) → Has (xs ++ y ∷ []) x → Has xs x ⊎ (y ≡ x)
 Has-push [] y x (inl e) = inr e

@@ -1,9 +1,9 @@
 -- A pair of greatest or of least priority, and one pair more.
-use Rattle.std.proofs.Common.{if◌then◌else◌, ◌≡◌, ◌<◌, ◌≤◌, Bool, true, false, List, [], ◌∷◌, ◌++◌, filter, Some, None, Option, inl, inr, refl, ap, subst, ◌∙◌, arith}
+use Rattle.std.proofs.Common.{if◌then◌else◌, ◌≡◌, ◌<◌, ◌≤◌, Bool, true, false, List, [], ◌∷◌, ◌++◌, filter, Some, None, Option, inl, inr, refl, subst, ◌∙◌, arith}
 use Rattle.std.proofs.lemmas.List.Elements.{filter-append}
 use Rattle.is_proto.specs.Lists.{Has, NonePass}
 use Rattle.is_pair.specs.Pairs.{PairRecord}
-use Rattle.is_agent.specs.Pairs.{IsGreatest, IsLowest, IsLeast}
+use Rattle.is_agent.specs.Pairs.{IsGreatest, IsLeast}
 
 pub has-last : {X : Type 0} (xs : List X) (x : X) → Has (xs ++ x ∷ []) x
 has-last [] x = inl refl

@@ -1,5 +1,5 @@
 -- All pairs of a bag change, and stay where they are found.
-use Rattle.std.proofs.Common.{◌≡◌, ◌==◌, ℕ, ◌&&◌, Bool, true, List, length, map, nat_lt, refl, sym, ap, ◌∙◌}
+use Rattle.std.proofs.Common.{◌≡◌, ◌==◌, ℕ, true, List, length, map, nat_lt, refl, sym, ap, ◌∙◌}
 use Rattle.is_pair.specs.declared.checklist.entries.Kept.{Kept}
 use Rattle.is_pair.specs.declared.checklist.entries.Rank.{Rank}
 use Rattle.is_pair.specs.Checks.{is_kept}

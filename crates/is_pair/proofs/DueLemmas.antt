@@ -1,10 +1,10 @@
 -- The pair that is due first, found by a walk over all.
-use Rattle.std.proofs.Common.{◌≡◌, ℕ, ◌<◌, ◌≤◌, ◌⊎◌, Bool, true, false, List, [], ◌∷◌, nat_le, Option, Some, None, inl, inr, refl, sym, subst, arith}
+use Rattle.std.proofs.Common.{◌≡◌, ℕ, ◌<◌, ◌⊎◌, true, List, [], ◌∷◌, Option, Some, None, inl, inr, refl, sym, subst, arith}
 use Rattle.std.proofs.lemmas.Bool.Decides.{nat_tests}
 use Rattle.is_proto.specs.Lists.{Has, NonePass}
 use Rattle.is_stun.specs.declared.timing.StunTiming.{StunTiming}
 use Rattle.is_pair.specs.Pairs.{PairRecord}
-use Rattle.is_pair.specs.Due.{due_moment, is_due, GoesBefore, IsEarliest, IsNextDue}
+use Rattle.is_pair.specs.Due.{due_moment, is_due, GoesBefore, IsEarliest}
 use Rattle.is_pair.proofs.GreatestLemmas.{filter-none}
 use Rattle.is_pair.proofs.LeastLemmas.{empty-of}
 

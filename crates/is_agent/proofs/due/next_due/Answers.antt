@@ -1,7 +1,5 @@
 use Rattle.std.proofs.Common.{◌≡◌, ◌<◌, ◌≤◌, length, refl, rules}
 use Rattle.std.proofs.lemmas.List.{get_or_read_under}
-use Rattle.is_pair.specs.Pairs.{PairRecord}
-use Rattle.is_agent.specs.Checking.{fixed_due}
 use Rattle.is_agent.specs.Due.{no_pair, pair_at}
 use Rattle.is_agent.proofs.DueLemmas.{next-Some, next-None}
 use Rattle.is_agent.proofs.due.next_due.Goals as goal

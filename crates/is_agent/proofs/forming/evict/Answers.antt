@@ -1,4 +1,4 @@
-use Rattle.std.proofs.Common.{List, ◌≡◌, ℕ, ◌<◌, cond, true, false, [], ◌∷◌, not, Bool, length, arith, inl, inr, ap, ◌∙◌, refl, suc, eq-eqb, sym, subst}
+use Rattle.std.proofs.Common.{List, ◌≡◌, ℕ, ◌<◌, cond, true, false, [], ◌∷◌, not, length, arith, inl, inr, ap, ◌∙◌, refl, suc, eq-eqb, sym, subst}
 use Rattle.std.proofs.lemmas.List.Sums.{length-filter, count_by-le-length}
 use Rattle.is_proto.specs.Lists.{Has}
 use Rattle.is_pair.specs.Pairs.{PairRecord}

@@ -1,4 +1,4 @@
-use Rattle.std.proofs.Common.{◌≡◌, arith}
+use Rattle.std.proofs.Common.{arith}
 use Rattle.is_agent.proofs.reply.write_conflict.Goals as goal
 
 pub write_signed-requires-clause-fits : goal.write_signed-requires-clause-fits

@@ -1,6 +1,5 @@
-use Rattle.std.proofs.Common.{◌≡◌, arith, subst, Some}
+use Rattle.std.proofs.Common.{arith, subst, Some}
 use Rattle.is_stun.specs.Message.{Message}
-use Rattle.is_stun.specs.Checks.{binding_reply}
 use Rattle.is_stun.specs.Laws.{IsPut, plain}
 use Rattle.is_stun.specs.Writing.{written}
 use Rattle.is_agent.proofs.ReplyLemmas.{plain-reply}

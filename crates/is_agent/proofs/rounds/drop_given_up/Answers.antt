@@ -1,4 +1,4 @@
-use Rattle.std.proofs.Common.{◌≡◌, not, filter, rules, if◌then◌else◌}
+use Rattle.std.proofs.Common.{not, rules, if◌then◌else◌}
 use Rattle.std.proofs.lemmas.Fn.{filter_same}
 use Rattle.is_pair.specs.Pairs.{PairRecord, is_lite_alive}
 use Rattle.is_pair.specs.Due.{is_possible}

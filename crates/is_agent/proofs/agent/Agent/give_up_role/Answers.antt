@@ -1,4 +1,4 @@
-use Rattle.std.proofs.Common.{◌≡◌, true, false, List, ap, refl, subst, sym, ◌∙◌}
+use Rattle.std.proofs.Common.{◌≡◌, List, ap, refl, subst, sym, ◌∙◌}
 use Rattle.std.specs.Prelude.{Bool, MatchBool}
 use Rattle.is_stun.specs.MessageView.{message_view}
 use Rattle.is_pair.specs.Pairs.{PairRecord}

@@ -1,4 +1,3 @@
-use Rattle.is_pair.specs.Pairs.{PairRecord}
 use Rattle.is_pair.specs.Bag.{change_at, KeepsKeys}
 use Rattle.is_pair.specs.Entries.{pairs_of}
 use Rattle.is_pair.proofs.ChangedLemmas.{changed-below, changed-fewer, changed-index, changed-ranking, changed-rises, keeps-keys-at}

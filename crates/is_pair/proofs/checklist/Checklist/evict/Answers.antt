@@ -1,7 +1,5 @@
-use Rattle.std.proofs.Common.{rules, ◌≡◌, ◌<◌, ◌∷◌, [], Some, Option, length, refl, ap, sym, subst, arith}
-use Rattle.std.specs.Option.{option_copied}
-use Rattle.is_pair.specs.Pairs.{PairRecord}
-use Rattle.is_pair.specs.Bag.{IsLeast, IsLowest}
+use Rattle.std.proofs.Common.{◌∷◌, [], length, refl, ap, sym, arith}
+use Rattle.is_pair.specs.Bag.{IsLeast}
 use Rattle.is_pair.specs.Checklists.{bag_of}
 use Rattle.is_pair.proofs.LeastLemmas.{shrinks}
 use Rattle.is_pair.proofs.checklist.Checklist.evict.Goals as goal

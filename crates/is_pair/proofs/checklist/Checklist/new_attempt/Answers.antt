@@ -1,8 +1,7 @@
-use Rattle.std.proofs.Common.{rules, ◌≡◌, true, false, List, ℕ, ap, sym, refl, ◌∙◌, nat_eq, nat_le, Some, length}
-use Rattle.std.specs.Map.{lookup, set_value}
+use Rattle.std.proofs.Common.{rules, ◌≡◌, ap, sym, refl, ◌∙◌, nat_eq, Some}
+use Rattle.std.specs.Map.{lookup}
 use Rattle.is_pair.specs.Checks.{is_kept}
 use Rattle.is_pair.specs.Pairs.{PairRecord, checked, check_of}
-use Rattle.is_pair.specs.Bag.{is_numbered, has_number}
 use Rattle.is_pair.specs.Entries.{pairs_of, are_keyed, named_after}
 use Rattle.is_pair.proofs.BagLemmas.{found-number, keyed-written, none-found, writes}
 use Rattle.is_pair.proofs.IndexLemmas.{all-current, issued, kept-uncut}

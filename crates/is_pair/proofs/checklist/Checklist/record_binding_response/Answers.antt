@@ -1,8 +1,7 @@
-use Rattle.std.proofs.Common.{rules, ◌≡◌, true, false, List, ℕ, ap, sym, refl, ◌∙◌, nat_eq, Some, length}
-use Rattle.std.specs.Map.{lookup, set_value}
+use Rattle.std.proofs.Common.{rules, ◌≡◌, ap, sym, refl, ◌∙◌, nat_eq, Some}
+use Rattle.std.specs.Map.{lookup}
 use Rattle.is_pair.specs.Checks.{is_kept}
-use Rattle.is_pair.specs.Pairs.{PairRecord}
-use Rattle.is_pair.specs.Bag.{change_pair, keeps, pair_numbered}
+use Rattle.is_pair.specs.Bag.{change_pair}
 use Rattle.is_pair.specs.Entries.{pairs_of, are_keyed}
 use Rattle.is_pair.proofs.AnswerLemmas.{answer-checks, answer-keeps, answer-number, answer-priority}
 use Rattle.is_pair.proofs.BagLemmas.{found-by, found-number, keyed-written, none-passes, one-passes, writes}

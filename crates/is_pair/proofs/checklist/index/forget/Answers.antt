@@ -1,4 +1,4 @@
-use Rattle.std.proofs.Common.{rules, sym, ◌∙◌}
+use Rattle.std.proofs.Common.{rules, sym}
 use Rattle.std.proofs.lemmas.Fn.{filter_same}
 use Rattle.is_pair.specs.Entries.{is_current}
 use Rattle.is_pair.proofs.BagLemmas.{filter-whole}

@@ -1,4 +1,4 @@
-use Rattle.std.proofs.Common.{◌≡◌, ap, find, take, drop, ◌-◌, length, ◌∙◌}
+use Rattle.std.proofs.Common.{ap, find, take, drop, ◌-◌, length, ◌∙◌}
 use Rattle.std.specs.List.{list_any}
 use Rattle.is_pair.specs.declared.checklist.entries.Kept.{Kept}
 use Rattle.is_pair.specs.Bag.{passes_at}
