@@ -12,8 +12,8 @@ use Rattle.is_pair.specs.declared.pair.states.NominationState.{NominationState}
 use Rattle.is_pair.specs.declared.pair.states.NominationState.TheVariants.{None as Unnominated, Nominated, Attempt, Success}
 use Rattle.is_pair.specs.States.{is_valid_state, is_nominated_state, state_once_sent, state_once_answered, nomination_once_sent, nomination_once_answered}
 use Rattle.is_pair.specs.Checks.{Check, answered_at, IsCheckAt}
-use Rattle.is_pair.specs.Pairs.{PairRecord, check_of, checked, answered}
-use Rattle.is_pair.specs.Due.{asked}
+use Rattle.is_pair.specs.Pairs.{PairRecord, check_of, checked, answered, heard, heard_at}
+use Rattle.is_pair.specs.Due.{asked, IsNextDue}
 use Rattle.is_agent.specs.declared.credentials.IceCreds.{IceCreds}
 use Rattle.is_agent.specs.declared.told.Path.{Path}
 use Rattle.is_agent.specs.declared.told.Issued.{Issued}
@@ -23,12 +23,12 @@ use Rattle.is_agent.specs.Told.{issued_as}
 use Rattle.std.specs.declared.net.socket_addr.SocketAddr.{SocketAddr}
 use Rattle.std.proofs.lemmas.Bool.{eqb-true, eq-eqb}
 use Rattle.is_stun.specs.declared.timing.StunTiming.{StunTiming}
-use Rattle.is_agent.specs.Pairs.{is_numbered, change_pair}
+use Rattle.is_pair.specs.Bag.{is_numbered, change_pair}
 use Rattle.is_agent.specs.Kept.{AreRising}
 use Rattle.is_agent.specs.Sending.{path_of}
 use Rattle.is_agent.specs.Sound.{is_started_state}
 use Rattle.is_agent.specs.Answers.{is_known_address, mapped_candidate, mapped_learnt, success_counted, keeps_check_on, Records}
-use Rattle.is_agent.specs.Checking.{heard, heard_at, all_asked, IsNextDue, ChecksTop, MayCheck}
+use Rattle.is_agent.specs.Checking.{all_asked, ChecksTop, MayCheck}
 use Rattle.is_agent.proofs.Frames.{either}
 use Rattle.is_agent.proofs.Tells.{one_pair, some_is}
 use Rattle.is_agent.proofs.Onward.{Parts, path_in, Fit, Onward, here, onward, Has-push}
@@ -256,11 +256,11 @@ module _ (asks met : Path → Type 0) (sent : Path → List ℕ → Bool → Typ
           asks_all : Onward asks met sent (parts_of asks met sent old) (parts_of asks met sent (all_asked now old))
           asks_all = mapped asks met sent (parts_of asks met sent old) (asked now old.timing) fit (λ p has. asked_changes (path_of old p) now old.timing p)
 
-          next : (top : Option PairRecord) → IsNextDue now (all_asked now old).pairs top → ChecksTop mac now remote top (all_asked now old) s issued new t
+          next : (top : Option PairRecord) → IsNextDue now old.timing (all_asked now old).pairs top → ChecksTop mac now remote top (all_asked now old) s issued new t
               → Onward asks met sent (parts_of asks met sent old) (parts_of asks met sent new)
           next None none (is, made, drawn) =
               subst (λ (a : AgentRecord H P). Onward asks met sent (parts_of asks met sent old) (parts_of asks met sent a)) (sym made) asks_all
-          next (Some p) (has, due, first) (id, drawn, values, is, made) =
+          next (Some p) ((has, first), due) (id, drawn, values, is, made) =
               let all : AgentRecord H P = all_asked now old in
               let y : Parts = parts_of asks met sent all in
               let check : Onward asks met sent y (parts_of asks met sent (record all { pairs = change_pair p.number (checked now old.timing old.controlling id) all.pairs })) =

@@ -3,7 +3,7 @@ use Rattle.std.proofs.Common.{if◌then◌else◌, ◌≡◌, ◌==◌, ℕ, ◌
 use Rattle.std.proofs.lemmas.Grind.{common_steps}
 use Rattle.is_proto.specs.Lists.{Has}
 use Rattle.is_pair.specs.Pairs.{PairRecord}
-use Rattle.is_agent.specs.Pairs.{is_numbered, without, Drops}
+use Rattle.is_pair.specs.Bag.{is_numbered, without, Drops}
 use Rattle.is_agent.specs.Cuts.{IsCut}
 use Rattle.is_agent.specs.Kept.{AreRising}
 

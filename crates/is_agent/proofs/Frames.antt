@@ -20,7 +20,7 @@ use Rattle.is_stun.specs.Checks.{binding_reply, binding_role_conflict_reply}
 use Rattle.is_stun.specs.Writing.{written}
 use Rattle.is_agent.specs.Told.{turned}
 use Rattle.is_agent.specs.Forming.{formed, with_pair}
-use Rattle.is_agent.specs.Pairs.{is_valid_at}
+use Rattle.is_pair.specs.Bag.{is_valid_at}
 use Rattle.is_agent.specs.Nominating.{Nominates, NominatesWhere, with_selection, path_told}
 use Rattle.is_agent.specs.Roles.{conflict_of, switched}
 use Rattle.is_agent.specs.Serving.{is_misled, names_another, request_counted, with_sender, pair_served, Drops, ServesPair, TakesAt, JoinsAt, Admits, SettlesBy, Settles, ServesHere, Serves}

@@ -1,5 +1,5 @@
 -- What changes of candidates make of pairs, and forming with them.
-use Rattle.std.proofs.Common.{◌≡◌, ℕ, zero, suc, ◌+◌, ◌<◌, ◌==◌, ◌&&◌, Bool, true, false, List, [], ◌∷◌, ◌++◌, map, length, Option, Some, None, Ok, inl, inr, ◌⊎◌, refl, ap, sym, ◌∙◌, subst, arith, if◌then◌else◌}
+use Rattle.std.proofs.Common.{not, ◌≡◌, ℕ, zero, suc, ◌+◌, ◌<◌, ◌==◌, ◌&&◌, Bool, true, false, List, [], ◌∷◌, ◌++◌, map, length, Option, Some, None, Ok, inl, inr, ◌⊎◌, refl, ap, sym, ◌∙◌, subst, arith, if◌then◌else◌}
 use Rattle.std.specs.Prelude.{slice_set}
 use Rattle.std.specs.List.{flat_map, range_with_len}
 use Rattle.std.proofs.lemmas.List.{length-append}
@@ -9,7 +9,7 @@ use Rattle.is_pair.specs.Pairs.{PairRecord, undue}
 use Rattle.is_agent.specs.declared.told.Path.{Path}
 use Rattle.is_agent.specs.Agent.{AgentRecord}
 use Rattle.is_agent.specs.Forming.{Combination, live_places, is_alive, partners, is_partner, local_combinations, remote_combinations, live_row, live_combinations, sides_of, formed_of, FormsAll}
-use Rattle.is_agent.specs.Discarding.{discarded, change_place, is_local_elsewhere, is_remote_elsewhere, local_discarded, remote_discarded, InvalidatesAt}
+use Rattle.is_agent.specs.Discarding.{discarded, change_place, is_local_at, is_remote_at, local_discarded, remote_discarded, InvalidatesAt}
 use Rattle.is_agent.specs.Local.{AddsLocal, appended, enabled, enabled_again}
 use Rattle.is_agent.specs.Remote.{AddsRemote, as_remote, with_remote}
 use Rattle.is_agent.specs.Restarting.{Recreates, emptied, restarted, kept_local}
@@ -151,14 +151,14 @@ module _ (asks met : Path → Type 0) (sent : Path → List ℕ → Bool → Typ
         let x : Parts = parts_of asks met sent old in
         let first = local_changes x place (discarded (candidate_at old.local place)) fit refl refl in
         let y : Parts = record x { local = change_place place discarded old.local } in
-        onward asks met sent x y (parts_of asks met sent (local_discarded place old)) first (thinned asks met sent y (is_local_elsewhere place) first.fit)
+        onward asks met sent x y (parts_of asks met sent (local_discarded place old)) first (thinned asks met sent y (λ (p : PairRecord). not (is_local_at place p)) first.fit)
 
     pub discards_remote : (old : AgentRecord H P) (place : ℕ) → Fit (parts_of asks met sent old) → Goes old (remote_discarded place old)
     discards_remote old place fit =
         let x : Parts = parts_of asks met sent old in
         let first = remote_changes x place (discarded (candidate_at old.remote place)) fit refl in
         let y : Parts = record x { remote = change_place place discarded old.remote } in
-        onward asks met sent x y (parts_of asks met sent (remote_discarded place old)) first (thinned asks met sent y (is_remote_elsewhere place) first.fit)
+        onward asks met sent x y (parts_of asks met sent (remote_discarded place old)) first (thinned asks met sent y (λ (p : PairRecord). not (is_remote_at place p)) first.fit)
 
     same_goes : (old new : AgentRecord H P) → Fit (parts_of asks met sent old) → new ≡ old → Goes old new
     same_goes old new fit same = subst (λ (a : AgentRecord H P). Goes old a) (sym same) (here asks met sent (parts_of asks met sent old) fit)

@@ -1,5 +1,6 @@
 mod PriorityLemmas
 mod PairLemmas
+mod NumberLemmas
 mod PlaceLemmas
 mod ReplyLemmas
 mod TopLemmas
@@ -7,10 +8,7 @@ mod RangeLemmas
 mod RequestLemmas
 mod CutLemmas
 mod QueueLemmas
-mod RoomLemmas
 mod RoleLemmas
-mod RisingLemmas
-mod DueLemmas
 mod AnswerLemmas
 pub mod Addresses
 mod Examples

@@ -17,7 +17,7 @@ use Rattle.is_agent.specs.Request.{RequestRecord}
 use Rattle.is_agent.specs.Steps.{Entry}
 use Rattle.is_agent.specs.Told.{turned}
 use Rattle.is_agent.specs.Agent.{AgentRecord}
-use Rattle.is_agent.specs.Pairs.{is_numbered, pair_numbered}
+use Rattle.is_pair.specs.Bag.{is_numbered, pair_numbered}
 use Rattle.is_agent.specs.Sending.{path_of}
 use Rattle.is_agent.specs.Nominating.{is_eligible, stands_at}
 use Rattle.is_agent.specs.Steps.{Call, ReceivePacket}

@@ -17,12 +17,12 @@ use Rattle.is_candidate.specs.Candidates.{CandidateRecord, candidate_at, nowhere
 use Rattle.is_candidate.specs.Priorities.{check_priority}
 use Rattle.is_stun.specs.Checks.{binding_request}
 use Rattle.is_stun.specs.Writing.{written}
-use Rattle.is_pair.specs.Due.{asked}
+use Rattle.is_pair.specs.Due.{asked, IsNextDue}
 use Rattle.is_agent.specs.Answers.{keeps_check_on, Records, TakesSuccess}
 use Rattle.is_agent.specs.Timeouts.{at_moment, Proceeds}
 use Rattle.is_agent.specs.declared.credentials.IceCreds.{IceCreds}
 use Rattle.is_agent.specs.declared.told.Issued.{Issued}
-use Rattle.is_agent.specs.Checking.{username_between, IsNextDue, all_asked, ChecksTop, MayCheck}
+use Rattle.is_agent.specs.Checking.{username_between, all_asked, ChecksTop, MayCheck}
 use Rattle.is_agent.proofs.Frames.{Frame, frame_of, packet_along, either, nominates_frame, gives_up}
 use Rattle.is_agent.proofs.Rests.{Rest, nominates_rest, gives_up_rest}
 use Rattle.is_agent.proofs.Tells.{Tells, tells_one, tells_two, tells_behind, tells_before}
@@ -72,10 +72,10 @@ module _ (asks met : Path → Type 0) (sent : Path → List ℕ → Bool → Typ
   check_out mac now (Some remote) old new s t issued known fit h = either old.lite h
       (λ _ k. inl k.0)
       (λ _ k. next k.0 k.1 k.2) where
-        next : (top : Option PairRecord) → IsNextDue now (all_asked now old).pairs top → ChecksTop mac now remote top (all_asked now old) s issued new t
+        next : (top : Option PairRecord) → IsNextDue now old.timing (all_asked now old).pairs top → ChecksTop mac now remote top (all_asked now old) s issued new t
             → CheckOut mac (frame_of old) old.local old.packets issued new.packets
         next None none (is, made, drawn) = inl is
-        next (Some p) (has, due, first) (id, drawn, values, is, made) =
+        next (Some p) ((has, first), due) (id, drawn, values, is, made) =
             let o = Has-map (asked now old.timing) old.pairs p has in
             let at : p.local < length old.local = subst (λ (q : PairRecord). q.local < length old.local) o.2 (fit.placed o.0 o.1).0 in
             inr (

@@ -4,7 +4,7 @@ use Rattle.std.specs.Prelude.{MatchBool}
 use Rattle.is_pair.specs.Pairs.{PairRecord}
 use Rattle.is_agent.specs.declared.told.Path.{Path}
 use Rattle.is_agent.specs.Agent.{AgentRecord}
-use Rattle.is_agent.specs.Pairs.{change_pair, IsGreatest}
+use Rattle.is_pair.specs.Bag.{change_pair, IsGreatest}
 use Rattle.is_agent.specs.Sending.{path_of}
 use Rattle.is_agent.specs.Nominating.{is_eligible, nominated_by_self, stands_at, Selection, selection, with_selection, path_told, Nominates}
 

@@ -4,7 +4,7 @@ use Rattle.std.specs.Prelude.{nat_lt}
 use Rattle.is_proto.specs.Lists.{Has}
 use Rattle.is_candidate.specs.Candidates.{CandidateRecord, base_of, candidate_at}
 use Rattle.is_pair.specs.Checks.{Check}
-use Rattle.is_pair.specs.Pairs.{PairRecord, is_valid, is_nominated}
+use Rattle.is_pair.specs.Pairs.{PairRecord, is_valid, is_nominated, taking_over}
 use Rattle.is_pair.specs.States.{is_valid_state, is_nominated_state, state_from, nomination_from}
 use Rattle.is_pair.specs.declared.pair.states.CheckState.TheVariants.{Waiting, InProgress, Succeeded}
 use Rattle.is_pair.specs.declared.pair.states.CheckState.{CheckState}
@@ -12,10 +12,10 @@ use Rattle.is_pair.specs.declared.pair.states.NominationState.{NominationState}
 use Rattle.is_pair.specs.declared.pair.states.NominationState.TheVariants.{None as Unnominated, Nominated, Attempt, Success}
 use Rattle.is_agent.proofs.Addresses.{both, same_address-sound, same_protocol-sound}
 use Rattle.is_agent.specs.declared.told.Path.{Path}
-use Rattle.is_agent.specs.Pairs.{is_numbered, without, Drops}
+use Rattle.is_pair.specs.Bag.{is_numbered, without, Drops}
 use Rattle.is_agent.specs.Kept.{AreRising}
 use Rattle.is_agent.specs.Sound.{AllBelow, IsPlaced, ArePlaced}
-use Rattle.is_agent.specs.Forming.{SidesRecord, Formed, Combination, combined_priority, is_redundant, pair_of, taking_over, Tries, FormsEach}
+use Rattle.is_agent.specs.Forming.{SidesRecord, Formed, Combination, combined_priority, is_redundant, pair_of, Tries, FormsEach}
 use Rattle.is_agent.specs.Sound.{is_started_state}
 use Rattle.is_agent.specs.Each.{Each}
 

@@ -33,7 +33,8 @@ use Rattle.is_agent.specs.Remote.{AddsRemote}
 use Rattle.is_agent.specs.Restarting.{Restarts, Recreates}
 use Rattle.is_agent.specs.Serving.{Drops, Serves}
 use Rattle.is_agent.specs.Queue.{queued, first_taken, request_at}
-use Rattle.is_agent.specs.Answers.{keeps_check, keeps_check_on, goes_back, is_role_conflict, TakesSuccess, TakesFailure, GivesUpRole}
+use Rattle.is_pair.specs.Bag.{keeps_check}
+use Rattle.is_agent.specs.Answers.{keeps_check_on, goes_back, is_role_conflict, TakesSuccess, TakesFailure, GivesUpRole}
 use Rattle.is_agent.specs.Accepting.{Takes, IsAcceptedAs, IsAcceptedOn, source_told}
 use Rattle.is_agent.specs.Timeouts.{awake, Proceeds, ServesQueued, TimesOut}
 use Rattle.is_agent.specs.Steps.{Call, SetMtu, SetControlTieBreaker, SetMaxCandidatePairs, SetIceLite, SetTimingAdvance, SetInitialStunRto, SetMaxStunRto, SetMaxStunRetransmits, SetLocalPreference, SetControlling, SetLocalCredentials, SetRemoteCredentials, SkipPairIds, AddLocalCandidate, AddRemoteCandidate, InvalidateCandidate, RestartIce, RecreateCandidatePairs, ReceivePacket, HandleTimeout, PollTransmit, PollTimeout, PollEvent, Becomes, MayDo, Receives, Step}

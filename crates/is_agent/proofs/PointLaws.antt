@@ -12,7 +12,7 @@ use Rattle.is_pair.specs.declared.pair.states.CheckState.{CheckState}
 use Rattle.is_pair.specs.declared.pair.states.CheckState.TheVariants.{Waiting, InProgress, Succeeded}
 use Rattle.is_pair.specs.States.{is_valid_state, state_once_sent, state_once_answered}
 use Rattle.is_pair.specs.Checks.{Check, has_id, answered_at}
-use Rattle.is_pair.specs.Pairs.{PairRecord, is_valid, is_nominated, checked}
+use Rattle.is_pair.specs.Pairs.{PairRecord, is_valid, is_nominated, checked, heard, heard_at}
 use Rattle.is_pair.specs.Due.{asked}
 use Rattle.is_stun.specs.declared.header.Class.TheVariants as class
 use Rattle.is_stun.specs.declared.timing.StunTiming.{StunTiming}
@@ -25,13 +25,13 @@ use Rattle.is_agent.proofs.Addresses.{both}
 use Rattle.is_agent.specs.Request.{RequestRecord}
 use Rattle.is_agent.specs.Steps.{answer_by, done, Done, Flag, Unparsed, Refused, Entry}
 use Rattle.is_agent.specs.Agent.{AgentRecord}
-use Rattle.is_agent.specs.Pairs.{is_numbered, change_at, pair_numbered, IsGreatest}
+use Rattle.is_pair.specs.Bag.{is_numbered, change_at, pair_numbered, IsGreatest, keeps_check}
 use Rattle.is_agent.specs.Sending.{path_of}
 use Rattle.is_agent.specs.Nominating.{is_eligible, nominated_by_self, stands_at, Nominates}
 use Rattle.is_agent.specs.Queue.{request_at}
-use Rattle.is_agent.specs.Answers.{keeps_check, goes_back, keeps_check_on, TakesSuccess}
+use Rattle.is_agent.specs.Answers.{goes_back, keeps_check_on, TakesSuccess}
 use Rattle.is_agent.specs.Accepting.{Takes}
-use Rattle.is_agent.specs.Checking.{heard, heard_at, all_asked, ChecksTop, MayCheck}
+use Rattle.is_agent.specs.Checking.{all_asked, ChecksTop, MayCheck}
 use Rattle.is_agent.specs.Timeouts.{is_given_up, given_up_gone, GivesUp, at_moment, awake, Proceeds, ServesQueued, TimesOut}
 use Rattle.is_agent.specs.Steps.{Call, ReceivePacket, HandleTimeout, Step}
 use Rattle.is_agent.specs.Sound.{IsSound, is_started_state}

@@ -26,7 +26,7 @@ use Rattle.is_agent.specs.Told.{nothing_told}
 use Rattle.is_agent.specs.Request.{RequestRecord, request_in}
 use Rattle.is_agent.specs.Places.{local_place}
 use Rattle.is_agent.specs.Agent.{AgentRecord}
-use Rattle.is_agent.specs.Pairs.{is_valid_at}
+use Rattle.is_pair.specs.Bag.{is_valid_at}
 use Rattle.is_agent.specs.Forming.{Combination, FormsAll, formed, with_pair}
 use Rattle.is_agent.specs.Roles.{conflict_of, switched}
 use Rattle.is_agent.specs.Settings.{with_retransmits, with_rtos, numbers_skipped}

@@ -18,7 +18,7 @@ use Rattle.is_agent.specs.Places.{local_place}
 use Rattle.is_agent.specs.declared.roles.Conflict.{Conflict}
 use Rattle.is_agent.specs.declared.roles.Conflict.TheVariants.{Absent, Insists, Yields}
 use Rattle.is_agent.specs.Agent.{AgentRecord}
-use Rattle.is_agent.specs.Pairs.{is_valid_at}
+use Rattle.is_pair.specs.Bag.{is_valid_at}
 use Rattle.is_agent.specs.Forming.{formed, with_pair}
 use Rattle.is_agent.specs.Nominating.{Nominates, NominatesWhere, with_selection, path_told}
 use Rattle.is_agent.specs.Roles.{conflict_of, switched}

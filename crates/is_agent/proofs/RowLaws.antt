@@ -9,13 +9,14 @@ use Rattle.is_pair.specs.declared.pair.states.CheckState.TheVariants.{InProgress
 use Rattle.is_pair.specs.declared.pair.states.NominationState.TheVariants.{Nominated, Success}
 use Rattle.is_pair.specs.Checks.{Check}
 use Rattle.is_pair.specs.Pairs.{PairRecord, new_pair, answered}
-use Rattle.is_pair.specs.Due.{asked}
+use Rattle.is_pair.specs.Due.{asked, GoesBefore}
 use Rattle.is_stun.specs.declared.header.Class.TheVariants as class
 use Rattle.is_stun.specs.Checks.{binding_request, binding_reply, binding_role_conflict_reply}
 use Rattle.is_stun.specs.Integrity.{IsSignedBy}
 use Rattle.is_stun.specs.Message.{Integrity, Message}
 use Rattle.is_stun.specs.Reading.{Reads}
 use Rattle.is_stun.specs.Writing.{written}
+use Rattle.is_stun.specs.declared.timing.StunTiming.{StunTiming}
 use Rattle.is_stun.specs.Timing.{delay_millis}
 use Rattle.is_stun.specs.Laws.{IsPut}
 use Rattle.is_agent.specs.declared.event.IceAgentEvent.TheVariants.{IceConnectionStateChange}
@@ -28,7 +29,7 @@ use Rattle.is_agent.specs.States.{evaluated}
 use Rattle.is_agent.specs.Serving.{Serves}
 use Rattle.is_agent.specs.Answers.{TakesSuccess, success_counted, mapped_learnt}
 use Rattle.is_agent.specs.Accepting.{HandlesPacket, IsAcceptedOn}
-use Rattle.is_agent.specs.Checking.{GoesBefore, all_asked}
+use Rattle.is_agent.specs.Checking.{all_asked}
 use Rattle.is_agent.specs.Timeouts.{at_moment, awake, TimesOut}
 use Rattle.is_agent.specs.Polls.{PollsTimeout}
 use Rattle.is_agent.specs.Steps.{Call, SetControlling, SetRemoteCredentials, AddLocalCandidate, AddRemoteCandidate, RecreateCandidatePairs, ReceivePacket, HandleTimeout, Step}
@@ -37,9 +38,9 @@ use Rattle.is_agent.specs.Runs.{Run}
 use Rattle.is_agent.proofs.Nominations.{announced}
 use Rattle.is_agent.proofs.Examples.{creds_1, creds_2, host_1, host_2, with_creds, with_host, with_both, with_check, with_answer, path_12, address_1, address_2, address_3, milliseconds, controlled, request, served, told_of_sender, lite_served, lite_started, lite_completed, lite_lost}
 
-goes_before : (p q : PairRecord) → Has (p ∷ []) q → GoesBefore p q
-goes_before p q (inl same) = subst (λ x. GoesBefore p x) same (inr (refl, omega arith))
-goes_before p q (inr none) = absurd none
+goes_before : (now : ℕ) (t : StunTiming) (p q : PairRecord) → Has (p ∷ []) q → GoesBefore now t p q
+goes_before now t p q (inl same) = subst (λ x. GoesBefore now t p x) same (inr (refl, omega arith))
+goes_before now t p q (inr none) = absurd none
 
 only_greatest : (p q : PairRecord) → Has (p ∷ []) q → q.priority ≤ p.priority
 only_greatest p q (inl same) = subst (λ (x : PairRecord). x.priority ≤ p.priority) same (omega arith)
@@ -96,7 +97,7 @@ module _ {H P : Type 0} (mac : H → List ℕ → List ℕ → List ℕ) (answer
       (refl, refl),
       (
         Some asked_pair,
-        (inl refl, refl, λ q has. goes_before _ q has),
+        ((inl refl, λ q has. goes_before 0 default_timing _ q has), refl),
         ((fill_bytes 12 s).0, refl, values, refl, refl),
       ),
       refl,
@@ -186,7 +187,7 @@ module _ {H P : Type 0} (mac : H → List ℕ → List ℕ → List ℕ) (answer
       (refl, refl),
       (
         Some asked_pair,
-        (inl refl, refl, λ q has. goes_before _ q has),
+        ((inl refl, λ q has. goes_before 0 default_timing _ q has), refl),
         (zero_id, drawn, put, refl, refl),
       ),
       refl,

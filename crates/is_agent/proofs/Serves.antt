@@ -29,7 +29,7 @@ use Rattle.is_stun.specs.declared.header.Class.TheVariants.{Success, Failure}
 use Rattle.is_stun.specs.Checks.{binding_reply, binding_role_conflict_reply}
 use Rattle.is_stun.specs.Writing.{written}
 use Rattle.is_agent.specs.Agent.{AgentRecord}
-use Rattle.is_agent.specs.Pairs.{change_at, is_between, is_valid_at, IsPairBetween}
+use Rattle.is_pair.specs.Bag.{change_at, is_between, is_valid_at, IsPairBetween}
 use Rattle.is_agent.specs.Sending.{path_between, carried}
 use Rattle.is_agent.specs.Forming.{formed, with_pair}
 use Rattle.is_agent.specs.Nominating.{NominatesWhere}

@@ -3,7 +3,7 @@ use Rattle.std.proofs.Common.{if◌then◌else◌, ◌≡◌, ◌<◌, ◌≤◌
 use Rattle.std.proofs.lemmas.List.Elements.{filter-append}
 use Rattle.is_proto.specs.Lists.{Has, NonePass}
 use Rattle.is_pair.specs.Pairs.{PairRecord}
-use Rattle.is_agent.specs.Pairs.{IsGreatest, IsLeast}
+use Rattle.is_pair.specs.Bag.{IsGreatest, IsLeast}
 
 pub has-last : {X : Type 0} (xs : List X) (x : X) → Has (xs ++ x ∷ []) x
 has-last [] x = inl refl

@@ -19,7 +19,8 @@ use Rattle.is_agent.specs.Request.{RequestRecord, request_in}
 use Rattle.is_agent.specs.Told.{nothing_told}
 use Rattle.is_agent.specs.Agent.{AgentRecord}
 use Rattle.is_agent.specs.Serving.{TakesRequest, MayRefuseArrival}
-use Rattle.is_agent.specs.Answers.{keeps_check, keeps_check_on, TakesSuccess, TakesFailure}
+use Rattle.is_pair.specs.Bag.{keeps_check}
+use Rattle.is_agent.specs.Answers.{keeps_check_on, TakesSuccess, TakesFailure}
 
 -- the source of a packet was told of
 abbrev pub is_source : Path → Source → Bool

@@ -9,7 +9,8 @@ use Rattle.is_candidate.specs.Addresses.{same_address}
 use Rattle.is_candidate.specs.Candidates.{CandidateRecord, base_of, candidate_at}
 use Rattle.is_candidate.specs.Making.{peer_reflexive_candidate}
 use Rattle.is_candidate.specs.Priorities.{check_priority}
-use Rattle.is_pair.specs.Checks.{Check, is_kept}
+use Rattle.is_pair.specs.Bag.{keeps_check}
+use Rattle.is_pair.specs.Checks.{Check}
 use Rattle.is_pair.specs.Pairs.{PairRecord, TakesAnswer}
 use Rattle.is_stun.specs.Checks.{ROLE_CONFLICT}
 use Rattle.is_stun.specs.Message.{Message}
@@ -35,10 +36,6 @@ is_role_conflict m = option_map_or (λ (e : ℕ × List ℕ). e.0 == ROLE_CONFLI
 abbrev pub joined_by : Option CandidateRecord → List CandidateRecord → List CandidateRecord
 joined_by None cs = cs
 joined_by (Some c) cs = cs ++ c ∷ []
-
--- the pair keeps a check with the id
-abbrev pub keeps_check : List ℕ → PairRecord → Bool
-keeps_check id p = is_kept id p.checks
 
 -- a packet of the first path came back on the second one; protocols are not compared
 abbrev pub goes_back : Path → Path → Bool

@@ -1,12 +1,11 @@
 -- Which pair is checked next, and its check (RFC 8445, sections 6.1.4.2 and 7.2.4).
-use Rattle.std.specs.Prelude.{◌≡◌, ℕ, ◌<◌, ◌≤◌, ◌&&◌, ◌⊎◌, Bool, true, nat_le, List, ◌∷◌, ◌++◌, map, Option, Some, None, unwrap_or, MatchBool}
+use Rattle.std.specs.Prelude.{◌≡◌, ℕ, ◌&&◌, List, ◌∷◌, ◌++◌, map, Option, Some, None, MatchBool}
 use Rattle.rand_core.specs.Stream.{Stream, fill_bytes}
-use Rattle.is_proto.specs.Lists.{Has, NonePass}
-use Rattle.is_proto.specs.Moments.{MAX, counted}
+use Rattle.is_proto.specs.Moments.{counted}
 use Rattle.is_candidate.specs.Candidates.{candidate_at}
 use Rattle.is_candidate.specs.Priorities.{check_priority}
-use Rattle.is_pair.specs.Pairs.{PairRecord, is_nominated, with_request, checked}
-use Rattle.is_pair.specs.Due.{asked}
+use Rattle.is_pair.specs.Pairs.{PairRecord, is_nominated, heard, checked}
+use Rattle.is_pair.specs.Due.{asked, IsNextDue}
 use Rattle.is_stun.specs.declared.header.Class.TheVariants.{Request}
 use Rattle.is_stun.specs.Message.{Message}
 use Rattle.is_stun.specs.Checks.{binding_request}
@@ -15,40 +14,13 @@ use Rattle.is_stun.specs.Writing.{written}
 use Rattle.is_agent.specs.declared.credentials.IceCreds.{IceCreds}
 use Rattle.is_agent.specs.declared.told.Issued.{Issued}
 use Rattle.is_agent.specs.Told.{issued_as}
-use Rattle.is_agent.specs.Pairs.{change_pair}
+use Rattle.is_pair.specs.Bag.{change_pair}
 use Rattle.is_agent.specs.Agent.{AgentRecord}
 use Rattle.is_agent.specs.Sending.{with_packet, path_of}
-
--- ---- which pair, once each was asked for its due moment
-
-abbrev pub fixed_due : PairRecord → ℕ
-fixed_due p = unwrap_or p.due MAX
-
-abbrev pub is_due : ℕ → PairRecord → Bool
-is_due now p = nat_le (fixed_due p) now
-
--- p is due earlier, or at the same moment with no smaller priority
-abbrev pub GoesBefore : PairRecord → PairRecord → Type 0
-GoesBefore p q = (fixed_due p < fixed_due q) ⊎ ((fixed_due p ≡ fixed_due q) × (q.priority ≤ p.priority))
-
--- the pair that goes before all others, where it is due. Ties are free
-abbrev pub IsNextDue : ℕ → List PairRecord → Option PairRecord → Type 0
-IsNextDue now pairs None = NonePass (is_due now) pairs
-IsNextDue now pairs (Some p) = Has pairs p × (is_due now p ≡ true) × ((q : PairRecord) → Has pairs q → GoesBefore p q)
-
--- ---- its check
 
 -- the peer's user fragment, a colon and the own one (RFC 8445, section 7.2.2)
 abbrev pub username_between : IceCreds → IceCreds → List ℕ
 username_between remote local = remote.ufrag ++ 58 ∷ local.ufrag
-
--- under lite, where no request came, one is taken to have come now
-abbrev pub heard_at : ℕ → Option ℕ → PairRecord → PairRecord
-heard_at now None p = with_request now p
-heard_at now (Some at) p = p
-
-abbrev pub heard : ℕ → PairRecord → PairRecord
-heard now p = heard_at now p.last_request p
 
 module _ {H P : Type 0} where
   abbrev pub all_asked : ℕ → AgentRecord H P → AgentRecord H P
@@ -86,7 +58,7 @@ module _ {H P : Type 0} where
     -- the pair that is due first is checked
     abbrev pub ChecksNext : ℕ → IceCreds → AgentRecord H P → Stream → Option Issued → AgentRecord H P → Stream → Type 0
     ChecksNext now remote old s issued new t =
-        (next : Option PairRecord) × IsNextDue now old.pairs next × ChecksTop now remote next old s issued new t
+        (next : Option PairRecord) × IsNextDue now old.timing old.pairs next × ChecksTop now remote next old s issued new t
 
     -- no check without remote credentials, and none under lite
     abbrev pub MayCheck : ℕ → Option IceCreds → AgentRecord H P → Stream → Option Issued → AgentRecord H P → Stream → Type 0

@@ -3,7 +3,7 @@ use Rattle.std.specs.Prelude.{◌≡◌, ℕ, ◌≤◌, Bool, false, List, filt
 use Rattle.is_proto.specs.Lists.{Has}
 use Rattle.is_pair.specs.Pairs.{PairRecord}
 use Rattle.is_agent.specs.Kept.{AreRising}
-use Rattle.is_agent.specs.Pairs.{Evicts}
+use Rattle.is_pair.specs.Bag.{Evicts}
 
 -- as many stay as the limit lets, and nothing that went is above what stays. Ties are free
 abbrev pub IsCut : ℕ → List PairRecord → List PairRecord → Type 0

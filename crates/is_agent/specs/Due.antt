@@ -1,30 +1,21 @@
--- The pair that is checked next, by its place, and its check before it is sent: what internal functions say. No public
--- contract names any of it.
-use Rattle.std.specs.Prelude.{◌≡◌, ℕ, ◌<◌, List, slice_index_or, Option, Some, None}
+-- A check before it is sent, and the pair of an answer: what internal functions say. No public contract names any of it.
+use Rattle.std.specs.Prelude.{◌≡◌, ℕ, Bool, true, List, Option, Some, None}
+use Rattle.is_proto.specs.Lists.{Has, same}
 use Rattle.is_proto.specs.Moments.{counted}
-use Rattle.is_candidate.specs.Candidates.{candidate_at}
+use Rattle.is_candidate.specs.Candidates.{CandidateRecord, candidate_at}
 use Rattle.is_candidate.specs.Priorities.{check_priority}
-use Rattle.is_pair.specs.Pairs.{PairRecord, new_pair, is_nominated}
+use Rattle.is_pair.specs.Bag.{has_number, pair_numbered, RecordsAnswer}
+use Rattle.is_pair.specs.Checks.{Check}
+use Rattle.is_pair.specs.Pairs.{PairRecord, is_nominated}
 use Rattle.is_agent.specs.declared.checking.Draft.{Draft}
+use Rattle.is_agent.specs.declared.told.Path.{Path}
 use Rattle.is_agent.specs.Agent.{AgentRecord}
+use Rattle.is_agent.specs.Answers.{keeps_check_on, success_counted}
 use Rattle.is_agent.specs.Sending.{path_of}
-use Rattle.is_agent.specs.Checking.{GoesBefore}
 
-abbrev pub no_pair : PairRecord
-no_pair = new_pair 0 0 0 0
-
--- the pair at a place of the list
-abbrev pub pair_at : List PairRecord → ℕ → PairRecord
-pair_at pairs place = slice_index_or pairs place no_pair
-
-abbrev pub pair_there : List PairRecord → Option ℕ → Option PairRecord
-pair_there pairs None = None
-pair_there pairs (Some place) = Some (pair_at pairs place)
-
--- of the pairs below the end, the place of one that goes before each; none where there is none
-abbrev pub IsFirstBelow : ℕ → List PairRecord → Option ℕ → Type 0
-IsFirstBelow end pairs None = end ≡ 0
-IsFirstBelow end pairs (Some place) = (place < end) × ((k : ℕ) → k < end → GoesBefore (pair_at pairs place) (pair_at pairs k))
+-- a check of the pair was sent under a role, which is the present one or not
+abbrev pub IsSentUnder : PairRecord → List ℕ → Bool → Bool → Type 0
+IsSentUnder p id controlling present = (c : Check) × Has p.checks c × (c.id ≡ id) × (present ≡ same c.controlling controlling)
 
 module _ {H P : Type 0} where
   -- the draft is of a check of the pair
@@ -32,5 +23,21 @@ module _ {H P : Type 0} where
   Drafts a p d =
       (d.path ≡ path_of a p) × (d.priority ≡ check_priority (candidate_at a.local p.local)) × (d.nominated ≡ is_nominated p)
 
+  -- and this is the number of the pair, which is one of the agent's
+  abbrev pub DraftsNext : AgentRecord H P → Option PairRecord → Option (ℕ × Draft) → Type 0
+  DraftsNext a None None = Unit {0}
+  DraftsNext a (Some p) (Some next) = (next.0 ≡ p.number) × (has_number p.number a.pairs ≡ true) × Drafts a p next.1
+  DraftsNext a next other = ⊥
+
   abbrev pub check_counted : AgentRecord H P → AgentRecord H P
   check_counted a = record a { stats = record a.stats { bind_request_sent = counted a.stats.bind_request_sent } }
+
+  -- the pair of the number keeps a check with the id, and the packet came back on its path
+  abbrev pub KeepsCheckOn : AgentRecord H P → Path → List ℕ → ℕ → Type 0
+  KeepsCheckOn a way id number = (p : PairRecord) × (pair_numbered number a.pairs ≡ Some p) × (keeps_check_on a way id p ≡ true)
+
+  -- what is recorded of an answer, once room is made
+  abbrev pub IsRecorded : ℕ → ℕ → List ℕ → List CandidateRecord → AgentRecord H P → AgentRecord H P → Type 0
+  IsRecorded number now id local ready recorded =
+      (pairs : List PairRecord) × RecordsAnswer number now id ready.pairs pairs
+      × (recorded ≡ record (success_counted ready) { local = local; pairs = pairs })

@@ -5,10 +5,10 @@ use Rattle.is_proto.specs.Lists.{places_where}
 use Rattle.is_candidate.specs.Addresses.{same_address, same_protocol, same_version}
 use Rattle.is_candidate.specs.Candidates.{CandidateRecord, base_of, candidate_at, nowhere}
 use Rattle.is_candidate.specs.Priorities.{candidate_priority}
-use Rattle.is_pair.specs.Pairs.{PairRecord, new_pair, with_requests_of, with_success_of}
+use Rattle.is_pair.specs.Bag.{is_numbered, without, IsGreatest, Evicts}
+use Rattle.is_pair.specs.Pairs.{PairRecord, new_pair, taking_over}
 use Rattle.is_pair.specs.Priorities.{pair_priority}
 use Rattle.is_agent.specs.Each.{Each}
-use Rattle.is_agent.specs.Pairs.{is_numbered, without, IsGreatest, Evicts}
 use Rattle.is_agent.specs.Agent.{AgentRecord}
 
 -- ---- what forming reads, and what it changes
@@ -88,10 +88,6 @@ combined_priority s at =
 
 abbrev pub pair_of : SidesRecord → Combination → ℕ → PairRecord
 pair_of s at number = new_pair number at.0 at.1 (combined_priority s at)
-
--- what the new pair takes over from the one that gives way; under lite its requests too
-abbrev pub taking_over : Bool → PairRecord → PairRecord → PairRecord
-taking_over lite found p = if lite then with_requests_of found (with_success_of found p) else with_success_of found p
 
 -- what a combination leaves, against the redundant pair: none, or one that gives way to a greater priority
 abbrev pub tried : SidesRecord → Combination → Option PairRecord → Formed → Formed

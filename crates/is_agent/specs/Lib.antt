@@ -10,7 +10,6 @@ pub mod Local
 pub mod Lends
 pub mod Request
 pub mod RequestView
-pub mod Pairs
 pub mod Places
 pub mod Each
 pub mod Forming

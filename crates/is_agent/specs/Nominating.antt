@@ -7,7 +7,7 @@ use Rattle.is_pair.specs.Pairs.{PairRecord, is_valid, is_nominated, nominated}
 use Rattle.is_agent.specs.declared.event.IceAgentEvent.TheVariants.{NominatedSend}
 use Rattle.is_agent.specs.declared.told.Path.{Path}
 use Rattle.is_agent.specs.Agent.{AgentRecord}
-use Rattle.is_agent.specs.Pairs.{change_pair, IsGreatest, pair_numbered}
+use Rattle.is_pair.specs.Bag.{change_pair, IsGreatest, pair_numbered}
 use Rattle.is_agent.specs.Forming.{SidesRecord, sides_of}
 
 -- valid and, while the agent is controlled, nominated

@@ -8,7 +8,7 @@ use Rattle.is_stun.specs.Message.{Message}
 use Rattle.is_agent.specs.declared.told.Path.{Path}
 use Rattle.is_agent.specs.Steps.{Done, Entry}
 use Rattle.is_agent.specs.Agent.{AgentRecord}
-use Rattle.is_agent.specs.Pairs.{IsGreatest}
+use Rattle.is_pair.specs.Bag.{IsGreatest}
 use Rattle.is_agent.specs.Nominating.{is_eligible, stands_at}
 use Rattle.is_agent.specs.Queue.{request_at}
 use Rattle.is_agent.specs.Answers.{keeps_check_on}

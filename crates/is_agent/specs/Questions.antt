@@ -11,7 +11,7 @@ use Rattle.is_stun.specs.Timing.{timeout_of}
 use Rattle.is_agent.specs.Agent.{AgentRecord}
 use Rattle.is_agent.specs.Forming.{is_alive}
 use Rattle.is_agent.specs.Nominating.{announced_pair}
-use Rattle.is_agent.specs.Pairs.{IsGreatest}
+use Rattle.is_pair.specs.Bag.{IsGreatest}
 use Rattle.is_agent.specs.Remote.{has_equivalent}
 
 -- `local_candidates` and `remote_candidates`, in list order

@@ -1,15 +1,11 @@
 -- Room for what a call can add.
-use Rattle.std.specs.Prelude.{◌≡◌, ℕ, ◌+◌, ◌≤◌, ◌<◌, false, List, All, IfSome, length, vec_len, vec_capacity, string_bytes}
+use Rattle.std.specs.Prelude.{◌≡◌, ℕ, ◌+◌, ◌≤◌, ◌<◌, false, IfSome, length, vec_len, vec_capacity, string_bytes}
 use Rattle.std.specs.VecDeque.{deque_len, deque_capacity}
-use Rattle.is_pair.specs.Pairs.{PairRecord}
+use Rattle.is_pair.specs.Checklists as checklists
+use Rattle.is_pair.specs.Checklists.{HasRoom}
 use Rattle.is_agent.specs.declared.agent.Agent.{Agent}
 use Rattle.is_agent.specs.Fitting.{MTU_FLOOR}
-use Rattle.is_agent.specs.Kept.{AreRising}
 use Rattle.is_agent.specs.Checking.{username_between}
-
--- each pair keeps fewer checks
-abbrev pub KeepFewer : ℕ → List PairRecord → Type 0
-KeepFewer n pairs = All (λ p. length p.checks < n) pairs
 
 module _ {H P : Type 0} where
   -- so many events more
@@ -26,15 +22,15 @@ module _ {H P : Type 0} where
 
   -- one more candidate, pair and packet
   abbrev pub HasServingRoom : Agent H P → Type 0
-  HasServingRoom a = (vec_len a.remote < vec_capacity a.remote) × (vec_len a.pairs < vec_capacity a.pairs) × HasPacketRoom a
+  HasServingRoom a = (vec_len a.remote < vec_capacity a.remote) × HasRoom 1 a.pairs × HasPacketRoom a
 
   -- one more local candidate, and so many pairs
   abbrev pub HasLocalRoom : ℕ → Agent H P → Type 0
-  HasLocalRoom pairs a = (vec_len a.local < vec_capacity a.local) × (vec_len a.pairs + pairs ≤ vec_capacity a.pairs)
+  HasLocalRoom pairs a = (vec_len a.local < vec_capacity a.local) × HasRoom pairs a.pairs
 
   -- so many pairs more
   abbrev pub HasPairRoom : ℕ → Agent H P → Type 0
-  HasPairRoom n a = vec_len a.pairs + n ≤ vec_capacity a.pairs
+  HasPairRoom n a = HasRoom n a.pairs
 
   -- one more request that waits
   abbrev pub HasQueueRoom : Agent H P → Type 0
@@ -42,7 +38,7 @@ module _ {H P : Type 0} where
 
   -- one more candidate of the peer's, and so many pairs
   abbrev pub HasFormingRoom : ℕ → Agent H P → Type 0
-  HasFormingRoom pairs a = (vec_len a.remote < vec_capacity a.remote) × (vec_len a.pairs + pairs ≤ vec_capacity a.pairs)
+  HasFormingRoom pairs a = (vec_len a.remote < vec_capacity a.remote) × HasRoom pairs a.pairs
 
   -- where the peer is known, the user name of a check
   abbrev pub HasUsername : Agent H P → Type 0
@@ -55,7 +51,6 @@ module _ {H P : Type 0} where
   abbrev pub IsPrepared : Agent H P → Type 0
   IsPrepared a = HasUsername a × HasContents a
 
-  -- one more packet, one more check of any pair, whose number is its own, and what the packet says
+  -- one more packet, one more check of any pair, and what the packet says
   abbrev pub HasCheckRoom : Agent H P → Type 0
-  HasCheckRoom a =
-      HasPacketRoom a × KeepFewer (deque_capacity a.spare) a.pairs.items × AreRising a.pairs.items × (a.lite ≡ false → IsPrepared a)
+  HasCheckRoom a = HasPacketRoom a × checklists.HasCheckRoom a.pairs × (a.lite ≡ false → IsPrepared a)

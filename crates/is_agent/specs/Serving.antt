@@ -24,7 +24,7 @@ use Rattle.is_agent.specs.declared.told.Told.{Told}
 use Rattle.is_agent.specs.Told.{nothing_told, issued_as, issued_alone, told_by, turned}
 use Rattle.is_agent.specs.Request.{RequestRecord}
 use Rattle.is_agent.specs.Agent.{AgentRecord}
-use Rattle.is_agent.specs.Pairs.{change_pair, is_valid_at, IsPairBetween}
+use Rattle.is_pair.specs.Bag.{change_pair, is_valid_at, IsPairBetween}
 use Rattle.is_agent.specs.Places.{local_place, IsRemotePlace, remote_index}
 use Rattle.is_agent.specs.Forming.{formed, with_pair}
 use Rattle.is_agent.specs.Queue.{queued}

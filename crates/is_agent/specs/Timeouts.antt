@@ -1,11 +1,11 @@
 -- What a moment brings: the state, a queued request, nomination, pairs given up, and a check.
-use Rattle.std.specs.Prelude.{◌≡◌, ℕ, Bool, not, List, [], ◌∷◌, ◌++◌, Option, Some, None, MatchBool, MatchOption, Result, Ok, Err, if◌then◌else◌}
+use Rattle.std.specs.Prelude.{◌≡◌, ℕ, Bool, List, [], ◌∷◌, ◌++◌, Option, Some, None, MatchBool, MatchOption, Result, Ok, Err, if◌then◌else◌}
 use Rattle.std.specs.List.{list_any}
 use Rattle.rand_core.specs.Stream.{Stream}
 use Rattle.is_proto.specs.declared.error.IceError.{IceError}
 use Rattle.is_proto.specs.declared.error.IceError.TheVariants.{OutOfMemory}
-use Rattle.is_pair.specs.Pairs.{PairRecord, is_lite_alive}
-use Rattle.is_pair.specs.Due.{is_possible}
+use Rattle.is_pair.specs.Pairs.{PairRecord}
+use Rattle.is_pair.specs.Due as due
 use Rattle.is_agent.specs.declared.event.IceAgentEvent.TheVariants.{IceRestart}
 use Rattle.is_agent.specs.declared.event.IceConnectionState.TheVariants.{New}
 use Rattle.is_agent.specs.declared.told.Issued.{Issued}
@@ -13,7 +13,7 @@ use Rattle.is_agent.specs.declared.told.Path.{Path}
 use Rattle.is_agent.specs.declared.told.Told.{Told}
 use Rattle.is_agent.specs.Request.{RequestRecord}
 use Rattle.is_agent.specs.Told.{nothing_told, told_by}
-use Rattle.is_agent.specs.Pairs.{without}
+use Rattle.is_pair.specs.Bag.{without}
 use Rattle.is_agent.specs.Agent.{AgentRecord}
 use Rattle.is_agent.specs.Nominating.{Nominates}
 use Rattle.is_agent.specs.States.{same_state, evaluated}
@@ -36,7 +36,7 @@ module _ {H P : Type 0} where
 
   -- consent is lost (RFC 7675); under lite the peer was not heard of
   abbrev pub is_given_up : ℕ → AgentRecord H P → PairRecord → Bool
-  is_given_up now a p = if a.lite then not (is_lite_alive now p) else not (is_possible now a.timing p)
+  is_given_up now a p = due.is_given_up a.lite now a.timing p
 
   abbrev pub given_up_gone : ℕ → AgentRecord H P → AgentRecord H P
   given_up_gone now a = record a { pairs = without (is_given_up now a) a.pairs }

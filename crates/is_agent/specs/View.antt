@@ -2,6 +2,7 @@
 use Rattle.std.specs.Prelude.{map, option_map, Result, Ok, Err}
 use Rattle.is_proto.specs.declared.error.IceError.{IceError}
 use Rattle.is_proto.specs.Packets.{packet_of}
+use Rattle.is_pair.specs.Checklists.{bag_of}
 use Rattle.is_agent.specs.declared.agent.Agent as code
 use Rattle.is_agent.specs.declared.told.Told.{Told}
 use Rattle.is_agent.specs.RequestView.{waiting_view}
@@ -23,7 +24,7 @@ record_of a = record {
   tie_breaker = a.tie_breaker;
   local = a.local.items;
   remote = a.remote.items;
-  pairs = a.pairs.items;
+  pairs = bag_of a.pairs;
   next_number = a.next_number;
   announced = a.announced;
   queue = map waiting_view a.queue.items;

@@ -101,7 +101,7 @@ impl<H: Sha1HmacProvider + Drop, P: LocalPreference> Agent<H, P> {
         match message.class() {
             Class::Request => self.accepts_request(message),
             Class::Success | Class::Failure => {
-                self.awaited_place(&way_of(packet), message).is_some()
+                self.awaited_pair(&way_of(packet), message).is_some()
             }
             _ => false,
         }
@@ -209,10 +209,10 @@ impl<H: Sha1HmacProvider + Drop, P: LocalPreference> Agent<H, P> {
         ensures room { IfOk result (λ taken. IfSome taken (λ _. HasNewsRoom 1 self.new)) }
     {
         let way = way_of(packet);
-        let Some(place) = self.awaited_place(&way, &packet.message) else {
+        let Some(number) = self.awaited_pair(&way, &packet.message) else {
             return Ok(None);
         };
-        let told = self.take_success(place, now, &way, &packet.message)?;
+        let told = self.take_success(number, now, &way, &packet.message)?;
         Ok(Some(told))
     }
 
@@ -221,11 +221,11 @@ impl<H: Sha1HmacProvider + Drop, P: LocalPreference> Agent<H, P> {
         ensures room { IfOk result (λ taken. IfSome taken (λ _. HasNewsRoom 1 self.new)) }
     {
         let way = way_of(packet);
-        let Some(place) = self.awaited_place(&way, &packet.message) else {
+        let Some(number) = self.awaited_pair(&way, &packet.message) else {
             return Ok(None);
         };
         self.take_source_room()?;
-        self.take_failure(place, &way, &packet.message);
+        self.take_failure(number, &way, &packet.message);
         Ok(Some(Told::nothing()))
     }
 }

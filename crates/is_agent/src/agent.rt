@@ -1,15 +1,17 @@
 //! The agent, and how it is made.
 
-ghost use Rattle.std.specs.Prelude.{◌≡◌, ◌<◌, false, IfOk};
+ghost use Rattle.std.specs.Prelude.{◌≡◌, ◌<◌, true, false, IfOk};
 ghost use Rattle.is_agent.specs.Fitting.{are_too_long};
 ghost use Rattle.is_agent.specs.Kept.{NoneTooHigh};
+ghost use Rattle.is_pair.specs.Bag.{are_below};
+ghost use Rattle.is_pair.specs.Checklists.{bag_of};
 
 use crate::credentials::{IceCreds, are_too_long};
 use crate::event::{IceAgentEvent, IceAgentStats, IceConnectionState};
 use crate::request::Waiting;
 use crate::told::Told;
 use is_candidate::{Candidate, LocalPreference};
-use is_pair::pair::{BindingAttempt, CandidatePair};
+use is_pair::checklist::Checklist;
 use is_proto::{
     DefaultSha1HmacProvider, Duration, IceError, Instant, Protocol, Sha1HmacProvider, Transmit,
 };
@@ -58,10 +60,7 @@ pub struct Agent<H, P> {
     pub(crate) tie_breaker: u64,
     pub(crate) local: Vec<Candidate>,
     pub(crate) remote: Vec<Candidate>,
-    /// The checklist (RFC 8445, section 6.1.2), in the order of the pairs' numbers.
-    pub(crate) pairs: Vec<CandidatePair>,
-    /// What a pair whose checks have no room changes its own for.
-    pub(crate) spare: VecDeque<BindingAttempt>,
+    pub(crate) pairs: Checklist,
     /// The user name of the next check, written anew at each moment.
     pub(crate) username: String,
     /// The bytes that the next check is written to.
@@ -87,6 +86,8 @@ pub struct Agent<H, P> {
     ghost none_too_high: { NoneTooHigh local.items },
     // a pair keeps a check at least
     ghost retransmits: { 0 < timing.max_retransmits },
+    // the next number is no pair's
+    ghost numbered: { are_below next_number (bag_of pairs) ≡ true },
 }
 
 impl<P: LocalPreference> Agent<DefaultSha1HmacProvider, P> {
@@ -140,8 +141,7 @@ impl<H: Sha1HmacProvider + Drop, P: LocalPreference> Agent<H, P> {
             tie_breaker,
             local: Vec::new(alloc),
             remote: Vec::new(alloc),
-            pairs: Vec::new(alloc),
-            spare: VecDeque::new(alloc),
+            pairs: Checklist::new(alloc),
             username: String::new(alloc),
             contents: Vec::new(alloc),
             next_number: 0,

@@ -1,28 +1,34 @@
 //! Answers to the agent's checks (RFC 8445, section 7.2.5). They count only on the path that their check went.
 
-ghost use Rattle.std.specs.Prelude.{◌≡◌, ◌<◌, ◌↔◌, IsTrue, IsSomeAnd, IfOk, IfErr, IfSome, IfNone, OnOk, true, is_some, length, position, slice_set, vec_len, vec_capacity};
+ghost use Rattle.std.specs.Prelude.{◌≡◌, ◌<◌, ◌↔◌, IsTrue, IsSomeAnd, IfOk, IfErr, IfSome, IfNone, OnOk, true, is_some, vec_len, vec_capacity};
 ghost use Rattle.std.specs.List.{list_any};
 ghost use Rattle.is_candidate.specs.Priorities.{candidate_priority};
-ghost use Rattle.is_pair.specs.Checks.{Check, is_kept};
-ghost use Rattle.is_pair.specs.Pairs.{PairRecord, TakesAnswer};
+ghost use Rattle.is_pair.specs.Checks.{is_kept};
+ghost use Rattle.is_pair.specs.Pairs.{PairRecord};
+ghost use Rattle.is_pair.specs.Bag.{is_keeper, keeps, keeps_check, pair_numbered};
+ghost use Rattle.is_pair.specs.Checklists.{bag_of};
+ghost use Rattle.is_agent.specs.FormingView.{sides_view};
+ghost use Rattle.is_agent.specs.Nominating.{path_in};
 ghost use Rattle.is_stun.specs.Integrity.{IsSignedBy};
 ghost use Rattle.is_stun.specs.MessageView.{message_view};
-ghost use Rattle.is_proto.specs.Lists.{Has, same};
 ghost use Rattle.is_agent.specs.Told.{nothing_told};
 ghost use Rattle.is_agent.specs.View.{record_of};
 ghost use Rattle.is_agent.specs.Kept.{TOO_HIGH, NoneTooHigh};
 ghost use Rattle.is_agent.specs.Room.{HasNewsRoom};
-ghost use Rattle.is_agent.specs.Due.{pair_at};
+ghost use Rattle.is_agent.specs.Due.{KeepsCheckOn, IsRecorded, IsSentUnder};
 ghost use Rattle.is_agent.specs.Accepting.{IsAwaited};
-ghost use Rattle.is_agent.specs.Answers.{is_known_address, is_role_conflict, keeps_check, keeps_check_on, goes_back, joined_by, local_with, mapped_candidate, success_counted, Concludes, GivesUpRole, TakesSuccess, TakesFailure};
+ghost use Rattle.is_agent.specs.Answers.{is_known_address, is_role_conflict, keeps_check_on, goes_back, joined_by, local_with, mapped_candidate, success_counted, Concludes, GivesUpRole, TakesSuccess, TakesFailure};
 
 use crate::agent::Agent;
 use crate::local::append;
+use crate::nomination::path_in;
 use crate::places::{base_at, check_priority_at, proto_at};
+use crate::sides::Sides;
 use crate::told::{Path, Told};
 use is_candidate::candidate::address::same_address;
 use is_candidate::candidate::making::peer_reflexive;
 use is_candidate::{Candidate, LocalPreference};
+use is_pair::checklist::{Checklist, PairTest};
 use is_pair::pair::CandidatePair;
 use is_proto::{Instant, Sha1HmacProvider};
 use is_stun::stun::{StunMessage, TransId};
@@ -32,27 +38,27 @@ use std::net::SocketAddr;
 /// The code of a role conflict (RFC 8445, section 7.3.1.1).
 const ROLE_CONFLICT: u16 = 487;
 
-/// The pair at a place.
-fn pair_at(pairs: &[CandidatePair], place: usize) -> &CandidatePair
-    requires { place < length pairs.now }
-    ensures { result.now ≡ pair_at pairs.now place }
-{
-    &pairs[place]
-}
-
 // ---- which answers are awaited
 
-fn keeps_check(pair: &CandidatePair, id: TransId) -> bool
-    ensures { result ≡ keeps_check id.0 pair.now }
-{
-    pair.binding_attempt(id).is_some()
+/// Any pair passes.
+#[derive(Clone, Copy)]
+struct Any;
+
+impl PairTest for Any {
+    ghost use Rattle.std.specs.Prelude.{true};
+
+    ghost passes = { λ t p. true };
+
+    fn passes(&self, _pair: &CandidatePair) -> bool {
+        true
+    }
 }
 
 /// A pair keeps a check of the id.
-pub(crate) fn keeps_any(pairs: &[CandidatePair], id: TransId) -> bool
-    ensures { result ≡ list_any (keeps_check id.0) pairs.now }
+pub(crate) fn keeps_any(pairs: &Checklist, id: TransId) -> bool
+    ensures { result ≡ list_any (keeps_check id.0) (bag_of pairs.now) }
 {
-    pairs.iter().any(|pair| keeps_check(pair, id))
+    pairs.has_keeper(id, &Any)
 }
 
 /// A packet that went the first way goes back on this path. Protocols are not compared.
@@ -62,32 +68,50 @@ fn goes_back(way: &Path, path: &Path) -> bool
     same_address(way.source, path.destination) && same_address(way.destination, path.source)
 }
 
+/// Whether a packet came back on a pair's path.
+#[derive(Clone, Copy)]
+struct GoesBack<'a> {
+    sides: Sides<'a>,
+    way: &'a Path,
+}
+
+impl PairTest for GoesBack<'_> {
+    ghost use Rattle.is_agent.specs.Answers.{goes_back};
+    ghost use Rattle.is_agent.specs.FormingView.{sides_view};
+    ghost use Rattle.is_agent.specs.Nominating.{path_in};
+
+    ghost passes = { λ t p. goes_back t.way.now (path_in (sides_view t.sides) p) };
+
+    fn passes(&self, pair: &CandidatePair) -> bool {
+        goes_back(self.way, &path_in(self.sides, pair))
+    }
+}
+
+/// The number of a pair that keeps a check of the id and on whose path the packet came back.
+fn keeper_on(pairs: &Checklist, sides: Sides<'_>, way: &Path, id: TransId) -> Option<u64>
+    ensures any { list_any (is_keeper id.0 (λ p. goes_back way.now (path_in (sides_view sides.entry) p))) (bag_of pairs.now) ≡ is_some result }
+    ensures kept { IfSome result (λ number. (p : PairRecord) × (pair_numbered number (bag_of pairs.now) ≡ Some p) × (is_keeper id.0 (λ p. goes_back way.now (path_in (sides_view sides.entry) p)) p ≡ true)) }
+{
+    pairs.numbers_rise();
+    match pairs.keeper(id, &GoesBack { sides, way }) {
+        Some(pair) => Some(pair.id().0),
+        None => None,
+    }
+}
+
 impl<H: Sha1HmacProvider + Drop, P: LocalPreference> Agent<H, P> {
-    /// The pair keeps a check of the id, and the packet came back on its path.
-    fn keeps_check_on(&self, way: &Path, id: TransId, pair: &CandidatePair) -> bool
-        ensures { result ≡ keeps_check_on (record_of self.now) way.now id.0 pair.now }
+    /// The number of such a pair, where there is one.
+    fn keeper_on(&self, way: &Path, id: TransId) -> Option<u64>
+        ensures any { list_any (keeps_check_on (record_of self.now) way.now id.0) (record_of self.now).pairs ≡ is_some result }
+        ensures kept { IfSome result (λ number. KeepsCheckOn (record_of self.now) way.now id.0 number) }
     {
-        keeps_check(pair, id) && goes_back(way, &self.path_of(pair))
-    }
-
-    /// The place of the first such pair.
-    fn first_on(&self, way: &Path, id: TransId) -> Option<usize>
-        ensures place { result ≡ position (keeps_check_on (record_of self.now) way.now id.0) self.now.pairs.items }
-        ensures within { IfSome result (λ place. place < length self.now.pairs.items) }
-        ensures kept { IfSome result (λ place. keeps_check_on (record_of self.now) way.now id.0 (pair_at self.now.pairs.items place) ≡ true) }
-    {
-        self.pairs
-            .iter()
-            .position(|pair| self.keeps_check_on(way, id, pair))
-    }
-
-    /// The place of such a pair, where there is one.
-    fn place_on(&self, way: &Path, id: TransId) -> Option<usize>
-        ensures any { list_any (keeps_check_on (record_of self.now) way.now id.0) self.now.pairs.items ≡ is_some result }
-        ensures within { IfSome result (λ place. place < length self.now.pairs.items) }
-        ensures kept { IfSome result (λ place. keeps_check_on (record_of self.now) way.now id.0 (pair_at self.now.pairs.items place) ≡ true) }
-    {
-        self.first_on(way, id)
+        let sides = Sides {
+            local: &self.local,
+            remote: &self.remote,
+            controlling: self.controlling,
+            lite: self.lite,
+        };
+        keeper_on(&self.pairs, sides, way, id)
     }
 
     /// The message is signed with the peer's password.
@@ -100,17 +124,16 @@ impl<H: Sha1HmacProvider + Drop, P: LocalPreference> Agent<H, P> {
         }
     }
 
-    /// The place of the pair that the answer is for: it keeps a check of its id, the answer came back on its path, and
+    /// The number of the pair that the answer is for: it keeps a check of its id, the answer came back on its path, and
     /// the peer signed it.
-    pub(crate) fn awaited_place(&self, way: &Path, message: &StunMessage<'_>) -> Option<usize>
-        ensures awaited { IfSome result (λ place. IsAwaited H.mac (keeps_check_on (record_of self.now) way.now (message_view message.now).id) (record_of self.now) (message_view message.now)) }
+    pub(crate) fn awaited_pair(&self, way: &Path, message: &StunMessage<'_>) -> Option<u64>
+        ensures awaited { IfSome result (λ _. IsAwaited H.mac (keeps_check_on (record_of self.now) way.now (message_view message.now).id) (record_of self.now) (message_view message.now)) }
         ensures foreign { IfNone result (¬ IsAwaited H.mac (keeps_check_on (record_of self.now) way.now (message_view message.now).id) (record_of self.now) (message_view message.now)) }
-        ensures within { IfSome result (λ place. place < length self.now.pairs.items) }
-        ensures kept { IfSome result (λ place. keeps_check_on (record_of self.now) way.now (message_view message.now).id (pair_at self.now.pairs.items place) ≡ true) }
+        ensures kept { IfSome result (λ number. KeepsCheckOn (record_of self.now) way.now (message_view message.now).id number) }
     {
-        let place = self.place_on(way, message.trans_id())?;
+        let number = self.keeper_on(way, message.trans_id())?;
         if self.is_by_peer(message) {
-            Some(place)
+            Some(number)
         } else {
             None
         }
@@ -124,15 +147,6 @@ fn is_known_address(local: &[Candidate], address: SocketAddr) -> bool
     ensures { result ≡ is_known_address local.now address }
 {
     local.iter().any(|c| same_address(c.addr(), address))
-}
-
-/// The pair at the place takes the answer.
-fn answer_at(pairs: &mut Vec<CandidatePair>, place: usize, now: Instant, id: TransId)
-    requires within { place < length pairs.old.items }
-    requires kept { IsTrue (is_kept id.0 (pair_at pairs.old.items place).checks) }
-    ensures answers { (after : PairRecord) × TakesAnswer (pair_at pairs.old.items place) now.0 id.0 after × (pairs.new.items ≡ slice_set pairs.old.items place after) }
-{
-    pairs[place].record_binding_response(now, id, 0);
 }
 
 /// Appends the candidate, where there is one, within the room that there is.
@@ -149,14 +163,22 @@ fn join(local: &mut Vec<Candidate>, mapped: Option<Candidate>)
 }
 
 impl<H: Sha1HmacProvider + Drop, P: LocalPreference> Agent<H, P> {
-    /// The candidate that an unknown mapped address becomes: of the pair's protocol and base, with the priority that its
-    /// checks name (RFC 8445, section 7.2.5.3.1).
-    fn mapped_candidate(&self, place: usize, mapped: SocketAddr) -> Result<Candidate, AllocError>
-        requires { place < length self.now.pairs.items }
-        ensures made { IfOk result (λ c. c ≡ mapped_candidate (record_of self.now) (pair_at self.now.pairs.items place) mapped) }
+    /// The place of the local candidate of the pair of the number.
+    fn local_place_of(&self, number: u64) -> usize
+        ensures { IfSome (pair_numbered number (record_of self.now).pairs) (λ p. result ≡ p.local) }
+    {
+        match self.pairs.get(number) {
+            Some(pair) => pair.local_idx(),
+            None => 0,
+        }
+    }
+
+    /// The candidate that an unknown mapped address becomes: of the protocol and the base of the pair's local candidate,
+    /// which stands at this place, with the priority that its checks name (RFC 8445, section 7.2.5.3.1).
+    fn mapped_candidate(&self, l: usize, mapped: SocketAddr) -> Result<Candidate, AllocError>
+        ensures made { (p : PairRecord) → l ≡ p.local → IfOk result (λ c. c ≡ mapped_candidate (record_of self.now) p mapped) }
         ensures low { IfOk result (λ c. candidate_priority c < TOO_HIGH) }
     {
-        let l = self.pairs[place].local_idx();
         let ufrag = self.local_creds.ufrag.clone()?;
         Ok(peer_reflexive(
             None,
@@ -169,13 +191,8 @@ impl<H: Sha1HmacProvider + Drop, P: LocalPreference> Agent<H, P> {
     }
 
     /// The candidate that the mapped address adds, where no local candidate has it.
-    fn learnt(
-        &self,
-        place: usize,
-        mapped: Option<SocketAddr>,
-    ) -> Result<Option<Candidate>, AllocError>
-        requires { place < length self.now.pairs.items }
-        ensures learnt { IfOk result (λ c. joined_by c self.now.local.items ≡ local_with (pair_at self.now.pairs.items place) mapped (success_counted (record_of self.now))) }
+    fn learnt(&self, l: usize, mapped: Option<SocketAddr>) -> Result<Option<Candidate>, AllocError>
+        ensures learnt { (p : PairRecord) → l ≡ p.local → IfOk result (λ c. joined_by c self.now.local.items ≡ local_with p mapped (success_counted (record_of self.now))) }
         ensures low { IfOk result (λ c. IfSome c (λ c. candidate_priority c < TOO_HIGH)) }
     {
         let Some(mapped) = mapped else {
@@ -184,7 +201,7 @@ impl<H: Sha1HmacProvider + Drop, P: LocalPreference> Agent<H, P> {
         if is_known_address(&self.local, mapped) {
             return Ok(None);
         }
-        Ok(Some(self.mapped_candidate(place, mapped)?))
+        Ok(Some(self.mapped_candidate(l, mapped)?))
     }
 
     /// Makes room for what a success can add: a local candidate, a source, and three events.
@@ -199,17 +216,16 @@ impl<H: Sha1HmacProvider + Drop, P: LocalPreference> Agent<H, P> {
         Ok(())
     }
 
-    /// The pair at the place takes the answer, which counts, and the candidate is learnt.
-    fn record(&mut self, place: usize, now: Instant, id: TransId, mapped: Option<Candidate>)
-        requires within { place < length self.old.pairs.items }
-        requires kept { IsTrue (is_kept id.0 (pair_at self.old.pairs.items place).checks) }
+    /// The pair of the number takes the answer, which counts, and the candidate is learnt.
+    fn record(&mut self, number: u64, now: Instant, id: TransId, mapped: Option<Candidate>)
+        requires kept { keeps id.0 number (record_of self.old).pairs ≡ true }
         requires low { IfSome mapped (λ c. candidate_priority c < TOO_HIGH) }
         requires local { vec_len self.old.local < vec_capacity self.old.local }
         requires news { HasNewsRoom 3 self.old }
-        ensures records { (after : PairRecord) × TakesAnswer (pair_at self.old.pairs.items place) now.0 id.0 after × (record_of self.new ≡ record (success_counted (record_of self.old)) { local = joined_by mapped self.old.local.items; pairs = slice_set self.old.pairs.items place after }) }
+        ensures records { IsRecorded number now.0 id.0 (joined_by mapped self.old.local.items) (record_of self.old) (record_of self.new) }
         ensures news { HasNewsRoom 3 self.new }
     {
-        answer_at(&mut self.pairs, place, now, id);
+        self.pairs.record_binding_response(number, now, id);
         join(&mut self.local, mapped);
         self.stats.bind_success_recv = self.stats.bind_success_recv.saturating_add(1);
     }
@@ -225,23 +241,24 @@ impl<H: Sha1HmacProvider + Drop, P: LocalPreference> Agent<H, P> {
         Told::announced_alone(path)
     }
 
-    /// The pair at the place takes the success, the mapped address is learnt, and nomination and state are evaluated.
+    /// The pair of the number takes the success, the mapped address is learnt, and nomination and state are evaluated.
     pub(crate) fn take_success(
         &mut self,
-        place: usize,
+        number: u64,
         now: Instant,
         way: &Path,
         message: &StunMessage<'_>,
     ) -> Result<Told, AllocError>
-        requires within { place < length self.old.pairs.items }
-        requires kept { keeps_check_on (record_of self.old) way.now (message_view message.now).id (pair_at self.old.pairs.items place) ≡ true }
+        requires kept { KeepsCheckOn (record_of self.old) way.now (message_view message.now).id number }
         ensures taken { IfOk result (λ told. TakesSuccess now.0 (record_of self.old) way.now (message_view message.now) told (record_of self.new)) }
         ensures room { OnOk result (HasNewsRoom 1 self.new) }
         ensures refused { IfErr result (λ _. record_of self.new ≡ record_of self.old) }
     {
-        let mapped = self.learnt(place, message.mapped_address())?;
+        self.pairs.numbers_rise();
+        let l = self.local_place_of(number);
+        let mapped = self.learnt(l, message.mapped_address())?;
         self.take_success_room()?;
-        self.record(place, now, message.trans_id(), mapped);
+        self.record(number, now, message.trans_id(), mapped);
         Ok(self.conclude(now))
     }
 }
@@ -261,7 +278,7 @@ fn is_role_conflict(message: &StunMessage<'_>) -> bool
 /// The pair's check of the id was sent under this role.
 fn is_of_role(pair: &CandidatePair, id: TransId, controlling: bool) -> bool
     requires kept { IsTrue (is_kept id.0 pair.now.checks) }
-    ensures { (c : Check) × Has pair.now.checks c × (c.id ≡ id.0) × (result ≡ same c.controlling controlling) }
+    ensures { IsSentUnder pair.now id.0 controlling result }
 {
     match pair.binding_attempt(id) {
         Some(check) => check.controlling() == controlling,
@@ -270,35 +287,39 @@ fn is_of_role(pair: &CandidatePair, id: TransId, controlling: bool) -> bool
 }
 
 impl<H: Sha1HmacProvider + Drop, P: LocalPreference> Agent<H, P> {
-    /// The role switches where the check of the pair at the place was sent under the present one (RFC 8445,
+    /// The pair of the number keeps a check of the id that was sent under the present role.
+    fn is_of_present_role(&self, number: u64, id: TransId) -> bool
+        requires kept { IfSome (pair_numbered number (record_of self.now).pairs) (λ p. IsTrue (is_kept id.0 p.checks)) }
+        ensures { IfSome (pair_numbered number (record_of self.now).pairs) (λ p. IsSentUnder p id.0 self.now.controlling result) }
+    {
+        match self.pairs.get(number) {
+            Some(pair) => is_of_role(pair, id, self.controlling),
+            None => false,
+        }
+    }
+
+    /// The role switches where the check of the pair of the number was sent under the present one (RFC 8445,
     /// section 7.2.5.1).
-    fn give_up_role(&mut self, place: usize, way: &Path, message: &StunMessage<'_>)
-        requires within { place < length self.old.pairs.items }
-        requires kept { keeps_check_on (record_of self.old) way.now (message_view message.now).id (pair_at self.old.pairs.items place) ≡ true }
+    fn give_up_role(&mut self, number: u64, way: &Path, message: &StunMessage<'_>)
+        requires kept { KeepsCheckOn (record_of self.old) way.now (message_view message.now).id number }
         requires room { HasNewsRoom 1 self.old }
         ensures gives_up { GivesUpRole (record_of self.old) way.now (message_view message.now) nothing_told (record_of self.new) }
         ensures room { HasNewsRoom 1 self.new }
     {
-        let present = is_of_role(
-            pair_at(&self.pairs, place),
-            message.trans_id(),
-            self.controlling,
-        );
-        if present {
+        if self.is_of_present_role(number, message.trans_id()) {
             self.switch_role();
         }
     }
 
     /// A failure of code 487 may switch the role, and any other does nothing.
-    pub(crate) fn take_failure(&mut self, place: usize, way: &Path, message: &StunMessage<'_>)
-        requires within { place < length self.old.pairs.items }
-        requires kept { keeps_check_on (record_of self.old) way.now (message_view message.now).id (pair_at self.old.pairs.items place) ≡ true }
+    pub(crate) fn take_failure(&mut self, number: u64, way: &Path, message: &StunMessage<'_>)
+        requires kept { KeepsCheckOn (record_of self.old) way.now (message_view message.now).id number }
         requires room { HasNewsRoom 1 self.old }
         ensures taken { TakesFailure (record_of self.old) way.now (message_view message.now) nothing_told (record_of self.new) }
         ensures room { HasNewsRoom 1 self.new }
     {
         if is_role_conflict(message) {
-            self.give_up_role(place, way, message);
+            self.give_up_role(number, way, message);
         }
     }
 }

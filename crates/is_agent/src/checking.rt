@@ -1,13 +1,13 @@
 //! What a check of the agent's own says, and where it goes (RFC 8445, section 7.2).
 
-ghost use Rattle.std.specs.Prelude.{◌≡◌, ◌<◌, Some, OnOk, IfSome, length, string_bytes};
+ghost use Rattle.std.specs.Prelude.{◌≡◌, Some, OnOk, IfSome, length, string_bytes};
 ghost use Rattle.is_stun.specs.Laws.{IsPut};
 ghost use Rattle.is_stun.specs.Writing.{written};
 ghost use Rattle.is_pair.specs.Pairs.{PairRecord};
 ghost use Rattle.is_agent.specs.declared.credentials.IceCreds as model;
 ghost use Rattle.is_agent.specs.Fitting.{MTU_FLOOR};
 ghost use Rattle.is_agent.specs.View.{record_of};
-ghost use Rattle.is_agent.specs.Due.{pair_at, Drafts};
+ghost use Rattle.is_agent.specs.Due.{Drafts};
 ghost use Rattle.is_agent.specs.Room.{HasUsername};
 ghost use Rattle.is_agent.specs.Sending.{path_between};
 ghost use Rattle.is_agent.specs.Checking.{username_between, check_message};
@@ -64,12 +64,10 @@ impl<H: Sha1HmacProvider + Drop, P: LocalPreference> Agent<H, P> {
         self.path_between(pair.local_idx(), pair.remote_idx())
     }
 
-    /// What a check of the pair at the place says.
-    pub(crate) fn draft(&self, place: usize) -> Draft
-        requires { place < length self.now.pairs.items }
-        ensures { Drafts (record_of self.now) (pair_at self.now.pairs.items place) result }
+    /// What a check of the pair says.
+    pub(crate) fn draft(&self, pair: &CandidatePair) -> Draft
+        ensures { Drafts (record_of self.now) pair.now result }
     {
-        let pair = &self.pairs[place];
         Draft {
             path: self.path_of(pair),
             priority: check_priority_at(&self.local, pair.local_idx()),

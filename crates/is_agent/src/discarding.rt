@@ -1,17 +1,18 @@
 //! Candidates that go. A discarded one keeps its place, and its pairs go.
 
-ghost use Rattle.std.specs.Prelude.{◌≡◌, ◌≤◌, ◌<◌, ◌+◌, filter, length, position, IfSome, vec_len, vec_capacity};
+ghost use Rattle.std.specs.Prelude.{◌≡◌, ℕ, ◌<◌, length, position, IfSome, vec_len, vec_capacity};
 ghost use Rattle.is_candidate.specs.Equality.{is_equivalent};
 ghost use Rattle.is_agent.specs.Kept.{NoneTooHigh};
 ghost use Rattle.is_agent.specs.View.{record_of};
-ghost use Rattle.is_agent.specs.Room.{HasLocalRoom};
-ghost use Rattle.is_agent.specs.Discarding.{discarded, change_place, is_local_elsewhere, is_remote_elsewhere, live_at, place_to_discard, local_discarded, remote_discarded, Invalidates};
+ghost use Rattle.is_pair.specs.Checklists.{HasRoom};
+ghost use Rattle.is_agent.specs.Discarding.{discarded, change_place, live_at, place_to_discard, local_discarded, remote_discarded, Invalidates};
 
 use crate::agent::Agent;
 use crate::places::candidate_at;
 use is_candidate::candidate::equality::is_equivalent;
 use is_candidate::candidate::internals::{discard, is_discarded};
 use is_candidate::{Candidate, LocalPreference};
+use is_pair::checklist::PairTest;
 use is_pair::pair::CandidatePair;
 use is_proto::Sha1HmacProvider;
 
@@ -26,20 +27,36 @@ fn discard_at(candidates: &mut Vec<Candidate>, place: usize)
     discard(&mut candidates[place]);
 }
 
-/// The pairs of the local candidate at the place go.
-fn drop_local(pairs: &mut Vec<CandidatePair>, place: usize)
-    ensures items { pairs.new.items ≡ filter (is_local_elsewhere place) pairs.old.items }
-    ensures bound { vec_len pairs.new ≤ vec_len pairs.old }
-    ensures capacity { vec_capacity pairs.new ≡ vec_capacity pairs.old }
-{
-    pairs.retain(|pair| pair.local_idx() != place);
+/// Whether a pair is of the local candidate at a place.
+#[derive(Clone, Copy)]
+struct LocalAt {
+    place: usize,
 }
 
-/// The pairs of the remote candidate at the place go.
-fn drop_remote(pairs: &mut Vec<CandidatePair>, place: usize)
-    ensures { pairs.new.items ≡ filter (is_remote_elsewhere place) pairs.old.items }
-{
-    pairs.retain(|pair| pair.remote_idx() != place);
+impl PairTest for LocalAt {
+    ghost use Rattle.is_agent.specs.Discarding.{is_local_at};
+
+    ghost passes = { λ t p. is_local_at t.place p };
+
+    fn passes(&self, pair: &CandidatePair) -> bool {
+        pair.local_idx() == self.place
+    }
+}
+
+/// Whether a pair is of the remote candidate at a place.
+#[derive(Clone, Copy)]
+struct RemoteAt {
+    place: usize,
+}
+
+impl PairTest for RemoteAt {
+    ghost use Rattle.is_agent.specs.Discarding.{is_remote_at};
+
+    ghost passes = { λ t p. is_remote_at t.place p };
+
+    fn passes(&self, pair: &CandidatePair) -> bool {
+        pair.remote_idx() == self.place
+    }
 }
 
 fn position_of(candidates: &[Candidate], candidate: &Candidate) -> Option<usize>
@@ -75,11 +92,10 @@ impl<H: Sha1HmacProvider + Drop, P: LocalPreference> Agent<H, P> {
         ensures discarded { record_of self.new ≡ local_discarded place (record_of self.old) }
         ensures local { vec_len self.new.local ≡ vec_len self.old.local }
         ensures local_capacity { vec_capacity self.new.local ≡ vec_capacity self.old.local }
-        ensures pairs { vec_len self.new.pairs ≤ vec_len self.old.pairs }
-        ensures pairs_capacity { vec_capacity self.new.pairs ≡ vec_capacity self.old.pairs }
+        ensures pairs { (n : ℕ) → HasRoom n self.old.pairs → HasRoom n self.new.pairs }
     {
         discard_at(&mut self.local, place);
-        drop_local(&mut self.pairs, place);
+        self.pairs.remove_where(&LocalAt { place });
     }
 
     fn discard_remote(&mut self, place: usize)
@@ -87,7 +103,7 @@ impl<H: Sha1HmacProvider + Drop, P: LocalPreference> Agent<H, P> {
         ensures { record_of self.new ≡ remote_discarded place (record_of self.old) }
     {
         discard_at(&mut self.remote, place);
-        drop_remote(&mut self.pairs, place);
+        self.pairs.remove_where(&RemoteAt { place });
     }
 
     fn local_to_discard(&self, candidate: &Candidate) -> Option<usize>

@@ -2,26 +2,25 @@
 //!
 //! The combinations are counted and listed, and room for as many pairs is made; what follows can't be refused.
 
-ghost use Rattle.std.specs.Prelude.{◌≡◌, ◌≤◌, ◌<◌, ◌+◌, ◌++◌, ◌∷◌, [], ◌↔◌, IsTrue, IfOk, IfErr, IsOkUnless, OnOk, List, filter, length, map, vec_len, vec_capacity};
+ghost use Rattle.std.specs.Prelude.{◌≡◌, ℕ, ◌≤◌, ◌<◌, ◌+◌, ◌++◌, ◌∷◌, [], ◌↔◌, true, IsTrue, IfOk, filter, length, map};
 ghost use Rattle.std.specs.Option.{option_copied};
 ghost use Rattle.std.specs.List.{flat_map};
-ghost use Rattle.is_proto.specs.declared.error.IceError.TheVariants as errors;
 ghost use Rattle.is_candidate.specs.Candidates.{candidate_at};
-ghost use Rattle.is_pair.specs.Pairs.{PairRecord};
+ghost use Rattle.is_pair.specs.Bag.{are_below, IsGreatest};
+ghost use Rattle.is_pair.specs.Checklists.{bag_of, HasRoom};
 ghost use Rattle.is_agent.specs.Each.{Each};
-ghost use Rattle.is_agent.specs.Pairs.{is_numbered, without, IsGreatest, IsLowest, Evicts};
-ghost use Rattle.is_agent.specs.Forming.{is_alive, is_alive_at, is_partner, is_partner_at, partners, remote_combinations, local_combinations, live_row, live_combinations, is_redundant, combined_priority, pair_of, taking_over, formed_as, Tries, FormsEach, HasNumbers};
+ghost use Rattle.is_agent.specs.Forming.{is_alive, is_alive_at, is_partner, is_partner_at, partners, remote_combinations, local_combinations, live_row, live_combinations, is_redundant, combined_priority, pair_of, formed_as, Tries, FormsEach, HasNumbers};
 ghost use Rattle.is_agent.specs.FormingView.{sides_view};
 ghost use Rattle.is_agent.specs.Cuts.{EvictionCuts};
 
 use crate::places::{address_at, base_at, candidate_at, kind_at, priority_at, proto_at};
 use crate::sides::Sides;
-use crate::tops::{PairTest, top_of};
 use is_candidate::Candidate;
 use is_candidate::candidate::address::{same_address, same_protocol, same_version};
 use is_candidate::candidate::internals::is_discarded;
-use is_pair::copy_remote_binding_requests;
+use is_pair::checklist::{Checklist, PairTest};
 use is_pair::pair::{CandidatePair, PairId};
+use is_pair::take_over;
 use std::alloc::{AllocError, Global};
 
 // ---- one combination
@@ -51,13 +50,13 @@ impl PairTest for Redundant<'_> {
 
 /// The redundant pair of greatest priority.
 fn top_redundant<'a>(
-    pairs: &'a [CandidatePair],
+    pairs: &'a Checklist,
     sides: Sides<'_>,
     at: (usize, usize),
 ) -> Option<&'a CandidatePair>
-    ensures { IsGreatest (is_redundant (sides_view sides.entry) at) pairs.now (option_copied result) }
+    ensures { IsGreatest (is_redundant (sides_view sides.entry) at) (bag_of pairs.now) (option_copied result) }
 {
-    top_of(pairs, &Redundant { sides, at })
+    pairs.greatest(&Redundant { sides, at })
 }
 
 /// The priority of the pair of a combination.
@@ -89,53 +88,39 @@ pub(crate) fn pair_of(
     )
 }
 
-/// The pair of a number goes.
-fn remove(pairs: &mut Vec<CandidatePair>, number: u64)
-    ensures items { pairs.new.items ≡ without (is_numbered number) pairs.old.items }
-    ensures bound { vec_len pairs.new ≤ vec_len pairs.old }
-    ensures capacity { vec_capacity pairs.new ≡ vec_capacity pairs.old }
-{
-    pairs.retain(|pair| pair.id().0 != number);
-}
-
 /// The pair of the next number comes within the room that there is.
-fn add(pairs: &mut Vec<CandidatePair>, next_number: &mut u64, pair: CandidatePair)
-    requires room { vec_len pairs.old < vec_capacity pairs.old }
+fn add(pairs: &mut Checklist, next_number: &mut u64, pair: CandidatePair)
+    requires room { HasRoom 1 pairs.old }
     requires number { next_number.old < 18446744073709551615 }
-    ensures items { pairs.new.items ≡ pairs.old.items ++ pair ∷ [] }
-    ensures len { vec_len pairs.new ≡ vec_len pairs.old + 1 }
-    ensures capacity { vec_capacity pairs.new ≡ vec_capacity pairs.old }
+    requires its { pair.number ≡ next_number.old }
+    requires last { are_below next_number.old (bag_of pairs.old) ≡ true }
+    requires unchecked { pair.checks ≡ [] }
+    ensures added { bag_of pairs.new ≡ bag_of pairs.old ++ pair ∷ [] }
+    ensures room { (n : ℕ) → HasRoom (n + 1) pairs.old → HasRoom n pairs.new }
     ensures next { next_number.new ≡ next_number.old + 1 }
+    ensures below { are_below next_number.new (bag_of pairs.new) ≡ true }
 {
-    pairs.push_reserved(pair);
+    pairs.add(pair);
     *next_number += 1;
-}
-
-/// The new pair takes over the nomination and success of the one that gives way; under lite its requests too.
-fn take_over(pair: &mut CandidatePair, found: &CandidatePair, lite: bool)
-    ensures { pair.new ≡ taking_over lite found.now pair.old }
-{
-    pair.copy_nominated_and_success_state(found);
-    if lite {
-        copy_remote_binding_requests(pair, found);
-    }
 }
 
 /// A combination becomes a pair, against the redundant pair of greatest priority.
 fn try_one(
+    alloc: Global,
     sides: Sides<'_>,
     at: (usize, usize),
-    pairs: &mut Vec<CandidatePair>,
+    pairs: &mut Checklist,
     next_number: &mut u64,
 )
-    requires room { vec_len pairs.old < vec_capacity pairs.old }
+    requires room { HasRoom 1 pairs.old }
     requires number { next_number.old < 18446744073709551615 }
-    ensures tries { Tries (sides_view sides.entry) at (formed_as pairs.old.items next_number.old) (formed_as pairs.new.items next_number.new) }
-    ensures len { vec_len pairs.new ≤ vec_len pairs.old + 1 }
-    ensures capacity { vec_capacity pairs.new ≡ vec_capacity pairs.old }
+    requires last { are_below next_number.old (bag_of pairs.old) ≡ true }
+    ensures tries { Tries (sides_view sides.entry) at (formed_as (bag_of pairs.old) next_number.old) (formed_as (bag_of pairs.new) next_number.new) }
+    ensures room { (n : ℕ) → HasRoom (n + 1) pairs.old → HasRoom n pairs.new }
     ensures next { next_number.new ≤ next_number.old + 1 }
+    ensures below { are_below next_number.new (bag_of pairs.new) ≡ true }
 {
-    let mut pair = pair_of(*pairs.allocator(), sides, at, *next_number);
+    let mut pair = pair_of(alloc, sides, at, *next_number);
     match top_redundant(pairs, sides, at) {
         None => add(pairs, next_number, pair),
         Some(found) => {
@@ -144,7 +129,7 @@ fn try_one(
             }
             let number = found.id().0;
             take_over(&mut pair, found, sides.lite);
-            remove(pairs, number);
+            pairs.remove(number);
             add(pairs, next_number, pair)
         }
     }
@@ -152,64 +137,20 @@ fn try_one(
 
 /// Each combination in turn.
 fn try_each(
+    alloc: Global,
     sides: Sides<'_>,
     all: &[(usize, usize)],
-    pairs: &mut Vec<CandidatePair>,
+    pairs: &mut Checklist,
     next_number: &mut u64,
 )
-    requires room { vec_len pairs.old + length all.now ≤ vec_capacity pairs.old }
+    requires room { HasRoom (length all.now) pairs.old }
     requires numbers { HasNumbers next_number.old (length all.now) }
-    ensures { Each (Tries (sides_view sides.entry)) all.now (formed_as pairs.old.items next_number.old) (formed_as pairs.new.items next_number.new) }
+    requires last { are_below next_number.old (bag_of pairs.old) ≡ true }
+    ensures forms { Each (Tries (sides_view sides.entry)) all.now (formed_as (bag_of pairs.old) next_number.old) (formed_as (bag_of pairs.new) next_number.new) }
+    ensures below { are_below next_number.new (bag_of pairs.new) ≡ true }
 {
     for at in all {
-        try_one(sides, *at, pairs, next_number);
-    }
-}
-
-// ---- the limit
-
-/// The lesser of the least so far and one more pair.
-fn lesser<'a>(
-    least: Option<&'a CandidatePair>,
-    pair: &'a CandidatePair,
-) -> Option<&'a CandidatePair>
-    ensures { (pairs : List PairRecord) → IsLowest pairs (option_copied least.entry) → IsLowest (pairs ++ pair.now ∷ []) (option_copied result) }
-{
-    match least {
-        None => Some(pair),
-        Some(old) => {
-            if pair.prio() < old.prio() {
-                Some(pair)
-            } else {
-                Some(old)
-            }
-        }
-    }
-}
-
-/// A pair of least priority.
-fn least_of(pairs: &[CandidatePair]) -> Option<&CandidatePair>
-    ensures { IsLowest pairs.now (option_copied result) }
-{
-    let mut least = None;
-    for pair in pairs {
-        least = lesser(least, pair);
-    }
-    least
-}
-
-/// Pairs of least priority go until the limit holds.
-pub(crate) fn evict(pairs: &mut Vec<CandidatePair>, limit: usize)
-    ensures { Evicts limit pairs.old.items pairs.new.items }
-{
-    while pairs.len() > limit {
-        match least_of(pairs) {
-            None => return,
-            Some(least) => {
-                let number = least.id().0;
-                remove(pairs, number);
-            }
-        }
+        try_one(alloc, sides, *at, pairs, next_number);
     }
 }
 
@@ -220,18 +161,21 @@ pub fn eviction_cuts()
 
 /// The combinations become pairs, and then the limit holds.
 pub(crate) fn form_each(
+    alloc: Global,
     sides: Sides<'_>,
     limit: usize,
     all: &[(usize, usize)],
-    pairs: &mut Vec<CandidatePair>,
+    pairs: &mut Checklist,
     next_number: &mut u64,
 )
-    requires room { vec_len pairs.old + length all.now ≤ vec_capacity pairs.old }
+    requires room { HasRoom (length all.now) pairs.old }
     requires numbers { HasNumbers next_number.old (length all.now) }
-    ensures { FormsEach (sides_view sides.entry) limit all.now (formed_as pairs.old.items next_number.old) (formed_as pairs.new.items next_number.new) }
+    requires last { are_below next_number.old (bag_of pairs.old) ≡ true }
+    ensures forms { FormsEach (sides_view sides.entry) limit all.now (formed_as (bag_of pairs.old) next_number.old) (formed_as (bag_of pairs.new) next_number.new) }
+    ensures below { are_below next_number.new (bag_of pairs.new) ≡ true }
 {
-    try_each(sides, all, pairs, next_number);
-    evict(pairs, limit);
+    try_each(alloc, sides, all, pairs, next_number);
+    pairs.evict(limit);
 }
 
 // ---- combinations

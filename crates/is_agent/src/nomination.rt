@@ -1,12 +1,13 @@
 //! Nomination (RFC 8445, section 8.1.1): of the eligible pairs, one of greatest priority is announced.
 
-ghost use Rattle.std.specs.Prelude.{◌≡◌, ℕ, map, vec_len, vec_capacity};
+ghost use Rattle.std.specs.Prelude.{◌≡◌, ℕ, true};
 ghost use Rattle.std.specs.Option.{option_copied};
 ghost use Rattle.is_agent.specs.View.{record_of};
 ghost use Rattle.is_agent.specs.FormingView.{sides_view};
-ghost use Rattle.is_agent.specs.Kept.{AreRising};
-ghost use Rattle.is_agent.specs.Room.{KeepFewer, HasEventRoom, HasNewsRoom, HasPacketRoom, HasCheckRoom};
-ghost use Rattle.is_agent.specs.Pairs.{change_at, change_pair, is_numbered, pair_numbered, IsGreatest};
+ghost use Rattle.is_pair.specs.Bag.{are_below, change_pair, IsGreatest};
+ghost use Rattle.is_pair.specs.Checklists as checklists;
+ghost use Rattle.is_pair.specs.Checklists.{bag_of, HasRoom};
+ghost use Rattle.is_agent.specs.Room.{HasEventRoom, HasNewsRoom, HasPacketRoom, HasCheckRoom};
 ghost use Rattle.is_agent.specs.Nominating.{is_eligible, nominated_by_self, announced_pair, stands_at, selection, path_in, path_told, Names, Nominates, NominatesWhere};
 
 use crate::agent::Agent;
@@ -14,8 +15,8 @@ use crate::event::IceAgentEvent;
 use crate::places::{address_at, base_at, proto_at};
 use crate::sides::Sides;
 use crate::told::Path;
-use crate::tops::{PairTest, top_of};
 use is_candidate::LocalPreference;
+use is_pair::checklist::{Checklist, PairChange, PairTest};
 use is_pair::pair::{CandidatePair, CheckState};
 use is_proto::Sha1HmacProvider;
 
@@ -36,40 +37,25 @@ impl PairTest for Eligible {
 }
 
 /// Of the pairs that may be announced, one of greatest priority.
-fn top_eligible(pairs: &[CandidatePair], controlling: bool) -> Option<&CandidatePair>
-    ensures { IsGreatest (is_eligible controlling) pairs.now (option_copied result) }
+fn top_eligible(pairs: &Checklist, controlling: bool) -> Option<&CandidatePair>
+    ensures { IsGreatest (is_eligible controlling) (bag_of pairs.now) (option_copied result) }
 {
-    top_of(pairs, &Eligible { controlling })
-}
-
-fn has_number(pair: &CandidatePair, number: u64) -> bool
-    ensures { result ≡ is_numbered number pair.now }
-{
-    pair.id().0 == number
-}
-
-fn pair_numbered(pairs: &[CandidatePair], number: u64) -> Option<&CandidatePair>
-    ensures { option_copied result ≡ pair_numbered number pairs.now }
-{
-    pairs.iter().find(|pair| has_number(pair, number))
+    pairs.greatest(&Eligible { controlling })
 }
 
 /// The pair that was announced last, while it stands.
-pub(crate) fn announced_pair(
-    announced: Option<u64>,
-    pairs: &[CandidatePair],
-) -> Option<&CandidatePair>
-    ensures { option_copied result ≡ announced_pair announced pairs.now }
+pub(crate) fn announced_pair(announced: Option<u64>, pairs: &Checklist) -> Option<&CandidatePair>
+    ensures { option_copied result ≡ announced_pair announced (bag_of pairs.now) }
 {
     match announced {
-        Some(number) => pair_numbered(pairs, number),
+        Some(number) => pairs.get(number),
         None => None,
     }
 }
 
 /// It stands, with this priority.
-fn stands_at(announced: Option<u64>, priority: u64, pairs: &[CandidatePair]) -> bool
-    ensures { result ≡ stands_at announced priority pairs.now }
+fn stands_at(announced: Option<u64>, priority: u64, pairs: &Checklist) -> bool
+    ensures { result ≡ stands_at announced priority (bag_of pairs.now) }
 {
     match announced_pair(announced, pairs) {
         Some(pair) => pair.prio() == priority,
@@ -77,40 +63,36 @@ fn stands_at(announced: Option<u64>, priority: u64, pairs: &[CandidatePair]) -> 
     }
 }
 
-fn nominate_one(pair: &mut CandidatePair, controlling: bool, lite: bool)
-    ensures { pair.new ≡ nominated_by_self controlling lite pair.old }
-{
-    if !pair.is_nominated() && (controlling || lite) {
-        pair.nominate(lite);
-    }
+/// Nominates a pair that is not nominated: only while controlling, or under lite.
+#[derive(Clone, Copy)]
+struct NominatesBySelf {
+    controlling: bool,
+    lite: bool,
 }
 
-fn nominate_at(pair: &mut CandidatePair, number: u64, controlling: bool, lite: bool)
-    ensures { pair.new ≡ change_at number (nominated_by_self controlling lite) pair.old }
-{
-    if pair.id().0 == number {
-        nominate_one(pair, controlling, lite);
-    }
-}
+impl PairChange for NominatesBySelf {
+    ghost use Rattle.is_agent.specs.Nominating.{nominated_by_self};
 
-fn nominate_each(pairs: &mut [CandidatePair], number: u64, controlling: bool, lite: bool)
-    ensures { pairs.new ≡ change_pair number (nominated_by_self controlling lite) pairs.old }
-{
-    for pair in pairs.iter_mut() {
-        nominate_at(pair, number, controlling, lite);
+    ghost makes = { λ t p. nominated_by_self t.controlling t.lite p };
+
+    fn change(&self, pair: &mut CandidatePair) {
+        if !pair.is_nominated() && (self.controlling || self.lite) {
+            pair.nominate(self.lite);
+        }
     }
 }
 
 /// The pair of the number is nominated by the agent itself, where it was not.
-fn nominate_pair(pairs: &mut Vec<CandidatePair>, number: u64, controlling: bool, lite: bool)
-    ensures items { pairs.new.items ≡ change_pair number (nominated_by_self controlling lite) pairs.old.items }
-    ensures len { vec_len pairs.new ≡ vec_len pairs.old }
-    ensures capacity { vec_capacity pairs.new ≡ vec_capacity pairs.old }
+fn nominate_pair(pairs: &mut Checklist, number: u64, controlling: bool, lite: bool)
+    ensures nominated { bag_of pairs.new ≡ change_pair number (nominated_by_self controlling lite) (bag_of pairs.old) }
+    ensures room { (n : ℕ) → HasRoom n pairs.old → HasRoom n pairs.new }
+    ensures check_room { checklists.HasCheckRoom pairs.old → checklists.HasCheckRoom pairs.new }
+    ensures below { (n : ℕ) → are_below n (bag_of pairs.old) ≡ true → are_below n (bag_of pairs.new) ≡ true }
 {
-    nominate_each(pairs, number, controlling, lite);
+    pairs.change(number, &NominatesBySelf { controlling, lite });
 }
 
-fn path_in(sides: Sides<'_>, pair: &CandidatePair) -> Path
+pub(crate) fn path_in(sides: Sides<'_>, pair: &CandidatePair) -> Path
     ensures { result ≡ path_in (sides_view sides.entry) pair.now }
 {
     Path {
@@ -120,26 +102,19 @@ fn path_in(sides: Sides<'_>, pair: &CandidatePair) -> Path
     }
 }
 
-/// The pair of the number is nominated by the agent itself; none keeps more checks then.
-fn nominate_kept(pairs: &mut Vec<CandidatePair>, number: u64, controlling: bool, lite: bool)
-    ensures items { pairs.new.items ≡ change_pair number (nominated_by_self controlling lite) pairs.old.items }
-    ensures fewer { (n : ℕ) → KeepFewer n pairs.old.items → KeepFewer n pairs.new.items }
-    ensures rising { AreRising pairs.old.items → AreRising pairs.new.items }
-{
-    nominate_pair(pairs, number, controlling, lite);
-}
-
 /// An eligible pair of greatest priority is announced, unless the announced one has that priority.
 pub(crate) fn name(
     sides: Sides<'_>,
-    pairs: &mut Vec<CandidatePair>,
+    pairs: &mut Checklist,
     announced: &mut Option<u64>,
 ) -> Option<Path>
-    ensures named { Names (sides_view sides.entry) (selection pairs.old.items announced.old) result (selection pairs.new.items announced.new) }
-    ensures fewer { (n : ℕ) → KeepFewer n pairs.old.items → KeepFewer n pairs.new.items }
-    ensures rising { AreRising pairs.old.items → AreRising pairs.new.items }
+    ensures named { Names (sides_view sides.entry) (selection (bag_of pairs.old) announced.old) result (selection (bag_of pairs.new) announced.new) }
+    ensures room { (n : ℕ) → HasRoom n pairs.old → HasRoom n pairs.new }
+    ensures check_room { checklists.HasCheckRoom pairs.old → checklists.HasCheckRoom pairs.new }
+    ensures below { (n : ℕ) → are_below n (bag_of pairs.old) ≡ true → are_below n (bag_of pairs.new) ≡ true }
 {
-    match top_eligible(pairs, sides.controlling) {
+    let controlling = sides.controlling;
+    match top_eligible(pairs, controlling) {
         None => None,
         Some(top) => {
             if stands_at(*announced, top.prio(), pairs) {
@@ -147,7 +122,7 @@ pub(crate) fn name(
             }
             let number = top.id().0;
             let path = path_in(sides, top);
-            nominate_kept(pairs, number, sides.controlling, sides.lite);
+            nominate_pair(pairs, number, controlling, sides.lite);
             *announced = Some(number);
             Some(path)
         }

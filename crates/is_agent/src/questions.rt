@@ -11,11 +11,11 @@ use crate::agent::Agent;
 use crate::event::IceAgentStats;
 use crate::nomination::announced_pair;
 use crate::places::address_at;
-use crate::remote::has_equivalent;
-use crate::tops::{PairTest, top_of};
+use crate::remote::Equivalent;
 use is_candidate::candidate::address::same_address;
 use is_candidate::candidate::internals::is_discarded;
 use is_candidate::{Candidate, LocalPreference};
+use is_pair::checklist::PairTest;
 use is_pair::pair::{CandidatePair, CheckState};
 use is_proto::{Duration, Sha1HmacProvider};
 use std::net::SocketAddr;
@@ -89,33 +89,21 @@ impl<'a> Iterator for RemoteCandidates<'a> {
     }
 }
 
-fn is_viable_at(remote: &[Candidate], address: SocketAddr, pair: &CandidatePair) -> bool
-    ensures { result ≡ is_viable_at remote.now address pair.now }
-{
-    pair.state() == CheckState::Succeeded
-        && same_address(address_at(remote, pair.remote_idx()), address)
-}
-
-fn any_viable_at(remote: &[Candidate], address: SocketAddr, pairs: &[CandidatePair]) -> bool
-    ensures { result ≡ list_any (is_viable_at remote.now address) pairs.now }
-{
-    pairs.iter().any(|pair| is_viable_at(remote, address, pair))
-}
-
-/// Whether a pair's remote candidate equals a candidate.
+/// Whether a pair is valid, and its remote candidate has an address.
 #[derive(Clone, Copy)]
-struct Equivalent<'a> {
+struct ViableAt<'a> {
     remote: &'a [Candidate],
-    candidate: &'a Candidate,
+    address: SocketAddr,
 }
 
-impl PairTest for Equivalent<'_> {
-    ghost use Rattle.is_agent.specs.Remote.{has_equivalent};
+impl PairTest for ViableAt<'_> {
+    ghost use Rattle.is_agent.specs.Questions.{is_viable_at};
 
-    ghost passes = { λ t p. has_equivalent t.remote.now t.candidate.now p };
+    ghost passes = { λ t p. is_viable_at t.remote.now t.address p };
 
     fn passes(&self, pair: &CandidatePair) -> bool {
-        has_equivalent(self.remote, self.candidate, pair)
+        pair.state() == CheckState::Succeeded
+            && same_address(address_at(self.remote, pair.remote_idx()), self.address)
     }
 }
 
@@ -151,7 +139,8 @@ impl<H: Sha1HmacProvider + Drop, P: LocalPreference> Agent<H, P> {
     pub fn has_viable_remote_candidate(&self, address: SocketAddr) -> bool
         ensures { result ≡ has_viable_remote (record_of self.now) address }
     {
-        any_viable_at(&self.remote, address, &self.pairs)
+        let remote = &self.remote;
+        self.pairs.any(&ViableAt { remote, address })
     }
 
     /// A pair whose remote candidate equals this one in address, base, protocol, kind and related address: one of greatest
@@ -162,12 +151,10 @@ impl<H: Sha1HmacProvider + Drop, P: LocalPreference> Agent<H, P> {
     ) -> Option<&CandidatePair>
         ensures { FindsEquivalent (record_of self.now) candidate.now (option_copied result) }
     {
-        let test = Equivalent {
-            remote: &self.remote,
-            candidate,
-        };
-        top_of(&self.pairs, &test)
+        let remote = &self.remote;
+        self.pairs.greatest(&Equivalent { remote, candidate })
     }
+
     /// The pair that was announced last, while it stands.
     fn nominated_pair(&self) -> Option<&CandidatePair>
         ensures { option_copied result ≡ nominated_pair (record_of self.now) }

@@ -1,7 +1,8 @@
 //! Remote candidates (RFC 8445, section 5.4).
 
-ghost use Rattle.std.specs.Prelude.{◌≡◌, ◌≤◌, ◌<◌, ◌+◌, IfSome, IsOkUnless, OnOk, position, length, vec_len, vec_capacity};
+ghost use Rattle.std.specs.Prelude.{◌≡◌, ◌<◌, IfSome, IsOkUnless, OnOk, position, length, vec_len, vec_capacity};
 ghost use Rattle.std.specs.List.{list_any};
+ghost use Rattle.is_pair.specs.Checklists.{HasRoom};
 ghost use Rattle.is_agent.specs.View.{record_of};
 ghost use Rattle.is_agent.specs.Room.{HasFormingRoom};
 ghost use Rattle.is_agent.specs.Forming.{HasNumbers, FormsAll, remote_combinations};
@@ -14,6 +15,7 @@ use is_candidate::candidate::address::same_address;
 use is_candidate::candidate::equality::{is_equivalent, is_temporary};
 use is_candidate::candidate::internals::{clear_ufrag, component, enable};
 use is_candidate::{Candidate, LocalPreference};
+use is_pair::checklist::PairTest;
 use is_pair::pair::CandidatePair;
 use is_proto::{IceError, Sha1HmacProvider};
 
@@ -30,13 +32,21 @@ pub(crate) fn has_equivalent(
     }
 }
 
-/// A pair's remote candidate is equal to this one.
-fn is_paired(pairs: &[CandidatePair], remote: &[Candidate], candidate: &Candidate) -> bool
-    ensures { result ≡ list_any (has_equivalent remote.now candidate.now) pairs.now }
-{
-    pairs
-        .iter()
-        .any(|pair| has_equivalent(remote, candidate, pair))
+/// Whether a pair's remote candidate equals a candidate.
+#[derive(Clone, Copy)]
+pub(crate) struct Equivalent<'a> {
+    pub(crate) remote: &'a [Candidate],
+    pub(crate) candidate: &'a Candidate,
+}
+
+impl PairTest for Equivalent<'_> {
+    ghost use Rattle.is_agent.specs.Remote.{has_equivalent};
+
+    ghost passes = { λ t p. has_equivalent t.remote.now t.candidate.now p };
+
+    fn passes(&self, pair: &CandidatePair) -> bool {
+        has_equivalent(self.remote, self.candidate, pair)
+    }
 }
 
 fn is_placeholder(candidate: &Candidate, other: &Candidate) -> bool
@@ -95,17 +105,23 @@ impl<H: Sha1HmacProvider + Drop, P: LocalPreference> Agent<H, P> {
         }
     }
 
+    /// The remote candidate of a pair equals this one.
+    fn is_paired(&self, candidate: &Candidate) -> bool
+        ensures { result ≡ list_any (has_equivalent (record_of self.now).remote candidate.now) (record_of self.now).pairs }
+    {
+        let remote = &self.remote;
+        self.pairs.any(&Equivalent { remote, candidate })
+    }
+
     fn is_ignored(&self, candidate: &Candidate) -> bool
         ensures { result ≡ is_ignored (record_of self.now) candidate.now }
     {
-        component(candidate) != 1
-            || self.has_other_ufrag(candidate)
-            || is_paired(&self.pairs, &self.remote, candidate)
+        component(candidate) != 1 || self.has_other_ufrag(candidate) || self.is_paired(candidate)
     }
 
     /// The combinations become pairs, within the room that there is, and then the limit holds.
     pub(crate) fn form(&mut self, all: &[(usize, usize)])
-        requires room { vec_len self.old.pairs + length all.now ≤ vec_capacity self.old.pairs }
+        requires room { HasRoom (length all.now) self.old.pairs }
         requires numbers { HasNumbers self.old.next_number (length all.now) }
         ensures { FormsAll (record_of self.old) all.now (record_of self.new) }
     {
@@ -116,6 +132,7 @@ impl<H: Sha1HmacProvider + Drop, P: LocalPreference> Agent<H, P> {
             lite: self.lite,
         };
         form_each(
+            *self.packets.allocator(),
             sides,
             self.max_pairs,
             all,
@@ -166,7 +183,7 @@ impl<H: Sha1HmacProvider + Drop, P: LocalPreference> Agent<H, P> {
         }
         let place = self.place_for(&candidate);
         let end = place_or_end(place, &self.remote);
-        let alloc = *self.pairs.allocator();
+        let alloc = *self.remote.allocator();
         let all = remote_combinations(alloc, &candidate, end, &self.local)?;
         self.take_forming_room(all.len())?;
         self.store_at(candidate, place, &all);

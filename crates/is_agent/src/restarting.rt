@@ -143,7 +143,7 @@ impl<H: Sha1HmacProvider + Drop, P: LocalPreference> Agent<H, P> {
     fn live_combinations(&self) -> Result<Vec<(usize, usize)>, AllocError>
         ensures { IfOk result (λ all. all.items ≡ live_combinations (record_of self.now).local (record_of self.now).remote) }
     {
-        live_combinations(*self.pairs.allocator(), &self.local, &self.remote)
+        live_combinations(*self.local.allocator(), &self.local, &self.remote)
     }
 
     /// Makes room for so many pairs and an event.

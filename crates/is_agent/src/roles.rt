@@ -1,6 +1,8 @@
 //! Role conflicts (RFC 8445, section 7.3.1.1).
 
-ghost use Rattle.std.specs.Prelude.{◌≡◌, map, vec_len, vec_capacity};
+ghost use Rattle.std.specs.Prelude.{◌≡◌, ℕ, true, map};
+ghost use Rattle.is_pair.specs.Bag.{are_below};
+ghost use Rattle.is_pair.specs.Checklists.{bag_of, HasRoom};
 ghost use Rattle.is_agent.specs.View.{record_of};
 ghost use Rattle.is_agent.specs.RequestView.{request_view};
 ghost use Rattle.is_agent.specs.FormingView.{sides_view};
@@ -12,6 +14,7 @@ use crate::forming::combined_priority;
 use crate::request::Request;
 use crate::sides::Sides;
 use is_candidate::LocalPreference;
+use is_pair::checklist::{Checklist, PairPriority};
 use is_pair::pair::CandidatePair;
 use is_proto::Sha1HmacProvider;
 
@@ -36,29 +39,30 @@ fn conflict_by(own: u64, rival: Option<u64>) -> Conflict
     }
 }
 
-/// The pair's priority is computed anew.
-fn reprioritize(pair: &mut CandidatePair, sides: Sides<'_>)
-    ensures { pair.new ≡ with_priority_in (sides_view sides.entry) pair.old }
-{
-    let priority = combined_priority(sides, (pair.local_idx(), pair.remote_idx()));
-    pair.set_prio(priority);
+/// The priority of a pair by its candidates and the present role.
+#[derive(Clone, Copy)]
+struct Combined<'a> {
+    sides: Sides<'a>,
 }
 
-fn reprioritize_each(pairs: &mut [CandidatePair], sides: Sides<'_>)
-    ensures { pairs.new ≡ map (with_priority_in (sides_view sides.entry)) pairs.old }
-{
-    for pair in pairs.iter_mut() {
-        reprioritize(pair, sides);
+impl PairPriority for Combined<'_> {
+    ghost use Rattle.is_agent.specs.Forming.{combined_priority};
+    ghost use Rattle.is_agent.specs.FormingView.{sides_view};
+
+    ghost gives = { λ t p. combined_priority (sides_view t.sides) (p.local, p.remote) };
+
+    fn priority(&self, pair: &CandidatePair) -> u64 {
+        combined_priority(self.sides, (pair.local_idx(), pair.remote_idx()))
     }
 }
 
 /// All priorities are computed anew.
-fn reprioritize_all(pairs: &mut Vec<CandidatePair>, sides: Sides<'_>)
-    ensures items { pairs.new.items ≡ map (with_priority_in (sides_view sides.entry)) pairs.old.items }
-    ensures len { vec_len pairs.new ≡ vec_len pairs.old }
-    ensures capacity { vec_capacity pairs.new ≡ vec_capacity pairs.old }
+fn reprioritize_all(pairs: &mut Checklist, sides: Sides<'_>)
+    ensures set { bag_of pairs.new ≡ map (with_priority_in (sides_view sides.entry)) (bag_of pairs.old) }
+    ensures room { (n : ℕ) → HasRoom n pairs.old → HasRoom n pairs.new }
+    ensures below { (n : ℕ) → are_below n (bag_of pairs.old) ≡ true → are_below n (bag_of pairs.new) ≡ true }
 {
-    reprioritize_each(pairs, sides);
+    pairs.set_priorities(&Combined { sides });
 }
 
 impl<H: Sha1HmacProvider + Drop, P: LocalPreference> Agent<H, P> {

@@ -1,14 +1,15 @@
 //! Serving a Binding request (RFC 8445, section 7.3): a function for each rule, in the order in which they act, each ending
 //! in the next one. Choices are made and room is taken before anything changes; what follows can't be refused.
 
-ghost use Rattle.std.specs.Prelude.{◌≡◌, ◌<◌, ◌&&◌, Some, None, true, false, not, length, IfOk, IfErr, IfSome, OnOk, IsOkUnless, vec_len, vec_capacity};
+ghost use Rattle.std.specs.Prelude.{◌≡◌, ◌<◌, ◌&&◌, Some, None, true, false, not, length, IfOk, IfErr, IfSome, OnOk, IsOkUnless};
 ghost use Rattle.is_candidate.specs.Candidates.{candidate_at};
 ghost use Rattle.is_proto.specs.declared.error.IceError.TheVariants as errors;
 ghost use Rattle.is_stun.specs.declared.header.Class.TheVariants as classes;
 ghost use Rattle.is_agent.specs.View.{record_of};
 ghost use Rattle.is_agent.specs.RequestView.{request_view};
 ghost use Rattle.is_agent.specs.Room.{HasServingRoom, HasPacketRoom, HasNewsRoom};
-ghost use Rattle.is_agent.specs.Pairs.{is_valid_at};
+ghost use Rattle.is_pair.specs.Bag.{is_valid_at};
+ghost use Rattle.is_pair.specs.Checklists.{HasRoom};
 ghost use Rattle.is_agent.specs.Forming.{formed, with_pair};
 ghost use Rattle.is_stun.specs.Checks.{binding_reply};
 ghost use Rattle.is_stun.specs.Laws.{IsPut};
@@ -238,7 +239,7 @@ impl<H: Sha1HmacProvider + Drop, P: LocalPreference> Agent<H, P> {
 
     /// A request at the pair has nomination evaluated (RFC 8445, section 7.3.1.5).
     fn evaluates_at(&self, number: u64) -> bool
-        ensures { result ≡ (self.now.controlling && is_valid_at number self.now.pairs.items) }
+        ensures { result ≡ (self.now.controlling && is_valid_at number (record_of self.now).pairs) }
     {
         self.controlling && is_valid_at(&self.pairs, number)
     }
@@ -292,12 +293,12 @@ impl<H: Sha1HmacProvider + Drop, P: LocalPreference> Agent<H, P> {
             controlling: self.controlling,
             lite: self.lite,
         };
-        pair_of(*self.pairs.allocator(), sides, (l, r), self.next_number)
+        pair_of(*self.packets.allocator(), sides, (l, r), self.next_number)
     }
 
     /// It is added, without limit or redundancy.
     fn add_pair(&mut self, l: usize, r: usize)
-        requires pairs { vec_len self.old.pairs < vec_capacity self.old.pairs }
+        requires pairs { HasRoom 1 self.old.pairs }
         requires packets { HasPacketRoom self.old }
         requires news { HasNewsRoom 2 self.old }
         requires number { self.old.next_number < 18446744073709551615 }
@@ -306,13 +307,13 @@ impl<H: Sha1HmacProvider + Drop, P: LocalPreference> Agent<H, P> {
         ensures news { HasNewsRoom 2 self.new }
     {
         let pair = self.formed(l, r);
-        self.pairs.push_reserved(pair);
+        self.pairs.add(pair);
         self.next_number += 1;
     }
 
     /// A new pair takes the request.
     fn take_new(&mut self, request: &Request<'_>, l: usize, r: usize, reply: Vec<u8>) -> Told
-        requires pairs { vec_len self.old.pairs < vec_capacity self.old.pairs }
+        requires pairs { HasRoom 1 self.old.pairs }
         requires packets { HasPacketRoom self.old }
         requires news { HasNewsRoom 2 self.old }
         requires reply { length reply.items ≡ 76 }
@@ -335,7 +336,7 @@ impl<H: Sha1HmacProvider + Drop, P: LocalPreference> Agent<H, P> {
         pair: Option<u64>,
         reply: Vec<u8>,
     ) -> Told
-        requires pairs { vec_len self.old.pairs < vec_capacity self.old.pairs }
+        requires pairs { HasRoom 1 self.old.pairs }
         requires packets { HasPacketRoom self.old }
         requires news { HasNewsRoom 2 self.old }
         requires reply { length reply.items ≡ 76 }

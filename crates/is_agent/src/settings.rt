@@ -1,8 +1,7 @@
 //! What the user of an agent may set.
 
-ghost use Rattle.std.specs.Prelude.{◌≡◌, ◌<◌, Some, map};
+ghost use Rattle.std.specs.Prelude.{◌≡◌, ◌<◌, Some};
 ghost use Rattle.std.specs.Range.{range_inclusive_start, range_inclusive_end};
-ghost use Rattle.is_pair.specs.Pairs.{undue};
 ghost use Rattle.is_agent.specs.View.{record_of};
 ghost use Rattle.is_agent.specs.Settings.{SetsMtu, with_rtos, with_retransmits, numbers_skipped};
 ghost use Rattle.is_agent.specs.Questions.{ice_timeout};
@@ -10,28 +9,11 @@ ghost use Rattle.is_agent.specs.Questions.{ice_timeout};
 use crate::agent::Agent;
 use crate::credentials::USERNAME_LIMIT;
 use is_candidate::LocalPreference;
-use is_pair::pair::CandidatePair;
-use is_pair::reset_next_binding_attempt;
 use is_proto::{Duration, IceError, Sha1HmacProvider};
 use std::ops::RangeInclusive;
 
 /// The longest check: the header, the attributes with the longest user name, integrity and fingerprint.
 pub(crate) const MTU_FLOOR: usize = 20 + (4 + USERNAME_LIMIT) + 12 + 8 + 4 + 24 + 8;
-
-fn reset_each(pairs: &mut [CandidatePair])
-    ensures { pairs.new ≡ map undue pairs.old }
-{
-    for pair in pairs.iter_mut() {
-        reset_next_binding_attempt(pair);
-    }
-}
-
-/// Has each pair's next check's moment asked for anew.
-fn reset_all(pairs: &mut Vec<CandidatePair>)
-    ensures { pairs.new.items ≡ map undue pairs.old.items }
-{
-    reset_each(pairs);
-}
 
 impl<H: Sha1HmacProvider + Drop, P: LocalPreference> Agent<H, P> {
     /// Sets how long packets may be: the start of the range is the target, which `mtu` tells, and its end the length
@@ -107,7 +89,7 @@ impl<H: Sha1HmacProvider + Drop, P: LocalPreference> Agent<H, P> {
     {
         if self.timing.initial_rto.0 != rto.0 {
             self.timing.initial_rto = rto;
-            reset_all(&mut self.pairs);
+            self.pairs.reset_next_binding_attempts();
         }
     }
 
@@ -118,7 +100,7 @@ impl<H: Sha1HmacProvider + Drop, P: LocalPreference> Agent<H, P> {
     {
         if self.timing.max_rto.0 != rto.0 {
             self.timing.max_rto = rto;
-            reset_all(&mut self.pairs);
+            self.pairs.reset_next_binding_attempts();
         }
     }
 

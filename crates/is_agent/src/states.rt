@@ -1,7 +1,6 @@
 //! How far the agent has come in connecting.
 
 ghost use Rattle.std.specs.Prelude.{◌≡◌, ◌<◌, ◌≤◌, ◌+◌, ◌++◌, ◌∷◌, [], if◌then◌else◌};
-ghost use Rattle.std.specs.List.{list_any};
 ghost use Rattle.std.specs.VecDeque.{deque_len, deque_capacity};
 ghost use Rattle.is_agent.specs.declared.event.IceAgentEvent.TheVariants.{IceConnectionStateChange};
 ghost use Rattle.is_agent.specs.View.{record_of};
@@ -11,6 +10,7 @@ ghost use Rattle.is_agent.specs.Room.{HasNewsRoom};
 use crate::agent::Agent;
 use crate::event::{IceAgentEvent, IceConnectionState};
 use is_candidate::LocalPreference;
+use is_pair::checklist::PairTest;
 use is_pair::pair::{CandidatePair, CheckState};
 use is_proto::{Instant, Sha1HmacProvider};
 use is_stun::stun::StunTiming;
@@ -59,26 +59,36 @@ fn is_selected(pair: &CandidatePair) -> bool
     pair.state() == CheckState::Succeeded && pair.is_nominated()
 }
 
-fn is_possible_beside(pair: &CandidatePair, now: Instant, timing: &StunTiming) -> bool
-    requires { 0 < timing.now.max_retransmits }
-    ensures { result ≡ is_possible_beside now.0 timing.now pair.now }
-{
-    !is_selected(pair) && pair.is_still_possible(now, timing)
+/// Whether media goes on a pair.
+#[derive(Clone, Copy)]
+struct Selected;
+
+impl PairTest for Selected {
+    ghost use Rattle.is_agent.specs.States.{is_selected};
+
+    ghost passes = { λ t p. is_selected p };
+
+    fn passes(&self, pair: &CandidatePair) -> bool {
+        is_selected(pair)
+    }
 }
 
-fn any_selected(pairs: &[CandidatePair]) -> bool
-    ensures { result ≡ list_any is_selected pairs.now }
-{
-    pairs.iter().any(|pair| is_selected(pair))
+/// Whether media may yet go on a pair on which none goes.
+#[derive(Clone, Copy)]
+struct PossibleBeside<'a> {
+    now: Instant,
+    timing: &'a StunTiming,
+    ghost is_checked: { 0 < timing.now.max_retransmits },
 }
 
-fn any_possible_beside(pairs: &[CandidatePair], now: Instant, timing: &StunTiming) -> bool
-    requires { 0 < timing.now.max_retransmits }
-    ensures { result ≡ list_any (is_possible_beside now.0 timing.now) pairs.now }
-{
-    pairs
-        .iter()
-        .any(|pair| is_possible_beside(pair, now, timing))
+impl PairTest for PossibleBeside<'_> {
+    ghost use Rattle.is_agent.specs.States.{is_possible_beside};
+
+    ghost passes = { λ t p. is_possible_beside t.now.0 t.timing.now p };
+
+    fn passes(&self, pair: &CandidatePair) -> bool {
+        !is_selected(pair) && pair.is_still_possible(self.now, self.timing)
+    }
 }
 
 /// The state behind this one, by whether a pair is selected, whether another one is possible, and lite.
@@ -112,13 +122,14 @@ impl<H: Sha1HmacProvider + Drop, P: LocalPreference> Agent<H, P> {
     fn has_selected(&self) -> bool
         ensures { result ≡ has_selected (record_of self.now) }
     {
-        any_selected(&self.pairs)
+        self.pairs.any(&Selected)
     }
 
     fn has_possible(&self, now: Instant) -> bool
         ensures { result ≡ has_possible now.0 (record_of self.now) }
     {
-        any_possible_beside(&self.pairs, now, &self.timing)
+        let timing = &self.timing;
+        self.pairs.any(&PossibleBeside { now, timing })
             || self.local.is_empty()
             || self.remote.is_empty()
     }

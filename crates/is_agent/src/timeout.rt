@@ -2,7 +2,7 @@
 //!
 //! Room for all of it is made before the agent changes; what follows can't be refused.
 
-ghost use Rattle.std.specs.Prelude.{◌≡◌, ◌<◌, Some, false, IfOk, IfErr, OnOk, IsOkUnless, MatchOption, length};
+ghost use Rattle.std.specs.Prelude.{◌≡◌, Option, Some, true, false, IfOk, IfErr, OnOk, IsOkUnless, MatchOption};
 ghost use Rattle.std.specs.List.{list_any};
 ghost use Rattle.is_proto.specs.declared.error.IceError.TheVariants as errors;
 ghost use Rattle.is_stun.specs.Laws.{IsPut};
@@ -12,7 +12,9 @@ ghost use Rattle.is_agent.specs.declared.credentials.IceCreds as model;
 ghost use Rattle.is_agent.specs.View.{record_of, told_of};
 ghost use Rattle.is_agent.specs.Room.{HasPacketRoom, HasEventRoom, HasCheckRoom, IsPrepared};
 ghost use Rattle.is_agent.specs.Checking.{check_message, ChecksPair, ChecksNext, MayCheck};
-ghost use Rattle.is_agent.specs.Due.{pair_at, Drafts, check_counted};
+ghost use Rattle.is_pair.specs.Bag.{has_number};
+ghost use Rattle.is_pair.specs.Due.{IsNextDue};
+ghost use Rattle.is_agent.specs.Due.{Drafts, DraftsNext, check_counted};
 ghost use Rattle.is_pair.specs.Pairs.{PairRecord};
 ghost use Rattle.is_agent.specs.Queue.{request_at};
 ghost use Rattle.is_agent.specs.Sending.{with_packet};
@@ -23,15 +25,12 @@ ghost use Rattle.is_agent.specs.Timeouts.{awake, is_given_up, given_up_gone, Giv
 
 use crate::agent::Agent;
 use crate::checking::{Draft, write_username};
-use crate::due::next_due;
-use crate::rounds::{
-    are_rising, ask_kept, attempt_at, drop_given_up, hear_all, is_given_up, reserve_spare_of,
-};
 use crate::settings::MTU_FLOOR;
 use crate::states::tell_state;
 use crate::told::{Issued, Path, Told};
 use crate::waking::Waking;
 use is_candidate::LocalPreference;
+use is_pair::checklist::GivenUp;
 use is_proto::{IceError, Instant, Sha1HmacProvider, Transmit};
 use is_stun::stun::{Class, TransId};
 use rand_core::Rng;
@@ -41,11 +40,13 @@ use std::alloc::AllocError;
 
 impl<H: Sha1HmacProvider + Drop, P: LocalPreference> Agent<H, P> {
     fn any_given_up(&self, now: Instant) -> bool
-        ensures { result ≡ list_any (is_given_up now.0 (record_of self.now)) self.now.pairs.items }
+        ensures { result ≡ list_any (is_given_up now.0 (record_of self.now)) (record_of self.now).pairs }
     {
-        self.pairs
-            .iter()
-            .any(|pair| is_given_up(pair, self.lite, now, &self.timing))
+        self.pairs.any(&GivenUp {
+            lite: self.lite,
+            now,
+            timing: &self.timing,
+        })
     }
 
     fn drop_given_up(&mut self, now: Instant)
@@ -53,7 +54,11 @@ impl<H: Sha1HmacProvider + Drop, P: LocalPreference> Agent<H, P> {
         ensures events { HasEventRoom 2 self.old → HasEventRoom 2 self.new }
         ensures checks { HasCheckRoom self.old → HasCheckRoom self.new }
     {
-        drop_given_up(&mut self.pairs, self.lite, now, &self.timing);
+        self.pairs.remove_where(&GivenUp {
+            lite: self.lite,
+            now,
+            timing: &self.timing,
+        });
     }
 
     fn evaluate_at(&mut self, now: Instant)
@@ -106,35 +111,39 @@ impl<H: Sha1HmacProvider + Drop, P: LocalPreference> Agent<H, P> {
         Issued::new(path, Class::Request, id)
     }
 
-    /// The pair at the place is checked.
-    fn check_at<R: Rng>(&mut self, place: usize, now: Instant, rng: &mut R) -> Issued
-        requires within { place < length self.old.pairs.items }
+    /// The pair of the number is checked, as its draft says.
+    fn check<R: Rng>(&mut self, number: u64, draft: Draft, now: Instant, rng: &mut R) -> Issued
+        requires has { has_number number (record_of self.old).pairs ≡ true }
         requires room { HasCheckRoom self.old }
         requires prepared { IsPrepared self.old }
-        ensures { (peer : model.IceCreds) → self.old.remote_creds ≡ Some peer → ChecksPair H.mac now.0 peer (pair_at self.old.pairs.items place) (record_of self.old) (R.stream rng.old) (Some result) (record_of self.new) (R.stream rng.new) }
+        ensures { (peer : model.IceCreds) (p : PairRecord) → self.old.remote_creds ≡ Some peer → p.number ≡ number → Drafts (record_of self.old) p draft → ChecksPair H.mac now.0 peer p (record_of self.old) (R.stream rng.old) (Some result) (record_of self.new) (R.stream rng.new) }
     {
-        let draft = self.draft(place);
-        let id = attempt_at(
-            &mut self.pairs,
-            place,
-            now,
-            &self.timing,
-            self.controlling,
-            rng,
-            &mut self.spare,
-        );
+        let controlling = self.controlling;
+        let id = self
+            .pairs
+            .new_attempt(number, now, &self.timing, controlling, rng);
         self.send(draft, id)
     }
 
-    /// The pair that is due first is checked. The pairs were asked for their due moments.
+    /// The number of the pair that is due first, and what its check says.
+    fn next_check(&self, now: Instant) -> Option<(u64, Draft)>
+        ensures { (next : Option PairRecord) × IsNextDue now.0 self.now.timing (record_of self.now).pairs next × DraftsNext (record_of self.now) next result }
+    {
+        match self.pairs.next_due(now, &self.timing) {
+            None => None,
+            Some(pair) => Some((pair.id().0, self.draft(pair))),
+        }
+    }
+
+    /// The pair that is due first is checked.
     fn check_next<R: Rng>(&mut self, now: Instant, rng: &mut R) -> Option<Issued>
         requires room { HasCheckRoom self.old }
         requires prepared { IsPrepared self.old }
         ensures { (peer : model.IceCreds) → self.old.remote_creds ≡ Some peer → ChecksNext H.mac now.0 peer (record_of self.old) (R.stream rng.old) result (record_of self.new) (R.stream rng.new) }
     {
-        match next_due(&self.pairs, now) {
+        match self.next_check(now) {
             None => None,
-            Some(place) => Some(self.check_at(place, now, rng)),
+            Some((number, draft)) => Some(self.check(number, draft, now, rng)),
         }
     }
 
@@ -147,10 +156,10 @@ impl<H: Sha1HmacProvider + Drop, P: LocalPreference> Agent<H, P> {
             None => None,
             Some(_) => {
                 if self.lite {
-                    hear_all(&mut self.pairs, now);
+                    self.pairs.hear_all(now);
                     return None;
                 }
-                ask_kept(&mut self.pairs, now, &self.timing);
+                self.pairs.ask_all(now, &self.timing);
                 self.check_next(now, rng)
             }
         }
@@ -175,18 +184,15 @@ impl<H: Sha1HmacProvider + Drop, P: LocalPreference> Agent<H, P> {
         self.contents.resize(MTU_FLOOR, 0)
     }
 
-    /// Makes room for a packet, and for one more check of any pair. The pairs have numbers of their own, or none is made.
+    /// Makes room for a packet, and for one more check of any pair.
     fn take_check_room(&mut self) -> Result<(), IceError>
         ensures record { record_of self.new ≡ record_of self.old }
         ensures room { OnOk result (HasCheckRoom self.new) }
         ensures refused { IsOkUnless result errors.OutOfMemory }
     {
-        if !are_rising(&self.pairs) {
-            return Err(IceError::OutOfMemory);
-        }
         self.prepare_check()?;
         self.packets.reserve(1)?;
-        reserve_spare_of(&mut self.spare, &self.pairs)?;
+        self.pairs.reserve_check()?;
         Ok(())
     }
 

@@ -22,11 +22,10 @@ use crate::pair::{BindingAttempt, CandidatePair};
 use entries::{Kept, Rank};
 pub use given_up::GivenUp;
 use indexmap::IndexMap;
-use is_proto::IceError;
 pub use pair_change::PairChange;
 pub use pair_test::PairTest;
 pub use rule::PairPriority;
-use std::alloc::Global;
+use std::alloc::{AllocError, Global};
 use std::collections::VecDeque;
 
 /// The pairs of an agent.
@@ -49,7 +48,7 @@ pub struct Checklist {
 }
 
 impl Checklist {
-    ghost use Rattle.std.specs.Prelude.{◌<◌, ◌+◌, ◌↔◌, ℕ, IsTrue, is_some, length, OnOk, IfErr, [], ◌++◌, ◌∷◌};
+    ghost use Rattle.std.specs.Prelude.{◌<◌, ◌+◌, ◌↔◌, ℕ, IsTrue, is_some, length, OnOk, [], ◌++◌, ◌∷◌};
     ghost use Rattle.std.specs.Option.{option_copied};
     ghost use Rattle.is_pair.specs.Bag.{is_numbered, has_number, pair_numbered, are_below, without};
     ghost use Rattle.is_pair.specs.Checklists.{bag_of, HasRoom, HasCheckRoom};
@@ -65,6 +64,12 @@ impl Checklist {
             spare: VecDeque::new(alloc),
         }
     }
+
+    /// No two pairs have the same number, and they stand in the order of their numbers. Does nothing; code whose proof
+    /// needs this calls it.
+    pub fn numbers_rise(&self)
+        ensures { rises (bag_of self.now) ≡ true }
+    {}
 
     /// How many pairs there are.
     pub fn len(&self) -> usize
@@ -90,17 +95,15 @@ impl Checklist {
 
     /// Makes room for n more pairs.
     ///
-    /// Refused with `OutOfMemory` where there is none: the pairs are as before.
-    pub fn reserve(&mut self, n: usize) -> Result<(), IceError>
+    /// Refused where there is none: the pairs are as before.
+    pub fn reserve(&mut self, n: usize) -> Result<(), AllocError>
         ensures bag { bag_of self.new ≡ bag_of self.old }
         ensures reserved { OnOk result (HasRoom n self.new) }
-        ensures refusal { IfErr result (λ e. e ≡ IceError.OutOfMemory) }
         ensures room { (n : ℕ) → HasRoom n self.old → HasRoom n self.new }
         ensures check_room { HasCheckRoom self.old → HasCheckRoom self.new }
     {
         self.pairs.reserve(n)?;
-        self.ranks.reserve(n)?;
-        Ok(())
+        self.ranks.reserve(n)
     }
 
     /// Adds a pair that was just made, under a number above all others.

@@ -1,6 +1,6 @@
 //! Checks of the pairs, and their answers (RFC 8445, section 7.2).
 
-ghost use Rattle.std.specs.Prelude.{◌≡◌, ◌<◌, ℕ, true, IfErr, IfSome, OnOk};
+ghost use Rattle.std.specs.Prelude.{◌≡◌, ◌<◌, ℕ, true, IfSome, OnOk};
 ghost use Rattle.std.specs.List.{list_any};
 ghost use Rattle.std.specs.Option.{option_copied};
 ghost use Rattle.rand_core.specs.Stream.{fill_bytes};
@@ -10,23 +10,22 @@ ghost use Rattle.is_pair.specs.Checklists.{bag_of, HasRoom, HasCheckRoom};
 
 use super::{Checklist, PairTest, index, mapped};
 use crate::pair::CandidatePair;
-use is_proto::{IceError, Instant};
+use is_proto::Instant;
 use is_stun::stun::{StunTiming, TransId};
 use rand_core::Rng;
+use std::alloc::AllocError;
 
 impl Checklist {
     /// Makes room for one more check, on whichever pair.
     ///
-    /// Refused with `OutOfMemory` where there is none: the pairs are as before.
-    pub fn reserve_check(&mut self) -> Result<(), IceError>
+    /// Refused where there is none: the pairs are as before.
+    pub fn reserve_check(&mut self) -> Result<(), AllocError>
         ensures bag { bag_of self.new ≡ bag_of self.old }
         ensures reserved { OnOk result (HasCheckRoom self.new) }
-        ensures refusal { IfErr result (λ e. e ≡ IceError.OutOfMemory) }
         ensures room { (n : ℕ) → HasRoom n self.old → HasRoom n self.new }
     {
         self.index.reserve(1)?;
-        mapped::reserve_beyond_all(&mut self.spare, &self.pairs)?;
-        Ok(())
+        mapped::reserve_beyond_all(&mut self.spare, &self.pairs)
     }
 
     /// Sends a check on the pair of the number, which is one of the pairs: keeps it, and answers its transaction id. Takes

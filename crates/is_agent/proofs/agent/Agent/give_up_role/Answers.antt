@@ -1,23 +1,27 @@
-use Rattle.std.proofs.Common.{◌≡◌, List, ap, refl, subst, sym, ◌∙◌}
+use Rattle.std.proofs.Common.{◌≡◌, ℕ, List, Option, IfSome, refl, subst, sym}
 use Rattle.std.specs.Prelude.{Bool, MatchBool}
 use Rattle.is_stun.specs.MessageView.{message_view}
 use Rattle.is_pair.specs.Pairs.{PairRecord}
-use Rattle.is_agent.specs.Due.{pair_at}
+use Rattle.is_agent.specs.Due.{IsSentUnder}
 use Rattle.is_agent.specs.View.{record_of}
 use Rattle.is_agent.specs.Roles.{switched}
 use Rattle.is_agent.proofs.AnswerLemmas.{role-given_up}
 use Rattle.is_agent.proofs.agent.Agent.give_up_role.Goals as goal
 
-pub returns-then-present-clause-gives_up : goal.returns-then-present-clause-gives_up
-returns-then-present-clause-gives_up g c =
-    let old = record_of c.args.self.now in let new = record_of c.switch_role.new.self in
-    role-given_up old new c.args.way.now (message_view c.args.message.now) c.args.place c.pair_at.result.now c.trans_id.result.0 c.is_of_role-present.result
-    c.requires.within c.requires.kept (c.pair_at.ensures ∙ ap (λ (pairs : List PairRecord). pair_at pairs c.args.place) c.deref.ensures.value) c.trans_id.ensures c.is_of_role-present.ensures
-    (subst (λ (b : Bool). MatchBool b (new ≡ switched old) (new ≡ old)) (sym c.if-present.true) c.switch_role.ensures.record)
+pub returns-then-is_of_present_role-clause-gives_up : goal.returns-then-is_of_present_role-clause-gives_up
+returns-then-is_of_present_role-clause-gives_up g c =
+    let old = record_of c.args.self.now in let new = record_of c.switch_role.new.self in let m = message_view c.args.message.now in
+    let (p, found, on) = c.requires.kept in let present = c.is_of_present_role.result in
+    let under = subst (λ (o : Option PairRecord). IfSome o (λ (q : PairRecord). IsSentUnder q c.trans_id.result.0 old.controlling present)) found c.is_of_present_role.ensures in
+    let named = subst (λ (id : List ℕ). IsSentUnder p id old.controlling present) c.trans_id.ensures under in
+    role-given_up old new c.args.way.now m c.args.number p present found on named
+    (subst (λ (b : Bool). MatchBool b (new ≡ switched old) (new ≡ old)) (sym c.if-is_of_present_role.true) c.switch_role.ensures.record)
 
-pub returns-else-present-clause-gives_up : goal.returns-else-present-clause-gives_up
-returns-else-present-clause-gives_up g c =
-    let old = record_of c.args.self.now in
-    role-given_up old old c.args.way.now (message_view c.args.message.now) c.args.place c.pair_at.result.now c.trans_id.result.0 c.is_of_role-present.result
-    c.requires.within c.requires.kept (c.pair_at.ensures ∙ ap (λ (pairs : List PairRecord). pair_at pairs c.args.place) c.deref.ensures.value) c.trans_id.ensures c.is_of_role-present.ensures
-    (subst (λ (b : Bool). MatchBool b (old ≡ switched old) (old ≡ old)) (sym c.if-present.false) refl)
+pub returns-else-is_of_present_role-clause-gives_up : goal.returns-else-is_of_present_role-clause-gives_up
+returns-else-is_of_present_role-clause-gives_up g c =
+    let old = record_of c.args.self.now in let m = message_view c.args.message.now in
+    let (p, found, on) = c.requires.kept in let present = c.is_of_present_role.result in
+    let under = subst (λ (o : Option PairRecord). IfSome o (λ (q : PairRecord). IsSentUnder q c.trans_id.result.0 old.controlling present)) found c.is_of_present_role.ensures in
+    let named = subst (λ (id : List ℕ). IsSentUnder p id old.controlling present) c.trans_id.ensures under in
+    role-given_up old old c.args.way.now m c.args.number p present found on named
+    (subst (λ (b : Bool). MatchBool b (old ≡ switched old) (old ≡ old)) (sym c.if-is_of_present_role.false) refl)

@@ -1,0 +1,92 @@
+-- Pairs by their numbers.
+use Rattle.std.proofs.Common.{if◌then◌else◌, ◌≡◌, ◌==◌, ℕ, ◌≤◌, ◌&&◌, ◌||◌, Bool, true, false, List, [], ◌∷◌, filter, find, nat_lt, slice_get, slice_set, Some, unwrap_or, inl, inr, zero, suc, refl, sym, ap, subst, ◌∙◌, arith}
+use Rattle.std.proofs.lemmas.Bool.{eq-eqb, eqb-true}
+use Rattle.std.proofs.lemmas.Bool.Decides.{nat_tests}
+use Rattle.std.specs.List.{list_any, list_all}
+use Rattle.is_proto.specs.Lists.{Has, NonePass}
+use Rattle.is_pair.specs.Pairs.{PairRecord}
+use Rattle.is_pair.specs.Bag.{is_numbered, are_below, change_pair, keeps, keeps_check, pair_numbered, passes_at, put_pair, rises}
+use Rattle.is_agent.proofs.PairLemmas.{find-Some}
+
+pub both : (a b : Bool) → a && b ≡ true → (a ≡ true) × (b ≡ true)
+both true b h = (refl, h)
+both false b h = absurd (cc)
+
+-- all numbers are above n
+abbrev above : ℕ → List PairRecord → Bool
+above n ps = list_all (λ q. nat_lt n q.number) ps
+
+apart : (n m : ℕ) → nat_lt n m ≡ true → m == n ≡ false
+apart n m h = grind (arith, nat_tests, h)
+
+untouched : (n : ℕ) (f : PairRecord → PairRecord) (ps : List PairRecord) → above n ps ≡ true → change_pair n f ps ≡ ps
+untouched n f [] h = refl
+untouched n f (p ∷ ps) h =
+    let b = both (nat_lt n p.number) (above n ps) h in
+    rw (apart n p.number b.0) (ap (λ xs. p ∷ xs) (untouched n f ps b.1))
+
+-- the place of the pair of a number
+place-at : (ps : List PairRecord) (n : ℕ) (p after : PairRecord) → rises ps ≡ true → pair_numbered n ps ≡ Some p
+    → (place : ℕ) × (slice_get ps place ≡ Some p) × (change_pair n (λ _. after) ps ≡ slice_set ps place after)
+place-at [] n p after rising found = absurd (cc)
+place-at (q ∷ qs) n p after rising found =
+    let r = both (above q.number qs) (rises qs) rising in
+    elim (is_numbered n q) as (λ b. is_numbered n q ≡ b → (if b then Some q else find (is_numbered n) qs) ≡ Some p
+    → (place : ℕ) × (slice_get (q ∷ qs) place ≡ Some p) × ((if b then after else q) ∷ change_pair n (λ _. after) qs ≡ slice_set (q ∷ qs) place after)) [
+      | true ↦ λ is h.
+          let same : q ≡ p = ap (λ o. unwrap_or o q) h in
+          let over = subst (λ m. above m qs ≡ true) (eqb-true q.number n is) r.0 in
+          (zero, ap Some same, ap (λ xs. after ∷ xs) (untouched n (λ _. after) qs over))
+      | false ↦ λ is h. let rest = place-at qs n p after r.1 h in (suc rest.0, rest.1, ap (λ xs. q ∷ xs) rest.2)
+    ] refl found
+
+-- a pair that is put in the place of the one of its number
+pub put-place : (ps : List PairRecord) (n : ℕ) (p after : PairRecord) → rises ps ≡ true → pair_numbered n ps ≡ Some p → after.number ≡ n
+    → (place : ℕ) × (slice_get ps place ≡ Some p) × (put_pair after ps ≡ slice_set ps place after)
+put-place ps n p after rising found its =
+    let at = place-at ps n p after rising found in
+    (at.0, at.1, subst (λ m. change_pair m (λ _. after) ps ≡ slice_set ps at.0 after) (sym its) at.2)
+
+pub has-any : {X : Type 0} (t : X → Bool) (xs : List X) (x : X) → Has xs x → t x ≡ true → list_any t xs ≡ true
+has-any t [] x none is = absurd none
+has-any t (y ∷ ys) x (inl e) is = rw (e, is) refl
+has-any t (y ∷ ys) x (inr has) is = elim (t y) as (λ b. (b || list_any t ys) ≡ true) [ true ↦ refl | false ↦ has-any t ys x has is ]
+
+pub none-any : {X : Type 0} (t : X → Bool) (xs : List X) → NonePass t xs → list_any t xs ≡ false
+none-any t [] none = refl
+none-any t (y ∷ ys) none =
+    elim (t y) as (λ b. (if b then y ∷ filter t ys else filter t ys) ≡ [] → (b || list_any t ys) ≡ false) [
+      | true ↦ λ h. absurd (cc)
+      | false ↦ λ h. none-any t ys h
+    ] none
+
+over-has : (n : ℕ) (ps : List PairRecord) (p : PairRecord) → above n ps ≡ true → Has ps p → nat_lt n p.number ≡ true
+over-has n [] p h none = absurd none
+over-has n (q ∷ qs) p h (inl e) = ap (λ (x : PairRecord). nat_lt n x.number) (sym e) ∙ (both (nat_lt n q.number) (above n qs) h).0
+over-has n (q ∷ qs) p h (inr has) = over-has n qs p (both (nat_lt n q.number) (above n qs) h).1 has
+
+before : (n m : ℕ) → nat_lt n m ≡ true → n == m ≡ false
+before n m h = grind (arith, nat_tests, h)
+
+-- no other pair has its number
+pub numbered-found : (ps : List PairRecord) (p : PairRecord) → rises ps ≡ true → Has ps p → pair_numbered p.number ps ≡ Some p
+numbered-found [] p rising none = absurd none
+numbered-found (q ∷ qs) p rising (inl e) = rw (e, eq-eqb p.number p.number refl) refl
+numbered-found (q ∷ qs) p rising (inr has) =
+    let r = both (above q.number qs) (rises qs) rising in
+    rw (before q.number p.number (over-has q.number qs p r.0 has)) (numbered-found qs p r.1 has)
+
+-- the pair of the number keeps the check
+pub kept-at : (id : List ℕ) (n : ℕ) (ps : List PairRecord) (p : PairRecord) → pair_numbered n ps ≡ Some p → keeps_check id p ≡ true → keeps id n ps ≡ true
+kept-at id n ps p found kept =
+    let is = find-Some (is_numbered n) ps p found in
+    has-any (passes_at n (keeps_check id)) ps p is.0 (rw (is.1) kept)
+
+grown : (a n m : ℕ) → n ≤ m → nat_lt a n ≡ true → nat_lt a m ≡ true
+grown a n m more h = grind (arith, nat_tests, h, more)
+
+pub below-grown : (n m : ℕ) (ps : List PairRecord) → n ≤ m → are_below n ps ≡ true → are_below m ps ≡ true
+below-grown n m [] more h = refl
+below-grown n m (p ∷ ps) more h =
+    let b = both (nat_lt p.number n) (are_below n ps) h in
+    rw (grown p.number n m more b.0) (below-grown n m ps more b.1)

@@ -1,0 +1,15 @@
+use Rattle.std.proofs.Common.{◌≤◌, rules}
+use Rattle.is_pair.specs.Checklists.{bag_of}
+use Rattle.is_agent.proofs.NumberLemmas.{below-grown}
+use Rattle.is_agent.proofs.agent.Agent.skip_pair_ids.Goals as goal
+
+pub invariant_of-self : goal.invariant_of-self
+invariant_of-self g c =
+    let self = c.args.self.now in
+    let more : self.next_number ≤ c.max-self.result = search rules in
+    record {
+      credentials_fit = self.credentials_fit;
+      none_too_high = self.none_too_high;
+      retransmits = self.retransmits;
+      numbered = below-grown self.next_number c.max-self.result (bag_of self.pairs) more self.numbered;
+    }
