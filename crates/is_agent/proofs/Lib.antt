@@ -1,6 +1,7 @@
 mod PriorityLemmas
 mod PairLemmas
 mod NumberLemmas
+mod DueLemmas
 mod PlaceLemmas
 mod ReplyLemmas
 mod TopLemmas

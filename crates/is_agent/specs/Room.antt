@@ -1,11 +1,13 @@
 -- Room for what a call can add.
-use Rattle.std.specs.Prelude.{◌≡◌, ℕ, ◌+◌, ◌≤◌, ◌<◌, false, IfSome, length, vec_len, vec_capacity, string_bytes}
+use Rattle.std.specs.Prelude.{◌≡◌, ℕ, ◌+◌, ◌≤◌, ◌<◌, true, IfSome, length, vec_len, vec_capacity, string_bytes}
 use Rattle.std.specs.VecDeque.{deque_len, deque_capacity}
 use Rattle.is_pair.specs.Checklists as checklists
 use Rattle.is_pair.specs.Checklists.{HasRoom}
 use Rattle.is_agent.specs.declared.agent.Agent.{Agent}
 use Rattle.is_agent.specs.Fitting.{MTU_FLOOR}
 use Rattle.is_agent.specs.Checking.{username_between}
+use Rattle.is_agent.specs.Due.{may_fall_due}
+use Rattle.is_agent.specs.View.{record_of}
 
 module _ {H P : Type 0} where
   -- so many events more
@@ -53,4 +55,8 @@ module _ {H P : Type 0} where
 
   -- one more packet, one more check of any pair, and what the packet says
   abbrev pub HasCheckRoom : Agent H P → Type 0
-  HasCheckRoom a = HasPacketRoom a × checklists.HasCheckRoom a.pairs × (a.lite ≡ false → IsPrepared a)
+  HasCheckRoom a = HasPacketRoom a × checklists.HasCheckRoom a.pairs × IsPrepared a
+
+  -- the same, where a check may be due at this moment
+  abbrev pub HasCheckRoomAt : ℕ → Agent H P → Type 0
+  HasCheckRoomAt now a = may_fall_due now (record_of a) ≡ true → HasCheckRoom a

@@ -2,12 +2,15 @@
 
 ghost use Rattle.std.specs.Prelude.{◌≡◌, ℕ, true};
 ghost use Rattle.std.specs.Option.{option_copied};
+ghost use Rattle.std.specs.List.{list_any};
+ghost use Rattle.is_stun.specs.declared.timing.StunTiming.{StunTiming};
+ghost use Rattle.is_agent.specs.Due.{falls_due};
 ghost use Rattle.is_agent.specs.View.{record_of};
 ghost use Rattle.is_agent.specs.FormingView.{sides_view};
 ghost use Rattle.is_pair.specs.Bag.{are_below, change_pair, IsGreatest};
 ghost use Rattle.is_pair.specs.Checklists as checklists;
 ghost use Rattle.is_pair.specs.Checklists.{bag_of, HasRoom};
-ghost use Rattle.is_agent.specs.Room.{HasEventRoom, HasNewsRoom, HasPacketRoom, HasCheckRoom};
+ghost use Rattle.is_agent.specs.Room.{HasEventRoom, HasNewsRoom, HasPacketRoom, HasCheckRoomAt};
 ghost use Rattle.is_agent.specs.Nominating.{is_eligible, nominated_by_self, announced_pair, stands_at, selection, path_in, path_told, Names, Nominates, NominatesWhere};
 
 use crate::agent::Agent;
@@ -112,7 +115,9 @@ pub(crate) fn name(
     ensures room { (n : ℕ) → HasRoom n pairs.old → HasRoom n pairs.new }
     ensures check_room { checklists.HasCheckRoom pairs.old → checklists.HasCheckRoom pairs.new }
     ensures below { (n : ℕ) → are_below n (bag_of pairs.old) ≡ true → are_below n (bag_of pairs.new) ≡ true }
+    ensures due { (now : ℕ) (t : StunTiming) → list_any (falls_due sides.entry.controlling now t) (bag_of pairs.new) ≡ true → list_any (falls_due sides.entry.controlling now t) (bag_of pairs.old) ≡ true }
 {
+    pairs.numbers_rise();
     let controlling = sides.controlling;
     match top_eligible(pairs, controlling) {
         None => None,
@@ -139,7 +144,7 @@ impl<H: Sha1HmacProvider + Drop, P: LocalPreference> Agent<H, P> {
         ensures news { HasNewsRoom 2 self.old → HasNewsRoom 1 self.new }
         ensures more_news { HasNewsRoom 3 self.old → HasNewsRoom 2 self.new }
         ensures packets { HasPacketRoom self.old → HasPacketRoom self.new }
-        ensures checks { HasCheckRoom self.old → HasCheckRoom self.new }
+        ensures checks { (now : ℕ) → HasCheckRoomAt now self.old → HasCheckRoomAt now self.new }
     {
         let Some(path) = path else { return };
         self.events
@@ -161,7 +166,7 @@ impl<H: Sha1HmacProvider + Drop, P: LocalPreference> Agent<H, P> {
         ensures one { HasEventRoom 2 self.old → HasEventRoom 1 self.new }
         ensures two { HasEventRoom 3 self.old → HasEventRoom 2 self.new }
         ensures packets { HasPacketRoom self.old → HasPacketRoom self.new }
-        ensures checks { HasCheckRoom self.old → HasCheckRoom self.new }
+        ensures checks { (now : ℕ) → HasCheckRoomAt now self.old → HasCheckRoomAt now self.new }
     {
         let sides = Sides {
             local: &self.local,

@@ -2,7 +2,7 @@
 //!
 //! Room for all of it is made before the agent changes; what follows can't be refused.
 
-ghost use Rattle.std.specs.Prelude.{◌≡◌, Option, Some, true, false, IfOk, IfErr, OnOk, IsOkUnless, MatchOption};
+ghost use Rattle.std.specs.Prelude.{◌≡◌, ℕ, Option, Some, true, false, IfOk, IfErr, OnOk, IsOkUnless, MatchOption};
 ghost use Rattle.std.specs.List.{list_any};
 ghost use Rattle.is_proto.specs.declared.error.IceError.TheVariants as errors;
 ghost use Rattle.is_stun.specs.Laws.{IsPut};
@@ -10,11 +10,11 @@ ghost use Rattle.is_stun.specs.Writing.{written};
 ghost use Rattle.is_stun.specs.declared.header.Class.TheVariants as classes;
 ghost use Rattle.is_agent.specs.declared.credentials.IceCreds as model;
 ghost use Rattle.is_agent.specs.View.{record_of, told_of};
-ghost use Rattle.is_agent.specs.Room.{HasPacketRoom, HasEventRoom, HasCheckRoom, IsPrepared};
+ghost use Rattle.is_agent.specs.Room.{HasPacketRoom, HasEventRoom, HasCheckRoom, HasCheckRoomAt, IsPrepared};
 ghost use Rattle.is_agent.specs.Checking.{check_message, ChecksPair, ChecksNext, MayCheck};
 ghost use Rattle.is_pair.specs.Bag.{has_number};
-ghost use Rattle.is_pair.specs.Due.{IsNextDue};
-ghost use Rattle.is_agent.specs.Due.{Drafts, DraftsNext, check_counted};
+ghost use Rattle.is_pair.specs.Due.{is_due, IsNextDue};
+ghost use Rattle.is_agent.specs.Due.{awaits_nomination, may_fall_due, Drafts, DraftsNext, check_counted};
 ghost use Rattle.is_pair.specs.Pairs.{PairRecord};
 ghost use Rattle.is_agent.specs.Queue.{request_at};
 ghost use Rattle.is_agent.specs.Sending.{with_packet};
@@ -30,9 +30,11 @@ use crate::states::tell_state;
 use crate::told::{Issued, Path, Told};
 use crate::waking::Waking;
 use is_candidate::LocalPreference;
-use is_pair::checklist::GivenUp;
+use is_pair::checklist::{GivenUp, PairTest};
+use is_pair::pair::{CandidatePair, CheckState};
+use is_pair::{due_moment, is_asked};
 use is_proto::{IceError, Instant, Sha1HmacProvider, Transmit};
-use is_stun::stun::{Class, TransId};
+use is_stun::stun::{Class, StunTiming, TransId};
 use rand_core::Rng;
 use std::alloc::AllocError;
 
@@ -52,7 +54,7 @@ impl<H: Sha1HmacProvider + Drop, P: LocalPreference> Agent<H, P> {
     fn drop_given_up(&mut self, now: Instant)
         ensures gone { record_of self.new ≡ given_up_gone now.0 (record_of self.old) }
         ensures events { HasEventRoom 2 self.old → HasEventRoom 2 self.new }
-        ensures checks { HasCheckRoom self.old → HasCheckRoom self.new }
+        ensures checks { (t : ℕ) → HasCheckRoomAt t self.old → HasCheckRoomAt t self.new }
     {
         self.pairs.remove_where(&GivenUp {
             lite: self.lite,
@@ -64,7 +66,7 @@ impl<H: Sha1HmacProvider + Drop, P: LocalPreference> Agent<H, P> {
     fn evaluate_at(&mut self, now: Instant)
         requires room { HasEventRoom 1 self.old }
         ensures evaluated { record_of self.new ≡ evaluated now.0 (record_of self.old) }
-        ensures checks { HasCheckRoom self.old → HasCheckRoom self.new }
+        ensures checks { (t : ℕ) → HasCheckRoomAt t self.old → HasCheckRoomAt t self.new }
     {
         let state = self.state_at(now);
         tell_state(&mut self.state, &mut self.events, state);
@@ -74,7 +76,7 @@ impl<H: Sha1HmacProvider + Drop, P: LocalPreference> Agent<H, P> {
     fn give_up(&mut self, now: Instant) -> Option<Path>
         requires room { HasEventRoom 2 self.old }
         ensures given_up { GivesUp now.0 (record_of self.old) result (record_of self.new) }
-        ensures checks { HasCheckRoom self.old → HasCheckRoom self.new }
+        ensures checks { (t : ℕ) → HasCheckRoomAt t self.old → HasCheckRoomAt t self.new }
     {
         if !self.any_given_up(now) {
             return None;
@@ -115,7 +117,6 @@ impl<H: Sha1HmacProvider + Drop, P: LocalPreference> Agent<H, P> {
     fn check<R: Rng>(&mut self, number: u64, draft: Draft, now: Instant, rng: &mut R) -> Issued
         requires has { has_number number (record_of self.old).pairs ≡ true }
         requires room { HasCheckRoom self.old }
-        requires prepared { IsPrepared self.old }
         ensures { (peer : model.IceCreds) (p : PairRecord) → self.old.remote_creds ≡ Some peer → p.number ≡ number → Drafts (record_of self.old) p draft → ChecksPair H.mac now.0 peer p (record_of self.old) (R.stream rng.old) (Some result) (record_of self.new) (R.stream rng.new) }
     {
         let controlling = self.controlling;
@@ -137,8 +138,7 @@ impl<H: Sha1HmacProvider + Drop, P: LocalPreference> Agent<H, P> {
 
     /// The pair that is due first is checked.
     fn check_next<R: Rng>(&mut self, now: Instant, rng: &mut R) -> Option<Issued>
-        requires room { HasCheckRoom self.old }
-        requires prepared { IsPrepared self.old }
+        requires room { list_any (is_due now.0 self.old.timing) (record_of self.old).pairs ≡ true → HasCheckRoom self.old }
         ensures { (peer : model.IceCreds) → self.old.remote_creds ≡ Some peer → ChecksNext H.mac now.0 peer (record_of self.old) (R.stream rng.old) result (record_of self.new) (R.stream rng.new) }
     {
         match self.next_check(now) {
@@ -149,7 +149,7 @@ impl<H: Sha1HmacProvider + Drop, P: LocalPreference> Agent<H, P> {
 
     /// The same, where the peer is known: each pair is asked for its due moment first. A lite agent sends no check.
     fn may_check<R: Rng>(&mut self, now: Instant, rng: &mut R) -> Option<Issued>
-        requires { HasCheckRoom self.old }
+        requires { HasCheckRoomAt now.0 self.old }
         ensures { MayCheck H.mac now.0 (record_of self.old).remote_creds (record_of self.old) (R.stream rng.old) result (record_of self.new) (R.stream rng.new) }
     {
         match self.remote_creds {
@@ -168,44 +168,79 @@ impl<H: Sha1HmacProvider + Drop, P: LocalPreference> Agent<H, P> {
 
 // ---- room
 
+/// Whether a pair is due at a moment, or is due once the agent nominates it at it.
+#[derive(Clone, Copy)]
+struct FallsDue<'a> {
+    controlling: bool,
+    now: Instant,
+    timing: &'a StunTiming,
+}
+
+impl PairTest for FallsDue<'_> {
+    ghost use Rattle.is_agent.specs.Due.{falls_due};
+
+    ghost passes = { λ t p. falls_due t.controlling t.now.0 t.timing.now p };
+
+    fn passes(&self, pair: &CandidatePair) -> bool {
+        due_moment(pair, self.now, self.timing) <= self.now
+            || (!is_asked(pair) && awaits_nomination(pair, self.controlling))
+    }
+}
+
+/// The agent may nominate the pair by itself.
+fn awaits_nomination(pair: &CandidatePair, controlling: bool) -> bool
+    ensures { result ≡ awaits_nomination controlling pair.now }
+{
+    controlling && pair.state() == CheckState::Succeeded && !pair.is_nominated()
+}
+
 impl<H: Sha1HmacProvider + Drop, P: LocalPreference> Agent<H, P> {
-    /// Makes ready what a check says, where the agent may send one.
+    /// A check may be due at this moment.
+    fn may_fall_due(&self, now: Instant) -> bool
+        ensures { result ≡ may_fall_due now.0 (record_of self.now) }
+    {
+        !self.lite
+            && self.remote_creds.is_some()
+            && self.pairs.any(&FallsDue {
+                controlling: self.controlling,
+                now,
+                timing: &self.timing,
+            })
+    }
+
+    /// Makes ready what a check says, once the peer is known.
     fn prepare_check(&mut self) -> Result<(), AllocError>
         ensures record { record_of self.new ≡ record_of self.old }
-        ensures prepared { OnOk result (self.new.lite ≡ false → IsPrepared self.new) }
+        ensures prepared { OnOk result (IsPrepared self.new) }
     {
         let Some(peer) = &self.remote_creds else {
             return Ok(());
         };
-        if self.lite {
-            return Ok(());
-        }
         write_username(&mut self.username, peer, &self.local_creds)?;
         self.contents.resize(MTU_FLOOR, 0)
     }
 
-    /// Makes room for a packet, and for one more check of any pair.
-    fn take_check_room(&mut self) -> Result<(), IceError>
+    /// Makes room for a packet, and for one more check of any pair, where a check may be due at this moment.
+    fn take_check_room(&mut self, now: Instant) -> Result<(), AllocError>
         ensures record { record_of self.new ≡ record_of self.old }
-        ensures room { OnOk result (HasCheckRoom self.new) }
-        ensures refused { IsOkUnless result errors.OutOfMemory }
+        ensures room { OnOk result (HasCheckRoomAt now.0 self.new) }
     {
+        if !self.may_fall_due(now) {
+            return Ok(());
+        }
         self.prepare_check()?;
         self.packets.reserve(1)?;
-        self.pairs.reserve_check()?;
-        Ok(())
+        self.pairs.reserve_check()
     }
 
-    /// Makes room for five events, and for a check.
-    fn take_round_room(&mut self) -> Result<(), IceError>
+    /// Makes room for five events, and for a check where one may be due.
+    fn take_round_room(&mut self, now: Instant) -> Result<(), AllocError>
         ensures record { record_of self.new ≡ record_of self.old }
         ensures events { OnOk result (HasEventRoom 5 self.new) }
-        ensures checks { OnOk result (HasCheckRoom self.new) }
-        ensures refused { IsOkUnless result errors.OutOfMemory }
+        ensures checks { OnOk result (HasCheckRoomAt now.0 self.new) }
     {
-        self.take_check_room()?;
-        self.events.reserve(5)?;
-        Ok(())
+        self.take_check_room(now)?;
+        self.events.reserve(5)
     }
 }
 
@@ -215,7 +250,7 @@ impl<H: Sha1HmacProvider + Drop, P: LocalPreference> Agent<H, P> {
     /// All that the moment does behind waking, with room for it.
     fn proceed<R: Rng>(&mut self, now: Instant, rng: &mut R) -> Told
         requires events { HasEventRoom 3 self.old }
-        requires checks { HasCheckRoom self.old }
+        requires checks { HasCheckRoomAt now.0 self.old }
         ensures { Proceeds H.mac now.0 (record_of self.old) (R.stream rng.old) result (record_of self.new) (R.stream rng.new) }
     {
         self.last_moment = Some(now);
@@ -229,7 +264,7 @@ impl<H: Sha1HmacProvider + Drop, P: LocalPreference> Agent<H, P> {
     fn wake_and_proceed<R: Rng>(&mut self, now: Instant, rng: &mut R, waking: Waking) -> Told
         requires waking { IsWaking now.0 (record_of self.old) waking }
         requires events { HasEventRoom 5 self.old }
-        requires checks { HasCheckRoom self.old }
+        requires checks { HasCheckRoomAt now.0 self.old }
         ensures { Proceeds H.mac now.0 (awake now.0 (record_of self.old)) (R.stream rng.old) result (record_of self.new) (R.stream rng.new) }
     {
         self.wake(now, waking);
@@ -243,7 +278,7 @@ impl<H: Sha1HmacProvider + Drop, P: LocalPreference> Agent<H, P> {
         ensures unchanged { IfErr result (λ _. (record_of self.new ≡ record_of self.old) × (R.stream rng.new ≡ R.stream rng.old)) }
     {
         let waking = self.waking(now)?;
-        self.take_round_room()?;
+        self.take_round_room(now)?;
         Ok(self.wake_and_proceed(now, rng, waking))
     }
 
@@ -262,7 +297,7 @@ impl<H: Sha1HmacProvider + Drop, P: LocalPreference> Agent<H, P> {
     /// Tells the agent of a moment. In New the start is told of, and the state is evaluated. A request that waited is
     /// served, once remote credentials are known; where there is none, a pair is nominated, pairs that are not possible any
     /// more go, and the pair that is due first is checked (RFC 8445, sections 6.1.4.2, 7.2.4 and 8.1.1). It allocates what
-    /// the events and the packet that it issues take; the first moment behind a check makes ready what the next one takes.
+    /// the events and the packet that it issues take.
     ///
     /// Refused with `PairIdsExhausted` where a request is served, a pair must be added and no number is left, and with
     /// `OutOfMemory`; the agent is then as it was, and nothing was drawn.

@@ -1,10 +1,10 @@
 //! What a moment begins with: the start is told of, the state is evaluated, and outdated requests go.
 
-ghost use Rattle.std.specs.Prelude.{◌≡◌, ◌<◌, ◌≤◌, ◌+◌, true, false, IfOk, IfErr, IfSome, OnOk, IsOkUnless, length, MatchOption, option_map, slice_get, take_while};
+ghost use Rattle.std.specs.Prelude.{◌≡◌, ℕ, ◌<◌, ◌≤◌, ◌+◌, true, false, IfOk, IfErr, IfSome, OnOk, IsOkUnless, length, MatchOption, option_map, slice_get, take_while};
 ghost use Rattle.std.specs.VecDeque.{deque_len, deque_capacity};
 ghost use Rattle.std.specs.Option.{option_copied};
 ghost use Rattle.is_agent.specs.RequestView.{request_view, waiting_view};
-ghost use Rattle.is_agent.specs.Room.{HasEventRoom, HasNewsRoom, HasServingRoom, HasPacketRoom, HasCheckRoom};
+ghost use Rattle.is_agent.specs.Room.{HasEventRoom, HasNewsRoom, HasServingRoom, HasPacketRoom, HasCheckRoomAt};
 ghost use Rattle.is_agent.specs.Serving.{Serves, LacksNumber, AlwaysLacksNumber, MayRefuseRequest};
 ghost use Rattle.is_proto.specs.declared.error.IceError.TheVariants as errors;
 ghost use Rattle.is_agent.specs.View.{record_of};
@@ -91,7 +91,7 @@ impl<H: Sha1HmacProvider + Drop, P: LocalPreference> Agent<H, P> {
         ensures packets { HasPacketRoom self.old → HasPacketRoom self.new }
         ensures events { HasEventRoom 5 self.old → HasEventRoom 3 self.new }
         ensures news { HasNewsRoom 4 self.old → HasNewsRoom 2 self.new }
-        ensures checks { HasCheckRoom self.old → HasCheckRoom self.new }
+        ensures checks { (t : ℕ) → HasCheckRoomAt t self.old → HasCheckRoomAt t self.new }
     {
         let Waking {
             start,

@@ -1,7 +1,6 @@
 //! When a pair is due for its next check, and when it is given up.
 
-ghost use Rattle.std.specs.Prelude.{◌≡◌, ◌<◌, unwrap_or};
-ghost use Rattle.is_proto.specs.Moments.{MAX};
+ghost use Rattle.std.specs.Prelude.{◌≡◌, ◌<◌, is_some};
 ghost use Rattle.is_pair.specs.Pairs.{undue};
 ghost use Rattle.is_pair.specs.Due.{asked, delaying_count, due_moment, is_heard, is_in_time, is_possible, long_before, next_moment};
 
@@ -127,13 +126,13 @@ pub fn due_moment(pair: &CandidatePair, now: Instant, timing: &StunTiming) -> In
     pair.due_moment(now, timing)
 }
 
-/// The moment of the next check, once it was asked for; the greatest one before.
-pub fn fixed_due(pair: &CandidatePair) -> Instant
-    ensures { result.0 ≡ unwrap_or pair.now.due MAX }
+/// Whether the moment of the next check was asked for, and so stands.
+pub fn is_asked(pair: &CandidatePair) -> bool
+    ensures { result ≡ is_some pair.now.due }
 {
     match pair.cached_next_attempt_time {
-        Some(due) => due,
-        None => Instant(u64::MAX),
+        Some(_) => true,
+        None => false,
     }
 }
 

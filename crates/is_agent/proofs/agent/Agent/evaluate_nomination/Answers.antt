@@ -1,7 +1,11 @@
+use Rattle.std.proofs.Common.{is_some, not}
+use Rattle.std.specs.List.{list_any}
 use Rattle.is_pair.specs.Checklists.{bag_of}
+use Rattle.is_agent.specs.Due.{falls_due}
 use Rattle.is_agent.specs.View.{record_of}
 use Rattle.is_agent.specs.Forming.{sides_of}
 use Rattle.is_agent.specs.Nominating.{Names, selection}
+use Rattle.is_agent.proofs.DueLemmas.{and-third}
 use Rattle.is_agent.proofs.agent.Agent.evaluate_nomination.Goals as goal
 
 pub returns-clause-nominates : goal.returns-clause-nominates
@@ -11,4 +15,10 @@ returns-clause-nominates g c =
     (chosen, named, c.tell_path.ensures.told)
 
 pub returns-clause-checks : goal.returns-clause-checks
-returns-clause-checks g c = λ room. c.tell_path.ensures.checks (room.0, c.name-path.ensures.check_room room.1, room.2)
+returns-clause-checks g c = λ now room.
+    let self = c.args.self.now in
+    c.tell_path.ensures.checks now (λ falls.
+    let all = and-third (not self.lite) (is_some self.remote_creds) (list_any (falls_due self.controlling now self.timing) (bag_of self.pairs))
+    (list_any (falls_due self.controlling now self.timing) (bag_of c.name-path.new.pairs)) (c.name-path.ensures.due now self.timing) falls in
+    let old = room all in
+    (old.0, c.name-path.ensures.check_room old.1, old.2))

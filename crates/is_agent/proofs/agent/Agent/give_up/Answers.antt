@@ -12,3 +12,7 @@ returns-clause-given_up g c =
     let any : list_any (is_given_up c.args.now.0 old) old.pairs ≡ true = sym c.any_given_up.ensures ∙ c.if-not-any_given_up.false in
     let named = subst (λ (s : AgentRecord g.row.H.Denot g.row.P.Denot). Nominates s path mid) c.drop_given_up.ensures.gone c.evaluate_nomination-path.ensures.nominates in
     rw (any) (mid, named, c.evaluate_at.ensures.evaluated)
+
+pub returns-clause-checks : goal.returns-clause-checks
+returns-clause-checks g c = λ t room.
+    c.evaluate_at.ensures.checks t (c.evaluate_nomination-path.ensures.checks t (c.drop_given_up.ensures.checks t room))

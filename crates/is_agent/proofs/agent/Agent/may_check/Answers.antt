@@ -1,0 +1,18 @@
+use Rattle.std.proofs.Common.{◌≡◌, ap, is_some, not, rules, true}
+use Rattle.std.specs.List.{list_any}
+use Rattle.is_pair.specs.Checklists.{bag_of}
+use Rattle.is_agent.specs.Due.{falls_due}
+use Rattle.is_agent.proofs.DueLemmas.{all-three, falls-asked}
+use Rattle.is_agent.proofs.agent.Agent.may_check.Goals as goal
+
+pub check_next-requires : goal.check_next-requires
+check_next-requires g c =
+    let self = c.args.self.now in let now = c.args.now.0 in
+    let full : not self.lite ≡ true = ap not c.if-self.false in
+    let known : is_some self.remote_creds ≡ true = search rules in
+    record {
+      room = λ due.
+          let falls = falls-asked self.controlling now self.timing (bag_of self.pairs) (rw (c.ask_all.ensures.asked) at due) in
+          let old = c.requires (all-three (not self.lite) (is_some self.remote_creds) (list_any (falls_due self.controlling now self.timing) (bag_of self.pairs)) full known falls) in
+          (old.0, c.ask_all.ensures.check_room old.1, old.2);
+    }
