@@ -24,7 +24,7 @@ use Rattle.std.specs.declared.net.socket_addr.SocketAddr.{SocketAddr}
 use Rattle.std.proofs.lemmas.Bool.{eqb-true, eq-eqb}
 use Rattle.is_stun.specs.declared.timing.StunTiming.{StunTiming}
 use Rattle.is_pair.specs.Bag.{is_numbered, change_pair}
-use Rattle.is_agent.specs.Kept.{AreRising}
+use Rattle.is_agent.proofs.Rising.{AreRising}
 use Rattle.is_agent.specs.Sending.{path_of}
 use Rattle.is_agent.specs.Sound.{is_started_state}
 use Rattle.is_agent.specs.Answers.{is_known_address, mapped_candidate, mapped_learnt, success_counted, keeps_check_on, Records}

@@ -5,7 +5,7 @@ use Rattle.is_proto.specs.Lists.{Has}
 use Rattle.is_pair.specs.Pairs.{PairRecord}
 use Rattle.is_pair.specs.Bag.{is_numbered, without, Drops}
 use Rattle.is_agent.specs.Cuts.{IsCut}
-use Rattle.is_agent.specs.Kept.{AreRising}
+use Rattle.is_agent.proofs.Rising.{AreRising}
 
 -- the pairs but that of the number
 abbrev is_other : ℕ → PairRecord → Bool

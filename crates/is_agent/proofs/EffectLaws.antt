@@ -29,6 +29,7 @@ use Rattle.is_agent.specs.Steps.{Call, RestartIce, ReceivePacket, HandleTimeout,
 use Rattle.is_agent.specs.Sound.{GivesBased}
 use Rattle.is_agent.specs.Issuing.{Queues, IsIssued, key_for, way_out, IsQueued}
 use Rattle.is_agent.specs.Effects.{PathLaw, TradeLaw}
+use Rattle.is_agent.proofs.Rising.{each-rising, each-below}
 use Rattle.is_agent.proofs.RefusalLaws.{refusal_keeps}
 use Rattle.is_agent.proofs.Frames.{frame_of, either, packet_along}
 use Rattle.is_agent.proofs.FrameLaws.{framed}
@@ -161,8 +162,8 @@ module _ {H P : Type 0} (mac : H → List ℕ → List ℕ → List ℕ) (answer
         },
         record {
           placed = k.1.placed;
-          rising = k.1.rising;
-          below = k.1.below;
+          rising = each-rising new.pairs k.1.rising;
+          below = each-below new.next_number new.pairs k.1.below;
           announced = p.number_below sound.announced;
           started = λ q c has keeps. k.1.started q has c keeps;
           checks = st.checks sound.checks;

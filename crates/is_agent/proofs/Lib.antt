@@ -1,6 +1,7 @@
 mod PriorityLemmas
 mod PairLemmas
 mod NumberLemmas
+pub mod Rising
 mod DueLemmas
 mod PlaceLemmas
 mod ReplyLemmas

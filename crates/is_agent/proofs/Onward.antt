@@ -13,8 +13,8 @@ use Rattle.is_pair.specs.declared.pair.states.NominationState.TheVariants.{None 
 use Rattle.is_agent.proofs.Addresses.{both, same_address-sound, same_protocol-sound}
 use Rattle.is_agent.specs.declared.told.Path.{Path}
 use Rattle.is_pair.specs.Bag.{is_numbered, without, Drops}
-use Rattle.is_agent.specs.Kept.{AreRising}
-use Rattle.is_agent.specs.Sound.{AllBelow, IsPlaced, ArePlaced}
+use Rattle.is_agent.proofs.Rising.{AreRising, AllBelow}
+use Rattle.is_agent.specs.Sound.{IsPlaced, ArePlaced}
 use Rattle.is_agent.specs.Forming.{SidesRecord, Formed, Combination, combined_priority, is_redundant, pair_of, Tries, FormsEach}
 use Rattle.is_agent.specs.Sound.{is_started_state}
 use Rattle.is_agent.specs.Each.{Each}

@@ -13,6 +13,7 @@ use Rattle.is_stun.specs.Integrity.{IsSignedBy}
 use Rattle.is_stun.specs.declared.header.Class.{Class}
 use Rattle.is_stun.specs.declared.header.Class.TheVariants as class
 use Rattle.is_stun.specs.Laws.{IsPut}
+use Rattle.is_agent.proofs.Rising.{rising-each, below-each}
 use Rattle.is_agent.proofs.Addresses.{both}
 use Rattle.is_agent.specs.declared.credentials.IceCreds.{IceCreds}
 use Rattle.is_agent.specs.declared.told.Path.{Path}
@@ -326,7 +327,7 @@ module _ {H P : Type 0} (mac : H → List ℕ → List ℕ → List ℕ) (answer
   retransmits false n fit calm h = becomes (SetMaxStunRetransmits n) fit (with_retransmits n old) (resting (SetMaxStunRetransmits n) fit) calm h
 
   fits : (call : Call P) → IsSound old → Fit (parts_of (Asks call) (Met call) Sent old)
-  fits call sound = record { placed = sound.placed; rising = sound.rising; below = sound.below; started = λ p has c keeps. sound.started p c has keeps }
+  fits call sound = record { placed = sound.placed; rising = rising-each old.pairs sound.rising; below = below-each old.next_number old.pairs sound.below; started = λ p has c keeps. sound.started p c has keeps }
 
   abbrev calms : (call : Call P) → is_calm call ≡ true → Step mac answers old s call e new t → Calm call old e new
   calms call is h = calm mac answers old new s t e call is h

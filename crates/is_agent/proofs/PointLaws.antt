@@ -21,6 +21,7 @@ use Rattle.is_agent.specs.declared.credentials.IceCreds.{IceCreds}
 use Rattle.is_agent.specs.declared.told.Issued.{Issued}
 use Rattle.is_agent.specs.declared.told.Path.{Path}
 use Rattle.is_agent.specs.declared.told.Told.{Told}
+use Rattle.is_agent.proofs.Rising.{rising-each, below-each}
 use Rattle.is_agent.proofs.Addresses.{both}
 use Rattle.is_agent.specs.Request.{RequestRecord}
 use Rattle.is_agent.specs.Steps.{answer_by, done, Done, Flag, Unparsed, Refused, Entry}
@@ -261,7 +262,7 @@ module _ {H P : Type 0} where
 
   module _ (mac : H → List ℕ → List ℕ → List ℕ) (answers : P → CandidateRecord → ℕ → ℕ → Type 0) (old new : AgentRecord H P) (s t : Stream) (e : Entry) (sound : IsSound old) where
     fit : FitOf old
-    fit = record { placed = sound.placed; rising = sound.rising; below = sound.below; started = λ p has c keeps. sound.started p c has keeps }
+    fit = record { placed = sound.placed; rising = rising-each old.pairs sound.rising; below = below-each old.next_number old.pairs sound.below; started = λ p has c keeps. sound.started p c has keeps }
 
     -- the success that a packet brought
     abbrev Succeeds : ℕ → Path → Message → Type 0

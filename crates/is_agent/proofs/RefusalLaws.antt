@@ -165,8 +165,8 @@ module _ {H P : Type 0} where
 pub fresh_sound : (H P : Type 0) → FreshIsSound H P
 fresh_sound H P provider creds tie_breaker = record {
   placed = λ p has. absurd has;
-  rising = _;
-  below = λ p has. absurd has;
+  rising = refl;
+  below = refl;
   announced = _;
   started = λ p c has keeps. absurd has;
   checks = omega arith;

@@ -3,7 +3,7 @@ use Rattle.std.proofs.Common.{◌≡◌, ◌≢◌, ℕ, ◌<◌, ◌≤◌, Boo
 use Rattle.is_proto.specs.Lists.{Has}
 use Rattle.is_pair.specs.Pairs.{PairRecord, is_valid, is_nominated}
 use Rattle.is_agent.specs.declared.told.Path.{Path}
-use Rattle.is_agent.specs.Kept.{AreRising}
+use Rattle.is_agent.proofs.Rising.{AreRising}
 use Rattle.is_agent.specs.Told.{announced_in}
 use Rattle.is_agent.specs.Effects.{last_of}
 use Rattle.is_agent.proofs.Onward.{Parts, path_in, IsValidIn, IsNominatedIn, Onward, valid_before, nominated_before}

@@ -8,7 +8,7 @@ use Rattle.is_pair.specs.Pairs.{PairRecord, is_valid, is_nominated, nominated}
 use Rattle.is_agent.specs.declared.told.Path.{Path}
 use Rattle.is_agent.specs.Agent.{AgentRecord}
 use Rattle.is_pair.specs.Bag.{is_numbered, change_at, change_pair}
-use Rattle.is_agent.specs.Kept.{AreRising}
+use Rattle.is_agent.proofs.Rising.{AreRising}
 use Rattle.is_agent.specs.Nominating.{is_eligible, nominated_by_self, stands_at, Nominates}
 use Rattle.is_agent.specs.Points.{IsTopAnnounced}
 use Rattle.is_agent.proofs.Frames.{either}

@@ -1,9 +1,7 @@
 -- What every agent keeps. Nothing here names the agent, so that it may.
-use Rattle.std.specs.Prelude.{ℕ, ◌<◌, List, [], ◌∷◌, All}
-use Rattle.is_proto.specs.Lists.{Has}
+use Rattle.std.specs.Prelude.{ℕ, ◌<◌, List, All}
 use Rattle.is_candidate.specs.Candidates.{CandidateRecord}
 use Rattle.is_candidate.specs.Priorities.{candidate_priority}
-use Rattle.is_pair.specs.Pairs.{PairRecord}
 
 -- the greatest priority, for which no pair priority fits 64 bits
 abbrev pub TOO_HIGH : ℕ
@@ -11,8 +9,3 @@ TOO_HIGH = 0xffff_ffff
 
 abbrev pub NoneTooHigh : List CandidateRecord → Type 0
 NoneTooHigh cs = All (λ c. candidate_priority c < TOO_HIGH) cs
-
--- numbers rise along the list, so no two pairs have the same one
-abbrev pub AreRising : List PairRecord → Type 0
-AreRising [] = Unit {0}
-AreRising (p ∷ ps) = ((q : PairRecord) → Has ps q → p.number < q.number) × AreRising ps

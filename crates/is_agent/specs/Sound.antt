@@ -6,17 +6,14 @@ use Rattle.is_candidate.specs.Candidates.{CandidateRecord, IsBased}
 use Rattle.is_pair.specs.declared.pair.states.CheckState.{CheckState}
 use Rattle.is_pair.specs.declared.pair.states.CheckState.TheVariants.{Waiting, InProgress, Succeeded}
 use Rattle.is_pair.specs.Checks.{Check}
+use Rattle.is_pair.specs.Bag.{are_below, rises}
 use Rattle.is_pair.specs.Pairs.{PairRecord}
 use Rattle.is_agent.specs.declared.credentials.IceCreds.{IceCreds}
-use Rattle.is_agent.specs.Kept.{AreRising}
 use Rattle.is_agent.specs.Agent.{AgentRecord, fresh}
 use Rattle.is_agent.specs.Queue.{QUEUE_LIMIT}
 use Rattle.is_agent.specs.Steps.{Call, AddLocalCandidate}
 
--- numbers stay below the counter, as the announced one does: so an announced number never names another pair
-abbrev pub AllBelow : ℕ → List PairRecord → Type 0
-AllBelow next_number pairs = (p : PairRecord) → Has pairs p → p.number < next_number
-
+-- the announced number stays below the counter, as all numbers do: so it never names another pair
 abbrev pub IsBelow : ℕ → Option ℕ → Type 0
 IsBelow next_number number = IfSome number (λ n. n < next_number)
 
@@ -39,8 +36,8 @@ is_started_state Succeeded = true
 -- Without it a candidate that is appended gives a pair past the end another path, and a change at a number changes two pairs.
 pub record IsSound {H P : Type 0} (a : AgentRecord H P) : Type 0 where
   pub placed : ArePlaced a.local a.remote a.pairs
-  pub rising : AreRising a.pairs
-  pub below : AllBelow a.next_number a.pairs
+  pub rising : rises a.pairs ≡ true
+  pub below : are_below a.next_number a.pairs ≡ true
   -- the announced number never names another pair
   pub announced : IsBelow a.next_number a.announced
   -- a pair that keeps a check left Waiting: so an answer makes it valid
