@@ -248,8 +248,7 @@ pub static LISTS: [List; 9] = [
             Step::Candidate(HOST_LINE),
             Step::Timeout(0),
             Step::Polls,
-            // makes ready what the next check takes
-            Step::Timeout(10),
+            Step::Idle(10),
             Step::Polls,
             Step::Idle(20),
             Step::Polls,

@@ -5,6 +5,5 @@ pub mod checklist;
 pub mod laws;
 pub mod pair;
 
-pub use pair::attempts::reserve_spare;
 pub use pair::due::{due_moment, is_asked, reset_next_binding_attempt};
-pub use pair::replacing::{copy_remote_binding_requests, take_over};
+pub use pair::replacing::take_over;

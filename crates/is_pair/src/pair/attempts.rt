@@ -106,7 +106,7 @@ pub(crate) fn reserve_beyond(
 }
 
 /// Makes a spare queue of checks longer than the pair's own, for `new_attempt_reserved`.
-pub fn reserve_spare(
+pub(crate) fn reserve_spare(
     spare: &mut VecDeque<BindingAttempt>,
     pair: &CandidatePair,
 ) -> Result<(), AllocError>

@@ -74,7 +74,7 @@ impl CandidatePair {
 
     /// The same where it can't be refused: a spare queue has room for one check more than the pair keeps. Where the
     /// pair's own is full they change places.
-    pub fn new_attempt_reserved<R: Rng>(
+    pub(crate) fn new_attempt_reserved<R: Rng>(
         &mut self,
         now: Instant,
         timing_config: &StunTiming,

@@ -18,7 +18,7 @@ impl CandidatePair {
 
 /// Takes over, from a pair of the same path that `pair` replaces on an ice-lite agent, how many checks of the
 /// peer's came and when the last one did.
-pub fn copy_remote_binding_requests(pair: &mut CandidatePair, other: &CandidatePair)
+fn copy_remote_binding_requests(pair: &mut CandidatePair, other: &CandidatePair)
     ensures { pair.new ≡ with_requests_of other.now pair.old }
 {
     pair.remote_binding_requests = other.remote_binding_requests;
