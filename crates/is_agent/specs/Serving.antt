@@ -142,12 +142,12 @@ module _ {H P : Type 0} where
     JoinsAt q l Unknown s told new = Joins q l (length s.remote) (with_sender q s) told new
 
     -- the remote place
-    abbrev pub Meets : RequestRecord → ℕ → AgentRecord H P → Told → AgentRecord H P → Type 0
-    Meets q l s told new = (place : RemotePlace) × IsRemotePlace s.remote q place × JoinsAt q l place s told new
+    abbrev pub MeetsSender : RequestRecord → ℕ → AgentRecord H P → Told → AgentRecord H P → Type 0
+    MeetsSender q l s told new = (place : RemotePlace) × IsRemotePlace s.remote q place × JoinsAt q l place s told new
 
     -- USE-CANDIDATE while controlling is dropped; any other request counts
     abbrev pub Admits : RequestRecord → ℕ → AgentRecord H P → Told → AgentRecord H P → Type 0
-    Admits q l s told new = MatchBool (is_misled s.controlling q) (Drops s told new) (Meets q l (request_counted s) told new)
+    Admits q l s told new = MatchBool (is_misled s.controlling q) (Drops s told new) (MeetsSender q l (request_counted s) told new)
 
     -- the 487 goes out, and serving ends
     abbrev pub InsistsOnRole : RequestRecord → AgentRecord H P → Told → AgentRecord H P → Type 0
