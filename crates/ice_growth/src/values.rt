@@ -59,7 +59,8 @@ struct Stock {
 /// What a call made.
 #[derive(Drop)]
 enum Made {
-    Agent(Agent),
+    /// Whether the agent has the stock's credentials.
+    Agent(bool),
     Candidate(Candidate),
     Creds(IceCreds),
     Text(String),
@@ -136,15 +137,17 @@ fn make(alloc: Global, making: Making, stock: &mut Stock) -> Result<Made, IceErr
             Ok(Made::Renamed)
         }
         Making::Random => Ok(Made::Creds(IceCreds::new(alloc, &mut stock.random)?)),
-        Making::WithHmac => {
-            let provider = DefaultSha1HmacProvider;
-            Ok(Made::Agent(Agent::with_hmac(alloc, stock.creds.clone()?, provider, 1)?))
-        }
+        Making::WithHmac => Ok(Made::Agent(make_with_hmac(alloc, &stock.creds)?)),
         Making::CredsCopied => Ok(Made::Creds(stock.creds.clone()?)),
         Making::Line => Ok(Made::Text(stock.candidate.to_sdp_string(alloc)?)),
         Making::Json => Ok(Made::Json(stock.candidate.to_json(alloc)?)),
         _ => Ok(Made::Candidate(make_candidate(alloc, making, stock)?)),
     }
+}
+
+fn make_with_hmac(alloc: Global, creds: &IceCreds) -> Result<bool, IceError> {
+    let agent = Agent::with_hmac(alloc, creds.clone()?, DefaultSha1HmacProvider, 1)?;
+    Ok(agent.local_credentials().ufrag == creds.ufrag)
 }
 
 fn make_candidate(alloc: Global, making: Making, stock: &Stock) -> Result<Candidate, IceError> {
@@ -166,7 +169,8 @@ fn make_candidate(alloc: Global, making: Making, stock: &Stock) -> Result<Candid
 
 fn print_made<W: Write>(name: &str, made: &Made, stock: &Stock, output: &mut W) -> io::Result<()> {
     match made {
-        Made::Agent(agent) => writeln!(output, "{name} {}", agent.local_credentials().ufrag),
+        Made::Agent(true) => writeln!(output, "{name} {}", stock.creds.ufrag),
+        Made::Agent(false) => writeln!(output, "{name} of other credentials"),
         Made::Candidate(candidate) => writeln!(output, "{name} {candidate}"),
         Made::Creds(creds) => writeln!(output, "{name} {} {}", creds.ufrag, creds.pass),
         Made::Text(text) => writeln!(output, "{name} {text}"),
