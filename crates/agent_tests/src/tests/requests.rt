@@ -14,6 +14,7 @@ fn discovers_over(player: &mut Player, wanted: Protocol) -> bool {
     }
 }
 
+/// The same over UDP.
 fn discovers(player: &mut Player) -> bool {
     discovers_over(player, Protocol::Udp)
 }

@@ -1,9 +1,10 @@
-//! A random source that gives zero bytes alone, so that all transaction ids are the same.
+//! A random source that gives zero bytes alone, so that all checks have one transaction id.
 ghost use Rattle.rand_core.specs.Steps.{stream_of, steps_u32};
 
 use rand_core::utils::NextWord;
 use rand_core::{Rng, utils};
 
+/// Words of zero bits.
 #[derive(Drop)]
 pub(super) struct Zeros;
 
