@@ -15,6 +15,7 @@ mod roles;
 mod seen;
 mod settings;
 mod words;
+mod zeros;
 
 use driver::{Player, at, creds, later};
 use is::stun::{Class, StunMessage, StunPacket, TransId};

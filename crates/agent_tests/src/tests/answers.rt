@@ -1,5 +1,6 @@
 //! Answers count on the path of their check, and nowhere else.
 
+use super::zeros::Zeros;
 use super::*;
 use is::CandidateKind;
 use is::stun::Builder;
@@ -132,6 +133,45 @@ fn of_equal_ids_the_one_on_the_path_is_answered(rt: HostRuntime) -> Result<(), F
     assert!(rt; player.tells(b"Rc") && player.takes(50, at(3, 3000), at(1, 1000)));
     assert!(rt; announces(&mut player, at(1, 1000), at(3, 3000)));
     assert!(rt; player.has_figures(40, 40, 1));
+    Ok(())
+}
+
+/// The peer's second host candidate.
+const SECOND: &str = "candidate:1 1 udp 2130706174 10.0.0.3 2000 typ host";
+
+/// A check goes out to the address, under the id of twelve zeros.
+fn checks_under_zeros(player: &mut Player, ms: u64, destination: SocketAddr) -> bool {
+    player.agent.handle_timeout(later(ms), &mut Zeros).is_ok()
+        && player.sends()
+        && player.has_sent_from(at(1, 1000), destination)
+        && player.sent_id() == Some(TransId([0; 12]))
+}
+
+/// The agent has checked both addresses of the peer under one id, and an answer of that id is to come.
+fn checking_twice(alloc: Global) -> Result<Player, Fail> {
+    let mut player = paired(alloc)?;
+    let has_checked = player.hears(SECOND)
+        && checks_under_zeros(&mut player, 0, at(2, 2000))
+        && checks_under_zeros(&mut player, 50, at(3, 2000));
+    if !has_checked || !player.tells(b"Rc") || !player.expects_answer(at(1, 1000)) {
+        return Err("not checked twice".into());
+    }
+    Ok(player)
+}
+
+#[test]
+fn of_two_checks_of_one_id_that_of_the_pair_left_is_answered(rt: HostRuntime) -> Result<(), Fail> {
+    let mut player = checking_twice(rt.alloc())?;
+    assert!(rt; player.loses(PEER) && player.takes(60, at(3, 2000), at(1, 1000)));
+    assert!(rt; announces(&mut player, at(1, 1000), at(3, 2000)));
+    Ok(())
+}
+
+#[test]
+fn of_two_checks_of_one_id_that_of_the_pair_gone_is_not(rt: HostRuntime) -> Result<(), Fail> {
+    let mut player = checking_twice(rt.alloc())?;
+    assert!(rt; player.loses(SECOND) && !player.takes(60, at(3, 2000), at(1, 1000)));
+    assert!(rt; player.is_still() && player.has_no_figures());
     Ok(())
 }
 

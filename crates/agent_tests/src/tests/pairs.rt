@@ -74,6 +74,22 @@ fn the_sender_of_a_request_is_overwritten(rt: HostRuntime) -> Result<(), Fail> {
 }
 
 #[test]
+fn the_pair_of_a_sender_stays_where_a_lesser_candidate_overwrites(
+    rt: HostRuntime,
+) -> Result<(), Fail> {
+    let mut player = addressed(rt.alloc())?;
+    assert!(rt; player.is_asked(0, at(1, 1000)) && player.hears(REFLEXIVE));
+    assert!(rt; player.has_heard_of(&[at(2, 2000)]) && player.pair_with(SENDER).is_none());
+    // the pair is that of the reflexive candidate now, under the priority that it was made with
+    assert!(rt; player.number_with(REFLEXIVE) == Some(0) && player.nominates(REFLEXIVE));
+    assert_eq!(rt; player.prio_with(REFLEXIVE), Some(7962116751041232382));
+    // so it is known when it comes again, and when its peer asks again
+    assert!(rt; player.hears(REFLEXIVE) && player.is_asked(1, at(1, 1000)));
+    assert!(rt; player.has_heard_of(&[at(2, 2000)]) && player.number_with(REFLEXIVE) == Some(0));
+    Ok(())
+}
+
+#[test]
 fn the_protocol_is_not_compared_where_one_is_overwritten(rt: HostRuntime) -> Result<(), Fail> {
     let mut player = addressed(rt.alloc())?;
     assert!(rt; player.is_asked(0, at(1, 1000)));

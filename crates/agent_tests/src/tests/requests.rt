@@ -4,14 +4,19 @@ use super::*;
 use is::stun::{Builder, HasClass};
 use is_agent::told::{last_announced, last_issued};
 
-/// The next event tells of a packet from 10.0.0.2:2000 over UDP.
-fn discovers(player: &mut Player) -> bool {
+/// The next event tells of a packet from 10.0.0.2:2000 over this protocol.
+fn discovers_over(player: &mut Player, wanted: Protocol) -> bool {
     match player.agent.poll_event() {
         Some(IceAgentEvent::DiscoveredRecv { proto, source }) => {
-            proto == Protocol::Udp && source == at(2, 2000)
+            proto == wanted && source == at(2, 2000)
         }
         _ => false,
     }
+}
+
+/// The same over UDP.
+fn discovers(player: &mut Player) -> bool {
+    discovers_over(player, Protocol::Udp)
 }
 
 /// The last packet made it issue one from 10.0.0.1:1000 to 10.0.0.2:2000, and announce nothing.
@@ -39,6 +44,36 @@ fn its_source_is_told_of_once(rt: HostRuntime) -> Result<(), Fail> {
     assert!(rt; player.is_asked(1, at(1, 1000)) && player.tells(b""));
     assert!(rt; player.agent.poll_timeout().is_none());
     assert_eq!(rt; player.agent.stats().discovered_recv_count, 1);
+    Ok(())
+}
+
+/// The request comes over this protocol, from 10.0.0.2:2000 to 10.0.0.1:1000; whether the agent takes it.
+fn is_asked_over(player: &mut Player, proto: Protocol) -> bool {
+    let Ok(message) = StunMessage::parse(&REQUEST) else {
+        return false;
+    };
+    let packet = StunPacket {
+        proto,
+        source: at(2, 2000),
+        destination: at(1, 1000),
+        message,
+    };
+    matches!(player.agent.handle_packet(later(0), packet), Ok(true))
+}
+
+/// It comes over this protocol, and is the first to.
+fn discovers_by(player: &mut Player, proto: Protocol) -> bool {
+    is_asked_over(player, proto) && discovers_over(player, proto) && player.tells(b"")
+}
+
+#[test]
+fn its_source_is_told_of_once_over_each_protocol(rt: HostRuntime) -> Result<(), Fail> {
+    let mut player = addressed(rt.alloc())?;
+    assert!(rt; discovers_by(&mut player, Protocol::Udp));
+    assert!(rt; discovers_by(&mut player, Protocol::Tcp));
+    assert!(rt; is_asked_over(&mut player, Protocol::Tcp) && player.tells(b""));
+    assert!(rt; is_asked_over(&mut player, Protocol::Udp) && player.tells(b""));
+    assert_eq!(rt; player.agent.stats().discovered_recv_count, 2);
     Ok(())
 }
 

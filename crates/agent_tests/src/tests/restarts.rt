@@ -103,3 +103,18 @@ fn a_lite_agent_waits_15_seconds_for_its_peer(rt: HostRuntime) -> Result<(), Fai
     assert!(rt; player.agent.state().is_disconnected());
     Ok(())
 }
+
+#[test]
+fn a_lite_pair_that_replaces_lives_on_the_requests_of_the_other(
+    rt: HostRuntime,
+) -> Result<(), Fail> {
+    let mut player = lite(rt.alloc())?;
+    // of a greater priority than the sender of the request
+    assert!(rt; player.hears(PEER) && player.number_with(PEER) == Some(1));
+    // not as if it had been heard of at the first moment
+    assert!(rt; player.timeout(10000) && player.timeout(14999));
+    assert!(rt; player.agent.has_viable_remote_candidate(at(2, 2000)));
+    assert!(rt; player.timeout(15000) && player.pair_with(PEER).is_none());
+    assert!(rt; player.agent.state().is_disconnected());
+    Ok(())
+}
