@@ -38,6 +38,14 @@ all-has t [] x h has = elim has [ ]
 all-has t (y ∷ ys) x h (inl e) = ap t (sym e) ∙ (both (t y) (list_all t ys) h).0
 all-has t (y ∷ ys) x h (inr has) = all-has t ys x (both (t y) (list_all t ys) h).1 has
 
+pub none-any : {X : Type 0} (t : X → Bool) (xs : List X) → list_any t xs ≡ false → filter t xs ≡ []
+none-any t [] none = refl
+none-any t (x ∷ xs) none =
+    elim (t x) as (λ b. (b || list_any t xs) ≡ false → (if b then x ∷ filter t xs else filter t xs) ≡ []) [
+      | true ↦ λ h. absurd (cc)
+      | false ↦ λ h. none-any t xs h
+    ] none
+
 pub filter-none : {X : Type 0} (t : X → Bool) (xs : List X) → ((x : X) → Has xs x → t x ≡ true → ⊥) → filter t xs ≡ []
 filter-none t [] none = refl
 filter-none t (x ∷ xs) none =

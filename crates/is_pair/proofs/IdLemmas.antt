@@ -41,7 +41,7 @@ before-both a b c low h = by (cmp a b) refl (nat_list_cmp_total.antisymm b a)
     by Greater is back = let behind : is_before b a ≡ true = ap is_lt (back ∙ ap ordering_reverse is) in absurd (cc)
 
 -- an id is not before itself
-not-before : (a b : List ℕ) → bytes_eq a b ≡ true → is_before a b ≡ false
+pub not-before : (a b : List ℕ) → bytes_eq a b ≡ true → is_before a b ≡ false
 not-before a b same = rw ((bytes_eq-Decides a b).0 same) (by (cmp b b) (nat_list_cmp_total.antisymm b b))
   where
     by : (r : Ordering) → r ≡ ordering_reverse r → is_lt r ≡ false
@@ -151,11 +151,11 @@ parted-through id (k ∷ ks) h (suc i) (suc j) d below within is =
 abbrev pub IsEnd : List ℕ → List Kept → ℕ → Type 0
 IsEnd id ks i = IsPartitionPoint (λ (k : Kept). not (is_before id k.id.0) ≡ true) (λ (k : Kept). not (is_before id k.id.0) ≡ false) ks i
 
-is-behind : (b : Bool) → not b ≡ false → b ≡ true
+pub is-behind : (b : Bool) → not b ≡ false → b ≡ true
 is-behind true h = refl
 is-behind false h = absurd (cc)
 
-other-id : (a b : List ℕ) → is_before b a ≡ true → bytes_eq a b ≡ false
+pub other-id : (a b : List ℕ) → is_before b a ≡ true → bytes_eq a b ≡ false
 other-id a b is =
     elim (bytes_eq a b) as (λ x. bytes_eq a b ≡ x → x ≡ false) [
       | true ↦ λ same. let alike : a ≡ b = (bytes_eq-Decides a b).0 same in let none = not-before b a (rw alike ((bytes_eq-Decides b b).1 refl)) in absurd (cc)

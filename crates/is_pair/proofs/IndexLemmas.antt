@@ -124,15 +124,23 @@ all-of : {X : Type 0} (t : X → Bool) (xs : List X) → ((x : X) → Has xs x �
 all-of t [] h = refl
 all-of t (x ∷ xs) h = rw (h x (inl refl)) (all-of t xs (λ y has. h y (inr has)))
 
--- each entry is current where the pair keeps what it kept
-pub all-current : (index : List Kept) (es : List (ℕ × PairRecord)) (n : ℕ) (p after : PairRecord) → are_keyed es ≡ true → rises (pairs_of es) ≡ true → lookup (nat_eq n) es ≡ Some p
-    → IsIndex index (pairs_of es) → after.number ≡ n → ((i : List ℕ) → is_kept i p.checks ≡ true → is_kept i after.checks ≡ true) → list_all (is_current after) index ≡ true
-all-current index es n p after keyed rising found indexed number more =
-    all-of (is_current after) index (λ k has.
-    elim (k.number == after.number) as (λ b. k.number == after.number ≡ b → (not b || is_kept k.id.0 after.checks) ≡ true) [
+-- each entry is spared, or current where the pair keeps what it kept
+pub all-spared : (spared : List ℕ → Bool) (index : List Kept) (es : List (ℕ × PairRecord)) (n : ℕ) (p after : PairRecord) → are_keyed es ≡ true → rises (pairs_of es) ≡ true → lookup (nat_eq n) es ≡ Some p
+    → IsIndex index (pairs_of es) → after.number ≡ n → ((i : List ℕ) → is_kept i p.checks ≡ true → (spared i || is_kept i after.checks) ≡ true)
+    → list_all (λ (k : Kept). spared k.id.0 || is_current after k) index ≡ true
+all-spared spared index es n p after keyed rising found indexed number more =
+    all-of (λ (k : Kept). spared k.id.0 || is_current after k) index (λ k has.
+    elim (k.number == after.number) as (λ b. k.number == after.number ≡ b → (spared k.id.0 || (not b || is_kept k.id.0 after.checks)) ≡ true) [
       | true ↦ λ here.
           let at : k.number == n ≡ true = rw (← number) here in
           let named = has-any (names k.id.0 n) index k has (rw at ((bytes_eq-Decides k.id.0 k.id.0).1 refl)) in
           more k.id.0 (sym (keeps-one es keyed rising n p found k.id.0) ∙ sym (indexed k.id.0 n) ∙ named)
-      | false ↦ λ _. refl
-    ] refl)
+      | false ↦ λ _. or-true (spared k.id.0)
+    ] refl) where
+      or-true : (a : Bool) → a || true ≡ true
+      or-true true = refl
+      or-true false = refl
+
+pub all-current : (index : List Kept) (es : List (ℕ × PairRecord)) (n : ℕ) (p after : PairRecord) → are_keyed es ≡ true → rises (pairs_of es) ≡ true → lookup (nat_eq n) es ≡ Some p
+    → IsIndex index (pairs_of es) → after.number ≡ n → ((i : List ℕ) → is_kept i p.checks ≡ true → is_kept i after.checks ≡ true) → list_all (is_current after) index ≡ true
+all-current index es n p after keyed rising found indexed number more = all-spared (λ _. false) index es n p after keyed rising found indexed number more

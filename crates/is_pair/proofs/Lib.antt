@@ -3,6 +3,7 @@ mod Backwards
 mod PriorityLemmas
 pub mod BagLemmas
 pub mod IndexLemmas
+mod ForgetLemmas
 pub mod RankLemmas
 pub mod EntryLemmas
 pub mod GreatestLemmas

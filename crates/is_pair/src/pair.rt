@@ -6,6 +6,7 @@ ghost use Rattle.is_pair.specs.Pairs.{new_pair, is_nominated, nominated};
 mod attempt;
 pub(crate) mod attempts;
 mod checks;
+pub(crate) mod cut;
 pub(crate) mod due;
 mod order;
 mod priority;

@@ -48,7 +48,7 @@ impl Checklist {
     {
         match self.pairs.get_mut(&number) {
             Some(pair) => {
-                let cuts = pair.is_full(timing_config);
+                let cut = pair.cut_by_next(timing_config);
                 let id = pair.new_attempt_reserved(
                     now,
                     timing_config,
@@ -56,7 +56,7 @@ impl Checklist {
                     rng,
                     &mut self.spare,
                 );
-                index::follow(&mut self.index, pair, id, cuts);
+                index::follow(&mut self.index, pair, id, cut);
                 id
             }
             None => unreachable!(),

@@ -1,16 +1,19 @@
 //! The index of a checklist: which pairs keep which ids.
 
-ghost use Rattle.std.specs.Prelude.{◌≡◌, ◌<◌, ◌≤◌, ◌==◌, true, false, not, ℕ, List, Bool, ◌||◌, filter, find, length, vec_len, vec_capacity};
-ghost use Rattle.std.specs.List.{list_all, list_any};
+ghost use Rattle.std.specs.Prelude.{◌≡◌, ◌<◌, ◌≤◌, ◌==◌, true, false, not, ℕ, List, Bool, ◌||◌, filter, find, get_or, if◌then◌else◌, length, remove, vec_len, vec_capacity};
+ghost use Rattle.std.specs.List.{list_any};
 ghost use Rattle.std.specs.List.Sorted.{IsPartitionPoint};
 ghost use Rattle.is_pair.specs.Bag.{has_number, rises};
 ghost use Rattle.is_pair.specs.Entries.{is_before, ids_rise, names_passing, pairs_of, are_keyed, is_named, is_current, named_after};
+ghost use Rattle.is_pair.specs.Cutting.{LeavesCurrent};
 ghost use Rattle.is_pair.specs.declared.checklist.entries.Kept.{Kept};
+ghost use Rattle.is_pair.specs.declared.pair.cut.Cut.TheVariants.{Oldest};
 
 use super::entries::Kept;
 use super::mapped::passes;
 use super::pair_test::PairTest;
 use crate::pair::CandidatePair;
+use crate::pair::cut::Cut;
 use indexmap::IndexMap;
 use is_stun::stun::TransId;
 
@@ -19,18 +22,6 @@ fn is_current(kept: Kept, pair: &CandidatePair) -> bool
     ensures { result ≡ is_current pair.now kept }
 {
     kept.number != pair.id().0 || pair.binding_attempt(kept.id).is_some()
-}
-
-/// The entries of ids that the pair keeps no more go. There are none where none of its checks was cut.
-fn forget(index: &mut Vec<Kept>, pair: &CandidatePair, cut: bool)
-    requires uncut { cut ≡ false → list_all (is_current pair.now) index.old.items ≡ true }
-    ensures items { index.new.items ≡ filter (is_current pair.now) index.old.items }
-    ensures within { vec_len index.new ≤ vec_len index.old }
-    ensures capacity { vec_capacity index.new ≡ vec_capacity index.old }
-{
-    if cut {
-        index.retain(|kept| is_current(*kept, pair));
-    }
 }
 
 fn is_before(kept: Kept, id: TransId) -> bool
@@ -61,6 +52,58 @@ fn count_through(index: &[Kept], id: TransId) -> usize
     ensures point { IsPartitionPoint (λ k. not (is_before id.0 k.id.0) ≡ true) (λ k. not (is_before id.0 k.id.0) ≡ false) index.now result }
 {
     index.partition_point(|kept| !is_behind(*kept, id))
+}
+
+/// The entries of ids that the pair keeps no more go.
+fn forget_all(index: &mut Vec<Kept>, pair: &CandidatePair)
+    ensures items { index.new.items ≡ filter (is_current pair.now) index.old.items }
+    ensures within { vec_len index.new ≤ vec_len index.old }
+    ensures capacity { vec_capacity index.new ≡ vec_capacity index.old }
+{
+    index.retain(|kept| is_current(*kept, pair));
+}
+
+/// The entry at the place goes where it is of an id that the pair keeps no more.
+fn forget_at(index: &mut Vec<Kept>, pair: &CandidatePair, place: usize)
+    requires within { place < length index.old.items }
+    ensures items { (d : Kept) → index.new.items ≡ (if is_current pair.now (get_or index.old.items place d) then index.old.items else remove index.old.items place) }
+    ensures within { vec_len index.new ≤ vec_len index.old }
+    ensures capacity { vec_capacity index.new ≡ vec_capacity index.old }
+{
+    if !is_current(index[place], pair) {
+        index.remove(place);
+    }
+}
+
+/// The same of all entries, where this is the only id that the pair may keep no more. As a rule one entry is of the id.
+fn forget_id(index: &mut Vec<Kept>, pair: &CandidatePair, id: TransId)
+    requires rising { ids_rise index.old.items ≡ true }
+    requires left { LeavesCurrent pair.now index.old.items (Oldest id) }
+    ensures items { index.new.items ≡ filter (is_current pair.now) index.old.items }
+    ensures within { vec_len index.new ≤ vec_len index.old }
+    ensures capacity { vec_capacity index.new ≡ vec_capacity index.old }
+{
+    let place = count_before(index, id);
+    if count_through(&index[place..], id) == 1 {
+        forget_at(index, pair, place);
+    } else {
+        forget_all(index, pair);
+    }
+}
+
+/// The same, by what was cut of the pair's checks.
+fn forget(index: &mut Vec<Kept>, pair: &CandidatePair, cut: Cut)
+    requires rising { ids_rise index.old.items ≡ true }
+    requires left { LeavesCurrent pair.now index.old.items cut }
+    ensures items { index.new.items ≡ filter (is_current pair.now) index.old.items }
+    ensures within { vec_len index.new ≤ vec_len index.old }
+    ensures capacity { vec_capacity index.new ≡ vec_capacity index.old }
+{
+    match cut {
+        Cut::Nothing => {}
+        Cut::Oldest(id) => forget_id(index, pair, id),
+        Cut::Several => forget_all(index, pair),
+    }
 }
 
 /// One more entry, in its place.
@@ -122,9 +165,9 @@ fn first_keeper<T: PairTest>(
         .copied()
 }
 
-/// The pair, which sent a check with the id, keeps what it keeps now; earlier checks of it were cut, or none.
-pub(crate) fn follow(index: &mut Vec<Kept>, pair: &CandidatePair, id: TransId, cut: bool)
-    requires uncut { cut ≡ false → list_all (is_current pair.now) index.old.items ≡ true }
+/// The pair, which sent a check with the id, keeps what it keeps now, behind what was cut.
+pub(crate) fn follow(index: &mut Vec<Kept>, pair: &CandidatePair, id: TransId, cut: Cut)
+    requires left { LeavesCurrent pair.now index.old.items cut }
     requires room { vec_len index.old < vec_capacity index.old }
     requires rising { ids_rise index.old.items ≡ true }
     ensures rising { ids_rise index.new.items ≡ true }

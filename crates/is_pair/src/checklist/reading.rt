@@ -49,6 +49,10 @@ impl Checklist {
     pub fn greatest<T: PairTest>(&self, test: &T) -> Option<&CandidatePair>
         ensures { IsGreatest (T.passes test.now) (bag_of self.now) (option_copied result) }
     {
+        // a walk over all pairs that finds none is the quicker one: it looks no pair up
+        if !self.any(test) {
+            return None;
+        }
         match ranks::last_passing(&self.ranks, &self.pairs, test) {
             Some(rank) => self.pairs.get(&rank.number),
             None => None,

@@ -1,6 +1,6 @@
 //! The checks that a pair keeps, oldest first.
 
-ghost use Rattle.std.specs.Prelude.{◌≡◌, ◌<◌, ◌≤◌, OnOk, find, length, position, reverse};
+ghost use Rattle.std.specs.Prelude.{◌≡◌, ◌<◌, ◌≤◌, OnOk, find, length, position, reverse, slice_get};
 ghost use Rattle.std.specs.Option.{option_copied};
 ghost use Rattle.std.specs.VecDeque.{deque_len, deque_capacity};
 ghost use Rattle.is_pair.specs.Checks.{first_unanswered, has_id, is_answered, last_check, last_checks, unanswered_count};
@@ -20,6 +20,13 @@ pub(crate) fn with_id(
     ensures { option_copied result ≡ find (has_id trans_id.0) attempts.now.items }
 {
     attempts.iter().find(|attempt| attempt.has_id(trans_id))
+}
+
+/// The first one.
+pub(crate) fn first(attempts: &VecDeque<BindingAttempt>) -> Option<BindingAttempt>
+    ensures { result ≡ slice_get attempts.now.items 0 }
+{
+    attempts.front().copied()
 }
 
 /// The last one.

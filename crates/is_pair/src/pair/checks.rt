@@ -5,9 +5,11 @@ ghost use Rattle.std.specs.Option.{option_copied};
 ghost use Rattle.std.specs.VecDeque.{deque_capacity};
 ghost use Rattle.rand_core.specs.Stream.{fill_bytes};
 ghost use Rattle.is_pair.specs.Checks.{has_id, is_kept};
+ghost use Rattle.is_pair.specs.Cutting.{IsCut};
 ghost use Rattle.is_pair.specs.Pairs.{TakesAnswer, check_of, once_sent, checked};
 
 use super::attempt::BindingAttempt;
+use super::cut::Cut;
 use super::{CandidatePair, attempts};
 use is_proto::{IceError, Instant};
 use is_stun::stun::{StunTiming, TransId};
@@ -41,11 +43,18 @@ impl CandidatePair {
         Ok(trans_id)
     }
 
-    /// Whether it keeps so many checks that one more cuts the oldest.
-    pub(crate) fn is_full(&self, timing_config: &StunTiming) -> bool
-        ensures { result ≡ nat_le timing_config.now.max_retransmits (length self.now.checks) }
+    /// Which checks go when one more is sent.
+    pub(crate) fn cut_by_next(&self, timing_config: &StunTiming) -> Cut
+        ensures { IsCut timing_config.now.max_retransmits self.now.checks result }
     {
-        self.binding_attempts.len() >= timing_config.max_retransmits
+        let kept = self.binding_attempts.len();
+        if kept < timing_config.max_retransmits {
+            return Cut::Nothing;
+        }
+        match attempts::first(&self.binding_attempts) {
+            Some(oldest) if kept == timing_config.max_retransmits => Cut::Oldest(oldest.trans_id),
+            _ => Cut::Several,
+        }
     }
 
     /// The check that is sent now.

@@ -1,10 +1,10 @@
-use Rattle.std.proofs.Common.{rules, ◌≡◌, ap, sym, refl, ◌∙◌, nat_eq, Some}
+use Rattle.std.proofs.Common.{rules, ◌≡◌, ap, refl, ◌∙◌, nat_eq, Some}
 use Rattle.std.specs.Map.{lookup}
-use Rattle.is_pair.specs.Checks.{is_kept}
 use Rattle.is_pair.specs.Pairs.{PairRecord, checked, check_of}
 use Rattle.is_pair.specs.Entries.{pairs_of, are_keyed, named_after}
 use Rattle.is_pair.proofs.BagLemmas.{found-number, keyed-written, none-found, writes}
-use Rattle.is_pair.proofs.IndexLemmas.{all-current, issued, kept-uncut}
+use Rattle.is_pair.proofs.ForgetLemmas.{leaves}
+use Rattle.is_pair.proofs.IndexLemmas.{issued}
 use Rattle.is_pair.proofs.WrittenLemmas.{written-below, written-found, written-ranking, written-rises}
 use Rattle.is_pair.proofs.checklist.Checklist.new_attempt.Goals as goal
 
@@ -14,17 +14,18 @@ unreachable-requires g c =
     let none = none-found c.args.number list.pairs.entries list.keyed (search rules) in
     absurd (cc)
 
-pub follow-requires-clause-uncut : goal.follow-requires-clause-uncut
-follow-requires-clause-uncut g c = λ few.
+pub follow-requires-clause-left : goal.follow-requires-clause-left
+follow-requires-clause-left g c =
     let list = c.args.self.now in
     let es = list.pairs.entries in
     let p = c.in-Some.pair.now in
+    let id = c.new_attempt_reserved-id.result.0 in
     let after = c.new_attempt_reserved-id.new.self in
-    let made : after ≡ checked c.args.now.0 c.args.timing_config.now c.args.controlling c.new_attempt_reserved-id.result.0 p = c.new_attempt_reserved-id.ensures.sent in
+    let made : after ≡ checked c.args.now.0 c.args.timing_config.now c.args.controlling id p = c.new_attempt_reserved-id.ensures.sent in
     let found : lookup (nat_eq c.args.number) es ≡ Some p = search rules in
-    all-current list.index.items es c.args.number p after list.keyed list.rising found list.indexed (ap (λ (q : PairRecord). q.number) made ∙ found-number c.args.number es p list.keyed found)
-    (λ i kept. ap (λ (q : PairRecord). is_kept i q.checks) made
-    ∙ kept-uncut c.args.timing_config.now.max_retransmits p.checks (check_of c.args.now.0 c.args.controlling c.new_attempt_reserved-id.result.0 p) i (sym c.is_full-cuts.ensures ∙ few) kept)
+    leaves c.args.timing_config.now.max_retransmits list.index.items es c.args.number p after (check_of c.args.now.0 c.args.controlling id p) c.cut_by_next-cut.result
+    list.keyed list.rising found list.indexed (ap (λ (q : PairRecord). q.number) made ∙ found-number c.args.number es p list.keyed found)
+    (ap (λ (q : PairRecord). q.checks) made) c.cut_by_next-cut.ensures
 
 pub invariant_of-self-clause-keyed : goal.invariant_of-self-clause-keyed
 invariant_of-self-clause-keyed g c =
