@@ -297,7 +297,8 @@ impl<H: Sha1HmacProvider + Drop, P: LocalPreference> Agent<H, P> {
     /// Tells the agent of a moment. In New the start is told of, and the state is evaluated. A request that waited is
     /// served, once remote credentials are known; where there is none, a pair is nominated, pairs that are not possible any
     /// more go, and the pair that is due first is checked (RFC 8445, sections 6.1.4.2, 7.2.4 and 8.1.1). It allocates what
-    /// the events and the packet that it issues take.
+    /// the events and the packet that it issues take; where a pair may be nominated and was not asked for its moment, room for
+    /// its check too.
     ///
     /// Refused with `PairIdsExhausted` where a request is served, a pair must be added and no number is left, and with
     /// `OutOfMemory`; the agent is then as it was, and nothing was drawn.
