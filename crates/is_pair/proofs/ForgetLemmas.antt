@@ -11,7 +11,7 @@ use Rattle.is_pair.specs.declared.checklist.entries.Kept.{Kept}
 use Rattle.is_pair.specs.Checks.{Check, has_id, is_kept, last_checks}
 use Rattle.is_pair.specs.Pairs.{PairRecord}
 use Rattle.is_pair.specs.Bag.{rises}
-use Rattle.is_pair.specs.Cutting.{IsCut, LeavesCurrent}
+use Rattle.is_pair.specs.Cutting.{CutsByNext, LeavesCurrent}
 use Rattle.is_pair.specs.Entries.{pairs_of, are_keyed, is_before, is_current, IsIndex}
 use Rattle.is_pair.proofs.BagLemmas.{both, filter-whole}
 use Rattle.is_pair.proofs.IdLemmas.{IsEnd, IsPoint, is-behind, not-before, other-id}
@@ -79,7 +79,7 @@ kept-but-oldest m (d ∷ ds) oldest c id i full first its kept =
 
 -- what a check leaves of the entries
 pub leaves : (m : ℕ) (index : List Kept) (es : List (ℕ × PairRecord)) (n : ℕ) (p after : PairRecord) (c : Check) (cut : Cut) → are_keyed es ≡ true → rises (pairs_of es) ≡ true → lookup (nat_eq n) es ≡ Some p
-    → IsIndex index (pairs_of es) → after.number ≡ n → after.checks ≡ last_checks m (p.checks ++ c ∷ []) → IsCut m p.checks cut → LeavesCurrent after index cut
+    → IsIndex index (pairs_of es) → after.number ≡ n → after.checks ≡ last_checks m (p.checks ++ c ∷ []) → CutsByNext m p.checks cut → LeavesCurrent after index cut
 leaves m index es n p after c Nothing keyed rising found indexed number kept few =
     all-current index es n p after keyed rising found indexed number (λ i was. rw kept (kept-uncut m p.checks c i few was))
 leaves m index es n p after c (Oldest id) keyed rising found indexed number kept (full, oldest, first, its) =

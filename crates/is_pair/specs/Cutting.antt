@@ -9,10 +9,10 @@ use Rattle.is_pair.specs.Pairs.{PairRecord}
 use Rattle.is_pair.specs.Entries.{is_current}
 
 -- of these checks, where so many are kept
-abbrev pub IsCut : ℕ → List Check → Cut → Type 0
-IsCut kept checks Nothing = nat_le kept (length checks) ≡ false
-IsCut kept checks (Oldest id) = (length checks ≡ kept) × (c : Check) × (slice_get checks 0 ≡ Some c) × (c.id ≡ id.0)
-IsCut kept checks Several = Unit {0}
+abbrev pub CutsByNext : ℕ → List Check → Cut → Type 0
+CutsByNext kept checks Nothing = nat_le kept (length checks) ≡ false
+CutsByNext kept checks (Oldest id) = (length checks ≡ kept) × (c : Check) × (slice_get checks 0 ≡ Some c) × (c.id ≡ id.0)
+CutsByNext kept checks Several = Unit {0}
 
 -- the pair, which sent the check, keeps what it kept but for those
 abbrev pub LeavesCurrent : PairRecord → List Kept → Cut → Type 0

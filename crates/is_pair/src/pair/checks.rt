@@ -5,7 +5,7 @@ ghost use Rattle.std.specs.Option.{option_copied};
 ghost use Rattle.std.specs.VecDeque.{deque_capacity};
 ghost use Rattle.rand_core.specs.Stream.{fill_bytes};
 ghost use Rattle.is_pair.specs.Checks.{has_id, is_kept};
-ghost use Rattle.is_pair.specs.Cutting.{IsCut};
+ghost use Rattle.is_pair.specs.Cutting.{CutsByNext};
 ghost use Rattle.is_pair.specs.Pairs.{TakesAnswer, check_of, once_sent, checked};
 
 use super::attempt::BindingAttempt;
@@ -45,7 +45,7 @@ impl CandidatePair {
 
     /// Which checks go when one more is sent.
     pub(crate) fn cut_by_next(&self, timing_config: &StunTiming) -> Cut
-        ensures { IsCut timing_config.now.max_retransmits self.now.checks result }
+        ensures { CutsByNext timing_config.now.max_retransmits self.now.checks result }
     {
         let kept = self.binding_attempts.len();
         if kept < timing_config.max_retransmits {
