@@ -5,12 +5,12 @@ use Rattle.is_proto.specs.declared.error.IceError.{IceError}
 use Rattle.is_stun.specs.Message.{Message}
 use Rattle.is_stun.specs.Reading.{Reads}
 use Rattle.is_candidate.specs.Candidates.{CandidateRecord}
-use Rattle.is_agent.specs.declared.told.Path.{Path}
-use Rattle.is_agent.specs.declared.told.Told.{Told}
-use Rattle.is_agent.specs.Agent.{AgentRecord}
-use Rattle.is_agent.specs.Accepting.{IsAcceptedOn, HandlesPacket}
-use Rattle.is_agent.specs.Steps.{Entry, Flag, answer_by, Receives, Step, ReceivePacket}
-use Rattle.is_agent.specs.Logs.{Logged}
+use Rattle.is_rules.specs.declared.told.Path.{Path}
+use Rattle.is_rules.specs.declared.told.Told.{Told}
+use Rattle.is_rules.specs.Agent.{AgentRecord}
+use Rattle.is_rules.specs.Accepting.{IsAcceptedOn, HandlesPacket}
+use Rattle.is_rules.specs.Steps.{Entry, Flag, answer_by, Receives, Step, ReceivePacket}
+use Rattle.is_rules.specs.Logs.{Logged}
 use Rattle.is.specs.Accepted.{IsSettled, PacketsAreSettled}
 
 module _ {H P : Type 0} (mac : H → List ℕ → List ℕ → List ℕ) where

@@ -16,21 +16,21 @@ use Rattle.is_stun.specs.declared.header.Class.TheVariants as class
 use Rattle.is_stun.specs.declared.trans_id.TransId.{TransId}
 use Rattle.is_stun.specs.Message.{Message}
 use Rattle.is_stun.specs.Reading.{fault_of, message_of}
-use Rattle.is_agent.proofs.Addresses.{both, same_address-sound}
-use Rattle.is_agent.specs.declared.told.Path.{Path}
-use Rattle.is_agent.specs.Steps as agent
-use Rattle.is_agent.specs.Steps.{Answer, Flag, Entry}
-use Rattle.is_agent.specs.Standing.{Mail, Deed, RoleEffect}
-use Rattle.is_agent.specs.Agent.{AgentRecord}
-use Rattle.is_agent.specs.Polls.{PollsTransmit}
-use Rattle.is_agent.specs.Sending.{path_of}
-use Rattle.is_agent.specs.Accepting.{IsAcceptedAs}
-use Rattle.is_agent.specs.Answers.{keeps_check_on, goes_back}
-use Rattle.is_agent.specs.Steps.{Step}
-use Rattle.is_agent.specs.Sound.{IsSound}
-use Rattle.is_agent.specs.Brought.{Brings}
-use Rattle.is_agent.specs.Effects.{PathLaw}
-use Rattle.is_agent.specs.RoleView.{mail_of, mail_unless, mail_read, mail_in, kept_as, all_kept, standing_of, when_accepted, sent_as, some_paths, sets_role, sets_lite, way_of, accepted_by, deed_of, RoleLaw}
+use Rattle.is_rules.proofs.Addresses.{both, same_address-sound}
+use Rattle.is_rules.specs.declared.told.Path.{Path}
+use Rattle.is_rules.specs.Steps as agent
+use Rattle.is_rules.specs.Steps.{Answer, Flag, Entry}
+use Rattle.is_rules.specs.Standing.{Mail, Deed, RoleEffect}
+use Rattle.is_rules.specs.Agent.{AgentRecord}
+use Rattle.is_rules.specs.Polls.{PollsTransmit}
+use Rattle.is_rules.specs.Sending.{path_of}
+use Rattle.is_rules.specs.Accepting.{IsAcceptedAs}
+use Rattle.is_rules.specs.Answers.{keeps_check_on, goes_back}
+use Rattle.is_rules.specs.Steps.{Step}
+use Rattle.is_rules.specs.Sound.{IsSound}
+use Rattle.is_rules.specs.Brought.{Brings}
+use Rattle.is_rules.specs.Effects.{PathLaw}
+use Rattle.is_rules.specs.RoleView.{mail_of, mail_unless, mail_read, mail_in, kept_as, all_kept, standing_of, when_accepted, sent_as, some_paths, sets_role, sets_lite, way_of, accepted_by, deed_of, RoleLaw}
 use Rattle.is.specs.declared.world.Side.{Side}
 use Rattle.is.specs.declared.world.Side.TheVariants.{A, B}
 use Rattle.is.specs.World as world

@@ -6,9 +6,9 @@ use Rattle.is.specs.declared.calls.AgentCall.{AgentCall}
 use Rattle.is.specs.declared.calls.Entry.{Entry}
 use Rattle.is.specs.declared.runs.RunLog.{RunLog}
 use Rattle.is_candidate.specs.Candidates.{CandidateRecord}
-use Rattle.is_agent.specs.Agent.{AgentRecord}
-use Rattle.is_agent.specs.Logs.{Logged}
-use Rattle.is_agent.specs.Runs.{Run, Point, EntriesArePoints}
+use Rattle.is_rules.specs.Agent.{AgentRecord}
+use Rattle.is_rules.specs.Logs.{Logged}
+use Rattle.is_rules.specs.Runs.{Run, Point, EntriesArePoints}
 use Rattle.is.specs.Log.{logged_as, logged, log_of, IsRunLog, EntriesStand}
 
 pub logged-push : {P : Type 0} (log : List (Logged P)) (calls : List (AgentCall P)) (entries : List Entry) (c : AgentCall P) (e : Entry) → length entries ≡ length calls → logged log (calls ++ c ∷ []) (entries ++ e ∷ []) ≡ logged_as c e ∷ logged log calls entries

@@ -6,8 +6,8 @@ use Rattle.std.proofs.lemmas.Option.{slice_get_within}
 use Rattle.is_stun.specs.declared.header.Class.{Class}
 use Rattle.is_stun.specs.declared.header.Class.TheVariants as class
 use Rattle.is_stun.specs.declared.trans_id.TransId.{TransId}
-use Rattle.is_agent.specs.declared.told.Issued as told
-use Rattle.is_agent.specs.declared.told.Path.{Path}
+use Rattle.is_rules.specs.declared.told.Issued as told
+use Rattle.is_rules.specs.declared.told.Path.{Path}
 use Rattle.is.specs.declared.traces.Mark.{Mark}
 use Rattle.is.specs.declared.traces.Mark.TheVariants.{Taken, Issued, Cleared}
 use Rattle.is.specs.declared.traces.Trace.{Trace}

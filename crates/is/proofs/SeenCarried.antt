@@ -5,11 +5,11 @@ use Rattle.std.proofs.lemmas.Option.{slice_get_within}
 use Rattle.is_proto.specs.Lists.{Has}
 use Rattle.is_stun.specs.declared.header.Class.{Class}
 use Rattle.is_stun.specs.declared.header.Class.TheVariants as class
-use Rattle.is_agent.specs.declared.told.Path.{Path}
-use Rattle.is_agent.specs.Request.{RequestRecord}
+use Rattle.is_rules.specs.declared.told.Path.{Path}
+use Rattle.is_rules.specs.Request.{RequestRecord}
 use Rattle.is.specs.declared.world.Side.{Side}
 use Rattle.is.specs.declared.world.Side.TheVariants.{A, B}
-use Rattle.is_agent.specs.Standing.{Mail, Kept, Standing, Deed, RoleEffect, Claims, Conveys, IsCarriedIn, MeetsSuccess, MeetsConflict}
+use Rattle.is_rules.specs.Standing.{Mail, Kept, Standing, Deed, RoleEffect, Claims, Conveys, IsCarriedIn, MeetsSuccess, MeetsConflict}
 use Rattle.is.specs.World.{other}
 use Rattle.is.proofs.Seen.{Letter, Seen, Told, at, roles_of, role_at}
 use Rattle.is.proofs.Seen.{Issues, Takes, NoClear, Trace, DistinctChecks}

@@ -3,8 +3,8 @@ use Rattle.std.proofs.Common.{◌≡◌, ℕ, ◌<◌, ◌≤◌, Bool, true, fa
 use Rattle.std.specs.Prelude.{if◌then◌else◌}
 use Rattle.std.specs.Option.{option_map_or}
 use Rattle.std.proofs.lemmas.Bool.Decides.{nat_tests}
-use Rattle.is_agent.specs.Request.{RequestRecord, rival_in}
-use Rattle.is_agent.specs.Standing.{Standing, Claims, insists, yields}
+use Rattle.is_rules.specs.Request.{RequestRecord, rival_in}
+use Rattle.is_rules.specs.Standing.{Standing, Claims, insists, yields}
 
 -- the rival's tie-breaker is the claimed one where the claimed role is the own one, and else there is none
 abbrev Rivals : Bool → Bool → ℕ → Option ℕ → Type 0

@@ -3,7 +3,7 @@ use Rattle.std.proofs.Common.{◌≡◌, ℕ, zero, suc, Bool, false, List, [], 
 use Rattle.std.specs.Prelude.{slice_get}
 use Rattle.is_stun.specs.declared.header.Class.{Class}
 use Rattle.is_stun.specs.declared.header.Class.TheVariants as class
-use Rattle.is_agent.specs.declared.told.Path.{Path}
+use Rattle.is_rules.specs.declared.told.Path.{Path}
 use Rattle.is.specs.declared.world.Side.{Side}
 use Rattle.is.specs.World.{other}
 use Rattle.is.proofs.Seen.{Told}

@@ -4,11 +4,11 @@ use Rattle.std.specs.Prelude.{not, ◌≢◌}
 use Rattle.std.specs.List.{AllByRecursion}
 use Rattle.is_proto.specs.Lists.{Has, same}
 use Rattle.is_stun.specs.declared.header.Class.TheVariants as class
-use Rattle.is_agent.specs.declared.told.Path.{Path}
-use Rattle.is_agent.specs.Request.{RequestRecord}
+use Rattle.is_rules.specs.declared.told.Path.{Path}
+use Rattle.is_rules.specs.Request.{RequestRecord}
 use Rattle.is.specs.declared.world.Side.{Side}
 use Rattle.is.specs.declared.world.Side.TheVariants.{A, B}
-use Rattle.is_agent.specs.Standing.{Mail, Standing, Deed, IsNew}
+use Rattle.is_rules.specs.Standing.{Mail, Standing, Deed, IsNew}
 use Rattle.is.specs.World.{other}
 use Rattle.is.specs.WorldRoles.{changes}
 use Rattle.is.proofs.Seen.{Letter, Seen, Told, Kind, Still, Move, Moves, Stands, Happening, Happens, Run, at, put, roles_of, role_at}

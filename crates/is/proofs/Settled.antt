@@ -9,22 +9,22 @@ use Rattle.is_stun.specs.declared.header.Class.{Class}
 use Rattle.is_stun.specs.declared.header.Class.TheVariants as class
 use Rattle.is_stun.specs.Message.{Message}
 use Rattle.is_stun.specs.Reading.{fault_of, message_of}
-use Rattle.is_agent.specs.declared.credentials.IceCreds.{IceCreds}
-use Rattle.is_agent.specs.declared.told.Issued.{Issued}
-use Rattle.is_agent.specs.declared.told.Path.{Path}
-use Rattle.is_agent.specs.Places.{local_place}
-use Rattle.is_agent.specs.Request.{RequestRecord, request_in}
-use Rattle.is_agent.specs.Steps.{Entry}
-use Rattle.is_agent.specs.Standing.{Sent, IsNew}
-use Rattle.is_agent.specs.Agent.{AgentRecord}
-use Rattle.is_agent.specs.Answers.{is_role_conflict}
-use Rattle.is_agent.specs.Queue.{request_at}
-use Rattle.is_agent.specs.Steps as agent
-use Rattle.is_agent.specs.Sound.{IsSound, FreshIsSound}
-use Rattle.is_agent.specs.Brought.{Brings, IsServing, IsServedPastTests}
-use Rattle.is_agent.specs.Told.{issued_as}
-use Rattle.is_agent.specs.Effects.{PathLaw}
-use Rattle.is_agent.specs.RoleView.{mail_of, mail_unless, mail_read, standing_of, when_accepted, when_done, request_when, sent_as, accepted_by, served_by, deed_of, RoleLaw}
+use Rattle.is_rules.specs.declared.credentials.IceCreds.{IceCreds}
+use Rattle.is_rules.specs.declared.told.Issued.{Issued}
+use Rattle.is_rules.specs.declared.told.Path.{Path}
+use Rattle.is_rules.specs.Places.{local_place}
+use Rattle.is_rules.specs.Request.{RequestRecord, request_in}
+use Rattle.is_rules.specs.Steps.{Entry}
+use Rattle.is_rules.specs.Standing.{Sent, IsNew}
+use Rattle.is_rules.specs.Agent.{AgentRecord}
+use Rattle.is_rules.specs.Answers.{is_role_conflict}
+use Rattle.is_rules.specs.Queue.{request_at}
+use Rattle.is_rules.specs.Steps as agent
+use Rattle.is_rules.specs.Sound.{IsSound, FreshIsSound}
+use Rattle.is_rules.specs.Brought.{Brings, IsServing, IsServedPastTests}
+use Rattle.is_rules.specs.Told.{issued_as}
+use Rattle.is_rules.specs.Effects.{PathLaw}
+use Rattle.is_rules.specs.RoleView.{mail_of, mail_unless, mail_read, standing_of, when_accepted, when_done, request_when, sent_as, accepted_by, served_by, deed_of, RoleLaw}
 use Rattle.is.specs.declared.world.Side.{Side}
 use Rattle.is.specs.declared.world.Side.TheVariants.{A, B}
 use Rattle.is.specs.World as world

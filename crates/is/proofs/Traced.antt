@@ -10,12 +10,12 @@ use Rattle.is_candidate.specs.Candidates.{CandidateRecord}
 use Rattle.is_stun.specs.declared.header.Class.{Class}
 use Rattle.is_stun.specs.declared.header.Class.TheVariants as class
 use Rattle.is_stun.specs.declared.trans_id.TransId.{TransId}
-use Rattle.is_agent.specs.declared.told.Issued.{Issued}
-use Rattle.is_agent.specs.declared.told.Path.{Path}
-use Rattle.is_agent.specs.Sound.{FreshIsSound}
-use Rattle.is_agent.specs.Told.{issued_as}
-use Rattle.is_agent.specs.Effects.{PathLaw}
-use Rattle.is_agent.specs.RoleView.{some_paths, RoleLaw}
+use Rattle.is_rules.specs.declared.told.Issued.{Issued}
+use Rattle.is_rules.specs.declared.told.Path.{Path}
+use Rattle.is_rules.specs.Sound.{FreshIsSound}
+use Rattle.is_rules.specs.Told.{issued_as}
+use Rattle.is_rules.specs.Effects.{PathLaw}
+use Rattle.is_rules.specs.RoleView.{some_paths, RoleLaw}
 use Rattle.is.specs.declared.calls.Answer as code
 use Rattle.is.specs.declared.calls.Answer.TheVariants as answer
 use Rattle.is.specs.declared.world.Side.{Side}

@@ -6,13 +6,13 @@ use Rattle.is_proto.specs.declared.error.ParseFault.{ParseFault}
 use Rattle.is_stun.specs.Message.{Message}
 use Rattle.is_stun.specs.Reading.{Reads}
 use Rattle.is_candidate.specs.Candidates.{CandidateRecord}
-use Rattle.is_agent.specs.declared.told.Path.{Path}
-use Rattle.is_agent.specs.Agent.{AgentRecord}
-use Rattle.is_agent.specs.Accepting.{IsAcceptedOn}
-use Rattle.is_agent.specs.Told.{nothing_told}
-use Rattle.is_agent.specs.Steps.{ReceivePacket, Answer, Flag, Unparsed, Refused, Entry}
-use Rattle.is_agent.specs.Logs.{Logged}
-use Rattle.is_agent.specs.Runs.{AtEach}
+use Rattle.is_rules.specs.declared.told.Path.{Path}
+use Rattle.is_rules.specs.Agent.{AgentRecord}
+use Rattle.is_rules.specs.Accepting.{IsAcceptedOn}
+use Rattle.is_rules.specs.Told.{nothing_told}
+use Rattle.is_rules.specs.Steps.{ReceivePacket, Answer, Flag, Unparsed, Refused, Entry}
+use Rattle.is_rules.specs.Logs.{Logged}
+use Rattle.is_rules.specs.Runs.{AtEach}
 
 -- false, or that the bytes do not read
 abbrev pub SaysNo : Answer → Type 0

@@ -20,10 +20,10 @@ pub use Rattle.is_stun.specs.Reading
 pub use Rattle.is_stun.specs.Integrity
 pub use Rattle.is_stun.specs.Writing
 pub use Rattle.is_candidate.specs.Candidates
-pub use Rattle.is_agent.specs.Agent
+pub use Rattle.is_rules.specs.Agent
 pub use Rattle.is_agent.specs.View
-pub use Rattle.is_agent.specs.Accepting
-pub use Rattle.is_agent.specs.Serving
-pub use Rattle.is_agent.specs.Steps
-pub use Rattle.is_agent.specs.Logs
-pub use Rattle.is_agent.specs.Runs
+pub use Rattle.is_rules.specs.Accepting
+pub use Rattle.is_rules.specs.Serving
+pub use Rattle.is_rules.specs.Steps
+pub use Rattle.is_rules.specs.Logs
+pub use Rattle.is_rules.specs.Runs

@@ -2,9 +2,9 @@
 use Rattle.std.specs.Prelude.{◌≡◌, ℕ, MatchBool, List, [], ◌∷◌, ◌++◌, length}
 use Rattle.rand_core.specs.Stream.{Stream}
 use Rattle.is_candidate.specs.Candidates.{CandidateRecord}
-use Rattle.is_agent.specs.Agent.{AgentRecord}
-use Rattle.is_agent.specs.Logs.{Logged}
-use Rattle.is_agent.specs.Runs.{Run, Point}
+use Rattle.is_rules.specs.Agent.{AgentRecord}
+use Rattle.is_rules.specs.Logs.{Logged}
+use Rattle.is_rules.specs.Runs.{Run, Point}
 use Rattle.is.specs.declared.calls.AgentCall.{AgentCall}
 use Rattle.is.specs.declared.calls.Entry.{Entry}
 use Rattle.is.specs.declared.runs.RunLog.{RunLog}

@@ -2,12 +2,12 @@
 use Rattle.std.specs.Prelude.{◌≡◌, ℕ, Bool, true, false, List, None}
 use Rattle.rand_core.specs.Stream.{Stream}
 use Rattle.is_candidate.specs.Candidates.{CandidateRecord}
-use Rattle.is_agent.specs.Agent.{AgentRecord}
-use Rattle.is_agent.specs.Issuing.{Queues}
-use Rattle.is_agent.specs.Reporting.{Reports}
-use Rattle.is_agent.specs.Steps.{Call, ReceivePacket, HandleTimeout, Entry}
-use Rattle.is_agent.specs.Logs.{Logged}
-use Rattle.is_agent.specs.Runs.{AtEach}
+use Rattle.is_rules.specs.Agent.{AgentRecord}
+use Rattle.is_rules.specs.Issuing.{Queues}
+use Rattle.is_rules.specs.Reporting.{Reports}
+use Rattle.is_rules.specs.Steps.{Call, ReceivePacket, HandleTimeout, Entry}
+use Rattle.is_rules.specs.Logs.{Logged}
+use Rattle.is_rules.specs.Runs.{AtEach}
 
 -- a packet and a moment; what they issue is at most one packet, since an entry has room for no more
 abbrev pub may_issue : {P : Type 0} → Call P → Bool

@@ -4,8 +4,8 @@ use Rattle.std.specs.List.{AllByRecursion}
 use Rattle.is_stun.specs.declared.header.Class.{Class}
 use Rattle.is_stun.specs.declared.header.Class.TheVariants as class
 use Rattle.is_stun.specs.declared.trans_id.TransId.{TransId}
-use Rattle.is_agent.specs.declared.told.Path.{Path}
-use Rattle.is_agent.specs.Steps as agent
+use Rattle.is_rules.specs.declared.told.Path.{Path}
+use Rattle.is_rules.specs.Steps as agent
 use Rattle.is.specs.declared.calls.Answer.TheVariants as answer
 use Rattle.is.specs.declared.world.Side.{Side}
 use Rattle.is.specs.declared.traces.Trace.{Trace}

@@ -2,7 +2,7 @@
 use Rattle.std.specs.Prelude.{option_map}
 use Rattle.std.specs.Range.{range_inclusive_start, range_inclusive_end}
 use Rattle.is_proto.specs.Packets.{packet_of}
-use Rattle.is_agent.specs.Steps as agent
+use Rattle.is_rules.specs.Steps as agent
 use Rattle.is.specs.declared.calls.AgentCall.{AgentCall}
 use Rattle.is.specs.declared.calls.AgentCall.TheVariants.{SetMtu, SetControlTieBreaker, SetMaxCandidatePairs, SetIceLite, SetTimingAdvance, SetInitialStunRto, SetMaxStunRto, SetMaxStunRetransmits, SetLocalPreference, SetControlling, SetLocalCredentials, SetRemoteCredentials, SkipPairIds, AddLocalCandidate, AddRemoteCandidate, InvalidateCandidate, RestartIce, RecreateCandidatePairs, Packet, HandleTimeout, PollTransmit, PollTimeout, PollEvent}
 use Rattle.is.specs.declared.calls.Answer.{Answer}

@@ -10,16 +10,16 @@ use Rattle.is_stun.specs.declared.header.Class.{Class}
 use Rattle.is_stun.specs.declared.trans_id.TransId.{TransId}
 use Rattle.is_stun.specs.Message.{Message}
 use Rattle.is_stun.specs.Reading.{fault_of, message_of}
-use Rattle.is_agent.specs.declared.told.Path.{Path}
-use Rattle.is_agent.specs.Steps as agent
-use Rattle.is_agent.specs.Steps.{quiet, Answer, Flag, Refused, NotInWorld, NoSuchPacket}
-use Rattle.is_agent.specs.Agent.{AgentRecord, fresh, MakesAgent}
-use Rattle.is_agent.specs.Fitting.{are_too_long}
+use Rattle.is_rules.specs.declared.told.Path.{Path}
+use Rattle.is_rules.specs.Steps as agent
+use Rattle.is_rules.specs.Steps.{quiet, Answer, Flag, Refused, NotInWorld, NoSuchPacket}
+use Rattle.is_rules.specs.Agent.{AgentRecord, fresh, MakesAgent}
+use Rattle.is_rules.specs.Fitting.{are_too_long}
 use Rattle.is_agent.specs.View.{record_of}
-use Rattle.is_agent.specs.Polls.{PollsTransmit}
-use Rattle.is_agent.specs.Steps.{Step}
-use Rattle.is_agent.specs.Sound.{GivesBased}
-use Rattle.is_agent.specs.Effects.{clears}
+use Rattle.is_rules.specs.Polls.{PollsTransmit}
+use Rattle.is_rules.specs.Steps.{Step}
+use Rattle.is_rules.specs.Sound.{GivesBased}
+use Rattle.is_rules.specs.Effects.{clears}
 use Rattle.is.specs.declared.world.Side.{Side}
 use Rattle.is.specs.declared.world.Side.TheVariants.{A, B}
 use Rattle.is.specs.declared.world.AgentSpec.{AgentSpec}

@@ -6,14 +6,14 @@ use Rattle.is_proto.specs.Lists.{same}
 use Rattle.is_candidate.specs.Candidates.{CandidateRecord}
 use Rattle.is_stun.specs.declared.header.Class.TheVariants as class
 use Rattle.is_stun.specs.Message.{Message}
-use Rattle.is_agent.specs.declared.credentials.IceCreds.{IceCreds}
-use Rattle.is_agent.specs.declared.told.Path.{Path}
-use Rattle.is_agent.specs.Request.{RequestRecord}
-use Rattle.is_agent.specs.Agent.{AgentRecord, fresh}
-use Rattle.is_agent.specs.Answers.{is_role_conflict}
-use Rattle.is_agent.specs.Steps as agent
-use Rattle.is_agent.specs.Brought.{Brings, IsServing, IsServedPastTests}
-use Rattle.is_agent.specs.Told.{issued_as}
+use Rattle.is_rules.specs.declared.credentials.IceCreds.{IceCreds}
+use Rattle.is_rules.specs.declared.told.Path.{Path}
+use Rattle.is_rules.specs.Request.{RequestRecord}
+use Rattle.is_rules.specs.Agent.{AgentRecord, fresh}
+use Rattle.is_rules.specs.Answers.{is_role_conflict}
+use Rattle.is_rules.specs.Steps as agent
+use Rattle.is_rules.specs.Brought.{Brings, IsServing, IsServedPastTests}
+use Rattle.is_rules.specs.Told.{issued_as}
 use Rattle.is.specs.declared.world.Side.{Side}
 use Rattle.is.specs.declared.world.Side.TheVariants.{A, B}
 use Rattle.is.specs.World as world

@@ -1,8 +1,8 @@
 //! Calls of an agent as values, and what becomes of each.
-use is_agent::told::{Issued, Path};
 use is_agent::{IceAgentEvent, IceCreds};
 use is_candidate::{Candidate, LocalPreference};
 use is_proto::{Duration, IceError, Instant, ParseFault, Protocol, Transmit};
+use is_rules::told::{Issued, Path};
 use std::net::SocketAddr;
 use std::ops::RangeInclusive;
 

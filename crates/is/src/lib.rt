@@ -14,7 +14,6 @@ mod world;
 mod world_laws;
 
 pub use calls::{AgentCall, Answer, Call, Entry};
-pub use is_agent::told::{Issued, Path};
 pub use is_agent::{IceAgent, IceAgentEvent, IceAgentStats, IceConnectionState, IceCreds};
 pub use is_candidate::{
     Candidate, CandidateBuilder, CandidateKind, FnPreference, LocalPreference, PreferenceFunction,
@@ -24,6 +23,7 @@ pub use is_proto::{
     DefaultSha1HmacProvider, Duration, IceError, Instant, ParseFault, Protocol, Sha1HmacProvider,
     SocketText, StunError, TcpType, Text, Transmit,
 };
+pub use is_rules::told::{Issued, Path};
 pub use runs::{RunLog, run};
 pub use traces::Trace;
 pub use world::{AgentSpec, Letter, Side, TwoAgents, World, WorldEntry, WorldEvent, WorldLog};

@@ -1,18 +1,19 @@
 //! Runs of calls on an agent, with a log of what became of each.
 ghost use Rattle.std.specs.Prelude.{◌≡◌};
 ghost use Rattle.is_agent.specs.View.{record_of};
-ghost use Rattle.is_agent.specs.Logs.{NeverLite, replies, requests};
-ghost use Rattle.is_agent.specs.Owed.{AreAmong};
-ghost use Rattle.is_agent.specs.Runs.{IsFresh, PathsAreAnswered, PathsAreAskedFor, LastPathsAreTop, SuccessesMakeValid, RequestsNominate};
+ghost use Rattle.is_rules.specs.Logs.{NeverLite, replies, requests};
+ghost use Rattle.is_rules.specs.Owed.{AreAmong};
+ghost use Rattle.is_rules.specs.Runs.{IsFresh, PathsAreAnswered, PathsAreAskedFor, LastPathsAreTop, SuccessesMakeValid, RequestsNominate};
 ghost use Rattle.is.specs.Log.{IsRunLog, log_of, EntriesStand};
 ghost use Rattle.is.specs.Accepted.{PacketsAreSettled};
 ghost use Rattle.is.specs.Queues.{OthersIssueNone, QueuesAreKept};
 
 use crate::calls::{AgentCall, Entry};
 use crate::steps::step;
-use is_agent::{Agent, laws};
+use is_agent::Agent;
 use is_candidate::LocalPreference;
 use is_proto::Sha1HmacProvider;
+use is_rules::laws;
 use rand_core::Rng;
 
 /// What became of the calls of a run.

@@ -2,17 +2,18 @@
 ghost use Rattle.std.specs.Prelude.{◌≡◌};
 ghost use Rattle.rand_core.specs.Stream.{Stream};
 ghost use Rattle.is_agent.specs.View.{record_of, told_of};
-ghost use Rattle.is_agent.specs.Steps as steps;
-ghost use Rattle.is_agent.specs.Steps.{Receives, Step};
-ghost use Rattle.is_agent.specs.Sound.{GivesBased};
+ghost use Rattle.is_rules.specs.Steps as steps;
+ghost use Rattle.is_rules.specs.Steps.{Receives, Step};
+ghost use Rattle.is_rules.specs.Sound.{GivesBased};
 ghost use Rattle.is.specs.Views.{call_view, answer_view, entry_view};
 
 use crate::calls::{AgentCall, Answer, Entry};
 use is_agent::Agent;
 use is_agent::local::add_local;
-use is_agent::told::{Path, last_announced, last_issued};
+use is_agent::told::{last_announced, last_issued};
 use is_candidate::LocalPreference;
 use is_proto::{IceError, Instant, Sha1HmacProvider, StunError};
+use is_rules::told::Path;
 use is_stun::stun::{StunMessage, StunPacket};
 use rand_core::Rng;
 

@@ -9,8 +9,8 @@ ghost use Rattle.is.specs.Marks.{IsMarked, IsFirstMarked, IsAnnounced, IsCheckAt
 
 use crate::calls::Answer;
 use crate::world::{Side, WorldEntry, WorldLog};
-use is_agent::told::{Issued, Path};
 use is_candidate::candidate::address::same_address;
+use is_rules::told::{Issued, Path};
 use is_stun::stun::{Class, TransId};
 
 /// How the path that an entry announced was answered by the other agent, by the numbers of entries.

@@ -4,9 +4,9 @@ ghost use Rattle.std.specs.Prelude.{◌≡◌, Some, None, true, false, MatchOpt
 ghost use Rattle.rand_core.specs.Stream.{Stream};
 ghost use Rattle.is_stun.specs.Reading.{fault_of, message_of};
 ghost use Rattle.is_agent.specs.View.{record_of};
-ghost use Rattle.is_agent.specs.Steps as steps;
-ghost use Rattle.is_agent.specs.Steps.{is_done};
-ghost use Rattle.is_agent.specs.Effects.{is_clearing};
+ghost use Rattle.is_rules.specs.Steps as steps;
+ghost use Rattle.is_rules.specs.Steps.{is_done};
+ghost use Rattle.is_rules.specs.Effects.{is_clearing};
 ghost use Rattle.is.specs.Views.{call_view, answer_view, entry_view};
 ghost use Rattle.is.specs.World as world;
 ghost use Rattle.is.specs.World.{WorldRecord, world_of, letter_of, event_view, outcome_of, read_unless, roles_of, Happens, Turns, PolledInto, Delivers, MakesMember, MakesWorld, made_world, logged, IsWorldLog};
@@ -19,10 +19,10 @@ use crate::steps::{quiet, step, take_packet};
 use crate::world_laws::{
     announced_are_traced, greater_keeps, lesser_yields_once, roles_differ_once_met,
 };
-use is_agent::told::{Issued, Path};
 use is_agent::{Agent, IceCreds};
 use is_candidate::LocalPreference;
 use is_proto::{IceError, Instant, Protocol, Sha1HmacProvider, Transmit};
+use is_rules::told::{Issued, Path};
 use is_stun::stun::{Class, StunMessage, TransId};
 use rand_core::Rng;
 use std::alloc::Global;

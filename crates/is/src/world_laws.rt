@@ -2,9 +2,9 @@
 
 ghost use Rattle.is.specs.WorldLaws.{KeepsLaw, YieldsLaw, DiffersLaw, TracedLaw};
 
-use is_agent::laws::{fresh_is_sound, path_effect, role_effect};
 use is_candidate::LocalPreference;
 use is_proto::Sha1HmacProvider;
+use is_rules::laws::{fresh_is_sound, path_effect, role_effect};
 
 /// Between two agents over any network the greater tie-breaker keeps its role.
 pub(crate) fn greater_keeps<H: Sha1HmacProvider, P: LocalPreference>()

@@ -1,13 +1,10 @@
--- Answers: what the places of pairs and checks say of the lists.
-use Rattle.std.proofs.Common.{◌≡◌, ℕ, Bool, true, false, List, Option, Some, None, find, unwrap_or, refl, sym, ap, subst, ◌∙◌}
+-- Answers: what an agent does with them, from what is recorded of them.
+use Rattle.std.proofs.Common.{◌≡◌, ℕ, Bool, true, false, List, Option, Some, None, unwrap_or, refl, sym, ap, subst, ◌∙◌}
 use Rattle.std.specs.Prelude.{slice_set, MatchBool, Result, Ok, Err}
-use Rattle.std.proofs.Math.Bool.{beq}
 use Rattle.std.proofs.lemmas.Bool.{eqb-true}
-use Rattle.std.proofs.lemmas.Slice.Eq.{bytes_eq-Decides}
-use Rattle.is_proto.specs.Lists.{Has, same}
+use Rattle.is_proto.specs.Lists.{same}
 use Rattle.is_candidate.specs.Candidates.{CandidateRecord}
 use Rattle.is_pair.specs.Bag.{is_numbered, pair_numbered, rises}
-use Rattle.is_pair.specs.Checks.{Check, has_id}
 use Rattle.is_pair.specs.Pairs.{PairRecord, TakesAnswer}
 use Rattle.is_proto.specs.declared.error.IceError.{IceError}
 use Rattle.is_stun.specs.declared.header.Class.{Class}
@@ -15,28 +12,16 @@ use Rattle.is_stun.specs.declared.header.Class.TheVariants.{Failure}
 use Rattle.is_stun.specs.declared.header.Method.TheVariants.{Binding}
 use Rattle.is_stun.specs.Message.{Message}
 use Rattle.is_agent.proofs.NumberLemmas.{put-place}
-use Rattle.is_agent.proofs.PairLemmas.{find-Some}
-use Rattle.is_agent.specs.declared.told.Path.{Path}
-use Rattle.is_agent.specs.declared.told.Told.{Told}
-use Rattle.is_agent.specs.Agent.{AgentRecord}
-use Rattle.is_agent.specs.Told.{nothing_told}
-use Rattle.is_agent.specs.Due.{IsRecorded, IsSentUnder}
-use Rattle.is_agent.specs.Roles.{switched}
-use Rattle.is_agent.specs.Serving.{Drops}
-use Rattle.is_agent.specs.Accepting.{IsAcceptedAs, IsAcceptedOn, Arrives}
-use Rattle.is_agent.specs.Answers.{keeps_check_on, local_with, success_counted, Concludes, GivesUpRole, TakesSuccess}
-
--- a check that is found by its id
-pub check-found : (id : List ℕ) (checks : List Check) (c : Check) → find (has_id id) checks ≡ Some c → Has checks c × (c.id ≡ id)
-check-found id checks c found =
-    let is = find-Some (has_id id) checks c found in
-    (is.0, (bytes_eq-Decides c.id id).0 is.1)
-
-pub same-beq : (a b : Bool) → beq a b ≡ same a b
-same-beq true true = refl
-same-beq true false = refl
-same-beq false true = refl
-same-beq false false = refl
+use Rattle.is_agent.proofs.NumberLemmas.{find-Some}
+use Rattle.is_rules.specs.declared.told.Path.{Path}
+use Rattle.is_rules.specs.declared.told.Told.{Told}
+use Rattle.is_rules.specs.Agent.{AgentRecord}
+use Rattle.is_rules.specs.Told.{nothing_told}
+use Rattle.is_rules.specs.Due.{IsRecorded, IsSentUnder}
+use Rattle.is_rules.specs.Roles.{switched}
+use Rattle.is_rules.specs.Serving.{Drops}
+use Rattle.is_rules.specs.Accepting.{IsAcceptedAs, IsAcceptedOn, Arrives}
+use Rattle.is_rules.specs.Answers.{keeps_check_on, local_with, success_counted, Concludes, GivesUpRole, TakesSuccess}
 
 pub role-given_up : {H P : Type 0} (old new : AgentRecord H P) (way : Path) (m : Message) (number : ℕ) (p : PairRecord) (present : Bool)
     → pair_numbered number old.pairs ≡ Some p → keeps_check_on old way m.id p ≡ true

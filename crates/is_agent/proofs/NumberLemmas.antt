@@ -1,12 +1,20 @@
 -- Pairs by their numbers.
-use Rattle.std.proofs.Common.{if◌then◌else◌, ◌≡◌, ◌==◌, ℕ, ◌≤◌, ◌&&◌, ◌||◌, Bool, true, false, List, [], ◌∷◌, filter, find, nat_lt, slice_get, slice_set, Some, unwrap_or, inl, inr, zero, suc, refl, sym, ap, subst, ◌∙◌, arith}
-use Rattle.std.proofs.lemmas.Bool.{eq-eqb, eqb-true}
+use Rattle.std.proofs.Common.{if◌then◌else◌, ◌≡◌, ◌==◌, ℕ, ◌≤◌, ◌&&◌, ◌||◌, Bool, true, false, List, [], ◌∷◌, find, nat_lt, slice_get, slice_set, Some, unwrap_or, inl, inr, zero, suc, refl, sym, ap, subst, arith}
+use Rattle.std.proofs.lemmas.Bool.{eqb-true}
 use Rattle.std.proofs.lemmas.Bool.Decides.{nat_tests}
 use Rattle.std.specs.List.{list_any, list_all}
-use Rattle.is_proto.specs.Lists.{Has, NonePass}
+use Rattle.is_proto.specs.Lists.{Has}
 use Rattle.is_pair.specs.Pairs.{PairRecord}
 use Rattle.is_pair.specs.Bag.{is_numbered, are_below, change_pair, keeps, keeps_check, pair_numbered, passes_at, put_pair, rises}
-use Rattle.is_agent.proofs.PairLemmas.{find-Some}
+
+-- what is found is there and passes
+pub find-Some : {X : Type 0} (test : X → Bool) (xs : List X) (x : X) → find test xs ≡ Some x → Has xs x × (test x ≡ true)
+find-Some test [] x h = absurd (cc)
+find-Some test (y ∷ ys) x h =
+    elim (test y) as (λ b. test y ≡ b → (if b then Some y else find test ys) ≡ Some x → Has (y ∷ ys) x × (test x ≡ true)) [
+      | true ↦ λ is found. let same : y ≡ x = cc in (inl same, rw (← same) is)
+      | false ↦ λ is found. let rest = find-Some test ys x found in (inr rest.0, rest.1)
+    ] refl h
 
 pub both : (a b : Bool) → a && b ≡ true → (a ≡ true) × (b ≡ true)
 both true b h = (refl, h)
@@ -51,30 +59,6 @@ pub has-any : {X : Type 0} (t : X → Bool) (xs : List X) (x : X) → Has xs x �
 has-any t [] x none is = absurd none
 has-any t (y ∷ ys) x (inl e) is = rw (e, is) refl
 has-any t (y ∷ ys) x (inr has) is = elim (t y) as (λ b. (b || list_any t ys) ≡ true) [ true ↦ refl | false ↦ has-any t ys x has is ]
-
-pub none-any : {X : Type 0} (t : X → Bool) (xs : List X) → NonePass t xs → list_any t xs ≡ false
-none-any t [] none = refl
-none-any t (y ∷ ys) none =
-    elim (t y) as (λ b. (if b then y ∷ filter t ys else filter t ys) ≡ [] → (b || list_any t ys) ≡ false) [
-      | true ↦ λ h. absurd (cc)
-      | false ↦ λ h. none-any t ys h
-    ] none
-
-over-has : (n : ℕ) (ps : List PairRecord) (p : PairRecord) → above n ps ≡ true → Has ps p → nat_lt n p.number ≡ true
-over-has n [] p h none = absurd none
-over-has n (q ∷ qs) p h (inl e) = ap (λ (x : PairRecord). nat_lt n x.number) (sym e) ∙ (both (nat_lt n q.number) (above n qs) h).0
-over-has n (q ∷ qs) p h (inr has) = over-has n qs p (both (nat_lt n q.number) (above n qs) h).1 has
-
-before : (n m : ℕ) → nat_lt n m ≡ true → n == m ≡ false
-before n m h = grind (arith, nat_tests, h)
-
--- no other pair has its number
-pub numbered-found : (ps : List PairRecord) (p : PairRecord) → rises ps ≡ true → Has ps p → pair_numbered p.number ps ≡ Some p
-numbered-found [] p rising none = absurd none
-numbered-found (q ∷ qs) p rising (inl e) = rw (e, eq-eqb p.number p.number refl) refl
-numbered-found (q ∷ qs) p rising (inr has) =
-    let r = both (above q.number qs) (rises qs) rising in
-    rw (before q.number p.number (over-has q.number qs p r.0 has)) (numbered-found qs p r.1 has)
 
 -- the pair of the number keeps the check
 pub kept-at : (id : List ℕ) (n : ℕ) (ps : List PairRecord) (p : PairRecord) → pair_numbered n ps ≡ Some p → keeps_check id p ≡ true → keeps id n ps ≡ true

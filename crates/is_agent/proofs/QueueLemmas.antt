@@ -4,21 +4,21 @@ use Rattle.std.proofs.lemmas.Option.{slice_get-map}
 use Rattle.std.proofs.lemmas.List.Sums.{take_while-cons}
 use Rattle.is_proto.specs.Lists.{head}
 use Rattle.is_stun.specs.declared.timing.StunTiming.{StunTiming}
-use Rattle.is_agent.specs.declared.credentials.IceCreds.{IceCreds}
-use Rattle.is_agent.specs.declared.event.IceAgentEvent.{IceAgentEvent}
-use Rattle.is_agent.specs.declared.event.IceConnectionState.{IceConnectionState}
-use Rattle.is_agent.specs.declared.waking.Waking.{Waking}
-use Rattle.is_agent.specs.declared.request.Waiting.{Waiting as Waiter}
-use Rattle.is_agent.specs.Request.{RequestRecord}
-use Rattle.is_agent.specs.RequestView.{waiting_view}
-use Rattle.is_agent.specs.Agent.{AgentRecord}
-use Rattle.is_agent.specs.Queue.{is_outdated, queue_left, first_taken, request_at}
-use Rattle.is_agent.specs.States.{same_state, with_state}
-use Rattle.is_agent.specs.declared.event.IceAgentEvent.TheVariants.{IceRestart}
-use Rattle.is_agent.specs.declared.event.IceConnectionState.TheVariants.{New}
-use Rattle.is_agent.specs.Waking.{with_start, start_event, outdated, IsWaking}
-use Rattle.is_agent.specs.Timeouts.{awake, start_told, MayRefuseMoment}
-use Rattle.is_agent.specs.Serving.{MayRefuseRequest}
+use Rattle.is_rules.specs.declared.credentials.IceCreds.{IceCreds}
+use Rattle.is_rules.specs.declared.event.IceAgentEvent.{IceAgentEvent}
+use Rattle.is_rules.specs.declared.event.IceConnectionState.{IceConnectionState}
+use Rattle.is_rules.specs.declared.waking.Waking.{Waking}
+use Rattle.is_rules.specs.declared.request.Waiting.{Waiting as Waiter}
+use Rattle.is_rules.specs.Request.{RequestRecord}
+use Rattle.is_rules.specs.RequestView.{waiting_view}
+use Rattle.is_rules.specs.Agent.{AgentRecord}
+use Rattle.is_rules.specs.Queue.{is_outdated, queue_left, first_taken, request_at}
+use Rattle.is_rules.specs.States.{same_state, with_state}
+use Rattle.is_rules.specs.declared.event.IceAgentEvent.TheVariants.{IceRestart}
+use Rattle.is_rules.specs.declared.event.IceConnectionState.TheVariants.{New}
+use Rattle.is_rules.specs.Waking.{with_start, start_event, outdated, IsWaking}
+use Rattle.is_rules.specs.Timeouts.{awake, start_told, MayRefuseMoment}
+use Rattle.is_rules.specs.Serving.{MayRefuseRequest}
 use Rattle.is_proto.specs.declared.error.IceError.{IceError}
 use Rattle.is_proto.specs.declared.error.IceError.TheVariants.{BadCandidate, OutOfMemory, PairIdsExhausted, MtuTooSmall, CredentialsTooLong, PriorityTooHigh}
 

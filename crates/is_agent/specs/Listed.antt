@@ -4,7 +4,7 @@ use Rattle.is_candidate.specs.Candidates.{CandidateRecord}
 use Rattle.is_agent.specs.declared.questions.LiveCandidates.{LiveCandidates}
 use Rattle.is_agent.specs.declared.questions.LocalCandidates.{LocalCandidates}
 use Rattle.is_agent.specs.declared.questions.RemoteCandidates.{RemoteCandidates}
-use Rattle.is_agent.specs.Questions.{live}
+use Rattle.is_rules.specs.Questions.{live}
 
 abbrev pub live_left : LiveCandidates → List CandidateRecord
 live_left it = live it.rest.now

@@ -4,9 +4,9 @@ use Rattle.std.specs.VecDeque.{deque_len, deque_capacity}
 use Rattle.is_pair.specs.Checklists as checklists
 use Rattle.is_pair.specs.Checklists.{HasRoom}
 use Rattle.is_agent.specs.declared.agent.Agent.{Agent}
-use Rattle.is_agent.specs.Fitting.{MTU_FLOOR}
-use Rattle.is_agent.specs.Checking.{username_between}
-use Rattle.is_agent.specs.Due.{may_fall_due}
+use Rattle.is_rules.specs.Fitting.{MTU_FLOOR}
+use Rattle.is_rules.specs.Checking.{username_between}
+use Rattle.is_rules.specs.Due.{may_fall_due}
 use Rattle.is_agent.specs.View.{record_of}
 
 module _ {H P : Type 0} where

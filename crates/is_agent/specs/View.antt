@@ -4,9 +4,9 @@ use Rattle.is_proto.specs.declared.error.IceError.{IceError}
 use Rattle.is_proto.specs.Packets.{packet_of}
 use Rattle.is_pair.specs.Checklists.{bag_of}
 use Rattle.is_agent.specs.declared.agent.Agent as code
-use Rattle.is_agent.specs.declared.told.Told.{Told}
-use Rattle.is_agent.specs.RequestView.{waiting_view}
-use Rattle.is_agent.specs.Agent.{AgentRecord}
+use Rattle.is_rules.specs.declared.told.Told.{Told}
+use Rattle.is_rules.specs.RequestView.{waiting_view}
+use Rattle.is_rules.specs.Agent.{AgentRecord}
 
 abbrev pub record_of : {H P : Type 0} → code.Agent H P → AgentRecord H P
 record_of a = record {

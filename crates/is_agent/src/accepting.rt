@@ -1,44 +1,25 @@
 //! Which messages an agent accepts, and what becomes of a packet (RFC 8445, section 7.3).
 
 ghost use Rattle.std.specs.Prelude.{◌≡◌, ◌↔◌, ℕ, IsTrue, IfSome, IfOk, IfErr, OnOk};
-ghost use Rattle.std.specs.List.{list_any};
 ghost use Rattle.is_stun.specs.declared.header.Class.TheVariants as classes;
 ghost use Rattle.is_stun.specs.Integrity.{IsSignedBy};
 ghost use Rattle.is_stun.specs.MessageView.{message_view};
 ghost use Rattle.is_agent.specs.View.{record_of, told_of};
-ghost use Rattle.is_agent.specs.RequestView.{request_view, way_of};
-ghost use Rattle.is_agent.specs.Serving.{TakesRequest, MayRefuseArrival};
-ghost use Rattle.is_agent.specs.Answers.{keeps_check_on};
+ghost use Rattle.is_rules.specs.RequestView.{request_view, way_of};
+ghost use Rattle.is_rules.specs.Serving.{TakesRequest, MayRefuseArrival};
+ghost use Rattle.is_rules.specs.Answers.{keeps_check_on};
 ghost use Rattle.is_agent.specs.Room.{HasNewsRoom};
-ghost use Rattle.is_agent.specs.Accepting.{IsAddressed, IsAcceptedAs, IsAccepted, IsAcceptedOn, Arrives, is_source, source_told, HandlesPacket};
+ghost use Rattle.is_rules.specs.Accepting.{IsAddressed, IsAcceptedAs, IsAccepted, IsAcceptedOn, Arrives, source_told, HandlesPacket};
 
-use crate::agent::{Agent, Source};
-use crate::answers::keeps_any;
-use crate::event::IceAgentEvent;
-use crate::request::{Request, way_of};
-use crate::told::{Path, Told};
+use crate::agent::Agent;
 use is_candidate::LocalPreference;
-use is_candidate::candidate::address::{same_address, same_protocol};
 use is_proto::{IceError, Instant, Sha1HmacProvider};
+use is_rules::accepting::{Source, is_same, is_seen};
+use is_rules::answers::keeps_any;
+use is_rules::event::IceAgentEvent;
+use is_rules::request::{Request, way_of};
+use is_rules::told::{Path, Told};
 use is_stun::stun::{Class, Method, StunMessage, StunPacket};
-
-fn is_source(source: &Source, way: &Path) -> bool
-    ensures { result ≡ is_source way.now source.now }
-{
-    same_address(source.address, way.source) && same_protocol(source.proto, way.proto)
-}
-
-fn is_seen(seen: &[Source], way: &Path) -> bool
-    ensures { result ≡ list_any (is_source way.now) seen.now }
-{
-    seen.iter().any(|source| is_source(source, way))
-}
-
-fn is_same(a: &str, b: &str) -> bool
-    ensures { IsTrue result ↔ (a.now ≡ b.now) }
-{
-    a == b
-}
 
 impl<H: Sha1HmacProvider + Drop, P: LocalPreference> Agent<H, P> {
     /// The user fragment is the peer's, where one is known.

@@ -1,31 +1,22 @@
 //! The agent, and how it is made.
 
 ghost use Rattle.std.specs.Prelude.{◌≡◌, ◌<◌, true, false, IfOk};
-ghost use Rattle.is_agent.specs.Fitting.{are_too_long};
-ghost use Rattle.is_agent.specs.Kept.{NoneTooHigh};
+ghost use Rattle.is_rules.specs.Fitting.{are_too_long};
+ghost use Rattle.is_rules.specs.Kept.{NoneTooHigh};
 ghost use Rattle.is_pair.specs.Bag.{are_below};
 ghost use Rattle.is_pair.specs.Checklists.{bag_of};
 
-use crate::credentials::{IceCreds, are_too_long};
-use crate::event::{IceAgentEvent, IceAgentStats, IceConnectionState};
-use crate::request::Waiting;
-use crate::told::Told;
 use is_candidate::{Candidate, LocalPreference};
 use is_pair::checklist::Checklist;
-use is_proto::{
-    DefaultSha1HmacProvider, Duration, IceError, Instant, Protocol, Sha1HmacProvider, Transmit,
-};
+use is_proto::{DefaultSha1HmacProvider, Duration, IceError, Instant, Sha1HmacProvider, Transmit};
+use is_rules::accepting::Source;
+use is_rules::credentials::{IceCreds, are_too_long};
+use is_rules::event::{IceAgentEvent, IceAgentStats, IceConnectionState};
+use is_rules::request::Waiting;
+use is_rules::told::Told;
 use is_stun::stun::StunTiming;
 use std::alloc::Global;
 use std::collections::VecDeque;
-use std::net::SocketAddr;
-
-/// A protocol and an address from which authentic packets came.
-#[derive(Clone, Copy, Debug, PartialEq, Eq)]
-pub(crate) struct Source {
-    pub(crate) proto: Protocol,
-    pub(crate) address: SocketAddr,
-}
 
 /// How many pairs forming leaves at most, until another limit is set (RFC 8445, section 6.1.2.5).
 pub const DEFAULT_MAX_PAIRS: usize = 100;
@@ -91,8 +82,8 @@ pub struct Agent<H, P> {
 }
 
 impl<P: LocalPreference> Agent<DefaultSha1HmacProvider, P> {
-    ghost use Rattle.is_agent.specs.Agent.{MakesAgent};
-    ghost use Rattle.is_agent.specs.Told.{nothing_told};
+    ghost use Rattle.is_rules.specs.Agent.{MakesAgent};
+    ghost use Rattle.is_rules.specs.Told.{nothing_told};
     ghost use Rattle.is_agent.specs.View.{made, told_of};
     ghost use Rattle.is_proto.specs.declared.hmac_provider.DefaultSha1HmacProvider.{DefaultSha1HmacProvider};
 
@@ -106,8 +97,8 @@ impl<P: LocalPreference> Agent<DefaultSha1HmacProvider, P> {
 }
 
 impl<H: Sha1HmacProvider + Drop, P: LocalPreference> Agent<H, P> {
-    ghost use Rattle.is_agent.specs.Agent.{MakesAgent};
-    ghost use Rattle.is_agent.specs.Told.{nothing_told};
+    ghost use Rattle.is_rules.specs.Agent.{MakesAgent};
+    ghost use Rattle.is_rules.specs.Told.{nothing_told};
     ghost use Rattle.is_agent.specs.View.{made, told_of};
 
     /// A controlled agent without candidates, under these credentials, that signs by this provider. The tie-breaker is

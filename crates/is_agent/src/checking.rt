@@ -1,50 +1,27 @@
 //! What a check of the agent's own says, and where it goes (RFC 8445, section 7.2).
 
-ghost use Rattle.std.specs.Prelude.{◌≡◌, Some, OnOk, IfSome, length, string_bytes};
+ghost use Rattle.std.specs.Prelude.{◌≡◌, Some, IfSome, length};
 ghost use Rattle.is_stun.specs.Laws.{IsPut};
 ghost use Rattle.is_stun.specs.Writing.{written};
 ghost use Rattle.is_pair.specs.Pairs.{PairRecord};
-ghost use Rattle.is_agent.specs.declared.credentials.IceCreds as model;
-ghost use Rattle.is_agent.specs.Fitting.{MTU_FLOOR};
+ghost use Rattle.is_rules.specs.declared.credentials.IceCreds as model;
+ghost use Rattle.is_rules.specs.Fitting.{MTU_FLOOR};
 ghost use Rattle.is_agent.specs.View.{record_of};
-ghost use Rattle.is_agent.specs.Due.{Drafts};
+ghost use Rattle.is_rules.specs.Due.{Drafts};
 ghost use Rattle.is_agent.specs.Room.{HasUsername};
-ghost use Rattle.is_agent.specs.Sending.{path_between};
-ghost use Rattle.is_agent.specs.Checking.{username_between, check_message};
+ghost use Rattle.is_rules.specs.Sending.{path_between};
+ghost use Rattle.is_rules.specs.Checking.{check_message};
 
 use crate::agent::Agent;
-use crate::credentials::IceCreds;
-use crate::places::{address_at, base_at, check_priority_at, proto_at};
-use crate::reply::write_signed;
-use crate::told::Path;
 use is_candidate::LocalPreference;
 use is_pair::pair::CandidatePair;
 use is_proto::Sha1HmacProvider;
+use is_rules::checking::Draft;
+use is_rules::places::{address_at, base_at, check_priority_at, proto_at};
+use is_rules::reply::write_signed;
+use is_rules::told::Path;
 use is_stun::laws::checks_fit;
 use is_stun::stun::{StunMessage, TransId};
-use std::alloc::AllocError;
-
-/// Writes the peer's user fragment, a colon and the own one over the name.
-pub(crate) fn write_username(
-    name: &mut String,
-    peer: &IceCreds,
-    own: &IceCreds,
-) -> Result<(), AllocError>
-    ensures { OnOk result (string_bytes name.new ≡ username_between peer.now own.now) }
-{
-    name.clear();
-    name.push_str(peer.ufrag.as_str())?;
-    name.push_str(":")?;
-    name.push_str(own.ufrag.as_str())
-}
-
-/// What a check says of its pair, and where it goes.
-#[derive(Clone, Copy)]
-pub(crate) struct Draft {
-    pub(crate) path: Path,
-    pub(crate) priority: u32,
-    pub(crate) nominated: bool,
-}
 
 impl<H: Sha1HmacProvider + Drop, P: LocalPreference> Agent<H, P> {
     /// From the local candidate's base to the remote candidate's address.

@@ -1,89 +1,14 @@
 //! Candidates that go. A discarded one keeps its place, and its pairs go.
 
-ghost use Rattle.std.specs.Prelude.{◌≡◌, ℕ, ◌<◌, length, position, IfSome, vec_len, vec_capacity};
-ghost use Rattle.is_candidate.specs.Equality.{is_equivalent};
-ghost use Rattle.is_agent.specs.Kept.{NoneTooHigh};
+ghost use Rattle.std.specs.Prelude.{◌≡◌, ℕ, ◌<◌, length, IfSome, vec_len, vec_capacity};
 ghost use Rattle.is_agent.specs.View.{record_of};
 ghost use Rattle.is_pair.specs.Checklists.{HasRoom};
-ghost use Rattle.is_agent.specs.Discarding.{discarded, change_place, live_at, place_to_discard, local_discarded, remote_discarded, Invalidates};
+ghost use Rattle.is_rules.specs.Discarding.{discarded, place_to_discard, local_discarded, remote_discarded, Invalidates};
 
 use crate::agent::Agent;
-use crate::places::candidate_at;
-use is_candidate::candidate::equality::is_equivalent;
-use is_candidate::candidate::internals::{discard, is_discarded};
 use is_candidate::{Candidate, LocalPreference};
-use is_pair::checklist::PairTest;
-use is_pair::pair::CandidatePair;
 use is_proto::Sha1HmacProvider;
-
-/// Marks the candidate at the place as discarded.
-fn discard_at(candidates: &mut Vec<Candidate>, place: usize)
-    requires { place < length candidates.old.items }
-    ensures items { candidates.new.items ≡ change_place place discarded candidates.old.items }
-    ensures low { NoneTooHigh candidates.old.items → NoneTooHigh candidates.new.items }
-    ensures len { vec_len candidates.new ≡ vec_len candidates.old }
-    ensures capacity { vec_capacity candidates.new ≡ vec_capacity candidates.old }
-{
-    discard(&mut candidates[place]);
-}
-
-/// Whether a pair is of the local candidate at a place.
-#[derive(Clone, Copy)]
-struct LocalAt {
-    place: usize,
-}
-
-impl PairTest for LocalAt {
-    ghost use Rattle.is_agent.specs.Discarding.{is_local_at};
-
-    ghost passes = { λ t p. is_local_at t.place p };
-
-    fn passes(&self, pair: &CandidatePair) -> bool {
-        pair.local_idx() == self.place
-    }
-}
-
-/// Whether a pair is of the remote candidate at a place.
-#[derive(Clone, Copy)]
-struct RemoteAt {
-    place: usize,
-}
-
-impl PairTest for RemoteAt {
-    ghost use Rattle.is_agent.specs.Discarding.{is_remote_at};
-
-    ghost passes = { λ t p. is_remote_at t.place p };
-
-    fn passes(&self, pair: &CandidatePair) -> bool {
-        pair.remote_idx() == self.place
-    }
-}
-
-fn position_of(candidates: &[Candidate], candidate: &Candidate) -> Option<usize>
-    ensures place { result ≡ position (is_equivalent candidate.now) candidates.now }
-    ensures within { IfSome result (λ place. place < length candidates.now) }
-{
-    candidates
-        .iter()
-        .position(|other| is_equivalent(candidate, other))
-}
-
-/// The first candidate that is equivalent, where that one is not discarded.
-fn place_to_discard(candidates: &[Candidate], candidate: &Candidate) -> Option<usize>
-    ensures place { result ≡ place_to_discard candidate.now candidates.now }
-    ensures within { IfSome result (λ place. place < length candidates.now) }
-{
-    match position_of(candidates, candidate) {
-        None => None,
-        Some(place) => {
-            if is_discarded(candidate_at(candidates, place)) {
-                None
-            } else {
-                Some(place)
-            }
-        }
-    }
-}
+use is_rules::discarding::{LocalAt, RemoteAt, discard_at, place_to_discard};
 
 impl<H: Sha1HmacProvider + Drop, P: LocalPreference> Agent<H, P> {
     /// The local candidate at the place goes.

@@ -1,155 +1,31 @@
 //! Local candidates (RFC 8445, section 5.1).
 
-ghost use Rattle.std.specs.Prelude.{◌≡◌, ◌≤◌, ◌<◌, ◌++◌, ◌∷◌, [], length, position, nat_lt, ◌↔◌, IsTrue, Some, IfOk, IfSome, OnOk, vec_len, vec_capacity};
+ghost use Rattle.std.specs.Prelude.{◌≡◌, ◌≤◌, ◌<◌, length, position, nat_lt, ◌↔◌, IsTrue, Some, IfOk, IfSome, OnOk};
 ghost use Rattle.is_candidate.specs.Priorities.{candidate_priority};
-ghost use Rattle.is_agent.specs.Kept.{TOO_HIGH, NoneTooHigh};
+ghost use Rattle.is_rules.specs.Kept.{TOO_HIGH};
 ghost use Rattle.std.specs.Borrow.{sem};
-ghost use Rattle.std.specs.Option.{option_copied, option_and_then};
-ghost use Rattle.std.specs.Prelude.{slice_get};
-ghost use Rattle.is_candidate.specs.Equality.{is_alike, is_same_place};
+ghost use Rattle.is_candidate.specs.Equality.{is_same_place};
 ghost use Rattle.is_candidate.specs.Candidates.{candidate_at};
 ghost use Rattle.is_agent.specs.contracts.agent.Agent.{the_row};
 ghost use Rattle.is_agent.specs.View.{record_of};
 ghost use Rattle.is_agent.specs.Lends.{EndsAs};
 ghost use Rattle.is_agent.specs.Room.{HasLocalRoom};
-ghost use Rattle.is_agent.specs.Discarding.{change_place, local_discarded};
-ghost use Rattle.is_agent.specs.Forming.{HasNumbers, FormsAll, local_combinations};
-ghost use Rattle.is_agent.specs.Local.{count_alike, MayPrefer, Prefers, comes_again, enabled, preferred, as_own, appended, is_unwanted, HasNumbersAt, EntersAgain, EntersNew, Enrols, EnrolsPreferred, AddsLocal, LendsLocal, error_of, widened};
+ghost use Rattle.is_rules.specs.Discarding.{local_discarded};
+ghost use Rattle.is_rules.specs.Forming.{HasNumbers, FormsAll, local_combinations};
+ghost use Rattle.is_rules.specs.Local.{Prefers, comes_again, enabled, preferred, as_own, appended, is_unwanted, HasNumbersAt, EntersAgain, EntersNew, Enrols, EnrolsPreferred, AddsLocal, LendsLocal, widened};
 
 use crate::agent::Agent;
-use crate::forming::{has_numbers_for, local_combinations};
-use crate::places::{candidate_at, priority_at};
-use is_candidate::candidate::equality::{is_alike, is_same_origin, is_same_place};
-use is_candidate::candidate::internals::{enable, is_discarded, set_local_preference};
+use is_candidate::candidate::equality::is_same_place;
 use is_candidate::candidate::kind::same_kind;
-use is_candidate::{Candidate, CandidateKind, LocalPreference, default_local_preference};
-use is_proto::{IceError, Sha1HmacProvider, Text};
-use std::alloc::{AllocError, Global};
-
-/// Why `add_local_candidate` refuses, in a form that owns no memory.
-#[derive(Clone, Copy, Debug, PartialEq, Eq)]
-pub enum Refusal {
-    /// The priority of the candidate is 4294967295.
-    PriorityTooHigh,
-    /// Fewer pair numbers are left than the candidate has combinations.
-    PairIdsExhausted,
-    /// A growth was refused.
-    OutOfMemory,
-}
-
-impl From<AllocError> for Refusal {
-    ghost use Rattle.is_agent.specs.declared.local.Refusal.TheVariants.{OutOfMemory};
-
-    ghost from_gives = { λ _ r. r ≡ OutOfMemory };
-
-    fn from(_e: AllocError) -> Refusal {
-        Refusal::OutOfMemory
-    }
-}
-
-impl From<Refusal> for IceError {
-    ghost from_gives = { λ r e. e ≡ error_of r };
-
-    fn from(refusal: Refusal) -> IceError {
-        match refusal {
-            Refusal::PriorityTooHigh => IceError::PriorityTooHigh,
-            Refusal::PairIdsExhausted => IceError::PairIdsExhausted,
-            Refusal::OutOfMemory => IceError::OutOfMemory,
-        }
-    }
-}
-
-fn count_alike(candidate: &Candidate, local: &[Candidate]) -> usize
-    ensures { result ≡ count_alike candidate.now local.now }
-{
-    local
-        .iter()
-        .filter(|other| is_alike(candidate, other))
-        .count()
-}
-
-/// What the object answers, or the default where none is set.
-fn preference_for<P: LocalPreference>(
-    object: &Option<P>,
-    candidate: &Candidate,
-    local: &[Candidate],
-) -> u32
-    ensures stated { MayPrefer P.answers object.now candidate.now (count_alike candidate.now local.now) result }
-    ensures bounded { result ≤ 65535 }
-{
-    let before = count_alike(candidate, local);
-    match object {
-        Some(object) => object.calculate(candidate, before),
-        None => default_local_preference(candidate, before),
-    }
-}
-
-/// The first place of a candidate of equal address, base and protocol.
-fn place_of_same(local: &[Candidate], candidate: &Candidate) -> Option<usize>
-    ensures place { result ≡ position (is_same_place candidate.now) local.now }
-    ensures within { IfSome result (λ place. place < length local.now) }
-{
-    local
-        .iter()
-        .position(|other| is_same_place(candidate, other))
-}
-
-/// The candidate that stands at the place, where there is one.
-fn lent_at(local: &[Candidate], place: Option<usize>) -> Option<&Candidate>
-    ensures { option_copied result ≡ option_and_then (slice_get local.now) place }
-{
-    local.get(place?)
-}
-
-/// The candidate under this preference.
-fn preferred(mut candidate: Candidate, preference: u32) -> Candidate
-    requires bounded { preference ≤ 65535 }
-    ensures { result ≡ preferred preference candidate }
-{
-    set_local_preference(&mut candidate, preference);
-    candidate
-}
-
-/// The candidate under this user fragment.
-fn as_own(mut candidate: Candidate, ufrag: &Text, alloc: Global) -> Result<Candidate, AllocError>
-    ensures own { IfOk result (λ own. own ≡ record candidate { ufrag = Some ufrag.now }) }
-    ensures priority { IfOk result (λ own. candidate_priority own ≡ candidate_priority candidate) }
-{
-    match candidate.set_ufrag(alloc, ufrag.as_str()) {
-        Ok(()) => Ok(candidate),
-        Err(_) => Err(AllocError),
-    }
-}
-
-/// Takes the discard mark from the candidate at the place.
-fn enable_at(candidates: &mut Vec<Candidate>, place: usize)
-    requires { place < length candidates.old.items }
-    ensures items { candidates.new.items ≡ change_place place enabled candidates.old.items }
-    ensures low { NoneTooHigh candidates.old.items → NoneTooHigh candidates.new.items }
-{
-    enable(&mut candidates[place]);
-}
-
-/// A discarded candidate that comes again.
-fn comes_again(candidate: &Candidate, other: &Candidate) -> bool
-    ensures { result ≡ comes_again candidate.now other.now }
-{
-    is_discarded(other) && is_same_origin(candidate, other)
-}
-
-/// Appends the candidate within the room that there is, and tells its place.
-pub(crate) fn append(local: &mut Vec<Candidate>, candidate: Candidate) -> usize
-    requires room { vec_len local.old < vec_capacity local.old }
-    requires all_low { NoneTooHigh local.old.items }
-    requires low { candidate_priority candidate < TOO_HIGH }
-    ensures items { local.new.items ≡ local.old.items ++ candidate ∷ [] }
-    ensures all_low { NoneTooHigh local.new.items }
-    ensures place { result ≡ length local.old.items }
-{
-    let place = local.len();
-    local.push_reserved(candidate);
-    place
-}
+use is_candidate::{Candidate, CandidateKind, LocalPreference};
+use is_proto::{IceError, Sha1HmacProvider};
+use is_rules::forming::{has_numbers_for, local_combinations};
+use is_rules::local::{
+    Refusal, append, as_own, comes_again, enable_at, lent_at, place_of_same, preference_for,
+    preferred,
+};
+use is_rules::places::{candidate_at, priority_at};
+use std::alloc::AllocError;
 
 /// A local candidate that can be stored, and its combinations.
 #[derive(Drop)]

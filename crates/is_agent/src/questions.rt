@@ -1,23 +1,22 @@
 //! What an agent answers with no change.
 
 ghost use Rattle.std.specs.Prelude.{◌≡◌, option_map};
-ghost use Rattle.std.specs.List.{list_any};
 ghost use Rattle.std.specs.Option.{option_copied};
 ghost use Rattle.is_agent.specs.View.{record_of};
 ghost use Rattle.is_agent.specs.Listed.{local_left, remote_left};
-ghost use Rattle.is_agent.specs.Questions.{live, is_viable_at, has_viable_remote, FindsEquivalent, nominated_pair, nominated_rtt, nominated_total_rtt, nominated_responses};
+ghost use Rattle.is_rules.specs.Questions.{live, is_viable_at, has_viable_remote, FindsEquivalent, nominated_pair, nominated_rtt, nominated_total_rtt, nominated_responses};
 
 use crate::agent::Agent;
-use crate::event::IceAgentStats;
-use crate::nomination::announced_pair;
-use crate::places::address_at;
-use crate::remote::Equivalent;
 use is_candidate::candidate::address::same_address;
 use is_candidate::candidate::internals::is_discarded;
 use is_candidate::{Candidate, LocalPreference};
 use is_pair::checklist::PairTest;
 use is_pair::pair::{CandidatePair, CheckState};
 use is_proto::{Duration, Sha1HmacProvider};
+use is_rules::event::IceAgentStats;
+use is_rules::nomination::announced_pair;
+use is_rules::places::address_at;
+use is_rules::remote::Equivalent;
 use std::net::SocketAddr;
 
 /// The candidates of a list that are not discarded.
@@ -97,7 +96,7 @@ struct ViableAt<'a> {
 }
 
 impl PairTest for ViableAt<'_> {
-    ghost use Rattle.is_agent.specs.Questions.{is_viable_at};
+    ghost use Rattle.is_rules.specs.Questions.{is_viable_at};
 
     ghost passes = { λ t p. is_viable_at t.remote.now t.address p };
 

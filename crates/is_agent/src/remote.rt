@@ -1,99 +1,20 @@
 //! Remote candidates (RFC 8445, section 5.4).
 
-ghost use Rattle.std.specs.Prelude.{◌≡◌, ◌<◌, IfSome, IsOkUnless, OnOk, position, length, vec_len, vec_capacity};
+ghost use Rattle.std.specs.Prelude.{◌≡◌, ◌<◌, IfSome, IsOkUnless, OnOk, position, length};
 ghost use Rattle.std.specs.List.{list_any};
 ghost use Rattle.is_pair.specs.Checklists.{HasRoom};
 ghost use Rattle.is_agent.specs.View.{record_of};
 ghost use Rattle.is_agent.specs.Room.{HasFormingRoom};
-ghost use Rattle.is_agent.specs.Forming.{HasNumbers, FormsAll, remote_combinations};
-ghost use Rattle.is_agent.specs.Remote.{has_other_ufrag, has_equivalent, is_placeholder, as_remote, stored, place_or_end, is_ignored, StoresAt, JoinsRemote, AddsRemote};
+ghost use Rattle.is_rules.specs.Forming.{HasNumbers, FormsAll, remote_combinations};
+ghost use Rattle.is_rules.specs.Remote.{has_other_ufrag, has_equivalent, is_placeholder, as_remote, place_or_end, is_ignored, StoresAt, JoinsRemote, AddsRemote};
 
 use crate::agent::Agent;
-use crate::forming::{form_each, has_numbers_for, remote_combinations};
-use crate::sides::Sides;
-use is_candidate::candidate::address::same_address;
-use is_candidate::candidate::equality::{is_equivalent, is_temporary};
-use is_candidate::candidate::internals::{clear_ufrag, component, enable};
+use is_candidate::candidate::internals::component;
 use is_candidate::{Candidate, LocalPreference};
-use is_pair::checklist::PairTest;
-use is_pair::pair::CandidatePair;
 use is_proto::{IceError, Sha1HmacProvider};
-
-pub(crate) fn has_equivalent(
-    remote: &[Candidate],
-    candidate: &Candidate,
-    pair: &CandidatePair,
-) -> bool
-    ensures { result ≡ has_equivalent remote.now candidate.now pair.now }
-{
-    match remote.get(pair.remote_idx()) {
-        Some(other) => is_equivalent(candidate, other),
-        None => false,
-    }
-}
-
-/// Whether a pair's remote candidate equals a candidate.
-#[derive(Clone, Copy)]
-pub(crate) struct Equivalent<'a> {
-    pub(crate) remote: &'a [Candidate],
-    pub(crate) candidate: &'a Candidate,
-}
-
-impl PairTest for Equivalent<'_> {
-    ghost use Rattle.is_agent.specs.Remote.{has_equivalent};
-
-    ghost passes = { λ t p. has_equivalent t.remote.now t.candidate.now p };
-
-    fn passes(&self, pair: &CandidatePair) -> bool {
-        has_equivalent(self.remote, self.candidate, pair)
-    }
-}
-
-fn is_placeholder(candidate: &Candidate, other: &Candidate) -> bool
-    ensures { result ≡ is_placeholder candidate.now other.now }
-{
-    is_temporary(other) && same_address(other.addr(), candidate.addr())
-}
-
-/// The first place of a candidate that a request brought, at the address of this one.
-fn place_of_placeholder(remote: &[Candidate], candidate: &Candidate) -> Option<usize>
-    ensures place { result ≡ position (is_placeholder candidate.now) remote.now }
-    ensures within { IfSome result (λ place. place < length remote.now) }
-{
-    remote
-        .iter()
-        .position(|other| is_placeholder(candidate, other))
-}
-
-fn place_or_end(place: Option<usize>, remote: &[Candidate]) -> usize
-    ensures { result ≡ place_or_end place remote.now }
-{
-    match place {
-        Some(place) => place,
-        None => remote.len(),
-    }
-}
-
-/// The candidate as one of the peer's: no user fragment, no discard mark.
-fn as_remote(mut candidate: Candidate) -> Candidate
-    ensures { result ≡ as_remote candidate }
-{
-    clear_ufrag(&mut candidate);
-    enable(&mut candidate);
-    candidate
-}
-
-/// Overwrites what stands at the place, or appends within the room that there is.
-fn store(remote: &mut Vec<Candidate>, place: Option<usize>, candidate: Candidate)
-    requires room { vec_len remote.old < vec_capacity remote.old }
-    requires within { IfSome place (λ place. place < length remote.old.items) }
-    ensures { remote.new.items ≡ stored candidate place remote.old.items }
-{
-    match place {
-        Some(place) => remote[place] = candidate,
-        None => remote.push_reserved(candidate),
-    }
-}
+use is_rules::forming::{form_each, has_numbers_for, remote_combinations};
+use is_rules::remote::{Equivalent, as_remote, place_of_placeholder, place_or_end, store};
+use is_rules::sides::Sides;
 
 impl<H: Sha1HmacProvider + Drop, P: LocalPreference> Agent<H, P> {
     fn has_other_ufrag(&self, candidate: &Candidate) -> bool

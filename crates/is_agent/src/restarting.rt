@@ -1,65 +1,22 @@
 //! Restarts (RFC 8445, section 9), and pairs that are formed anew.
 
-ghost use Rattle.std.specs.Prelude.{◌≡◌, ◌≤◌, ◌+◌, ◌↔◌, IsTrue, None, false, IfOk, OnOk, length, map, vec_len, vec_capacity};
-ghost use Rattle.std.specs.VecDeque.{deque_len, deque_capacity};
-ghost use Rattle.is_agent.specs.Fitting.{are_too_long};
-ghost use Rattle.is_agent.specs.Forming.{live_combinations};
-ghost use Rattle.is_agent.specs.Kept.{NoneTooHigh};
+ghost use Rattle.std.specs.Prelude.{◌≡◌, ◌+◌, ◌↔◌, IsTrue, None, false, IfOk, OnOk};
+ghost use Rattle.is_rules.specs.Fitting.{are_too_long};
+ghost use Rattle.is_rules.specs.Forming.{live_combinations};
+ghost use Rattle.is_rules.specs.Kept.{NoneTooHigh};
 ghost use Rattle.is_agent.specs.Room.{HasEventRoom, HasPairRoom};
 ghost use Rattle.is_agent.specs.View.{record_of};
-ghost use Rattle.is_agent.specs.Restarting.{with_ufrag, kept_local, restarted, Restarts, HasNumbersForAll, Recreates};
+ghost use Rattle.is_rules.specs.Restarting.{kept_local, restarted, Restarts, HasNumbersForAll, Recreates};
 
 use crate::agent::Agent;
-use crate::credentials::{IceCreds, are_too_long};
-use crate::event::{IceAgentEvent, IceAgentStats, IceConnectionState};
-use crate::forming::{has_numbers_for_all, live_combinations};
-use crate::states::tell_state;
 use is_candidate::{Candidate, LocalPreference};
-use is_proto::{IceError, Sha1HmacProvider, Text};
-use std::alloc::{AllocError, Global};
-
-/// A copy of the candidate under this user fragment.
-fn renamed(candidate: &Candidate, ufrag: &Text, alloc: Global) -> Result<Candidate, AllocError>
-    ensures { IfOk result (λ c. c ≡ with_ufrag ufrag.now candidate.now) }
-{
-    let mut copy = candidate.clone()?;
-    match copy.set_ufrag(alloc, ufrag.as_str()) {
-        Ok(()) => Ok(copy),
-        Err(_) => Err(AllocError),
-    }
-}
-
-/// Copies of the candidates under this user fragment.
-fn all_renamed(
-    alloc: Global,
-    local: &[Candidate],
-    ufrag: &Text,
-) -> Result<Vec<Candidate>, AllocError>
-    ensures { IfOk result (λ kept. kept.items ≡ map (with_ufrag ufrag.now) local.now) }
-{
-    let mut kept = Vec::new(alloc);
-    for candidate in local {
-        kept.push(renamed(candidate, ufrag, alloc)?)?;
-    }
-    Ok(kept)
-}
-
-/// What is left of the local candidates.
-fn kept_local(
-    alloc: Global,
-    keep: bool,
-    ufrag: &Text,
-    local: &[Candidate],
-) -> Result<Vec<Candidate>, AllocError>
-    ensures kept { IfOk result (λ kept. kept.items ≡ kept_local keep ufrag.now local.now) }
-    ensures low { NoneTooHigh local.now → IfOk result (λ kept. NoneTooHigh kept.items) }
-{
-    if keep {
-        all_renamed(alloc, local, ufrag)
-    } else {
-        Ok(Vec::new(alloc))
-    }
-}
+use is_proto::{IceError, Sha1HmacProvider};
+use is_rules::credentials::{IceCreds, are_too_long};
+use is_rules::event::{IceAgentEvent, IceAgentStats, IceConnectionState};
+use is_rules::forming::{has_numbers_for_all, live_combinations};
+use is_rules::restarting::kept_local;
+use is_rules::states::tell_state;
+use std::alloc::AllocError;
 
 /// What a restart takes.
 #[derive(Drop)]

@@ -1,60 +1,40 @@
 //! Serving a Binding request (RFC 8445, section 7.3): a function for each rule, in the order in which they act, each ending
 //! in the next one. Choices are made and room is taken before anything changes; what follows can't be refused.
 
-ghost use Rattle.std.specs.Prelude.{◌≡◌, ◌<◌, ◌&&◌, Some, None, true, false, not, length, IfOk, IfErr, IfSome, OnOk, IsOkUnless};
+ghost use Rattle.std.specs.Prelude.{◌≡◌, ◌<◌, ◌&&◌, Some, None, true, false, not, length, IfOk, IfErr, OnOk, IsOkUnless};
 ghost use Rattle.is_candidate.specs.Candidates.{candidate_at};
 ghost use Rattle.is_proto.specs.declared.error.IceError.TheVariants as errors;
-ghost use Rattle.is_stun.specs.declared.header.Class.TheVariants as classes;
 ghost use Rattle.is_agent.specs.View.{record_of};
-ghost use Rattle.is_agent.specs.RequestView.{request_view};
+ghost use Rattle.is_rules.specs.RequestView.{request_view};
 ghost use Rattle.is_agent.specs.Room.{HasServingRoom, HasPacketRoom, HasNewsRoom};
 ghost use Rattle.is_pair.specs.Bag.{is_valid_at};
 ghost use Rattle.is_pair.specs.Checklists.{HasRoom};
-ghost use Rattle.is_agent.specs.Forming.{formed, with_pair};
+ghost use Rattle.is_rules.specs.Forming.{formed, with_pair};
 ghost use Rattle.is_stun.specs.Checks.{binding_reply};
 ghost use Rattle.is_stun.specs.Laws.{IsPut};
 ghost use Rattle.is_stun.specs.Writing.{written};
-ghost use Rattle.is_agent.specs.Sending.{carried, with_packet};
-ghost use Rattle.is_agent.specs.Roles.{switched};
+ghost use Rattle.is_rules.specs.Sending.{carried, with_packet};
+ghost use Rattle.is_rules.specs.Roles.{switched};
 ghost use Rattle.is_agent.specs.Ready.{IsReady};
-ghost use Rattle.is_agent.specs.Serving.{names_another, is_misled, is_admitted, sender_at, pair_served, replied, ServesPair, AddsPair, TakesAt, JoinsAt, Admits, InsistsOnRole, Settles, Serves, Chooses, wants_pair_at, wants_pair, lacks_number, MayRefuseRequest};
+ghost use Rattle.is_rules.specs.Serving.{names_another, is_misled, is_admitted, sender_at, pair_served, replied, ServesPair, AddsPair, TakesAt, JoinsAt, Admits, InsistsOnRole, Settles, Serves, Chooses, wants_pair_at, wants_pair, lacks_number, MayRefuseRequest};
 
 use crate::agent::Agent;
-use crate::forming::pair_of;
-use crate::pairs::{Standing, is_valid_at, pair_between, serve_pair};
-use crate::places::{RemotePlace, is_discarded_at, local_place, remote_index, remote_place};
-use crate::reply::{REPLY_LEN, write_conflict, write_reply};
-use crate::request::Request;
-use crate::roles::Conflict;
-use crate::sides::Sides;
-use crate::told::{Issued, Path, Told};
 use is_candidate::candidate::equality::TEMPORARY_FOUNDATION;
 use is_candidate::candidate::making::peer_reflexive;
 use is_candidate::{Candidate, LocalPreference};
 use is_pair::pair::CandidatePair;
 use is_proto::{IceError, Sha1HmacProvider, Text, Transmit};
+use is_rules::forming::pair_of;
+use is_rules::pairs::{Standing, is_valid_at, pair_between, serve_pair};
+use is_rules::places::{RemotePlace, is_discarded_at, local_place, remote_index, remote_place};
+use is_rules::reply::{REPLY_LEN, write_conflict, write_reply};
+use is_rules::request::Request;
+use is_rules::roles::Conflict;
+use is_rules::serving::{Places, Supplies, is_admitted, is_misled, wants_pair_at};
+use is_rules::sides::Sides;
+use is_rules::told::{Issued, Path, Told};
 use is_stun::stun::Class;
 use std::alloc::AllocError;
-
-/// Where a request can be served.
-#[derive(Clone, Copy, Debug, PartialEq, Eq)]
-pub struct Places {
-    /// The place of the local candidate that it came to.
-    pub local: usize,
-    /// Where its sender stands among the remote candidates.
-    pub remote: RemotePlace,
-    /// The number of the pair of both.
-    pub pair: Option<u64>,
-}
-
-/// What serving a request takes, made before anything changes.
-#[derive(Drop)]
-pub(crate) struct Supplies {
-    /// Room for the reply.
-    reply: Vec<u8>,
-    /// The candidate that an unknown sender becomes.
-    sender: Option<Candidate>,
-}
 
 // ---- the choices
 
@@ -99,34 +79,6 @@ impl<H: Sha1HmacProvider + Drop, P: LocalPreference> Agent<H, P> {
         ensures left { result ≡ false → wants_pair (record_of self.now) (request_view request.now) at ≡ true → self.now.next_number < 18446744073709551615 }
     {
         self.next_number == u64::MAX && self.wants_pair(request, at)
-    }
-}
-
-/// The peer nominates while the agent is controlling.
-fn is_misled(controlling: bool, request: &Request<'_>) -> bool
-    ensures { result ≡ is_misled controlling (request_view request.now) }
-{
-    controlling && request.use_candidate
-}
-
-/// Serving goes on to its places, by the role before it.
-fn is_admitted(conflict: Conflict, controlling: bool, request: &Request<'_>) -> bool
-    ensures { result ≡ is_admitted conflict controlling (request_view request.now) }
-{
-    match conflict {
-        Conflict::Absent => !is_misled(controlling, request),
-        Conflict::Insists => false,
-        Conflict::Yields => !is_misled(!controlling, request),
-    }
-}
-
-/// No pair joins the places, and one would be added.
-fn wants_pair_at(remote: RemotePlace, pair: Option<u64>, discarded: bool) -> bool
-    ensures { result ≡ wants_pair_at remote pair discarded }
-{
-    match remote {
-        RemotePlace::Barred => false,
-        RemotePlace::Known(_) | RemotePlace::Unknown => pair.is_none() && !discarded,
     }
 }
 

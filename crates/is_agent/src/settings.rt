@@ -3,13 +3,13 @@
 ghost use Rattle.std.specs.Prelude.{◌≡◌, ◌<◌, Some};
 ghost use Rattle.std.specs.Range.{range_inclusive_start, range_inclusive_end};
 ghost use Rattle.is_agent.specs.View.{record_of};
-ghost use Rattle.is_agent.specs.Settings.{SetsMtu, with_rtos, with_retransmits, numbers_skipped};
-ghost use Rattle.is_agent.specs.Questions.{ice_timeout};
+ghost use Rattle.is_rules.specs.Settings.{SetsMtu, with_rtos, with_retransmits, numbers_skipped};
+ghost use Rattle.is_rules.specs.Questions.{ice_timeout};
 
 use crate::agent::Agent;
-use crate::credentials::USERNAME_LIMIT;
 use is_candidate::LocalPreference;
 use is_proto::{Duration, IceError, Sha1HmacProvider};
+use is_rules::credentials::USERNAME_LIMIT;
 use std::ops::RangeInclusive;
 
 /// The longest check: the header, the attributes with the longest user name, integrity and fingerprint.

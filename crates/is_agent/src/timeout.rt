@@ -2,39 +2,38 @@
 //!
 //! Room for all of it is made before the agent changes; what follows can't be refused.
 
-ghost use Rattle.std.specs.Prelude.{◌≡◌, ℕ, Option, Some, true, false, IfOk, IfErr, OnOk, IsOkUnless, MatchOption};
+ghost use Rattle.std.specs.Prelude.{◌≡◌, ℕ, Option, Some, true, IfOk, IfErr, OnOk, IsOkUnless, MatchOption};
 ghost use Rattle.std.specs.List.{list_any};
 ghost use Rattle.is_proto.specs.declared.error.IceError.TheVariants as errors;
 ghost use Rattle.is_stun.specs.Laws.{IsPut};
 ghost use Rattle.is_stun.specs.Writing.{written};
 ghost use Rattle.is_stun.specs.declared.header.Class.TheVariants as classes;
-ghost use Rattle.is_agent.specs.declared.credentials.IceCreds as model;
+ghost use Rattle.is_rules.specs.declared.credentials.IceCreds as model;
 ghost use Rattle.is_agent.specs.View.{record_of, told_of};
 ghost use Rattle.is_agent.specs.Room.{HasPacketRoom, HasEventRoom, HasCheckRoom, HasCheckRoomAt, IsPrepared};
-ghost use Rattle.is_agent.specs.Checking.{check_message, ChecksPair, ChecksNext, MayCheck};
+ghost use Rattle.is_rules.specs.Checking.{check_message, ChecksPair, ChecksNext, MayCheck};
 ghost use Rattle.is_pair.specs.Bag.{has_number};
 ghost use Rattle.is_pair.specs.Due.{is_due, IsNextDue};
-ghost use Rattle.is_agent.specs.Due.{awaits_nomination, may_fall_due, Drafts, DraftsNext, check_counted};
+ghost use Rattle.is_rules.specs.Due.{may_fall_due, Drafts, DraftsNext, check_counted};
 ghost use Rattle.is_pair.specs.Pairs.{PairRecord};
-ghost use Rattle.is_agent.specs.Queue.{request_at};
-ghost use Rattle.is_agent.specs.Sending.{with_packet};
-ghost use Rattle.is_agent.specs.States.{evaluated};
-ghost use Rattle.is_agent.specs.Told.{issued_as};
-ghost use Rattle.is_agent.specs.Waking.{IsWaking};
-ghost use Rattle.is_agent.specs.Timeouts.{awake, is_given_up, given_up_gone, GivesUp, MayRefuseMoment, ServesQueued, Proceeds, TimesOut};
+ghost use Rattle.is_rules.specs.Queue.{request_at};
+ghost use Rattle.is_rules.specs.Sending.{with_packet};
+ghost use Rattle.is_rules.specs.States.{evaluated};
+ghost use Rattle.is_rules.specs.Told.{issued_as};
+ghost use Rattle.is_rules.specs.Waking.{IsWaking};
+ghost use Rattle.is_rules.specs.Timeouts.{awake, is_given_up, given_up_gone, GivesUp, MayRefuseMoment, ServesQueued, Proceeds, TimesOut};
 
 use crate::agent::Agent;
-use crate::checking::{Draft, write_username};
 use crate::settings::MTU_FLOOR;
-use crate::states::tell_state;
-use crate::told::{Issued, Path, Told};
-use crate::waking::Waking;
 use is_candidate::LocalPreference;
-use is_pair::checklist::{GivenUp, PairTest};
-use is_pair::pair::{CandidatePair, CheckState};
-use is_pair::{due_moment, is_asked};
+use is_pair::checklist::GivenUp;
 use is_proto::{IceError, Instant, Sha1HmacProvider, Transmit};
-use is_stun::stun::{Class, StunTiming, TransId};
+use is_rules::checking::{Draft, write_username};
+use is_rules::states::tell_state;
+use is_rules::timeout::FallsDue;
+use is_rules::told::{Issued, Path, Told};
+use is_rules::waking::Waking;
+use is_stun::stun::{Class, TransId};
 use rand_core::Rng;
 use std::alloc::AllocError;
 
@@ -167,32 +166,6 @@ impl<H: Sha1HmacProvider + Drop, P: LocalPreference> Agent<H, P> {
 }
 
 // ---- room
-
-/// Whether a pair is due at a moment, or is due once the agent nominates it at it.
-#[derive(Clone, Copy)]
-struct FallsDue<'a> {
-    controlling: bool,
-    now: Instant,
-    timing: &'a StunTiming,
-}
-
-impl PairTest for FallsDue<'_> {
-    ghost use Rattle.is_agent.specs.Due.{falls_due};
-
-    ghost passes = { λ t p. falls_due t.controlling t.now.0 t.timing.now p };
-
-    fn passes(&self, pair: &CandidatePair) -> bool {
-        due_moment(pair, self.now, self.timing) <= self.now
-            || (!is_asked(pair) && awaits_nomination(pair, self.controlling))
-    }
-}
-
-/// The agent may nominate the pair by itself.
-fn awaits_nomination(pair: &CandidatePair, controlling: bool) -> bool
-    ensures { result ≡ awaits_nomination controlling pair.now }
-{
-    controlling && pair.state() == CheckState::Succeeded && !pair.is_nominated()
-}
 
 impl<H: Sha1HmacProvider + Drop, P: LocalPreference> Agent<H, P> {
     /// A check may be due at this moment.

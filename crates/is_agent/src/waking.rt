@@ -1,55 +1,25 @@
 //! What a moment begins with: the start is told of, the state is evaluated, and outdated requests go.
 
-ghost use Rattle.std.specs.Prelude.{◌≡◌, ℕ, ◌<◌, ◌≤◌, ◌+◌, true, false, IfOk, IfErr, IfSome, OnOk, IsOkUnless, length, MatchOption, option_map, slice_get, take_while};
-ghost use Rattle.std.specs.VecDeque.{deque_len, deque_capacity};
-ghost use Rattle.std.specs.Option.{option_copied};
-ghost use Rattle.is_agent.specs.RequestView.{request_view, waiting_view};
+ghost use Rattle.std.specs.Prelude.{◌≡◌, ℕ, ◌<◌, ◌+◌, true, false, IfOk, IfErr, IfSome, OnOk, IsOkUnless, MatchOption, option_map, slice_get};
+ghost use Rattle.is_rules.specs.RequestView.{request_view, waiting_view};
 ghost use Rattle.is_agent.specs.Room.{HasEventRoom, HasNewsRoom, HasServingRoom, HasPacketRoom, HasCheckRoomAt};
-ghost use Rattle.is_agent.specs.Serving.{Serves, LacksNumber, AlwaysLacksNumber, MayRefuseRequest};
+ghost use Rattle.is_rules.specs.Serving.{Serves, LacksNumber, AlwaysLacksNumber, MayRefuseRequest};
 ghost use Rattle.is_proto.specs.declared.error.IceError.TheVariants as errors;
 ghost use Rattle.is_agent.specs.View.{record_of};
-ghost use Rattle.is_agent.specs.Queue.{request_at, is_outdated, first_taken};
-ghost use Rattle.is_agent.specs.Waking.{start_event, with_start, outdated, waking_state, IsWaking};
-ghost use Rattle.is_agent.specs.Timeouts.{awake, MayRefuseMoment};
+ghost use Rattle.is_rules.specs.Queue.{request_at, first_taken};
+ghost use Rattle.is_rules.specs.Waking.{start_event, outdated, IsWaking};
+ghost use Rattle.is_rules.specs.Timeouts.{awake, MayRefuseMoment};
 
 use crate::agent::Agent;
-use crate::event::{IceAgentEvent, IceConnectionState};
-use crate::queue::{count_outdated, drop_first};
-use crate::request::{Request, Waiting};
-use crate::states::{same_state, tell_state};
-use crate::told::Told;
 use is_candidate::LocalPreference;
 use is_proto::{IceError, Instant, Sha1HmacProvider};
+use is_rules::event::{IceAgentEvent, IceConnectionState};
+use is_rules::queue::{count_outdated, drop_first};
+use is_rules::request::{Request, Waiting};
+use is_rules::states::{same_state, tell_state};
+use is_rules::told::Told;
+use is_rules::waking::{Waking, tell_start, waiting_at};
 use std::alloc::AllocError;
-use std::collections::VecDeque;
-
-/// What a moment begins with.
-#[derive(Drop)]
-pub(crate) struct Waking {
-    /// The start of the first session.
-    pub(crate) start: Option<IceAgentEvent>,
-    pub(crate) state: IceConnectionState,
-    /// How many requests are outdated.
-    pub(crate) outdated: usize,
-}
-
-fn waiting_at(queue: &VecDeque<Waiting>, place: usize) -> Option<&Waiting>
-    ensures { option_copied result ≡ slice_get queue.now.items place }
-{
-    queue.get(place)
-}
-
-/// The start is told of, where there is one.
-fn tell_start(events: &mut VecDeque<IceAgentEvent>, start: Option<IceAgentEvent>)
-    requires room { deque_len events.old < deque_capacity events.old }
-    ensures items { events.new.items ≡ with_start start events.old.items }
-    ensures len { deque_len events.new ≤ deque_len events.old + 1 }
-    ensures capacity { deque_capacity events.new ≡ deque_capacity events.old }
-{
-    if let Some(event) = start {
-        events.push_back_reserved(event);
-    }
-}
 
 impl<H: Sha1HmacProvider + Drop, P: LocalPreference> Agent<H, P> {
     fn start_event(&self) -> Result<Option<IceAgentEvent>, AllocError>

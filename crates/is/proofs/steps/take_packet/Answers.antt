@@ -1,7 +1,7 @@
 use Rattle.std.proofs.Common.{inr, ap, ◌∙◌}
 use Rattle.is_stun.specs.MessageView.{message_view}
 use Rattle.is_agent.specs.View.{told_of}
-use Rattle.is_agent.specs.Steps as agent
+use Rattle.is_rules.specs.Steps as agent
 use Rattle.is.proofs.steps.take_packet.Goals as goal
 
 -- the bytes read as the message, which the agent handles

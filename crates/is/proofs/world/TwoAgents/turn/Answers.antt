@@ -3,7 +3,7 @@ use Rattle.is_agent.specs.View.{record_of}
 use Rattle.is.specs.declared.world.Side.TheVariants.{A, B}
 use Rattle.is.specs.Views.{call_view, entry_view}
 use Rattle.is.specs.World.{world_of, outcome_of}
-use Rattle.is_agent.specs.Effects.{clears}
+use Rattle.is_rules.specs.Effects.{clears}
 use Rattle.is.proofs.Turned.{turned, unmoving}
 use Rattle.is.proofs.world.TwoAgents.turn.Goals as goal
 

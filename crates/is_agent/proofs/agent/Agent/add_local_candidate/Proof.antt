@@ -36,7 +36,7 @@ use Rattle.std.proofs.option.Option.TheLaws as option_laws
 use Rattle.std.proofs.result.Result.TheLaws as result_laws
 use Rattle.is_candidate.proofs.candidate.Candidate.TheLaws as candidate_laws
 use Rattle.is_proto.proofs.error.IceError.TheLaws as error_laws
-use Rattle.is_agent.proofs.local.Refusal.TheLaws as refusal_laws
+use Rattle.is_rules.proofs.local.Refusal.TheLaws as refusal_laws
 use Rattle.is_candidate.specs.contracts.candidate.Candidate as candidate
 use Rattle.is_agent.specs.contracts.agent.Agent as agent
 use Rattle.is_agent.specs.contracts.agent.Agent.lend_local as g
@@ -44,7 +44,7 @@ use Rattle.is_agent.specs.contracts.local.widen as w
 use Rattle.is_agent.proofs.agent.Agent.lend_local.Met as g_met
 use Rattle.is_agent.proofs.local.widen.Met as w_met
 use Rattle.is_agent.specs.Lends.{EndsAs}
-use Rattle.is_agent.specs.Local.{LendsLocal, widened}
+use Rattle.is_rules.specs.Local.{LendsLocal, widened}
 use Rattle.is_candidate.specs.Candidates.{CandidateRecord}
 use Rattle.is_proto.specs.declared.error.IceError.{IceError}
 use Rattle.is_agent.specs.View.{record_of}

@@ -1,7 +1,7 @@
 use Rattle.std.proofs.Common.{subst}
-use Rattle.is_agent.specs.Agent.{AgentRecord}
+use Rattle.is_rules.specs.Agent.{AgentRecord}
 use Rattle.is_agent.specs.View.{record_of}
-use Rattle.is_agent.specs.Timeouts.{awake, Proceeds}
+use Rattle.is_rules.specs.Timeouts.{awake, Proceeds}
 use Rattle.is_agent.proofs.agent.Agent.advance.Goals as goal
 
 pub returns-clause-advanced : goal.returns-clause-advanced

@@ -1,8 +1,8 @@
 use Rattle.std.proofs.Common.{is_some, not}
 use Rattle.std.specs.List.{list_any}
 use Rattle.is_pair.specs.Checklists.{bag_of}
-use Rattle.is_agent.specs.Due.{falls_due}
-use Rattle.is_agent.specs.Timeouts.{is_given_up}
+use Rattle.is_rules.specs.Due.{falls_due}
+use Rattle.is_rules.specs.Timeouts.{is_given_up}
 use Rattle.is_agent.specs.View.{record_of}
 use Rattle.is_agent.proofs.DueLemmas.{and-third, falls-left}
 use Rattle.is_agent.proofs.agent.Agent.drop_given_up.Goals as goal

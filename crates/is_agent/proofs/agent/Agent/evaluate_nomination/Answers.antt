@@ -1,10 +1,10 @@
 use Rattle.std.proofs.Common.{is_some, not}
 use Rattle.std.specs.List.{list_any}
 use Rattle.is_pair.specs.Checklists.{bag_of}
-use Rattle.is_agent.specs.Due.{falls_due}
+use Rattle.is_rules.specs.Due.{falls_due}
 use Rattle.is_agent.specs.View.{record_of}
-use Rattle.is_agent.specs.Forming.{sides_of}
-use Rattle.is_agent.specs.Nominating.{Names, selection}
+use Rattle.is_rules.specs.Forming.{sides_of}
+use Rattle.is_rules.specs.Nominating.{Names, selection}
 use Rattle.is_agent.proofs.DueLemmas.{and-third}
 use Rattle.is_agent.proofs.agent.Agent.evaluate_nomination.Goals as goal
 

@@ -1,7 +1,7 @@
 use Rattle.std.proofs.Common.{refl}
 use Rattle.is_pair.specs.Checklists.{bag_of}
 use Rattle.is_agent.specs.View.{record_of}
-use Rattle.is_agent.specs.Forming.{FormsEach, formed_as, sides_of, formed_of}
+use Rattle.is_rules.specs.Forming.{FormsEach, formed_as, sides_of, formed_of}
 use Rattle.is_agent.proofs.agent.Agent.form.Goals as goal
 
 pub returns : goal.returns

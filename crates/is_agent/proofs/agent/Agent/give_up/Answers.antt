@@ -1,9 +1,9 @@
 use Rattle.std.proofs.Common.{◌≡◌, true, sym, subst, ◌∙◌}
 use Rattle.std.specs.List.{list_any}
-use Rattle.is_agent.specs.Agent.{AgentRecord}
+use Rattle.is_rules.specs.Agent.{AgentRecord}
 use Rattle.is_agent.specs.View.{record_of}
-use Rattle.is_agent.specs.Nominating.{Nominates}
-use Rattle.is_agent.specs.Timeouts.{is_given_up}
+use Rattle.is_rules.specs.Nominating.{Nominates}
+use Rattle.is_rules.specs.Timeouts.{is_given_up}
 use Rattle.is_agent.proofs.agent.Agent.give_up.Goals as goal
 
 pub returns-clause-given_up : goal.returns-clause-given_up

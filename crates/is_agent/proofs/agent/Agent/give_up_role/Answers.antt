@@ -2,9 +2,9 @@ use Rattle.std.proofs.Common.{◌≡◌, ℕ, List, Option, IfSome, refl, subst,
 use Rattle.std.specs.Prelude.{Bool, MatchBool}
 use Rattle.is_stun.specs.MessageView.{message_view}
 use Rattle.is_pair.specs.Pairs.{PairRecord}
-use Rattle.is_agent.specs.Due.{IsSentUnder}
+use Rattle.is_rules.specs.Due.{IsSentUnder}
 use Rattle.is_agent.specs.View.{record_of}
-use Rattle.is_agent.specs.Roles.{switched}
+use Rattle.is_rules.specs.Roles.{switched}
 use Rattle.is_agent.proofs.AnswerLemmas.{role-given_up}
 use Rattle.is_agent.proofs.agent.Agent.give_up_role.Goals as goal
 

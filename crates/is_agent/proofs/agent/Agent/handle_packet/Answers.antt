@@ -1,11 +1,11 @@
 use Rattle.std.proofs.Common.{◌≡◌, Option, Some, Result, Ok, ap, subst, ◌∙◌}
 use Rattle.is_proto.specs.declared.error.IceError.{IceError}
 use Rattle.is_stun.specs.MessageView.{message_view}
-use Rattle.is_agent.specs.declared.told.Path.{Path}
-use Rattle.is_agent.specs.declared.told.Told.{Told}
-use Rattle.is_agent.specs.RequestView.{way_of}
+use Rattle.is_rules.specs.declared.told.Path.{Path}
+use Rattle.is_rules.specs.declared.told.Told.{Told}
+use Rattle.is_rules.specs.RequestView.{way_of}
 use Rattle.is_agent.specs.View.{record_of}
-use Rattle.is_agent.specs.Accepting.{IsAcceptedOn, Arrives, source_told}
+use Rattle.is_rules.specs.Accepting.{IsAcceptedOn, Arrives, source_told}
 use Rattle.is_agent.proofs.agent.Agent.handle_packet.Goals as goal
 
 pub returns-in-Ok-Some : goal.returns-in-Ok-Some

@@ -1,8 +1,8 @@
 use Rattle.std.proofs.Common.{◌≡◌, is_some, IfSome}
 use Rattle.std.specs.List.{list_any}
 use Rattle.is_agent.specs.View.{record_of}
-use Rattle.is_agent.specs.Answers.{keeps_check_on}
-use Rattle.is_agent.specs.Due.{KeepsCheckOn}
+use Rattle.is_rules.specs.Answers.{keeps_check_on}
+use Rattle.is_rules.specs.Due.{KeepsCheckOn}
 use Rattle.is_agent.proofs.agent.Agent.keeper_on.Goals as goal
 
 pub returns-clause-any : goal.returns-clause-any

@@ -1,6 +1,6 @@
 use Rattle.std.proofs.Common.{◌≡◌, IfOk, Option, option_map, refl, subst}
-use Rattle.is_agent.specs.Request.{RequestRecord}
-use Rattle.is_agent.specs.RequestView.{waiting_view}
+use Rattle.is_rules.specs.Request.{RequestRecord}
+use Rattle.is_rules.specs.RequestView.{waiting_view}
 use Rattle.is_agent.specs.View.{record_of}
 use Rattle.is_agent.proofs.QueueLemmas.{request-left, refused-moment}
 use Rattle.is_agent.proofs.agent.Agent.late_request.Goals as goal

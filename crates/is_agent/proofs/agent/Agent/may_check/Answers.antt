@@ -1,7 +1,7 @@
 use Rattle.std.proofs.Common.{◌≡◌, ap, is_some, not, rules, true}
 use Rattle.std.specs.List.{list_any}
 use Rattle.is_pair.specs.Checklists.{bag_of}
-use Rattle.is_agent.specs.Due.{falls_due}
+use Rattle.is_rules.specs.Due.{falls_due}
 use Rattle.is_agent.proofs.DueLemmas.{all-three, falls-asked}
 use Rattle.is_agent.proofs.agent.Agent.may_check.Goals as goal
 

@@ -1,13 +1,13 @@
 use Rattle.std.proofs.Common.{◌≡◌, ℕ, false, List, Some, ap, subst, ◌∙◌}
-use Rattle.is_agent.specs.declared.told.Told.{Told}
-use Rattle.is_agent.specs.Agent.{AgentRecord}
-use Rattle.is_agent.specs.Places.{local_place}
-use Rattle.is_agent.specs.Request.{RequestRecord}
-use Rattle.is_agent.specs.RequestView.{request_view}
+use Rattle.is_rules.specs.declared.told.Told.{Told}
+use Rattle.is_rules.specs.Agent.{AgentRecord}
+use Rattle.is_rules.specs.Places.{local_place}
+use Rattle.is_rules.specs.Request.{RequestRecord}
+use Rattle.is_rules.specs.RequestView.{request_view}
 use Rattle.is_agent.specs.View.{record_of}
-use Rattle.is_agent.specs.Serving.{names_another, Settles, Serves}
-use Rattle.is_agent.specs.Queue.{first_taken}
-use Rattle.is_agent.specs.Timeouts.{awake}
+use Rattle.is_rules.specs.Serving.{names_another, Settles, Serves}
+use Rattle.is_rules.specs.Queue.{first_taken}
+use Rattle.is_rules.specs.Timeouts.{awake}
 use Rattle.is_agent.proofs.agent.Agent.serve_late.Goals as goal
 
 -- it names the peer, and gets to its local place

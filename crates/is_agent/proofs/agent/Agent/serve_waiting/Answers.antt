@@ -1,9 +1,9 @@
 use Rattle.std.proofs.Common.{IfOk, subst}
-use Rattle.is_agent.specs.Request.{RequestRecord}
+use Rattle.is_rules.specs.Request.{RequestRecord}
 use Rattle.is_agent.specs.View.{record_of}
-use Rattle.is_agent.specs.Serving.{Serves}
-use Rattle.is_agent.specs.Queue.{first_taken}
-use Rattle.is_agent.specs.Timeouts.{awake}
+use Rattle.is_rules.specs.Serving.{Serves}
+use Rattle.is_rules.specs.Queue.{first_taken}
+use Rattle.is_rules.specs.Timeouts.{awake}
 use Rattle.is_agent.proofs.agent.Agent.serve_waiting.Goals as goal
 
 pub returns-clause-served : goal.returns-clause-served

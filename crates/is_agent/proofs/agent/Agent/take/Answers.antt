@@ -1,13 +1,13 @@
 use Rattle.std.proofs.Common.{Bool, Some, None, subst, ap, ◌∙◌}
 use Rattle.is_stun.specs.declared.header.Class.TheVariants.{Success}
-use Rattle.is_agent.specs.declared.told.Issued.{Issued}
-use Rattle.is_agent.specs.declared.told.Path.{Path}
-use Rattle.is_agent.specs.Agent.{AgentRecord}
+use Rattle.is_rules.specs.declared.told.Issued.{Issued}
+use Rattle.is_rules.specs.declared.told.Path.{Path}
+use Rattle.is_rules.specs.Agent.{AgentRecord}
 use Rattle.is_agent.specs.View.{record_of}
-use Rattle.is_agent.specs.RequestView.{request_view}
-use Rattle.is_agent.specs.Told.{issued_as, told_by}
-use Rattle.is_agent.specs.Nominating.{NominatesWhere}
-use Rattle.is_agent.specs.Serving.{pair_served, replied}
+use Rattle.is_rules.specs.RequestView.{request_view}
+use Rattle.is_rules.specs.Told.{issued_as, told_by}
+use Rattle.is_rules.specs.Nominating.{NominatesWhere}
+use Rattle.is_rules.specs.Serving.{pair_served, replied}
 use Rattle.is_agent.proofs.agent.Agent.take.Goals as goal
 
 pub returns-clause-served : goal.returns-clause-served

@@ -2,7 +2,7 @@ use Rattle.std.proofs.Common.{◌≡◌, rules, sym, ◌∙◌}
 use Rattle.is_stun.specs.declared.header.Class.TheVariants.{Failure}
 use Rattle.is_stun.specs.declared.header.Method.TheVariants.{Binding}
 use Rattle.is_stun.specs.MessageView.{message_view}
-use Rattle.is_agent.specs.RequestView.{way_of}
+use Rattle.is_rules.specs.RequestView.{way_of}
 use Rattle.is_agent.specs.View.{record_of}
 use Rattle.is_agent.proofs.AnswerLemmas.{failure-arrives}
 use Rattle.is_agent.proofs.agent.Agent.take_packet.Goals as goal

@@ -3,11 +3,11 @@ use Rattle.std.specs.declared.net.socket_addr.SocketAddr.{SocketAddr}
 use Rattle.is_stun.specs.MessageView.{message_view}
 use Rattle.is_pair.specs.Bag.{keeps, keeps_check}
 use Rattle.is_pair.specs.Pairs.{PairRecord}
-use Rattle.is_agent.specs.Agent.{AgentRecord}
+use Rattle.is_rules.specs.Agent.{AgentRecord}
 use Rattle.is_agent.specs.View.{record_of}
-use Rattle.is_agent.specs.Due.{IsRecorded}
-use Rattle.is_agent.specs.Answers.{goes_back, joined_by, local_with, success_counted}
-use Rattle.is_agent.specs.Sending.{path_of}
+use Rattle.is_rules.specs.Due.{IsRecorded}
+use Rattle.is_rules.specs.Answers.{goes_back, joined_by, local_with, success_counted}
+use Rattle.is_rules.specs.Sending.{path_of}
 use Rattle.is_agent.proofs.AnswerLemmas.{success-taken}
 use Rattle.is_agent.proofs.NumberLemmas.{both, kept-at}
 use Rattle.is_agent.proofs.agent.Agent.take_success.Goals as goal

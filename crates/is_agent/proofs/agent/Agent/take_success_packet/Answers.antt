@@ -1,9 +1,9 @@
 use Rattle.std.proofs.Common.{subst}
 use Rattle.is_stun.specs.MessageView.{message_view}
-use Rattle.is_agent.specs.declared.told.Path.{Path}
+use Rattle.is_rules.specs.declared.told.Path.{Path}
 use Rattle.is_agent.specs.View.{record_of}
-use Rattle.is_agent.specs.Accepting.{IsAwaited}
-use Rattle.is_agent.specs.Answers.{keeps_check_on, TakesSuccess}
+use Rattle.is_rules.specs.Accepting.{IsAwaited}
+use Rattle.is_rules.specs.Answers.{keeps_check_on, TakesSuccess}
 use Rattle.is_agent.proofs.agent.Agent.take_success_packet.Goals as goal
 
 pub returns-clause-arrives : goal.returns-clause-arrives

@@ -1,7 +1,7 @@
 use Rattle.std.proofs.Common.{subst}
-use Rattle.is_agent.specs.Agent.{AgentRecord}
+use Rattle.is_rules.specs.Agent.{AgentRecord}
 use Rattle.is_agent.specs.View.{record_of}
-use Rattle.is_agent.specs.Timeouts.{Proceeds}
+use Rattle.is_rules.specs.Timeouts.{Proceeds}
 use Rattle.is_agent.proofs.agent.Agent.wake_and_proceed.Goals as goal
 
 pub returns : goal.returns

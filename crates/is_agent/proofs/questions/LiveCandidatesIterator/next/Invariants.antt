@@ -1,5 +1,5 @@
 use Rattle.std.proofs.Common.{◌≡◌, length}
-use Rattle.is_agent.specs.Questions.{live}
+use Rattle.is_rules.specs.Questions.{live}
 use Rattle.is_agent.proofs.questions.LiveCandidatesIterator.next.Given as goal
 
 -- what was passed over is discarded

@@ -1,8 +1,0 @@
-use Rattle.std.proofs.Common.{◌≡◌, take, vec_capacity}
-use Rattle.is_agent.specs.Credentials.{ice_text}
-use Rattle.is_agent.proofs.credentials.ice_text.Given as goal
-
--- the characters so far, in the room that was taken
-abbrev pub invariant-loop-byte : goal.invariant-loop-byte
-invariant-loop-byte l =
-    (l.room.items ≡ ice_text (take l.byte-index l.bytes)) × (vec_capacity l.room ≡ vec_capacity l.initial.room)

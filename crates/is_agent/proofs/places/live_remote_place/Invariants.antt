@@ -1,6 +1,0 @@
-use Rattle.is_agent.specs.RequestView.{request_view}
-use Rattle.is_agent.specs.Places.{is_live, is_sender, IsGreatestBelow}
-use Rattle.is_agent.proofs.places.live_remote_place.Given as goal
-
-abbrev pub invariant-loop-place : goal.invariant-loop-place
-invariant-loop-place l = IsGreatestBelow l.place (is_live (is_sender (request_view l.request))) l.remote l.best

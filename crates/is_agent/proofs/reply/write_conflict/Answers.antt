@@ -1,5 +1,0 @@
-use Rattle.std.proofs.Common.{arith}
-use Rattle.is_agent.proofs.reply.write_conflict.Goals as goal
-
-pub write_signed-requires-clause-fits : goal.write_signed-requires-clause-fits
-write_signed-requires-clause-fits g c = rw (c.binding_role_conflict_reply-message.ensures, c.requires) (c.replies_fit.ensures.conflict_fits _ _ 76 (omega arith))

@@ -1,0 +1,276 @@
+-- For each call: what it brought was accepted; what waits; what it owes; what a clear leaves.
+use Rattle.std.proofs.Common.{◌≡◌, ℕ, zero, suc, ◌+◌, ◌-◌, ◌≤◌, Bool, true, false, List, [], ◌∷◌, ◌++◌, drop, length, Option, Some, None, is_some, Ok, Err, inl, inr, ◌⊎◌, refl, ap, sym, ◌∙◌, subst, arith, if◌then◌else◌}
+use Rattle.rand_core.specs.Stream.{Stream}
+use Rattle.is_proto.specs.Lists.{Has, head}
+use Rattle.is_proto.specs.declared.error.IceError.{IceError}
+use Rattle.is_candidate.specs.Candidates.{CandidateRecord}
+use Rattle.is_pair.specs.Checks.{Check}
+use Rattle.is_pair.specs.Pairs.{PairRecord, is_valid, is_nominated}
+use Rattle.is_stun.specs.declared.header.Class.{Class}
+use Rattle.is_stun.specs.declared.header.Class.TheVariants as class
+use Rattle.is_stun.specs.declared.header.Method.{Method}
+use Rattle.is_stun.specs.declared.header.Method.TheVariants.{Binding}
+use Rattle.is_stun.specs.Message.{Message}
+use Rattle.is_rules.specs.declared.credentials.IceCreds.{IceCreds}
+use Rattle.is_rules.specs.declared.told.Issued.{Issued}
+use Rattle.is_rules.specs.declared.told.Path.{Path}
+use Rattle.is_rules.specs.Request.{RequestRecord, request_in}
+use Rattle.is_rules.specs.Steps.{Answer, Done, Flag, Unparsed, Refused, Entry, quiet, is_refusal, is_turned_down}
+use Rattle.is_rules.specs.Told.{nothing_told}
+use Rattle.is_rules.specs.Agent.{AgentRecord}
+use Rattle.is_rules.specs.Queue.{next_request, queue_left, QUEUE_LIMIT, queued_last, request_at}
+use Rattle.is_rules.specs.Accepting.{IsAcceptedOn}
+use Rattle.is_rules.specs.Steps.{Call, RestartIce, RecreateCandidatePairs, ReceivePacket, HandleTimeout, Step}
+use Rattle.is_rules.specs.Brought.{Brings, IsBrought, IsServing}
+use Rattle.is_rules.specs.Issuing.{WaitsPast, WaitsWith, Waits}
+use Rattle.is_rules.specs.Owed.{Transaction, one_if, count, requested_as, request_of, reply_of, transaction_of, owed}
+use Rattle.is_rules.specs.Effects.{IsTurnedDown, is_clearing, clears}
+use Rattle.std.proofs.lemmas.List.{length-append, length-drop}
+use Rattle.is_rules.specs.Restarting.{Recreates}
+use Rattle.is_rules.proofs.Tells.{some_is}
+use Rattle.is_rules.proofs.FrameLaws.{left_behind}
+use Rattle.is_rules.specs.Runs.{UnacceptedChangeNothing}
+use Rattle.is_rules.proofs.Onward.{Has-push}
+use Rattle.is_rules.proofs.Checks.{Has-drop}
+use Rattle.is_rules.proofs.Calms.{calm}
+use Rattle.is_rules.proofs.Gathered.{recreates_goes}
+use Rattle.is_rules.proofs.PairLaws.{Posted}
+
+no_flag : {A : Type 0} → Flag false ≡ Flag true → A
+no_flag h = absurd (cc)
+
+Has-back : {X : Type 0} (xs ys : List X) (x : X) → Has ys x → Has (xs ++ ys) x
+Has-back [] ys x h = h
+Has-back (y ∷ xs) ys x h = inr (Has-back xs ys x h)
+
+module _ {H P : Type 0} (mac : H → List ℕ → List ℕ → List ℕ) (answers : P → CandidateRecord → ℕ → ℕ → Type 0) (old new : AgentRecord H P) (s t : Stream) (e : Entry) where
+  -- ---- accepted, refused, turned down
+
+  pub accepts : (call : Call P) → Step mac answers old s call e new t → (at : ℕ) (by : Path) (m : Message) → Brings call e at by m → IsAcceptedOn mac old by m
+  accepts (ReceivePacket now way bytes) (inl (fault, has, is, made), drawn) at by m (at_is, by_is, reads, flag) =
+      absurd (let no : Unparsed fault ≡ Flag true = sym (ap (λ (x : Entry). x.answer) is) ∙ flag in cc)
+  accepts (ReceivePacket now way bytes) (inr (n, reads_n, (Ok false, told, is, h)), drawn) at by m (at_is, by_is, reads, flag) =
+      no_flag (sym (ap (λ (x : Entry). x.answer) is) ∙ flag)
+  accepts (ReceivePacket now way bytes) (inr (n, reads_n, (Ok true, told, is, (accepted, h))), drawn) at by m (at_is, by_is, reads, flag) =
+      subst (λ w. IsAcceptedOn mac old w m) by_is (subst (λ (x : Message). IsAcceptedOn mac old way x) (reads_n.spelled ∙ sym reads.spelled) accepted)
+  accepts (ReceivePacket now way bytes) (inr (n, reads_n, (Err error, told, is, h)), drawn) at by m (at_is, by_is, reads, flag) =
+      absurd (let no : Refused error ≡ Flag true = sym (ap (λ (x : Entry). x.answer) is) ∙ flag in cc)
+  accepts _ h at by m brings = absurd brings
+
+  pub turns_down : (call : Call P) → Step mac answers old s call e new t → IsTurnedDown mac old call → (new ≡ old) × (e.told ≡ nothing_told) × (is_turned_down e.answer ≡ true)
+  turns_down (ReceivePacket now way bytes) (inl (fault, has, is, made), drawn) down = (made, ap (λ (x : Entry). x.told) is, ap (λ (x : Entry). is_turned_down x.answer) is)
+  turns_down (ReceivePacket now way bytes) (inr (n, reads_n, (Ok false, told, is, (unaccepted, nothing, made))), drawn) down =
+      (made, ap (λ (x : Entry). x.told) is ∙ nothing, ap (λ (x : Entry). is_turned_down x.answer) is)
+  turns_down (ReceivePacket now way bytes) (inr (n, reads_n, (Ok true, told, is, (accepted, h))), drawn) down = absurd (down (n, reads_n, accepted))
+  turns_down (ReceivePacket now way bytes) (inr (n, reads_n, (Err error, told, is, (may, nothing, made))), drawn) down = absurd (down (n, reads_n, may.0))
+  turns_down _ h down = absurd down
+
+  pub refuses : (call : Call P) → Step mac answers old s call e new t → is_refusal e.answer ≡ true → e.told ≡ nothing_told
+  refuses (ReceivePacket now way bytes) (inl (fault, has, is, made), drawn) r = ap (λ (x : Entry). x.told) is
+  refuses (ReceivePacket now way bytes) (inr (n, reads_n, (Ok b, told, is, h)), drawn) r =
+      absurd (let no : false ≡ true = sym (ap (λ (x : Entry). is_refusal x.answer) is) ∙ r in cc)
+  refuses (ReceivePacket now way bytes) (inr (n, reads_n, (Err error, told, is, (may, nothing, made))), drawn) r = ap (λ (x : Entry). x.told) is ∙ nothing
+  refuses (HandleTimeout now) (Ok u, told, is, h) r = absurd (let no : false ≡ true = sym (ap (λ (x : Entry). is_refusal x.answer) is) ∙ r in cc)
+  refuses (HandleTimeout now) (Err error, told, is, (may, nothing, made, drawn)) r = ap (λ (x : Entry). x.told) is ∙ nothing
+  refuses call h r = (calm mac answers old new s t e call refl h).told
+
+  -- ---- what waits
+
+  past_has : (o : Option RequestRecord) (a : Answer) (before behind : List RequestRecord) (q : RequestRecord) → WaitsPast o a before behind → Has behind q → Has before q
+  past_has None a before behind q (gone, is) has = subst (λ (qs : List RequestRecord). Has qs q) (sym is) (Has-back gone behind q has)
+  past_has (Some r) Done before behind q (gone, is) has = subst (λ (qs : List RequestRecord). Has qs q) (sym is) (Has-back gone (r ∷ behind) q (inr has))
+  past_has (Some r) a before behind q same has = subst (λ (qs : List RequestRecord). Has qs q) same has
+
+  with_has : (call : Call P) (q : RequestRecord) → WaitsWith old call e new → Has new.queue q → Has old.queue q ⊎ IsBrought call e q
+  with_has call q (inl same) has = inl (subst (λ (qs : List RequestRecord). Has qs q) same has)
+  with_has call q (inr (at, by, m, brings, request, none, is)) has =
+      elim (Has-push old.queue (request_in at by m) q (Has-drop _ (old.queue ++ request_in at by m ∷ []) q (subst (λ (qs : List RequestRecord). Has qs q) is has))) [
+        | inl was ↦ inl was
+        | inr now ↦ inr (at, by, m, brings, request, sym now)
+      ]
+
+  pub waits_has : (call : Call P) (q : RequestRecord) → Waits old call e new → Has new.queue q → Has old.queue q ⊎ IsBrought call e q
+  waits_has (HandleTimeout now) q h has = inl (past_has (request_at now old) e.answer old.queue new.queue q h has)
+  waits_has call q h has = with_has call q h has
+
+  -- no more wait than may
+  past_short : (o : Option RequestRecord) (a : Answer) (before behind : List RequestRecord) → WaitsPast o a before behind → length before ≤ QUEUE_LIMIT → length behind ≤ QUEUE_LIMIT
+  past_short None a before behind (gone, is) short =
+      let long : length before ≡ length gone + length behind = ap length is ∙ length-append gone behind in omega (arith, short, long)
+  past_short (Some r) Done before behind (gone, is) short =
+      let long : length before ≡ length gone + length (r ∷ behind) = ap length is ∙ length-append gone (r ∷ behind) in omega (arith, short, long)
+  past_short (Some r) a before behind same short = subst (λ (qs : List RequestRecord). length qs ≤ QUEUE_LIMIT) (sym same) short
+
+  last_short : (qs : List RequestRecord) → length (queued_last qs) ≤ QUEUE_LIMIT
+  last_short qs = let k : length (drop (length qs - QUEUE_LIMIT) qs) ≡ length qs - (length qs - QUEUE_LIMIT) = length-drop (length qs - QUEUE_LIMIT) qs in omega (arith, k)
+
+  with_short : (call : Call P) → WaitsWith old call e new → length old.queue ≤ QUEUE_LIMIT → length new.queue ≤ QUEUE_LIMIT
+  with_short call (inl same) short = subst (λ (qs : List RequestRecord). length qs ≤ QUEUE_LIMIT) (sym same) short
+  with_short call (inr (at, by, m, brings, request, none, is)) short =
+      subst (λ (qs : List RequestRecord). length qs ≤ QUEUE_LIMIT) (sym is) (last_short (old.queue ++ request_in at by m ∷ []))
+
+  pub waits_short : (call : Call P) → Waits old call e new → length old.queue ≤ QUEUE_LIMIT → length new.queue ≤ QUEUE_LIMIT
+  waits_short (HandleTimeout now) h short = past_short (request_at now old) e.answer old.queue new.queue h short
+  waits_short call h short = with_short call h short
+
+  -- a request that is served was brought now, or was queued
+  from_head : (qs : List RequestRecord) (q : RequestRecord) → head qs ≡ Some q → Has qs q
+  from_head [] q is = let no : None ≡ Some q = is in absurd (cc)
+  from_head (y ∷ ys) q is = inl (some y q is) where
+    some : (y q : RequestRecord) → Some y ≡ Some q → y ≡ q
+    some y q is = cc
+
+  next_has : (peer : Option IceCreds) (qs : List RequestRecord) (q : RequestRecord) → next_request peer qs ≡ Some q → Has qs q
+  next_has None qs q is = let no : None ≡ Some q = is in absurd (cc)
+  next_has (Some peer) qs q is = from_head qs q is
+
+  pub brought_or_waited : (call : Call P) (entry : Entry) (q : RequestRecord) → IsServing old call entry q → Has old.queue q ⊎ IsBrought call entry q
+  brought_or_waited (HandleTimeout now) entry q serving =
+      let left = left_behind now old.timing old.remote_creds old.queue in
+      inl (subst (λ (qs : List RequestRecord). Has qs q) (sym left.1)
+      (Has-back left.0 (queue_left now old.timing old.remote_creds old.queue) q (next_has old.remote_creds (queue_left now old.timing old.remote_creds old.queue) q serving.0)))
+  brought_or_waited (ReceivePacket now way bytes) entry q (at, by, m, brings, request, known, is) = inr (at, by, m, brings, request, is)
+  brought_or_waited _ entry q serving = absurd serving.3
+
+  -- ---- what is owed
+
+  module _ (test : Transaction → Bool) where
+    owed-append : (xs ys : List RequestRecord) → owed test (xs ++ ys) ≡ owed test xs + owed test ys
+    owed-append [] ys = omega arith
+    owed-append (x ∷ xs) ys = let k : owed test (xs ++ ys) ≡ owed test xs + owed test ys = owed-append xs ys in omega (arith, k)
+
+    owed-drop : (n : ℕ) (qs : List RequestRecord) → owed test (drop n qs) ≤ owed test qs
+    owed-drop zero qs = omega arith
+    owed-drop (suc n) [] = omega arith
+    owed-drop (suc n) (x ∷ xs) = let k : owed test (drop n xs) ≤ owed test xs = owed-drop n xs in omega (arith, k)
+
+    abbrev Counted : Call P → Type 0
+    Counted call =
+        (count test (reply_of e.told.issued) ≡ 0)
+        ⊎ ((q : RequestRecord) × IsServing old call e q × (count test (reply_of e.told.issued) ≡ one_if (test (transaction_of q))))
+
+    counts_reply : (issued : Option Issued) (q : RequestRecord) → count test (reply_of issued) ≡ count test (transaction_of q ∷ []) → count test (reply_of issued) ≡ one_if (test (transaction_of q))
+    counts_reply issued q is = omega (arith, is)
+
+    counted : (call : Call P) → Posted mac answers old new s t e call → Counted call
+    counted call (inl none) = inl (ap (λ i. count test (reply_of i)) none)
+    counted call (inr (inl (role, inl none))) = inl (ap (λ i. count test (reply_of i)) none)
+    counted call (inr (inl (role, inr (path, id, peer, c, names, out, known, has, values, put)))) = inl (ap (λ i. count test (reply_of i)) out)
+    counted call (inr (inr (q, serves, inl (inl none)))) = inl (ap (λ i. count test (reply_of i)) none.0)
+    counted call (inr (inr (q, serves, inl (inr (out, values, put, nominates))))) = inr (q, serves, counts_reply e.told.issued q (ap (λ i. count test (reply_of i)) out))
+    counted call (inr (inr (q, serves, inr (out, values, put, insists, stays)))) = inr (q, serves, counts_reply e.told.issued q (ap (λ i. count test (reply_of i)) out))
+
+    past_owes : (now : ℕ) (o : Option RequestRecord) (a : Answer) → request_at now old ≡ o → e.answer ≡ a → Counted (HandleTimeout now) → WaitsPast o a old.queue new.queue
+        → count test (reply_of e.told.issued) + owed test new.queue ≤ owed test old.queue + 0
+    past_owes now None a at is (inl none) (gone, left) =
+        let all : owed test old.queue ≡ owed test gone + owed test new.queue = ap (λ qs. owed test qs) left ∙ owed-append gone new.queue in omega (arith, none, all)
+    past_owes now None a at is (inr (q, serving, one)) h = let no : None ≡ Some q = sym at ∙ serving.0 in absurd (cc)
+    past_owes now (Some r) Done at is (inl none) (gone, left) =
+        let all : owed test old.queue ≡ owed test gone + owed test (r ∷ new.queue) = ap (λ qs. owed test qs) left ∙ owed-append gone (r ∷ new.queue) in omega (arith, none, all)
+    past_owes now (Some r) Done at is (inr (q, serving, one)) (gone, left) =
+        let all : owed test old.queue ≡ owed test gone + owed test (r ∷ new.queue) = ap (λ qs. owed test qs) left ∙ owed-append gone (r ∷ new.queue) in
+        let both : Some r ≡ Some q = sym at ∙ serving.0 in
+        let same : r ≡ q = some_is r q both in
+        let its : one_if (test (transaction_of r)) ≡ one_if (test (transaction_of q)) = ap (λ (x : RequestRecord). one_if (test (transaction_of x))) same in
+        omega (arith, one, all, its)
+    past_owes now (Some r) a at is (inl none) same =
+        let all : owed test new.queue ≡ owed test old.queue = ap (λ qs. owed test qs) same in omega (arith, none, all)
+    past_owes now (Some r) a at is (inr (q, serving, one)) same = absurd (let no : a ≡ Done = sym is ∙ serving.1 in cc)
+
+    requested_once : (method : Method) (c : Class) (way : Path) (id : List ℕ) → method ≡ Binding → c ≡ class.Request
+        → count test (requested_as way id method c) ≡ one_if (test (record { way = way; id = id }))
+    requested_once method c way id binding request =
+        let one : count test (requested_as way id Binding class.Request) ≡ one_if (test (record { way = way; id = id })) = omega arith in
+        ap (λ x. count test (requested_as way id x c)) binding ∙ ap (λ x. count test (requested_as way id Binding x)) request ∙ one
+
+    brought_once : (call : Call P) → ((at : ℕ) (by : Path) (m : Message) → Brings call e at by m → IsAcceptedOn mac old by m)
+        → (q : RequestRecord) → IsBrought call e q → count test (request_of call e.answer) ≡ one_if (test (transaction_of q))
+    brought_once (ReceivePacket now way bytes) accepted q (at, by, m, (at_is, by_is, reads, flag), request, is) =
+        let call_of : Call P = ReceivePacket now way bytes in
+        let binding : m.method ≡ Binding = (accepted at by m (at_is, by_is, reads, flag)).0 in
+        ap (λ a. count test (request_of call_of a)) flag
+        ∙ ap (λ (x : Message). count test (requested_as way x.id x.method x.class)) (sym reads.spelled)
+        ∙ requested_once m.method m.class way m.id binding request
+        ∙ ap (λ w. one_if (test (record { way = w; id = m.id }))) by_is
+        ∙ ap (λ (x : RequestRecord). one_if (test (transaction_of x))) (sym is)
+    brought_once _ accepted q (at, by, m, brings, request, is) = absurd brings
+
+    with_owes : (call : Call P) → ((at : ℕ) (by : Path) (m : Message) → Brings call e at by m → IsAcceptedOn mac old by m)
+        → ((q : RequestRecord) → IsServing old call e q → IsBrought call e q × (is_some old.remote_creds ≡ true)) → Counted call → WaitsWith old call e new
+        → count test (reply_of e.told.issued) + owed test new.queue ≤ owed test old.queue + count test (request_of call e.answer)
+    with_owes call accepted served (inl none) (inl same) =
+        let all : owed test new.queue ≡ owed test old.queue = ap (λ qs. owed test qs) same in omega (arith, none, all)
+    with_owes call accepted served (inr (q, serving, one)) (inl same) =
+        let all : owed test new.queue ≡ owed test old.queue = ap (λ qs. owed test qs) same in
+        let came : count test (request_of call e.answer) ≡ one_if (test (transaction_of q)) = brought_once call accepted q (served q serving).0 in
+        omega (arith, one, all, came)
+    with_owes call accepted served (inl none) (inr (at, by, m, brings, request, unknown, is)) =
+        let q : RequestRecord = request_in at by m in
+        let all : owed test new.queue ≡ owed test (queued_last (old.queue ++ q ∷ [])) = ap (λ qs. owed test qs) is in
+        let less : owed test (queued_last (old.queue ++ q ∷ [])) ≤ owed test (old.queue ++ q ∷ []) = owed-drop _ (old.queue ++ q ∷ []) in
+        let more : owed test (old.queue ++ q ∷ []) ≡ owed test old.queue + owed test (q ∷ []) = owed-append old.queue (q ∷ []) in
+        let came : count test (request_of call e.answer) ≡ one_if (test (transaction_of q)) = brought_once call accepted q (at, by, m, brings, request, refl) in
+        omega (arith, none, all, less, more, came)
+    with_owes call accepted served (inr (q, serving, one)) (inr (at, by, m, brings, request, unknown, is)) =
+        absurd (let no : false ≡ true = sym (ap is_some unknown) ∙ (served q serving).1 in cc)
+
+    pub owes : (call : Call P) → Step mac answers old s call e new t → Posted mac answers old new s t e call → Waits old call e new
+        → count test (reply_of e.told.issued) + owed test new.queue ≤ owed test old.queue + count test (request_of call e.answer)
+    owes (HandleTimeout now) h posted waits = past_owes now (request_at now old) e.answer refl refl (counted (HandleTimeout now) posted) waits
+    owes (ReceivePacket now way bytes) h posted waits =
+        with_owes (ReceivePacket now way bytes) (accepts (ReceivePacket now way bytes) h)
+        (λ q (at, by, m, brings, request, known, is). ((at, by, m, brings, request, is), known)) (counted (ReceivePacket now way bytes) posted) waits
+    owes call h posted waits = with_owes call (accepts call h) (λ q serving. absurd serving.3) (counted call posted) waits
+
+  -- ---- clears
+
+  abbrev Never : Path → Type 0
+  Never path = ⊥
+
+  abbrev NeverSent : Path → List ℕ → Bool → Type 0
+  NeverSent path id role = ⊥
+
+  no_check : (cs : List Check) → ((c : Check) → Has cs c → ⊥) → cs ≡ []
+  no_check [] none = refl
+  no_check (c ∷ cs) none = absurd (none c (inl refl))
+
+  not_true : (b : Bool) → (b ≡ true → ⊥) → b ≡ false
+  not_true true no_it = absurd (no_it refl)
+  not_true false no_it = refl
+
+  abbrev IsNewPair : PairRecord → Type 0
+  IsNewPair p = (old.next_number ≤ p.number) × (is_valid p ≡ false) × (is_nominated p ≡ false) × (p.checks ≡ [])
+
+  recreated : Recreates old (Ok _) new → (p : PairRecord) → Has new.pairs p → IsNewPair p
+  recreated h p has =
+      let bare : AgentRecord H P = record old { pairs = [] } in
+      let o = recreates_goes Never Never NeverSent bare new (record { placed = λ p none. absurd none; rising = tt; below = λ p none. absurd none; started = λ p none. absurd none }) h in
+      elim (o.pairs p has) [
+        | inl k ↦ absurd k.there
+        | inr j ↦ (
+          j.above,
+          not_true (is_valid p) (λ is. elim (j.valid is) [ inl v ↦ absurd v.1 | inr m ↦ absurd m ]),
+          not_true (is_nominated p) (λ is. elim (j.asked is) [ inl v ↦ absurd v.1 | inr m ↦ absurd m ]),
+          no_check p.checks j.checks,
+        )
+      ]
+
+  no_clear : {A : Type 0} (call : Call P) (error : IceError) → e ≡ quiet (Refused error) → clears call e.answer ≡ true → is_clearing call ≡ true → A
+  no_clear call error is clear clearing =
+      absurd (let no : false ≡ true = sym (ap (λ (x : Entry). clears call x.answer) is ∙ ap (λ b. if b then false else false) clearing) ∙ clear in cc)
+
+  pub clears_pairs : (call : Call P) → Step mac answers old s call e new t → clears call e.answer ≡ true → (p : PairRecord) → Has new.pairs p → IsNewPair p
+  clears_pairs (RestartIce creds keep) (Ok _, is, (short, made), drawn) clear p has = absurd (subst (λ (a : AgentRecord H P). Has a.pairs p) made has)
+  clears_pairs (RestartIce creds keep) (Err error, is, h, drawn) clear p has = no_clear (RestartIce creds keep) error is clear refl
+  clears_pairs RecreateCandidatePairs (Ok _, is, h, drawn) clear p has = recreated h p has
+  clears_pairs RecreateCandidatePairs (Err error, is, h, drawn) clear p has = no_clear RecreateCandidatePairs error is clear refl
+  clears_pairs call h clear p has = absurd (let no : false ≡ true = clear in cc)
+
+  pub clears_quiet : (call : Call P) → Step mac answers old s call e new t → clears call e.answer ≡ true → e.told ≡ nothing_told
+  clears_quiet (RestartIce creds keep) h clear = (calm mac answers old new s t e (RestartIce creds keep) refl h).told
+  clears_quiet RecreateCandidatePairs h clear = (calm mac answers old new s t e RecreateCandidatePairs refl h).told
+  clears_quiet call h clear = absurd (let no : false ≡ true = clear in cc)
+
+module _ {H P : Type 0} (mac : H → List ℕ → List ℕ → List ℕ) (answers : P → CandidateRecord → ℕ → ℕ → Type 0) where
+  pub unaccepted_quiet : UnacceptedChangeNothing mac answers
+  unaccepted_quiet old new s t call e h down = turns_down mac answers old new s t e call h down

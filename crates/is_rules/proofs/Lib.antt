@@ -1,0 +1,38 @@
+mod PriorityLemmas
+mod PairLemmas
+mod NumberLemmas
+pub mod Rising
+mod DueLemmas
+mod PlaceLemmas
+mod ReplyLemmas
+mod TopLemmas
+mod RangeLemmas
+mod CutLemmas
+mod AnswerLemmas
+pub mod Addresses
+mod Examples
+mod RowLaws
+pub mod RefusalLaws
+pub mod Nominations
+pub mod Frames
+pub mod Enrolments
+pub mod FrameLaws
+pub mod ReportLaws
+pub mod Rests
+pub mod Onward
+pub mod Tells
+pub mod Moves
+pub mod Checks
+pub mod Calms
+pub mod Moments
+pub mod Serves
+pub mod Gathered
+pub mod PairLaws
+pub mod PathLaws
+pub mod TopLaws
+pub mod BringLaws
+pub mod Bags
+pub mod LogLaws
+pub mod PointLaws
+pub mod EffectLaws
+pub mod RoleLaws

@@ -1,0 +1,357 @@
+-- All theorems of one agent's log, from the law of paths alone.
+use Rattle.std.proofs.Common.{◌≡◌, ℕ, ◌+◌, ◌<◌, ◌≤◌, ◌==◌, ◌&&◌, Bool, true, false, List, [], ◌∷◌, ◌++◌, Option, Some, None, inl, inr, ◌⊎◌, refl, ap, sym, ◌∙◌, subst, arith, append_assoc, if◌then◌else◌}
+use Rattle.std.specs.Prelude.{find, cond, filter}
+use Rattle.std.specs.Option.{option_or, option_map_or, option_and_then}
+use Rattle.std.proofs.lemmas.Bool.{eqb-true}
+use Rattle.rand_core.specs.Stream.{Stream}
+use Rattle.is_proto.specs.Lists.{Has, NonePass}
+use Rattle.is_candidate.specs.Candidates.{CandidateRecord}
+use Rattle.is_pair.specs.Pairs.{PairRecord, is_valid, is_nominated}
+use Rattle.is_pair.specs.Checks.{Check}
+use Rattle.is_stun.specs.declared.header.Class.TheVariants as class
+use Rattle.is_stun.specs.Message.{Message}
+use Rattle.is_stun.specs.Integrity.{IsSignedBy}
+use Rattle.is_rules.specs.declared.told.Issued.{Issued}
+use Rattle.is_rules.specs.declared.told.Path.{Path}
+use Rattle.is_rules.specs.Request.{RequestRecord}
+use Rattle.is_rules.specs.Steps.{Entry}
+use Rattle.is_rules.specs.Told.{turned}
+use Rattle.is_rules.specs.Agent.{AgentRecord}
+use Rattle.is_pair.specs.Bag.{is_numbered, pair_numbered}
+use Rattle.is_rules.specs.Sending.{path_of}
+use Rattle.is_rules.specs.Nominating.{is_eligible, stands_at}
+use Rattle.is_rules.specs.Steps.{Call, ReceivePacket}
+use Rattle.is_rules.specs.Sound.{IsSound}
+use Rattle.is_rules.specs.Brought.{Brings, IsBrought, IsServing, IsKept, IsValidOn, IsNominatedOn, IsAnswered, IsAskedFor}
+use Rattle.is_rules.specs.Owed.{Transaction, count, owed, reply_of, request_of}
+use Rattle.is_rules.specs.Points.{IsNominationPoint, IsTopAnnounced}
+use Rattle.is_rules.specs.Effects.{remote_after, lite_set_by, last_of, PathEffect, PathLaw}
+use Rattle.is_rules.specs.Logs.{Logged, clears_at, remote_of, NeverLite, IsSent, last_announced, AnswersAt, Answered, IsAnsweredBy, AsksAt, AskedFor, replies, requests}
+use Rattle.is_rules.specs.Runs.{IsFresh, Run, Point, run_to, IsControlledSince, IsTopPath, EntriesArePoints, RunsAreSound, AnnouncedAreAnswered, AnnouncedAreAskedFor, PointsAreTop, TakersAreValid, AskedAreNominated, RepliesAreAmong}
+use Rattle.is_rules.proofs.RefusalLaws.{fresh_sound}
+use Rattle.is_rules.proofs.Bags.{among_by_counts}
+use Rattle.is_rules.proofs.PathLaws.{below_is}
+
+-- a truth value, with what it is
+told_apart : {A : Type 0} (b : Bool) → (b ≡ true → A) → (b ≡ false → A) → A
+told_apart true f g = f refl
+told_apart false f g = g refl
+
+true_false : {A : Type 0} (b : Bool) → b ≡ true → b ≡ false → A
+true_false b h k = let wrong : true ≡ false = sym h ∙ k in absurd (cc)
+
+Has-behind : {X : Type 0} (xs ys : List X) (x : X) → Has ys x → Has (xs ++ ys) x
+Has-behind [] ys x h = h
+Has-behind (y ∷ xs) ys x h = inr (Has-behind xs ys x h)
+
+found_by : (test : PairRecord → Bool) (x p : PairRecord) (xs : List PairRecord) (b : Bool) → test x ≡ b → (find test xs ≡ Some p → Has xs p × (test p ≡ true))
+    → cond b (Some x) (find test xs) ≡ Some p → Has (x ∷ xs) p × (test p ≡ true)
+found_by test x p xs true passes rest is = let same : x ≡ p = cc in (inl same, subst (λ (y : PairRecord). test y ≡ true) same passes)
+found_by test x p xs false passes rest is = let k = rest is in (inr k.0, k.1)
+
+found_in : (test : PairRecord → Bool) (ps : List PairRecord) (p : PairRecord) → find test ps ≡ Some p → Has ps p × (test p ≡ true)
+found_in test [] p is = let no : None ≡ Some p = is in absurd (cc)
+found_in test (x ∷ xs) p is = found_by test x p xs (test x) refl (λ k. found_in test xs p k) is
+
+kept_head : {X : Type 0} (b : Bool) (x : X) (xs : List X) → b ≡ true → (if b then x ∷ xs else xs) ≡ [] → ⊥
+kept_head true x xs passes none = let wrong : x ∷ xs ≡ [] = none in cc
+kept_head false x xs passes none = let wrong : false ≡ true = passes in cc
+
+kept_tail : {X : Type 0} (b : Bool) (x : X) (xs : List X) → (if b then x ∷ xs else xs) ≡ [] → xs ≡ []
+kept_tail true x xs none = let wrong : x ∷ xs ≡ [] = none in absurd (cc)
+kept_tail false x xs none = none
+
+pub none_pass : {X : Type 0} (test : X → Bool) (xs : List X) (x : X) → NonePass test xs → Has xs x → test x ≡ true → ⊥
+none_pass test [] x none has passes = absurd has
+none_pass test (y ∷ ys) x none (inl is) passes = kept_head (test y) y (filter test ys) (ap test is ∙ passes) none
+none_pass test (y ∷ ys) x none (inr has) passes = none_pass test ys x (kept_tail (test y) y (filter test ys) none) has passes
+
+count-append : (test : Transaction → Bool) (xs ys : List Transaction) → count test (xs ++ ys) ≡ count test xs + count test ys
+count-append test [] ys = omega arith
+count-append test (x ∷ xs) ys = let k : count test (xs ++ ys) ≡ count test xs + count test ys = count-append test xs ys in omega (arith, k)
+
+module _ {H P : Type 0} (mac : H → List ℕ → List ℕ → List ℕ) (answers : P → CandidateRecord → ℕ → ℕ → Type 0) (law : PathLaw {H = H} {P = P} mac answers) where
+  -- what the record has of the log
+  pub record Holds (provider : H) (log : List (Logged P)) (a : AgentRecord H P) : Type 0 where
+    pub sound : IsSound a
+    pub provider_is : a.provider ≡ provider
+    pub remote_is : a.remote_creds ≡ remote_of log
+    pub lite_is : NeverLite log → a.lite ≡ false
+    pub sent : (path : Path) (id : List ℕ) (controlling : Bool) → IsKept a path id controlling → IsSent log path id
+    pub valid : NeverLite log → (path : Path) → IsValidOn a path → Answered mac provider log path
+    pub queued : (q : RequestRecord) → Has a.queue q → q.use_candidate ≡ true → AskedFor log (turned q.path)
+    -- the announced number names a pair that was announced last
+    pub named : (p : PairRecord) → Has a.pairs p → a.announced ≡ Some p.number → (is_valid p ≡ true) × (is_nominated p ≡ true) × (last_announced log ≡ Some (path_of a p))
+
+  fresh_holds : (first : AgentRecord H P) → IsFresh first → Holds first.provider [] first
+  fresh_holds first (creds, tie, is) = subst (λ (a : AgentRecord H P). Holds first.provider [] a) (sym is) (record {
+    sound = fresh_sound H P first.provider creds tie;
+    provider_is = refl;
+    remote_is = refl;
+    lite_is = λ _. refl;
+    sent = λ path id role k. absurd k.2;
+    valid = λ _ path k. absurd k.1;
+    queued = λ q has. absurd has;
+    named = λ p has. absurd has;
+  })
+
+  -- ---- one entry more
+
+  module _ (provider : H) (x : Logged P) (before : List (Logged P)) (old new : AgentRecord H P) (h : Holds provider before old) (f : PathEffect mac old x.call x.entry new) where
+    answers_at : (path : Path) → IsAnswered mac old x.call x.entry path → AnswersAt mac provider x before path
+    answers_at path (at, by, m, role, peer, brings, success, kept, known, signed, back) = (
+      at,
+      by,
+      m,
+      peer,
+      brings,
+      (f.accepted at by m brings).0,
+      success,
+      sym h.remote_is ∙ known,
+      subst (λ p. IsSignedBy (mac p) m peer.pass) h.provider_is signed,
+      h.sent path m.id role kept,
+      back,
+    )
+
+    asks_at : (at : ℕ) (by : Path) (m : Message) → Brings x.call x.entry at by m → m.class ≡ class.Request → m.attributes.use_candidate ≡ true → AsksAt x (turned by)
+    asks_at at by m brings request uses = (at, by, m, brings, (f.accepted at by m brings).0, request, uses, refl)
+
+    queued_asks : (q : RequestRecord) → Has old.queue q ⊎ IsBrought x.call x.entry q → q.use_candidate ≡ true → AskedFor (x ∷ before) (turned q.path)
+    queued_asks q (inl was) uses = inr (h.queued q was uses)
+    queued_asks q (inr (at, by, m, brings, request, is)) uses =
+        inl (subst (λ (y : RequestRecord). AsksAt x (turned y.path)) (sym is) (asks_at at by m brings request (ap (λ (y : RequestRecord). y.use_candidate) (sym is) ∙ uses)))
+
+    asked_now : (path : Path) → IsAskedFor old x.call x.entry path → AskedFor (x ∷ before) path
+    asked_now path (q, serving, uses, on) = subst (λ p. AskedFor (x ∷ before) p) on (queued_asks q (f.serves q serving) uses)
+
+    old_below : (n : ℕ) → old.announced ≡ Some n → n < old.next_number
+    old_below n is = below_is old.next_number n old.announced h.sound.announced is
+
+    -- the announced number names no pair behind a clear
+    none_named : clears_at x ≡ true → (p : PairRecord) → Has new.pairs p → old.announced ≡ Some p.number → ⊥
+    none_named clear p has is =
+        let lt : p.number < old.next_number = old_below p.number is in
+        let le : old.next_number ≤ p.number = (f.cleared_pairs clear p has).0 in
+        omega (arith, lt, le)
+
+    held_named : (o : Option Path) → last_of x.entry.told.announced ≡ o → (p : PairRecord) → Has new.pairs p → new.announced ≡ Some p.number
+        → (is_valid p ≡ true) × (is_nominated p ≡ true) × (last_announced (x ∷ before) ≡ Some (path_of new p))
+    held_named (Some path) is p has named =
+        let k = f.number_names path is p has named in
+        (k.1, k.2, ap (λ o. option_or o (if clears_at x then None else last_announced before)) is ∙ ap Some (sym k.0))
+    held_named None is p has named =
+        let was : old.announced ≡ Some p.number = sym (f.number_stays is) ∙ named in
+        told_apart (clears_at x) (λ clear. absurd (none_named clear p has was)) (λ kept. stands kept was) where
+          stands : clears_at x ≡ false → old.announced ≡ Some p.number
+              → (is_valid p ≡ true) × (is_nominated p ≡ true) × (last_announced (x ∷ before) ≡ Some (path_of new p))
+          stands kept was = elim (f.numbers p has) [
+            | inl (q, there, number, path, valid, nominated) ↦ (
+                let k = h.named q there (was ∙ ap Some (sym number)) in (
+                  valid k.0,
+                  nominated k.1,
+                  ap (λ o. option_or o (if clears_at x then None else last_announced before)) is
+                      ∙ ap (λ b. if b then None else last_announced before) kept ∙ k.2 ∙ ap Some path,
+                ))
+            | inr n ↦ (let lt : p.number < old.next_number = old_below p.number was in let le : old.next_number ≤ p.number = n.0 in absurd (let none : ⊥ = omega (arith, lt, le) in none))
+          ]
+
+    lite_before : NeverLite (x ∷ before) → old.lite ≡ false
+    lite_before never_lite = h.lite_is never_lite.1
+
+    no_checks : (cs : List Check) (c : Check) → Has cs c → cs ≡ [] → ⊥
+    no_checks cs c has none = subst (λ (ks : List Check). Has ks c) none has
+
+    holds_next : IsSound new → Holds provider (x ∷ before) new
+    holds_next sound = record {
+      sound = sound;
+      provider_is = f.provider ∙ h.provider_is;
+      remote_is = f.remote_creds ∙ ap (λ r. remote_after x.call x.entry.answer r) h.remote_is;
+      lite_is = λ never_lite. f.lite ∙ ap (λ l. lite_set_by x.call l) (lite_before never_lite) ∙ never_lite.0;
+      sent = λ path id role k. told_apart (clears_at x)
+          (λ clear. absurd (no_checks k.0.checks k.1 k.3 (f.cleared_pairs clear k.0 k.2).3))
+          (λ kept. elim (f.checks path id role k) [ inl was ↦ inr (kept, h.sent path id role was) | inr out ↦ inl out.0 ]);
+      valid = λ never_lite path k. told_apart (clears_at x)
+          (λ clear. true_false (is_valid k.0) k.2 (f.cleared_pairs clear k.0 k.1).1)
+          (λ kept. elim (f.valid (lite_before never_lite) path k) [ inl was ↦ inr (kept, h.valid never_lite.1 path was) | inr now ↦ inl (answers_at path now) ]);
+      queued = λ q has uses. queued_asks q (f.queue q has) uses;
+      named = held_named (last_of x.entry.told.announced) refl;
+    }
+
+  -- ---- runs
+
+  now_controlled : (first : AgentRecord H P) (s : Stream) (log : List (Logged P)) (a : AgentRecord H P) (v : Stream) (r : Run mac answers first s log a v) → IsControlledSince mac answers first s log a v r → a.controlling ≡ false
+  now_controlled first s [] a v r c = c
+  now_controlled first s (y ∷ ys) a v r c = c.0
+
+  never_lite_to : (rest before : List (Logged P)) (x : Logged P) → NeverLite (rest ++ x ∷ before) → NeverLite (x ∷ before)
+  never_lite_to [] before x h = h
+  never_lite_to (y ∷ rest) before x h = never_lite_to rest before x h.1
+
+  no_paths : (path : Path) → Has (None ∷ None ∷ []) (Some path) → ⊥
+  no_paths path (inl is) = let no : None ≡ Some path = is in cc
+  no_paths path (inr (inl is)) = let no : None ≡ Some path = is in cc
+  no_paths path (inr (inr h)) = absurd h
+
+  -- a valid and nominated pair is eligible in either role
+  eligible : (c : Bool) (p : PairRecord) → is_valid p ≡ true → is_nominated p ≡ true → is_eligible c p ≡ true
+  eligible true p v n = ap (λ b. b && true) v
+  eligible false p v n = ap (λ b. b && is_nominated p) v ∙ n
+
+  -- the pair that the announced number names
+  stands_with : (priority : ℕ) (a : AgentRecord H P) → stands_at a.announced priority a.pairs ≡ true → (p : PairRecord) × Has a.pairs p × (a.announced ≡ Some p.number) × (p.priority ≡ priority)
+  stands_with priority a h = by a.announced refl h where
+    at : (n : ℕ) (o : Option PairRecord) → pair_numbered n a.pairs ≡ o → a.announced ≡ Some n → option_map_or (λ (p : PairRecord). p.priority == priority) o false ≡ true
+        → (p : PairRecord) × Has a.pairs p × (a.announced ≡ Some p.number) × (p.priority ≡ priority)
+    at n None is named h = let no : false ≡ true = h in absurd (cc)
+    at n (Some p) is named h =
+        let k = found_in (is_numbered n) a.pairs p is in
+        (p, k.0, named ∙ ap Some (sym (eqb-true p.number n k.1)), eqb-true p.priority priority h)
+
+    by : (o : Option ℕ) → a.announced ≡ o → option_map_or (λ (p : PairRecord). p.priority == priority) (option_and_then (λ number. pair_numbered number a.pairs) o) false ≡ true
+        → (p : PairRecord) × Has a.pairs p × (a.announced ≡ Some p.number) × (p.priority ≡ priority)
+    by None is h = let no : false ≡ true = h in absurd (cc)
+    by (Some n) is h = at n (pair_numbered n a.pairs) refl is h
+
+  -- what is asked for is nominated
+  asking : (mid : AgentRecord H P) (call : Call P) (entry : Entry) (at : ℕ) (by : Path) (m : Message) → Brings call entry at by m → m.attributes.use_candidate ≡ true
+      → (q : RequestRecord) → IsServing mid call entry q → q.use_candidate ≡ true
+  asking mid (ReceivePacket now way bytes) entry at by m brings uses q (at2, by2, m2, brings2, request, known, is) =
+      ap (λ (y : RequestRecord). y.use_candidate) is ∙ (ap (λ (n : Message). n.attributes.use_candidate) (brings2.2.spelled ∙ sym brings.2.spelled) ∙ uses)
+  asking mid _ entry at by m brings uses q serving = absurd brings
+
+  top_of : (provider : H) (log : List (Logged P)) (last : AgentRecord H P) (p : PairRecord) → Has last.pairs p → is_eligible last.controlling p ≡ true
+      → Holds provider log last → IsTopAnnounced last → IsTopPath mac answers log last
+  top_of provider log last p has is after (None, none, _) = absurd (none_pass (is_eligible last.controlling) last.pairs p none has is)
+  top_of provider log last p has is after (Some best, (there, able, greatest), stands) =
+      let named = stands_with best.priority last stands in
+      let k = after.named named.0 named.1 named.2 in (
+        named.0,
+        named.1,
+        eligible last.controlling named.0 k.0 k.1,
+        k.2,
+        λ q has_q is_q. subst (λ n. q.priority ≤ n) (sym named.3) (greatest q has_q is_q),
+      )
+
+  module _ (first : AgentRecord H P) (s : Stream) (is_fresh : IsFresh first) where
+    holds : (log : List (Logged P)) (last : AgentRecord H P) (t : Stream) → Run mac answers first s log last t → Holds first.provider log last
+    holds [] last t run = subst (λ (a : AgentRecord H P). Holds first.provider [] a) (sym run.0) (fresh_holds first is_fresh)
+    holds (x ∷ before) last t (mid, u, run, number, based, step) =
+        let h = holds before mid u run in
+        let k = law mid last u t x.call x.entry h.sound based step in
+        holds_next first.provider x before mid last h k.0 k.1
+
+    -- while controlled since the last clear, a nominated path was asked for
+    nominated_asked : (log : List (Logged P)) (last : AgentRecord H P) (t : Stream) → NeverLite log
+        → (run : Run mac answers first s log last t) → IsControlledSince mac answers first s log last t run
+        → (path : Path) → IsNominatedOn last path → AskedFor log path
+    nominated_asked [] last t never_lite run controlled path k =
+        absurd (subst (λ (a : AgentRecord H P). Has a.pairs k.0) (run.0 ∙ is_fresh.2) k.1)
+    nominated_asked (x ∷ before) last t never_lite (mid, u, run, number, based, step) controlled path k =
+        let h = holds before mid u run in
+        let f = (law mid last u t x.call x.entry h.sound based step).0 in
+        elim controlled.1 [
+          | inl clear ↦ true_false (is_nominated k.0) k.2 (f.cleared_pairs clear k.0 k.1).2
+          | inr since ↦ elim (f.nominated (h.lite_is never_lite.1) (now_controlled first s before mid u run since) controlled.0 path k) [
+            | inl was ↦ inr (nominated_asked before mid u never_lite.1 run since path was)
+            | inr now ↦ asked_now first.provider x before mid last h f path now
+          ]
+        ]
+
+    -- replies and what waits are owed
+    pub replies_owed : (log : List (Logged P)) (last : AgentRecord H P) (t : Stream) → Run mac answers first s log last t
+        → (test : Transaction → Bool) → count test (replies log) + owed test last.queue ≤ count test (requests log)
+    replies_owed [] last t run test =
+        let none : owed test last.queue ≡ 0 = ap (λ (a : AgentRecord H P). owed test a.queue) (run.0 ∙ is_fresh.2) in omega (arith, none)
+    replies_owed (x ∷ before) last t (mid, u, run, number, based, step) test =
+        let h = holds before mid u run in
+        let f = (law mid last u t x.call x.entry h.sound based step).0 in
+        let past : count test (replies before) + owed test mid.queue ≤ count test (requests before) = replies_owed before mid u run test in
+        let now : count test (reply_of x.entry.told.issued) + owed test last.queue ≤ owed test mid.queue + count test (request_of x.call x.entry.answer) = f.owed test in
+        let a : count test (reply_of x.entry.told.issued ++ replies before) ≡ count test (reply_of x.entry.told.issued) + count test (replies before) = count-append test _ (replies before) in
+        let b : count test (request_of x.call x.entry.answer ++ requests before) ≡ count test (request_of x.call x.entry.answer) + count test (requests before) = count-append test _ (requests before) in
+        omega (arith, past, now, a, b)
+
+    -- ---- at each entry
+
+    module _ (log before : List (Logged P)) (mid after : AgentRecord H P) (x : Logged P) (point : Point mac answers first s log before mid x after) where
+      held : Holds first.provider before mid
+      held = holds before mid point.at point.led
+
+      effect : PathEffect mac mid x.call x.entry after
+      effect = (law mid after point.at point.behind x.call x.entry held.sound point.given point.step).0
+
+      never_lite_before : NeverLite log → NeverLite (x ∷ before)
+      never_lite_before never_lite = never_lite_to point.rest before x (subst (λ (l : List (Logged P)). NeverLite l) point.split never_lite)
+
+      -- each announced path is answered
+      answered : NeverLite log → (path : Path) → Has x.entry.told.announced (Some path) → IsAnsweredBy mac first.provider x before path
+      answered never_lite path has =
+          let never = (never_lite_before never_lite).1 in
+          elim (effect.announced (held.lite_is never) path has) [
+            | inl was ↦ inr (held.valid never path was)
+            | inr now ↦ inl (answers_at first.provider x before mid after held effect path now)
+          ]
+
+      -- and asked for
+      asked_for : NeverLite log → IsControlledSince mac answers first s (x ∷ before) after point.behind (run_to mac answers first s log before mid x after point)
+          → (path : Path) → Has x.entry.told.announced (Some path) → AskedFor (x ∷ before) path
+      asked_for never_lite controlled path has =
+          let never = (never_lite_before never_lite).1 in
+          elim controlled.1 [
+            | inl clear ↦ absurd (no_paths path (subst (λ told. Has told.announced (Some path)) (effect.cleared clear) has))
+            | inr since ↦ elim (effect.announced_asked (held.lite_is never) (now_controlled first s before mid point.at point.led since) controlled.0 path has) [
+              | inl was ↦ inr (nominated_asked before mid point.at never point.led since path was)
+              | inr now ↦ asked_now first.provider x before mid after held effect path now
+            ]
+          ]
+
+      top : IsNominationPoint mid x.call x.entry → (p : PairRecord) → Has after.pairs p → is_eligible after.controlling p ≡ true → IsTopPath mac answers (x ∷ before) after
+      top nominates p has is =
+          top_of first.provider (x ∷ before) after p has is
+          (holds (x ∷ before) after point.behind (run_to mac answers first s log before mid x after point)) (effect.points nominates)
+
+      nominated : (at : ℕ) (by : Path) (m : Message) (issued : Issued) → Brings x.call x.entry at by m → m.attributes.use_candidate ≡ true
+          → x.entry.told.issued ≡ Some issued → issued.class ≡ class.Success → after.controlling ≡ false → IsNominatedOn after issued.path
+      nominated at by m issued brings uses is success controlled =
+          let k = effect.replied issued is success in
+          subst (λ (i : Issued). IsNominatedOn after i.path) (sym k.2) (k.3 (asking mid x.call x.entry at by m brings uses k.0 k.1) controlled)
+
+  -- ---- the laws
+
+  pub runs_sound : RunsAreSound {H = H} mac answers
+  runs_sound first last s t log is_fresh run = (holds first s is_fresh log last t run).sound
+
+  pub all_answered : AnnouncedAreAnswered {H = H} mac answers
+  all_answered first s log is_fresh never_lite before mid after x point path has = answered first s is_fresh log before mid after x point never_lite path has
+
+  pub all_asked : AnnouncedAreAskedFor {H = H} mac answers
+  all_asked first s log is_fresh never_lite before mid after x point controlled path has =
+      asked_for first s is_fresh log before mid after x point never_lite controlled path has
+
+  pub points_are_top : PointsAreTop {H = H} mac answers
+  points_are_top first s log is_fresh before mid after x point nominates p has is = top first s is_fresh log before mid after x point nominates p has is
+
+  pub takers_are_valid : TakersAreValid {H = H} mac answers
+  takers_are_valid first s log is_fresh before mid after x point at by m brings success =
+      (effect first s is_fresh log before mid after x point).taken at by m brings success
+
+  pub asked_are_nominated : AskedAreNominated {H = H} mac answers
+  asked_are_nominated first s log is_fresh before mid after x point at by m issued brings uses is success controlled =
+      nominated first s is_fresh log before mid after x point at by m issued brings uses is success controlled
+
+  pub replies_among : RepliesAreAmong {H = H} mac answers
+  replies_among first last s t log is_fresh run =
+      among_by_counts (replies log) (requests log)
+      (λ test. (let k : count test (replies log) + owed test last.queue ≤ count test (requests log) = replies_owed first s is_fresh log last t run test in omega (arith, k)))
+
+-- a run up to an entry is a run
+module _ {H P : Type 0} (mac : H → List ℕ → List ℕ → List ℕ) (answers : P → CandidateRecord → ℕ → ℕ → Type 0) where
+  points : (first last : AgentRecord H P) (s t : Stream) (all done rest before : List (Logged P)) (x : Logged P) → all ≡ done ++ (rest ++ x ∷ before)
+      → Run mac answers first s (rest ++ x ∷ before) last t → (mid after : AgentRecord H P) × Point mac answers first s all before mid x after
+  points first last s t all done [] before x is (mid, u, run, number, based, step) =
+      (mid, last, record { rest = done; split = is; at = u; led = run; number = number; given = based; behind = t; step = step })
+  points first last s t all done (y ∷ rest) before x is (mid, u, run, number, based, step) =
+      points first mid s u all (done ++ y ∷ []) rest before x (is ∙ sym (append_assoc done (y ∷ []) (rest ++ x ∷ before))) run
+
+  pub entries_are_points : EntriesArePoints {H = H} mac answers
+  entries_are_points first last s t rest before x run = points first last s t (rest ++ x ∷ before) [] rest before x refl run

@@ -1,0 +1,390 @@
+-- For each call: what becomes of pairs, and which paths are announced.
+use Rattle.std.proofs.Common.{if◌then◌else◌, [], ◌∷◌, ◌++◌, ◌≡◌, ℕ, ◌==◌, ◌&&◌, ◌||◌, Bool, true, false, not, List, Option, Some, None, is_some, Result, Ok, Err, inl, inr, ◌⊎◌, refl, ap, sym, ◌∙◌, subst}
+use Rattle.std.specs.Prelude.{MatchBool, MatchOption, IsSomeAnd}
+use Rattle.rand_core.specs.Stream.{Stream}
+use Rattle.is_proto.specs.Lists.{Has, same}
+use Rattle.is_proto.specs.declared.error.IceError.{IceError}
+use Rattle.is_candidate.specs.Candidates.{CandidateRecord, IsBased}
+use Rattle.is_pair.specs.Checks.{Check}
+use Rattle.is_pair.specs.Pairs.{PairRecord}
+use Rattle.is_stun.specs.Message.{Message}
+use Rattle.is_stun.specs.Reading.{Reads}
+use Rattle.is_stun.specs.Integrity.{IsSignedBy}
+use Rattle.is_stun.specs.declared.header.Class.{Class}
+use Rattle.is_stun.specs.declared.header.Class.TheVariants as class
+use Rattle.is_stun.specs.Laws.{IsPut}
+use Rattle.is_rules.proofs.Rising.{rising-each, below-each}
+use Rattle.is_rules.proofs.Addresses.{both}
+use Rattle.is_rules.specs.declared.credentials.IceCreds.{IceCreds}
+use Rattle.is_rules.specs.declared.told.Path.{Path}
+use Rattle.is_rules.specs.declared.told.Told.{Told}
+use Rattle.is_rules.specs.Request.{RequestRecord, request_in}
+use Rattle.is_rules.specs.Steps.{Answer, Done, Flag, Polled, Happened, Wake, NotCalled, Refused, Entry, quiet, added, done, answer_by}
+use Rattle.is_rules.specs.Told.{nothing_told, issued_as, turned}
+use Rattle.is_stun.specs.Checks.{binding_reply, binding_role_conflict_reply}
+use Rattle.is_stun.specs.Writing.{written}
+use Rattle.is_rules.specs.declared.roles.Conflict.TheVariants.{Insists}
+use Rattle.is_rules.specs.Agent.{AgentRecord}
+use Rattle.is_rules.specs.Sending.{path_of, carried}
+use Rattle.is_rules.specs.Roles.{conflict_by, conflict_of, switched}
+use Rattle.is_rules.specs.Settings.{SetsMtu, with_retransmits}
+use Rattle.is_rules.specs.Credentials.{SetsLocal, SetsRemote}
+use Rattle.is_rules.specs.Discarding.{place_to_discard}
+use Rattle.is_rules.specs.Remote.{AddsRemote}
+use Rattle.is_rules.specs.Restarting.{Restarts, Recreates}
+use Rattle.is_rules.specs.Serving.{Drops, Serves}
+use Rattle.is_rules.specs.Queue.{queued, first_taken, request_at}
+use Rattle.is_pair.specs.Bag.{keeps_check}
+use Rattle.is_rules.specs.Answers.{keeps_check_on, goes_back, is_role_conflict, TakesSuccess, TakesFailure, GivesUpRole}
+use Rattle.is_rules.specs.Accepting.{Takes, IsAcceptedAs, IsAcceptedOn, source_told}
+use Rattle.is_rules.specs.Timeouts.{awake, Proceeds, ServesQueued, TimesOut}
+use Rattle.is_rules.specs.Steps.{Call, SetMtu, SetControlTieBreaker, SetMaxCandidatePairs, SetIceLite, SetTimingAdvance, SetInitialStunRto, SetMaxStunRto, SetMaxStunRetransmits, SetLocalPreference, SetControlling, SetLocalCredentials, SetRemoteCredentials, SkipPairIds, AddLocalCandidate, AddRemoteCandidate, InvalidateCandidate, RestartIce, RecreateCandidatePairs, ReceivePacket, HandleTimeout, PollTransmit, PollTimeout, PollEvent, Becomes, MayDo, Receives, Step}
+use Rattle.is_rules.specs.Sound.{IsSound}
+use Rattle.is_rules.specs.Brought.{Brings, IsServing, IsAskedFor, IsAnswered}
+use Rattle.is_rules.proofs.RefusalLaws.{mtu_kept, local_kept, remote_kept, restart_kept, recreation_kept, enrolment_kept, storing_kept}
+use Rattle.is_rules.proofs.Frames.{Frame, frame_of, packet_along, either}
+use Rattle.is_rules.proofs.FrameLaws as frames
+use Rattle.is_rules.proofs.Onward.{Parts, Fit, IsNominatedIn, Onward, here}
+use Rattle.is_rules.proofs.Moves.{parts_of}
+use Rattle.is_rules.proofs.Tells.{Tells, tells_none}
+use Rattle.is_rules.proofs.Calms.{Calm, calm, is_calm}
+use Rattle.is_rules.proofs.Moments.{CheckOut, proceeds, succeeds}
+use Rattle.is_rules.proofs.Serves.{Replied, Insisted, Granted, serves_does, switches}
+use Rattle.is_rules.proofs.Gathered.{adds_local_goes, adds_remote_goes, invalidates_goes, recreates_goes, restarts_goes, skips_goes, rtos_goes, polls_goes}
+
+or_true : (a b : Bool) → (a || b) ≡ true → (a ≡ true) ⊎ (b ≡ true)
+or_true true b h = inl refl
+or_true false b h = inr h
+
+and_left : (a b : Bool) → (a && b) ≡ true → a ≡ true
+and_left true b h = refl
+and_left false b h = h
+
+not_true : (a : Bool) → not a ≡ true → a ≡ false
+not_true true h = sym h
+not_true false h = refl
+
+not_false : (a : Bool) → not a ≡ false → a ≡ true
+not_false true h = refl
+not_false false h = sym h
+
+module _ {H P : Type 0} (mac : H → List ℕ → List ℕ → List ℕ) (answers : P → CandidateRecord → ℕ → ℕ → Type 0) (old new : AgentRecord H P) (s t : Stream) (e : Entry) where
+  abbrev pub Asks : Call P → Path → Type 0
+  Asks call path = IsAskedFor old call e path ⊎ ((old.lite ≡ true) ⊎ ((old.controlling ≡ true) ⊎ (new.controlling ≡ true)))
+
+  abbrev pub Met : Call P → Path → Type 0
+  Met call path = IsAnswered mac old call e path ⊎ (old.lite ≡ true)
+
+  abbrev pub Sent : Path → List ℕ → Bool → Type 0
+  Sent path id role = (e.told.issued ≡ Some (issued_as path class.Request id)) × (role ≡ old.controlling) × (new.controlling ≡ old.controlling)
+
+  abbrev pub Moves : Call P → AgentRecord H P → Type 0
+  Moves call a =
+      Onward (Asks call) (Met call) Sent (parts_of (Asks call) (Met call) Sent old) (parts_of (Asks call) (Met call) Sent a)
+
+  abbrev pub Telling : Call P → Type 0
+  Telling call =
+      Tells (Asks call) (Met call) Sent (parts_of (Asks call) (Met call) Sent old) (parts_of (Asks call) (Met call) Sent new) old.announced new.announced e.told.announced
+
+  -- what goes out: nothing, a check, or an answer to the request that is served
+  abbrev pub Posted : Call P → Type 0
+  Posted call =
+      (e.told.issued ≡ None)
+      ⊎ (((new.controlling ≡ old.controlling) × CheckOut mac (frame_of old) old.local old.packets e.told.issued new.packets)
+      ⊎ ((q : RequestRecord) × IsServing old call e q
+      × (Replied (Asks call) (Met call) Sent mac q old e.told new ⊎ Insisted (Asks call) (Met call) Sent mac q old e.told new)))
+
+  abbrev pub PairEffect : Call P → Type 0
+  PairEffect call = Moves call new × Telling call × Posted call
+
+  module _ (call : Call P) (fit : Fit (parts_of (Asks call) (Met call) Sent old)) where
+    silent : (told : Told) → e.told ≡ told → told ≡ nothing_told → new.announced ≡ old.announced → Moves call new → PairEffect call
+    silent told is nothing number moves = (
+      moves,
+      subst (λ (ps : List (Option Path)). Tells (Asks call) (Met call) Sent (parts_of (Asks call) (Met call) Sent old) (parts_of (Asks call) (Met call) Sent new) old.announced new.announced ps)
+          (sym (ap (λ (x : Told). x.announced) (is ∙ nothing)))
+          (tells_none (Asks call) (Met call) Sent (parts_of (Asks call) (Met call) Sent old) (parts_of (Asks call) (Met call) Sent new) old.announced new.announced number),
+      inl (ap (λ (x : Told). x.issued) (is ∙ nothing)),
+    )
+
+    quietly : (answer : Answer) → e ≡ quiet answer → Calm call old e new → Moves call new → PairEffect call
+    quietly answer is calm moves = silent nothing_told (ap (λ (x : Entry). x.told) is) refl calm.announced moves
+
+    unmoved : new ≡ old → Moves call new
+    unmoved made = subst (λ (a : AgentRecord H P). Moves call a) (sym made) (here (Asks call) (Met call) Sent (parts_of (Asks call) (Met call) Sent old) fit)
+
+    becomes : (wanted : AgentRecord H P) → Moves call wanted → Calm call old e new → Becomes wanted s e new t → PairEffect call
+    becomes wanted moves calm (is, made, drawn) = quietly Done is calm (subst (λ (a : AgentRecord H P). Moves call a) (sym made) moves)
+
+    resting : Moves call old
+    resting = here (Asks call) (Met call) Sent (parts_of (Asks call) (Met call) Sent old) fit
+
+    done_or : (Does : Result (Unit {0}) IceError → AgentRecord H P → Type 0) → (Does (Ok _) new → Moves call new)
+        → ((error : IceError) → Does (Err error) new → new ≡ old) → Calm call old e new → MayDo Does s e new t → PairEffect call
+    done_or Does goes kept calm (Ok _, is, h, drawn) = quietly Done is calm (goes h)
+    done_or Does goes kept calm (Err error, is, h, drawn) = quietly (Refused error) is calm (unmoved (kept error h))
+
+    insists_of : (a : AgentRecord H P) → a.tie_breaker ≡ old.tie_breaker → a.controlling ≡ old.controlling → (q : RequestRecord) → conflict_of a q ≡ Insists → conflict_of old q ≡ Insists
+    insists_of a tie role q is =
+        sym (ap (λ n. conflict_by n (if a.controlling then q.ice_controlling else q.ice_controlled)) tie ∙ ap (λ c. conflict_by old.tie_breaker (if c then q.ice_controlling else q.ice_controlled)) role) ∙ is
+
+    -- a request that is served, with its way back
+    grants : (q : RequestRecord) (a : AgentRecord H P) → a.lite ≡ old.lite → a.controlling ≡ old.controlling → IsServing old call e q
+        → Granted (Asks call) (Met call) Sent mac q a
+    grants q a lite role serving = record {
+      valid = λ h. inr (sym lite ∙ and_left a.lite (not a.controlling) h);
+      asking = λ c u. inl (q, serving, u, refl);
+      free = λ h p. elim (or_true a.controlling a.lite h) [ inl c ↦ inr (inr (inl (sym role ∙ c))) | inr l ↦ inr (inl (sym lite ∙ l)) ];
+    }
+
+    grants_switched : (q : RequestRecord) (a : AgentRecord H P) → a.lite ≡ old.lite → new.controlling ≡ not a.controlling → IsServing old call e q
+        → Granted (Asks call) (Met call) Sent mac q (switched a)
+    grants_switched q a lite role serving = record {
+      valid = λ h. inr (sym lite ∙ and_left a.lite (not (not a.controlling)) h);
+      asking = λ c u. inl (q, serving, u, refl);
+      free = λ h p. elim (or_true (not a.controlling) a.lite h) [ inl c ↦ inr (inr (inr (role ∙ c))) | inr l ↦ inr (inl (sym lite ∙ l)) ];
+    }
+
+    serves_pairs : (q : RequestRecord) (a b : AgentRecord H P) (told : Told) → parts_of (Asks call) (Met call) Sent a ≡ parts_of (Asks call) (Met call) Sent old
+        → parts_of (Asks call) (Met call) Sent new ≡ parts_of (Asks call) (Met call) Sent b → ((c : CandidateRecord) → Has a.local c → IsBased c)
+        → a.lite ≡ old.lite → a.controlling ≡ old.controlling → new.controlling ≡ b.controlling
+        → a.announced ≡ old.announced → new.announced ≡ b.announced → a.packets ≡ old.packets → new.packets ≡ b.packets
+        → (a.provider ≡ old.provider) × (a.local_creds ≡ old.local_creds) × (a.tie_breaker ≡ old.tie_breaker)
+        → IsServing old call e q → e.told ≡ told → Serves mac q a told b → PairEffect call
+    serves_pairs q a b told parts behind based lite role after number number_after packets packets_after (provider, creds, tie) serving is h =
+        let fit_a : Fit (parts_of (Asks call) (Met call) Sent a) = subst (λ (x : Parts). Fit x) (sym parts) fit in
+        let k = serves_does (Asks call) (Met call) Sent mac q a b told based fit_a (λ _. grants q a lite role serving)
+        (λ _ turned_role. grants_switched q a lite (after ∙ turned_role) serving) h in
+        let x : Parts = parts_of (Asks call) (Met call) Sent old in
+        let y : Parts = parts_of (Asks call) (Met call) Sent b in
+        let bytes : (m : Message) → written (mac a.provider) (Some a.local_creds.pass) m ≡ written (mac old.provider) (Some old.local_creds.pass) m =
+        (λ m. ap (λ p. written (mac p) (Some a.local_creds.pass) m) provider ∙ ap (λ (c : IceCreds). written (mac old.provider) (Some c.pass) m) creds) in
+        let out : (m : Message) → b.packets ≡ a.packets ++ packet_along (turned q.path) (written (mac a.provider) (Some a.local_creds.pass) m) ∷ []
+        → new.packets ≡ old.packets ++ packet_along (turned q.path) (written (mac old.provider) (Some old.local_creds.pass) m) ∷ [] =
+        (λ m put. packets_after ∙ put ∙ ap (λ ps. ps ++ packet_along (turned q.path) (written (mac a.provider) (Some a.local_creds.pass) m) ∷ []) packets
+        ∙ ap (λ w. old.packets ++ packet_along (turned q.path) w ∷ []) (bytes m)) in (
+          subst (λ (x : Parts). Onward (Asks call) (Met call) Sent (parts_of (Asks call) (Met call) Sent old) x) (sym behind)
+              (subst (λ (x : Parts). Onward (Asks call) (Met call) Sent x y) parts k.0),
+          subst (λ (t : Told). Tells (Asks call) (Met call) Sent x (parts_of (Asks call) (Met call) Sent new) old.announced new.announced t.announced) (sym is)
+              (subst (λ n. Tells (Asks call) (Met call) Sent x (parts_of (Asks call) (Met call) Sent new) old.announced n told.announced) (sym number_after)
+              (subst (λ n. Tells (Asks call) (Met call) Sent x (parts_of (Asks call) (Met call) Sent new) n b.announced told.announced) number
+              (subst (λ (z : Parts). Tells (Asks call) (Met call) Sent x z a.announced b.announced told.announced) (sym behind)
+              (subst (λ (z : Parts). Tells (Asks call) (Met call) Sent z y a.announced b.announced told.announced) parts k.1)))),
+          subst (λ (t : Told). (t.issued ≡ None) ⊎ (((new.controlling ≡ old.controlling) × CheckOut mac (frame_of old) old.local old.packets t.issued new.packets)
+              ⊎ ((q : RequestRecord) × IsServing old call e q
+              × (Replied (Asks call) (Met call) Sent mac q old t new ⊎ Insisted (Asks call) (Met call) Sent mac q old t new)))) (sym is)
+              (elim k.2 [
+                | inl r ↦ elim r [
+                  | inl none ↦ inl none.0
+                  | inr (issued, values, put, nominates_it) ↦ inr (inr (
+                    q,
+                    serving,
+                    inl (inr (
+                      issued,
+                      subst (λ w. IsPut w (binding_reply q.id (carried q.path.source))) (bytes (binding_reply q.id q.path.source)) values,
+                      out (binding_reply q.id q.path.source) put,
+                      (λ uses controlled. subst (λ (z : Parts). IsNominatedIn z (turned q.path)) (sym behind) (nominates_it uses (sym after ∙ controlled))),
+                    )),
+                  ))
+                ]
+                | inr (issued, values, put, insists, stays) ↦ inr (inr (
+                  q,
+                  serving,
+                  inr (
+                    issued,
+                    subst (λ w. IsPut w (binding_role_conflict_reply q.id)) (bytes (binding_role_conflict_reply q.id)) values,
+                    out (binding_role_conflict_reply q.id) put,
+                    insists_of a tie role q insists,
+                    after ∙ stays ∙ role,
+                  ),
+                ))
+              ]),
+        )
+
+  -- ---- moments
+
+  moment_by : (now : ℕ) (sound : IsSound old) (fit : Fit (parts_of (Asks (HandleTimeout now)) (Met (HandleTimeout now)) Sent old)) (told : Told) (o : Option RequestRecord)
+      → request_at now old ≡ o → e ≡ record { answer = Done; told = told }
+      → MatchOption o (Proceeds mac now (awake now old) s told new t) (λ q. ServesQueued mac q (awake now old) s told new t) → PairEffect (HandleTimeout now)
+  moment_by now sound fit told None is e_is h =
+      let call : Call P = HandleTimeout now in
+      let frame = frames.proceeds mac now (awake now old) new s t told h in
+      let role : new.controlling ≡ old.controlling = ap (λ (f : Frame H). f.controlling) frame.0 in
+      let told_is : e.told ≡ told = ap (λ (x : Entry). x.told) e_is in
+      let k = proceeds (Asks call) (Met call) Sent mac now (awake now old) new s t told
+      (λ allowed p. elim (or_true old.controlling old.lite allowed) [ inl c ↦ inr (inr (inl c)) | inr l ↦ inr (inl l) ])
+      (λ path id out. (ap (λ (x : Told). x.issued) told_is ∙ out, refl, role)) fit h in (
+        k.0,
+        subst (λ (x : Told). Tells (Asks call) (Met call) Sent (parts_of (Asks call) (Met call) Sent old) (parts_of (Asks call) (Met call) Sent new) old.announced new.announced x.announced) (sym told_is) k.1,
+        inr (inl (
+          role,
+          subst (λ (x : Told). CheckOut mac (frame_of old) old.local old.packets x.issued new.packets) (sym told_is)
+              k.2,
+        )),
+      )
+  moment_by now sound fit told (Some q) is e_is (h, drawn) =
+      serves_pairs (HandleTimeout now) fit q (first_taken (awake now old)) new told refl refl sound.based refl refl refl refl refl refl refl (refl, refl, refl)
+      (is, ap (λ (x : Entry). x.answer) e_is) (ap (λ (x : Entry). x.told) e_is) h
+
+  -- ---- packets
+
+  module _ (now : ℕ) (way : Path) (bytes : List ℕ) (m : Message) (mid : AgentRecord H P) (told : Told) (sound : IsSound old)
+      (fit : Fit (parts_of (Asks (ReceivePacket now way bytes)) (Met (ReceivePacket now way bytes)) Sent old))
+      (reads : Reads bytes m) (accepted : IsAcceptedOn mac old way m) (e_is : e ≡ record { answer = Flag true; told = told }) (made : new ≡ source_told way mid) where
+    abbrev packet : Call P
+    packet = ReceivePacket now way bytes
+
+    told_is : e.told ≡ told
+    told_is = ap (λ (x : Entry). x.told) e_is
+
+    brought : Brings packet e now way m
+    brought = (refl, refl, reads, ap (λ (x : Entry). x.answer) e_is)
+
+    behind : parts_of (Asks packet) (Met packet) Sent new ≡ parts_of (Asks packet) (Met packet) Sent mid
+    behind = ap (λ (a : AgentRecord H P). parts_of (Asks packet) (Met packet) Sent a) made
+
+    moved_on : Moves packet mid → Moves packet new
+    moved_on k = subst (λ (x : Parts). Onward (Asks packet) (Met packet) Sent (parts_of (Asks packet) (Met packet) Sent old) x) (sym behind) k
+
+    announcing : (n : Option ℕ) → mid.announced ≡ n
+        → Tells (Asks packet) (Met packet) Sent (parts_of (Asks packet) (Met packet) Sent old) (parts_of (Asks packet) (Met packet) Sent mid) old.announced mid.announced told.announced
+        → Telling packet
+    announcing n is k =
+        subst (λ (x : Told). Tells (Asks packet) (Met packet) Sent (parts_of (Asks packet) (Met packet) Sent old) (parts_of (Asks packet) (Met packet) Sent new) old.announced new.announced x.announced) (sym told_is)
+        (subst (λ (a : AgentRecord H P). Tells (Asks packet) (Met packet) Sent (parts_of (Asks packet) (Met packet) Sent old) (parts_of (Asks packet) (Met packet) Sent a) old.announced a.announced told.announced) (sym made) k)
+
+    drops_pairs : (a : AgentRecord H P) → Moves packet a → a.announced ≡ old.announced → Drops a told mid → PairEffect packet
+    drops_pairs a moves number (nothing, same_is) =
+        silent packet fit told told_is nothing (ap (λ (x : AgentRecord H P). x.announced) made ∙ ap (λ (x : AgentRecord H P). x.announced) same_is ∙ number) (moved_on (subst (λ (x : AgentRecord H P). Moves packet x) (sym same_is) moves))
+
+    request_pairs : (peer : Option IceCreds) → old.remote_creds ≡ peer → m.class ≡ class.Request
+        → MatchOption peer ((told ≡ nothing_told) × (mid ≡ queued (request_in now way m) old)) (λ peer. Serves mac (request_in now way m) old told mid) → PairEffect packet
+    request_pairs None none is (nothing, same_is) =
+        silent packet fit told told_is nothing (ap (λ (x : AgentRecord H P). x.announced) made ∙ ap (λ (x : AgentRecord H P). x.announced) same_is)
+        (moved_on (subst (λ (x : AgentRecord H P). Moves packet x) (sym same_is) (resting packet fit)))
+    request_pairs (Some peer) known is h =
+        serves_pairs packet fit (request_in now way m) old mid told refl behind sound.based refl refl (ap (λ (a : AgentRecord H P). a.controlling) made)
+        refl (ap (λ (a : AgentRecord H P). a.announced) made) refl (ap (λ (a : AgentRecord H P). a.packets) made) (refl, refl, refl)
+        (now, way, m, brought, is, ap is_some known, refl) told_is h
+
+    awaited : (c : Class) → m.class ≡ c → IsAcceptedAs mac c (keeps_check_on old way m.id) old m
+    awaited c is = subst (λ x. IsAcceptedAs mac x (keeps_check_on old way m.id) old m) is accepted.1
+
+    signed_by : (peer : Option IceCreds) → old.remote_creds ≡ peer → IsSomeAnd peer (λ p. IsSignedBy (mac old.provider) m p.pass)
+        → (p : IceCreds) × (old.remote_creds ≡ Some p) × IsSignedBy (mac old.provider) m p.pass
+    signed_by None none h = absurd h
+    signed_by (Some p) known h = (p, known, h)
+
+    answers_path : m.class ≡ class.Success → (p : PairRecord) (c : Check) → Has old.pairs p → keeps_check_on old way m.id p ≡ true → Has p.checks c → c.id ≡ m.id
+        → Met packet (path_of old p)
+    answers_path is p c has on keeps id_is =
+        let peer = signed_by old.remote_creds refl (awaited class.Success is).1 in
+        let goes = both (keeps_check m.id p) (goes_back way (path_of old p)) on in
+        inl (now, way, m, c.controlling, peer.0, brought, is, (p, c, has, keeps, id_is, refl, refl), peer.1, peer.2, goes.1)
+
+    failure_pairs : TakesFailure old way m told mid → PairEffect packet
+    failure_pairs h = either (is_role_conflict m) h
+        (λ _ k. gives k)
+        (λ _ k. drops_pairs old (resting packet fit) refl k) where
+          gives : GivesUpRole old way m told mid → PairEffect packet
+          gives (p, c, has, on, keeps, id_is, k) = either (same c.controlling old.controlling) k
+              (λ _ z. drops_pairs (switched old) (switches (Asks packet) (Met packet) Sent old fit) refl z)
+              (λ _ z. drops_pairs old (resting packet fit) refl z)
+
+    quiet_success : TakesSuccess now old way m told mid → told.issued ≡ None
+    quiet_success (recorded, records_it, (path, named, nominating, is, done)) = ap (λ (x : Told). x.issued) is
+
+    taken : (c : Class) → m.class ≡ c → Takes mac c now old way m told mid → PairEffect packet
+    taken class.Request is h = request_pairs old.remote_creds refl is h
+    taken class.Success is h =
+        let k = succeeds (Asks packet) (Met packet) Sent now old mid way m told
+        (λ allowed p. elim (or_true old.controlling old.lite allowed) [ inl c ↦ inr (inr (inl c)) | inr l ↦ inr (inl l) ])
+        (answers_path is) fit h in
+        (moved_on k.0, announcing mid.announced refl k.1, inl (ap (λ (x : Told). x.issued) told_is ∙ quiet_success h))
+    taken class.Failure is h = failure_pairs h
+    taken class.Indication is h = absurd h
+    taken class.Unknown is h = absurd h
+
+  receives : (now : ℕ) (way : Path) (bytes : List ℕ) (sound : IsSound old) (fit : Fit (parts_of (Asks (ReceivePacket now way bytes)) (Met (ReceivePacket now way bytes)) Sent old))
+      → Receives mac answers now old way bytes e new → PairEffect (ReceivePacket now way bytes)
+  receives now way bytes sound fit (inl (fault, has, is, made)) = silent (ReceivePacket now way bytes) fit nothing_told (ap (λ (x : Entry). x.told) is) refl (ap (λ (x : AgentRecord H P). x.announced) made) (unmoved (ReceivePacket now way bytes) fit made)
+  receives now way bytes sound fit (inr (m, reads, (Ok false, told, is, (unaccepted, nothing, made)))) =
+      silent (ReceivePacket now way bytes) fit told (ap (λ (x : Entry). x.told) is) nothing (ap (λ (x : AgentRecord H P). x.announced) made) (unmoved (ReceivePacket now way bytes) fit made)
+  receives now way bytes sound fit (inr (m, reads, (Ok true, told, is, (accepted, (mid, takes, made))))) =
+      taken now way bytes m mid told sound fit reads accepted is made m.class refl takes
+  receives now way bytes sound fit (inr (m, reads, (Err error, told, is, (may, nothing, made)))) =
+      silent (ReceivePacket now way bytes) fit told (ap (λ (x : Entry). x.told) is) nothing (ap (λ (x : AgentRecord H P). x.announced) made) (unmoved (ReceivePacket now way bytes) fit made)
+
+  moments : (now : ℕ) (sound : IsSound old) (fit : Fit (parts_of (Asks (HandleTimeout now)) (Met (HandleTimeout now)) Sent old)) (r : Result (Unit {0}) IceError) (told : Told)
+      → e ≡ record { answer = answer_by done r; told = told } → TimesOut mac now old s r told new t → PairEffect (HandleTimeout now)
+  moments now sound fit (Ok _) told is h = moment_by now sound fit told (request_at now old) refl is h
+  moments now sound fit (Err error) told is (may, nothing, made, drawn) =
+      silent (HandleTimeout now) fit told (ap (λ (x : Entry). x.told) is) nothing (ap (λ (x : AgentRecord H P). x.announced) made) (unmoved (HandleTimeout now) fit made)
+
+  retransmits : (b : Bool) (n : ℕ) (fit : Fit (parts_of (Asks (SetMaxStunRetransmits n)) (Met (SetMaxStunRetransmits n)) Sent old))
+      → Calm (SetMaxStunRetransmits n) old e new → MatchBool b ((e ≡ quiet NotCalled) × (new ≡ old) × (t ≡ s)) (Becomes (with_retransmits n old) s e new t) → PairEffect (SetMaxStunRetransmits n)
+  retransmits true n fit calm (is, made, drawn) = quietly (SetMaxStunRetransmits n) fit NotCalled is calm (unmoved (SetMaxStunRetransmits n) fit made)
+  retransmits false n fit calm h = becomes (SetMaxStunRetransmits n) fit (with_retransmits n old) (resting (SetMaxStunRetransmits n) fit) calm h
+
+  fits : (call : Call P) → IsSound old → Fit (parts_of (Asks call) (Met call) Sent old)
+  fits call sound = record { placed = sound.placed; rising = rising-each old.pairs sound.rising; below = below-each old.next_number old.pairs sound.below; started = λ p has c keeps. sound.started p c has keeps }
+
+  abbrev calms : (call : Call P) → is_calm call ≡ true → Step mac answers old s call e new t → Calm call old e new
+  calms call is h = calm mac answers old new s t e call is h
+
+  abbrev as_it_was : (call : Call P) → IsSound old → Moves call old
+  as_it_was call sound = resting call (fits call sound)
+
+  -- each call
+  pub paired : (call : Call P) (sound : IsSound old) → Step mac answers old s call e new t → PairEffect call
+  paired (SetMtu target warn) sound h = done_or (SetMtu target warn) (fits (SetMtu target warn) sound) (SetsMtu old target warn)
+      (λ k. subst (λ (a : AgentRecord H P). Moves (SetMtu target warn) a) (sym k.1) (as_it_was (SetMtu target warn) sound)) (λ error k. mtu_kept old new target warn error k) (calms (SetMtu target warn) refl h) h
+  paired (SetControlTieBreaker tie) sound h = becomes (SetControlTieBreaker tie) (fits (SetControlTieBreaker tie) sound) _ (as_it_was (SetControlTieBreaker tie) sound) (calms (SetControlTieBreaker tie) refl h) h
+  paired (SetMaxCandidatePairs n) sound h = becomes (SetMaxCandidatePairs n) (fits (SetMaxCandidatePairs n) sound) _ (as_it_was (SetMaxCandidatePairs n) sound) (calms (SetMaxCandidatePairs n) refl h) h
+  paired (SetIceLite lite) sound h = becomes (SetIceLite lite) (fits (SetIceLite lite) sound) _ (as_it_was (SetIceLite lite) sound) (calms (SetIceLite lite) refl h) h
+  paired (SetTimingAdvance by) sound h = becomes (SetTimingAdvance by) (fits (SetTimingAdvance by) sound) _ (as_it_was (SetTimingAdvance by) sound) (calms (SetTimingAdvance by) refl h) h
+  paired (SetInitialStunRto rto) sound h =
+      let call : Call P = SetInitialStunRto rto in
+      becomes call (fits call sound) _ (rtos_goes (Asks call) (Met call) Sent old rto old.timing.max_rto.0 (fits call sound)) (calms (SetInitialStunRto rto) refl h) h
+  paired (SetMaxStunRto rto) sound h =
+      let call : Call P = SetMaxStunRto rto in
+      becomes call (fits call sound) _ (rtos_goes (Asks call) (Met call) Sent old old.timing.initial_rto.0 rto (fits call sound)) (calms (SetMaxStunRto rto) refl h) h
+  paired (SetMaxStunRetransmits n) sound h = retransmits (n == 0) n (fits (SetMaxStunRetransmits n) sound) (calms (SetMaxStunRetransmits n) refl h) h
+  paired (SetLocalPreference object) sound h = becomes (SetLocalPreference object) (fits (SetLocalPreference object) sound) _ (as_it_was (SetLocalPreference object) sound) (calms (SetLocalPreference object) refl h) h
+  paired (SetControlling controlling) sound h = becomes (SetControlling controlling) (fits (SetControlling controlling) sound) _ (as_it_was (SetControlling controlling) sound) (calms (SetControlling controlling) refl h) h
+  paired (SetLocalCredentials creds) sound h = done_or (SetLocalCredentials creds) (fits (SetLocalCredentials creds) sound) (SetsLocal old creds)
+      (λ k. subst (λ (a : AgentRecord H P). Moves (SetLocalCredentials creds) a) (sym k.1) (as_it_was (SetLocalCredentials creds) sound)) (λ error k. local_kept old new creds error k) (calms (SetLocalCredentials creds) refl h) h
+  paired (SetRemoteCredentials creds) sound h = done_or (SetRemoteCredentials creds) (fits (SetRemoteCredentials creds) sound) (SetsRemote old creds)
+      (λ k. subst (λ (a : AgentRecord H P). Moves (SetRemoteCredentials creds) a) (sym k.1) (as_it_was (SetRemoteCredentials creds) sound)) (λ error k. remote_kept old new creds error k) (calms (SetRemoteCredentials creds) refl h) h
+  paired (SkipPairIds n) sound h =
+      let call : Call P = SkipPairIds n in
+      becomes call (fits call sound) _ (skips_goes (Asks call) (Met call) Sent old n (fits call sound)) (calms (SkipPairIds n) refl h) h
+  paired (AddLocalCandidate c) sound (Ok place, is, h, drawn) =
+      let call : Call P = AddLocalCandidate c in
+      quietly call (fits call sound) (added place) is (calms (AddLocalCandidate c) refl (Ok place, is, h, drawn)) (adds_local_goes (Asks call) (Met call) Sent answers old new c place (fits call sound) h)
+  paired (AddLocalCandidate c) sound (Err error, is, h, drawn) =
+      let call : Call P = AddLocalCandidate c in
+      quietly call (fits call sound) (Refused error) is (calms (AddLocalCandidate c) refl (Err error, is, h, drawn)) (unmoved call (fits call sound) (enrolment_kept answers old new c error h))
+  paired (AddRemoteCandidate c) sound h =
+      let call : Call P = AddRemoteCandidate c in
+      done_or call (fits call sound) (AddsRemote old c) (λ k. adds_remote_goes (Asks call) (Met call) Sent old new c (fits call sound) k) (λ error k. storing_kept old new c error k) (calms (AddRemoteCandidate c) refl h) h
+  paired (InvalidateCandidate c) sound (found, is, h, drawn) =
+      let call : Call P = InvalidateCandidate c in
+      quietly call (fits call sound) (Flag found) is (calms (InvalidateCandidate c) refl (found, is, h, drawn))
+      (invalidates_goes (Asks call) (Met call) Sent old new (place_to_discard c old.local) (place_to_discard c old.remote) found (fits call sound) h)
+  paired (RestartIce creds keep) sound h =
+      let call : Call P = RestartIce creds keep in
+      done_or call (fits call sound) (Restarts old creds keep) (λ k. restarts_goes (Asks call) (Met call) Sent old new creds keep k.1)
+      (λ error k. restart_kept old new creds keep error k) (calms (RestartIce creds keep) refl h) h
+  paired RecreateCandidatePairs sound h =
+      let call : Call P = RecreateCandidatePairs in
+      done_or call (fits call sound) (Recreates old) (λ k. recreates_goes (Asks call) (Met call) Sent old new (fits call sound) k)
+      (λ error k. recreation_kept old new error k) (calms RecreateCandidatePairs refl h) h
+  paired (ReceivePacket now way bytes) sound h = receives now way bytes sound (fits (ReceivePacket now way bytes) sound) h.0
+  paired (HandleTimeout now) sound (r, told, is, h) = moments now sound (fits (HandleTimeout now) sound) r told is h
+  paired PollTransmit sound (given, is, (polled, made), drawn) = quietly PollTransmit (fits PollTransmit sound) (Polled given) is (calms PollTransmit refl (given, is, (polled, made), drawn))
+      (subst (λ (a : AgentRecord H P). Moves PollTransmit a) (sym made) (as_it_was PollTransmit sound))
+  paired PollTimeout sound (wake, is, h, drawn) = quietly PollTimeout (fits PollTimeout sound) (Wake wake) is (calms PollTimeout refl (wake, is, h, drawn))
+      (polls_goes (Asks PollTimeout) (Met PollTimeout) Sent old new wake (fits PollTimeout sound) h)
+  paired PollEvent sound (given, is, (polled, made), drawn) = quietly PollEvent (fits PollEvent sound) (Happened given) is (calms PollEvent refl (given, is, (polled, made), drawn))
+      (subst (λ (a : AgentRecord H P). Moves PollEvent a) (sym made) (as_it_was PollEvent sound))

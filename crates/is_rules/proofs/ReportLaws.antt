@@ -1,0 +1,302 @@
+-- Events are appended, in the order in which they happen.
+use Rattle.std.proofs.Common.{◌≡◌, ℕ, ◌==◌, Bool, true, false, List, [], ◌∷◌, ◌++◌, length, Option, Some, None, Result, Ok, Err, inl, inr, refl, ap, sym, ◌∙◌, subst, append_assoc, if◌then◌else◌}
+use Rattle.std.specs.Prelude.{MatchBool, MatchOption, ◌&&◌}
+use Rattle.std.specs.List.{list_any}
+use Rattle.std.proofs.lemmas.List.{append-nil}
+use Rattle.rand_core.specs.Stream.{Stream}
+use Rattle.is_proto.specs.Lists.{same}
+use Rattle.is_proto.specs.declared.error.IceError.{IceError}
+use Rattle.is_candidate.specs.Candidates.{CandidateRecord, candidate_at}
+use Rattle.is_pair.specs.Pairs.{PairRecord}
+use Rattle.is_stun.specs.Message.{Message}
+use Rattle.is_stun.specs.declared.header.Class.{Class}
+use Rattle.is_stun.specs.declared.header.Class.TheVariants as class
+use Rattle.is_rules.specs.declared.credentials.IceCreds.{IceCreds}
+use Rattle.is_rules.specs.declared.event.IceAgentEvent.TheVariants.{IceRestart, IceConnectionStateChange}
+use Rattle.is_rules.specs.declared.event.IceConnectionState.{IceConnectionState}
+use Rattle.is_rules.specs.declared.event.IceConnectionState.TheVariants.{New, Checking}
+use Rattle.is_rules.specs.declared.told.Path.{Path}
+use Rattle.is_rules.specs.declared.told.Told.{Told}
+use Rattle.is_rules.specs.declared.told.Issued.{Issued}
+use Rattle.is_rules.specs.declared.roles.Conflict.{Conflict}
+use Rattle.is_rules.specs.declared.roles.Conflict.TheVariants.{Absent, Insists, Yields}
+use Rattle.is_rules.specs.declared.places.RemotePlace.{RemotePlace}
+use Rattle.is_rules.specs.declared.places.RemotePlace.TheVariants.{Known, Barred, Unknown}
+use Rattle.is_rules.specs.Told.{nothing_told}
+use Rattle.is_rules.specs.Request.{RequestRecord, request_in}
+use Rattle.is_rules.specs.Places.{local_place}
+use Rattle.is_rules.specs.Agent.{AgentRecord}
+use Rattle.is_pair.specs.Bag.{is_valid_at}
+use Rattle.is_rules.specs.Forming.{Combination, FormsAll, formed, with_pair}
+use Rattle.is_rules.specs.Roles.{conflict_of, switched}
+use Rattle.is_rules.specs.Settings.{with_retransmits, with_rtos, numbers_skipped}
+use Rattle.is_rules.specs.Discarding.{InvalidatesAt, place_to_discard, local_discarded}
+use Rattle.is_rules.specs.Local.{AddsLocal, appended, enabled_again}
+use Rattle.is_rules.specs.Remote.{AddsRemote, as_remote, with_remote}
+use Rattle.is_rules.specs.Restarting.{restarted, emptied}
+use Rattle.is_rules.specs.States.{same_state, with_state, evaluated}
+use Rattle.is_rules.specs.Nominating.{with_selection, path_told, Nominates, NominatesWhere}
+use Rattle.is_rules.specs.Serving.{pair_served, request_counted, with_sender, is_misled, names_another, ServesPair, TakesAt, JoinsAt, Admits, SettlesBy, Settles, Drops, Serves}
+use Rattle.is_rules.specs.Queue.{first_taken, request_at, queued}
+use Rattle.is_rules.specs.Answers.{TakesSuccess, TakesFailure, GivesUpRole, is_role_conflict}
+use Rattle.is_rules.specs.Accepting.{Takes, source_told, is_seen, HandlesPacket}
+use Rattle.is_rules.specs.Checking.{all_asked, MayCheck, ChecksTop}
+use Rattle.is_rules.specs.Timeouts.{awake, start_told, at_moment, is_given_up, given_up_gone, GivesUp, Proceeds, ServesQueued, TimesOut}
+use Rattle.is_rules.specs.Steps.{Call, SetMtu, SetControlTieBreaker, SetMaxCandidatePairs, SetIceLite, SetTimingAdvance, SetInitialStunRto, SetMaxStunRto, SetMaxStunRetransmits, SetLocalPreference, SetControlling, SetLocalCredentials, SetRemoteCredentials, SkipPairIds, AddLocalCandidate, AddRemoteCandidate, InvalidateCandidate, RestartIce, RecreateCandidatePairs, ReceivePacket, HandleTimeout, PollTransmit, PollTimeout, PollEvent, Done, NotCalled, Entry, quiet, Becomes, Receives, Step}
+use Rattle.is_rules.specs.Reporting.{Extends, Begins, Reports, QueuesLaw}
+use Rattle.is_rules.proofs.Frames.{either}
+use Rattle.is_rules.proofs.RefusalLaws.{mtu_kept, local_kept, remote_kept, restart_kept, recreation_kept, enrolment_kept, storing_kept}
+use Rattle.is_rules.proofs.FrameLaws.{FrameEffect, framed}
+use Rattle.is_rules.proofs.Enrolments.{by_adding_local, by_adding_remote, by_waking}
+
+-- ---- lists
+
+kept : {X : Type 0} (old new : List X) → new ≡ old → Extends old new
+kept old new is = ([], is ∙ sym (append-nil old))
+
+one_more : {X : Type 0} (skips : Bool) (old : List X) (x : X) → Extends old (if skips then old else old ++ x ∷ [])
+one_more true old x = kept old old refl
+one_more false old x = (x ∷ [], refl)
+
+one_where : {X : Type 0} (adds : Bool) (old : List X) (x : X) → Extends old (if adds then old ++ x ∷ [] else old)
+one_where true old x = (x ∷ [], refl)
+one_where false old x = kept old old refl
+
+twice : {X : Type 0} (a b c : List X) → Extends a b → Extends b c → Extends a c
+twice a b c (more, is) (further, after) = (more ++ further, after ∙ (ap (λ xs. xs ++ further) is ∙ append_assoc a more further))
+
+module _ {H P : Type 0} where
+  -- events are appended
+  abbrev Grows : AgentRecord H P → AgentRecord H P → Type 0
+  Grows old new = Extends old.events new.events
+
+  same_events : (old new : AgentRecord H P) → new.events ≡ old.events → Grows old new
+  same_events old new is = kept old.events new.events is
+
+  -- the record is this one
+  grown : (old wanted new : AgentRecord H P) → new ≡ wanted → Grows old wanted → Grows old new
+  grown old wanted new made h = subst (λ (a : AgentRecord H P). Grows old a) (sym made) h
+
+  stays : (old new : AgentRecord H P) → new ≡ old → Grows old new
+  stays old new made = same_events old new (ap (λ (a : AgentRecord H P). a.events) made)
+
+  both : (a b c : AgentRecord H P) → Grows a b → Grows b c → Grows a c
+  both a b c f g = twice a.events b.events c.events f g
+
+  -- ---- state, nomination
+
+  state_grows : (state : IceConnectionState) (a : AgentRecord H P) → Grows a (with_state state a)
+  state_grows state a = one_more (same_state a.state state) a.events _
+
+  told_grows : (path : Option Path) (a : AgentRecord H P) → Grows a (path_told path a)
+  told_grows None a = kept a.events a.events refl
+  told_grows (Some path) a = (_, refl)
+
+  nominates_grows : (old new : AgentRecord H P) (path : Option Path) → Nominates old path new → Grows old new
+  nominates_grows old new path (chosen, names, made) = grown old (path_told path (with_selection chosen old)) new made (told_grows path (with_selection chosen old))
+
+  where_grows : (evaluates : Bool) (old new : AgentRecord H P) (path : Option Path) → NominatesWhere evaluates old path new → Grows old new
+  where_grows true old new path h = nominates_grows old new path h
+  where_grows false old new path h = stays old new h.1
+
+  forms_grows : (old new : AgentRecord H P) (all : List Combination) → FormsAll old all new → Grows old new
+  forms_grows old new all (f, forms, made) = same_events old new (ap (λ (a : AgentRecord H P). a.events) made)
+
+  -- ---- serving
+
+  drops_grows : (s new : AgentRecord H P) (told : Told) → Drops s told new → Grows s new
+  drops_grows s new told h = stays s new h.1
+
+  module _ (mac : H → List ℕ → List ℕ → List ℕ) (q : RequestRecord) where
+    pair_grows : (l r number : ℕ) (s new : AgentRecord H P) (told : Told) → ServesPair mac q l r number s told new → Grows s new
+    pair_grows l r number s new told (path, mid, nominates, (put, is, made)) =
+        let k : Grows s mid = where_grows (s.controlling && is_valid_at number s.pairs) (pair_served q number s) mid path nominates in
+        both s mid new k (same_events mid new (ap (λ (a : AgentRecord H P). a.events) made))
+
+    takes_grows : (l r : ℕ) (number : Option ℕ) (s new : AgentRecord H P) (told : Told) → TakesAt mac q l r number s told new → Grows s new
+    takes_grows l r (Some number) s new told h = pair_grows l r number s new told h
+    takes_grows l r None s new told h = either (candidate_at s.local l).discarded h (λ _ k. drops_grows s new told k)
+        (λ _ k. pair_grows l r s.next_number (with_pair (formed s l r) s) new told k.1)
+
+    joins_grows : (l : ℕ) (place : RemotePlace) (s new : AgentRecord H P) (told : Told) → JoinsAt mac q l place s told new → Grows s new
+    joins_grows l (Known r) s new told (number, between, h) = takes_grows l r number s new told h
+    joins_grows l Barred s new told h = drops_grows s new told h
+    joins_grows l Unknown s new told (number, between, h) = takes_grows l (length s.remote) number (with_sender q s) new told h
+
+    admits_grows : (l : ℕ) (s new : AgentRecord H P) (told : Told) → Admits mac q l s told new → Grows s new
+    admits_grows l s new told h = either (is_misled s.controlling q) h (λ _ k. drops_grows s new told k)
+        (λ _ k. joins_grows l k.0 (request_counted s) new told k.2)
+
+    settles_grows : (conflict : Conflict) (l : ℕ) (s new : AgentRecord H P) (told : Told) → SettlesBy mac conflict q l s told new → Grows s new
+    settles_grows Absent l s new told h = admits_grows l s new told h
+    settles_grows Insists l s new told (put, is, made) = same_events s new (ap (λ (a : AgentRecord H P). a.events) made)
+    settles_grows Yields l s new told h = admits_grows l (switched s) new told h
+
+    here_grows : (place : Option ℕ) (s new : AgentRecord H P) (told : Told) → MatchOption place (Drops s told new) (λ l. Settles mac q l s told new) → Grows s new
+    here_grows None s new told h = drops_grows s new told h
+    here_grows (Some l) s new told h = settles_grows (conflict_of s q) l s new told h
+
+    serves_grows : (s new : AgentRecord H P) (told : Told) → Serves mac q s told new → Grows s new
+    serves_grows s new told h = either (names_another s q) h (λ _ k. drops_grows s new told k) (λ _ k. here_grows (local_place s.local q) s new told k)
+
+    requested_grows : (peer : Option IceCreds) (s new : AgentRecord H P) (told : Told)
+        → MatchOption peer ((told ≡ nothing_told) × (new ≡ queued q s)) (λ _. Serves mac q s told new) → Grows s new
+    requested_grows None s new told (is, made) = same_events s new (ap (λ (a : AgentRecord H P). a.events) made)
+    requested_grows (Some peer) s new told h = serves_grows s new told h
+
+  -- ---- answers
+
+  success_grows : (now : ℕ) (old new : AgentRecord H P) (way : Path) (m : Message) (told : Told) → TakesSuccess now old way m told new → Grows old new
+  success_grows now old new way m told (recorded, (place, p, after, at, keeps, takes, made), (path, mid, nominates, is, last)) =
+      let a : Grows old recorded = same_events old recorded (ap (λ (a : AgentRecord H P). a.events) made) in
+      let b : Grows recorded mid = nominates_grows recorded mid path nominates in
+      let c : Grows mid new = grown mid (evaluated now mid) new last (state_grows _ mid) in
+      both old mid new (both old recorded mid a b) c
+
+  failure_grows : (old new : AgentRecord H P) (way : Path) (m : Message) (told : Told) → TakesFailure old way m told new → Grows old new
+  failure_grows old new way m told h = either (is_role_conflict m) h (λ _ k. gives k) (λ _ k. drops_grows old new told k) where
+    gives : GivesUpRole old way m told new → Grows old new
+    gives (p, c, has, on, keeps, id_is, h) = either (same c.controlling old.controlling) h
+        (λ _ k. drops_grows (switched old) new told k) (λ _ k. drops_grows old new told k)
+
+  taken_grows : (mac : H → List ℕ → List ℕ → List ℕ) (c : Class) (now : ℕ) (old new : AgentRecord H P) (way : Path) (m : Message) (told : Told)
+      → Takes mac c now old way m told new → Grows old new
+  taken_grows mac class.Request now old new way m told h = requested_grows mac (request_in now way m) old.remote_creds old new told h
+  taken_grows mac class.Success now old new way m told h = success_grows now old new way m told h
+  taken_grows mac class.Failure now old new way m told h = failure_grows old new way m told h
+  taken_grows mac class.Indication now old new way m told h = absurd h
+  taken_grows mac class.Unknown now old new way m told h = absurd h
+
+  -- ---- moments
+
+  awake_grows : (now : ℕ) (a : AgentRecord H P) → Grows a (awake now a)
+  awake_grows now a =
+      let start : Grows a (start_told a) = one_where (same_state a.state New) a.events _ in
+      both a (start_told a) (awake now a) start (state_grows _ (start_told a))
+
+  gives_up_grows : (now : ℕ) (old new : AgentRecord H P) (path : Option Path) → GivesUp now old path new → Grows old new
+  gives_up_grows now old new path h = either (list_any (is_given_up now old) old.pairs) h
+      (λ _ k. (
+      let a : Grows old k.0 = nominates_grows (given_up_gone now old) k.0 path k.1 in
+      both old k.0 new a (grown k.0 (evaluated now k.0) new k.2 (state_grows _ k.0))))
+      (λ _ k. stays old new k.1)
+
+  check_grows : (mac : H → List ℕ → List ℕ → List ℕ) (now : ℕ) (remote : Option IceCreds) (old new : AgentRecord H P) (s t : Stream) (issued : Option Issued)
+      → MayCheck mac now remote old s issued new t → Grows old new
+  check_grows mac now None old new s t issued (is, made, drawn) = stays old new made
+  check_grows mac now (Some remote) old new s t issued h = either old.lite h
+      (λ _ k. same_events old new (ap (λ (a : AgentRecord H P). a.events) k.1))
+      (λ _ k. next k.0 k.2) where
+        next : (top : Option PairRecord) → ChecksTop mac now remote top (all_asked now old) s issued new t → Grows old new
+        next None (is, made, drawn) = same_events old new (ap (λ (a : AgentRecord H P). a.events) made)
+        next (Some p) (id, drawn, put, is, made) = same_events old new (ap (λ (a : AgentRecord H P). a.events) made)
+
+  proceeds_grows : (mac : H → List ℕ → List ℕ → List ℕ) (now : ℕ) (old new : AgentRecord H P) (s t : Stream) (told : Told)
+      → Proceeds mac now old s told new t → Grows old new
+  proceeds_grows mac now old new s t told (first, second, issued, named, kept, nominates, gives, check, is) =
+      let a : Grows old named = nominates_grows (at_moment now old) named first nominates in
+      let b : Grows named kept = gives_up_grows now named kept second gives in
+      let c : Grows kept new = check_grows mac now kept.remote_creds kept new s t issued check in
+      both old kept new (both old named kept a b) c
+
+  moment_grows : (mac : H → List ℕ → List ℕ → List ℕ) (now : ℕ) (old new : AgentRecord H P) (s t : Stream) (told : Told) (o : Option RequestRecord)
+      → MatchOption o (Proceeds mac now (awake now old) s told new t) (λ q. ServesQueued mac q (awake now old) s told new t) → Grows old new
+  moment_grows mac now old new s t told None h = both old (awake now old) new (awake_grows now old) (proceeds_grows mac now (awake now old) new s t told h)
+  moment_grows mac now old new s t told (Some q) h =
+      both old (awake now old) new (awake_grows now old) (serves_grows mac q (first_taken (awake now old)) new told h.0)
+
+  -- ---- candidates and restarts
+
+  local_grows : (answers : P → CandidateRecord → ℕ → ℕ → Type 0) (old new : AgentRecord H P) (c : CandidateRecord) (place : Option ℕ)
+      → AddsLocal answers old c (Ok place) new → Grows old new
+  local_grows answers old new c place h = by_adding_local old new answers c place h
+      (λ made. stays old new made)
+      (λ x own f. forms_grows (appended x old) new _ f)
+      (λ k lt f. forms_grows (enabled_again k old) new _ f)
+      (λ x own k f. forms_grows (appended x (local_discarded k old)) new _ f)
+
+  remote_grows : (old new : AgentRecord H P) (c : CandidateRecord) → AddsRemote old c (Ok _) new → Grows old new
+  remote_grows old new c h = by_adding_remote old new c h
+      (λ made. stays old new made)
+      (λ f. forms_grows (with_remote (as_remote c) None old) new _ f)
+      (λ k lt addr f. forms_grows (with_remote (as_remote c) (Some k) old) new _ f)
+
+  invalidates_grows : (old new : AgentRecord H P) (l r : Option ℕ) (found : Bool) → InvalidatesAt l r old found new → Grows old new
+  invalidates_grows old new (Some place) r found h = same_events old new (ap (λ (a : AgentRecord H P). a.events) h.1)
+  invalidates_grows old new None (Some place) found h = same_events old new (ap (λ (a : AgentRecord H P). a.events) h.1)
+  invalidates_grows old new None None found h = stays old new h.1
+
+  begins : (creds : IceCreds) (keep : Bool) (old : AgentRecord H P) → Begins Done creds old.events (restarted creds keep old).events
+  begins creds keep old = by (same_state old.state Checking) where
+    by : (b : Bool) → Begins Done creds old.events (if b then IceRestart creds ∷ [] else IceRestart creds ∷ IceConnectionStateChange Checking ∷ [])
+    by true = inl refl
+    by false = inr refl
+
+  source_grows : (way : Path) (a : AgentRecord H P) → Grows a (source_told way a)
+  source_grows way a = one_more (is_seen way a) a.events _
+
+  handles_grows : (mac : H → List ℕ → List ℕ → List ℕ) (now : ℕ) (old new : AgentRecord H P) (way : Path) (m : Message) (r : Result Bool IceError) (told : Told)
+      → HandlesPacket mac now old way m r told new → Grows old new
+  handles_grows mac now old new way m (Ok true) told (accepted, (mid, takes, made)) =
+      both old mid new (taken_grows mac m.class now old mid way m told takes) (grown mid (source_told way mid) new made (source_grows way mid))
+  handles_grows mac now old new way m (Ok false) told (unaccepted, is, made) = stays old new made
+  handles_grows mac now old new way m (Err error) told (may, is, made) = stays old new made
+
+  times_out_grows : (mac : H → List ℕ → List ℕ → List ℕ) (now : ℕ) (old new : AgentRecord H P) (s t : Stream) (r : Result (Unit {0}) IceError) (told : Told)
+      → TimesOut mac now old s r told new t → Grows old new
+  times_out_grows mac now old new s t (Ok _) told h = moment_grows mac now old new s t told (request_at now old) h
+  times_out_grows mac now old new s t (Err error) told (may, is, made, drawn) = stays old new made
+
+  -- ---- each call
+
+  module _ (mac : H → List ℕ → List ℕ → List ℕ) (answers : P → CandidateRecord → ℕ → ℕ → Type 0) (old new : AgentRecord H P) (s t : Stream) (e : Entry) where
+    becomes : (wanted : AgentRecord H P) → wanted.events ≡ old.events → Becomes wanted s e new t → Grows old new
+    becomes wanted same (is, made, drawn) = same_events old new (ap (λ (a : AgentRecord H P). a.events) made ∙ same)
+
+    retransmits : (b : Bool) (n : ℕ) → MatchBool b ((e ≡ quiet NotCalled) × (new ≡ old) × (t ≡ s)) (Becomes (with_retransmits n old) s e new t) → Grows old new
+    retransmits true n h = stays old new h.1
+    retransmits false n h = becomes (with_retransmits n old) refl h
+
+    receives : (now : ℕ) (way : Path) (bytes : List ℕ) → Receives mac answers now old way bytes e new → Grows old new
+    receives now way bytes (inl (fault, has, is, made)) = stays old new made
+    receives now way bytes (inr (m, reads, (r, told, is, h))) = handles_grows mac now old new way m r told h
+
+    reports : (call : Call P) → Step mac answers old s call e new t → Reports call e old.events new.events
+    reports (SetMtu target warn) (Ok _, is, h, drawn) = same_events old new (ap (λ (a : AgentRecord H P). a.events) h.1)
+    reports (SetMtu target warn) (Err error, is, h, drawn) = stays old new (mtu_kept old new target warn error h)
+    reports (SetControlTieBreaker tie) h = becomes _ refl h
+    reports (SetMaxCandidatePairs n) h = becomes _ refl h
+    reports (SetIceLite lite) h = becomes _ refl h
+    reports (SetTimingAdvance by) h = becomes _ refl h
+    reports (SetInitialStunRto rto) h = becomes (with_rtos rto old.timing.max_rto.0 old) refl h
+    reports (SetMaxStunRto rto) h = becomes (with_rtos old.timing.initial_rto.0 rto old) refl h
+    reports (SetMaxStunRetransmits n) h = retransmits (n == 0) n h
+    reports (SetLocalPreference object) h = becomes _ refl h
+    reports (SetControlling controlling) h = becomes _ refl h
+    reports (SetLocalCredentials creds) (Ok _, is, h, drawn) = same_events old new (ap (λ (a : AgentRecord H P). a.events) h.1)
+    reports (SetLocalCredentials creds) (Err error, is, h, drawn) = stays old new (local_kept old new creds error h)
+    reports (SetRemoteCredentials creds) (Ok _, is, h, drawn) = same_events old new (ap (λ (a : AgentRecord H P). a.events) h.1)
+    reports (SetRemoteCredentials creds) (Err error, is, h, drawn) = stays old new (remote_kept old new creds error h)
+    reports (SkipPairIds n) h = becomes (numbers_skipped n old) refl h
+    reports (AddLocalCandidate c) (Ok place, is, h, drawn) = local_grows answers old new c place h
+    reports (AddLocalCandidate c) (Err error, is, h, drawn) = stays old new (enrolment_kept answers old new c error h)
+    reports (AddRemoteCandidate c) (Ok _, is, h, drawn) = remote_grows old new c h
+    reports (AddRemoteCandidate c) (Err error, is, h, drawn) = stays old new (storing_kept old new c error h)
+    reports (InvalidateCandidate c) (found, is, h, drawn) = invalidates_grows old new (place_to_discard c old.local) (place_to_discard c old.remote) found h
+    reports (RestartIce creds keep) (Ok _, is, h, drawn) =
+        subst (λ (x : Entry). Begins x.answer creds old.events new.events) (sym is)
+        (subst (λ (a : AgentRecord H P). Begins Done creds old.events a.events) (sym h.1) (begins creds keep old))
+    reports (RestartIce creds keep) (Err error, is, h, drawn) =
+        subst (λ (x : Entry). Begins x.answer creds old.events new.events) (sym is) (ap (λ (a : AgentRecord H P). a.events) (restart_kept old new creds keep error h))
+    reports RecreateCandidatePairs (Ok _, is, h, drawn) = both old (emptied old) new (state_grows Checking (record old { pairs = [] })) (forms_grows (emptied old) new _ h.1)
+    reports RecreateCandidatePairs (Err error, is, h, drawn) = stays old new (recreation_kept old new error h)
+    reports (ReceivePacket now way bytes) (h, drawn) = receives now way bytes h
+    reports (HandleTimeout now) (r, told, is, h) = times_out_grows mac now old new s t r told h
+    reports PollTransmit (given, is, (polled, made), drawn) = same_events old new (ap (λ (a : AgentRecord H P). a.events) made)
+    reports PollTimeout (wake, is, h, drawn) = by_waking old new wake h (λ made. stays old new made) (λ at made. same_events old new (ap (λ (a : AgentRecord H P). a.events) made))
+    reports PollEvent (given, is, (polled, made), drawn) = (given, is, polled)
+
+pub queues_law : {H P : Type 0} (mac : H → List ℕ → List ℕ → List ℕ) (answers : P → CandidateRecord → ℕ → ℕ → Type 0) → QueuesLaw mac answers
+queues_law mac answers old new s t call e step =
+    let frame : FrameEffect old call e new = framed mac answers old new s t e call step in
+    (frame.sends, reports mac answers old new s t e call step)

@@ -1,0 +1,113 @@
+-- Behind nomination the announced pair stands, and is a greatest one among the eligible.
+use Rattle.std.proofs.Common.{◌≡◌, ℕ, ◌≤◌, ◌==◌, ◌&&◌, ◌||◌, Bool, true, false, not, List, [], ◌∷◌, map, Option, Some, None, inl, inr, refl, ap, sym, ◌∙◌, subst, arith, cond, if◌then◌else◌}
+use Rattle.std.specs.Prelude.{find}
+use Rattle.std.specs.Option.{option_map_or}
+use Rattle.std.proofs.lemmas.Bool.{eqb-true, eq-eqb}
+use Rattle.is_proto.specs.Lists.{Has}
+use Rattle.is_pair.specs.Pairs.{PairRecord, is_valid, is_nominated, nominated}
+use Rattle.is_rules.specs.declared.told.Path.{Path}
+use Rattle.is_rules.specs.Agent.{AgentRecord}
+use Rattle.is_pair.specs.Bag.{is_numbered, change_at, change_pair}
+use Rattle.is_rules.proofs.Rising.{AreRising}
+use Rattle.is_rules.specs.Nominating.{is_eligible, nominated_by_self, stands_at, Nominates}
+use Rattle.is_rules.specs.Points.{IsTopAnnounced}
+use Rattle.is_rules.proofs.Frames.{either}
+use Rattle.is_rules.proofs.Moves.{Has-map}
+use Rattle.is_rules.proofs.Tells.{one_pair}
+use Rattle.is_rules.proofs.Nominations.{announced, Announces, announces}
+
+false_true : false ≡ true → ⊥
+false_true h = cc
+
+Has-mapped : {X Y : Type 0} (f : X → Y) (xs : List X) (x : X) → Has xs x → Has (map f xs) (f x)
+Has-mapped f [] x h = absurd h
+Has-mapped f (y ∷ xs) x (inl e) = inl (ap f e)
+Has-mapped f (y ∷ xs) x (inr h) = inr (Has-mapped f xs x h)
+
+same_pair : (c l : Bool) (p : PairRecord) → ((nominated_by_self c l p).number ≡ p.number) × ((nominated_by_self c l p).priority ≡ p.priority) × (is_valid (nominated_by_self c l p) ≡ is_valid p)
+same_pair c l p = elim (not (is_nominated p) && (c || l)) as (λ b. ((if b then nominated l p else p).number ≡ p.number) × ((if b then nominated l p else p).priority ≡ p.priority) × (is_valid (if b then nominated l p else p) ≡ is_valid p)) [
+  | true ↦ (elim l as (λ l. ((nominated l p).number ≡ p.number) × ((nominated l p).priority ≡ p.priority) × (is_valid (nominated l p) ≡ is_valid p)) [ true ↦ (refl, refl, refl) | false ↦ (refl, refl, refl) ])
+  | false ↦ (refl, refl, refl)
+]
+
+change_priority : (b c l : Bool) (p : PairRecord) → (if b then nominated_by_self c l p else p).priority ≡ p.priority
+change_priority true c l p = (same_pair c l p).1
+change_priority false c l p = refl
+
+-- what is eligible stays so where it nominates itself
+still_eligible : (c l n v : Bool) (p : PairRecord) → is_nominated p ≡ n → is_valid p ≡ v → is_eligible c p ≡ true → is_eligible c (nominated_by_self c l p) ≡ true
+still_eligible true l n v p n_is v_is h =
+    let same = (same_pair true l p).2 in
+    subst (λ x. (x && true) ≡ true) (sym same) h
+still_eligible false l true v p n_is v_is h =
+    subst (λ n. is_eligible false (if not n && (false || l) then nominated l p else p) ≡ true) (sym n_is) h
+still_eligible false l false v p n_is v_is h =
+    let no : (is_valid p && false) ≡ true = subst (λ n. (is_valid p && n) ≡ true) n_is h in absurd (never_and (is_valid p) no) where
+      never_and : (b : Bool) → (b && false) ≡ true → ⊥
+      never_and true h = cc
+      never_and false h = cc
+
+-- a pair found by its number is the one that changed
+found_step : (b : Bool) (n : ℕ) (q r : PairRecord) (g : PairRecord → PairRecord) (rest : List PairRecord) → is_numbered n q ≡ b → (b ≡ true → (g q ≡ r) × (r.number ≡ n))
+    → (b ≡ false → find (is_numbered n) rest ≡ Some r)
+    → find (is_numbered n) ((if b then g q else q) ∷ rest) ≡ Some r
+found_step true n q r g rest is here_it later =
+    let k = here_it refl in
+    let numbered : is_numbered n (g q) ≡ true = subst (λ (x : PairRecord). is_numbered n x ≡ true) (sym k.0) (eq-eqb r.number n k.1) in
+    ap (λ b. cond b (Some (g q)) (find (is_numbered n) rest)) numbered ∙ ap (λ (x : PairRecord). Some x) k.0
+found_step false n q r g rest is here_it later = ap (λ b. cond b (Some q) (find (is_numbered n) rest)) is ∙ later refl
+
+found : (ps : List PairRecord) (top : PairRecord) (g : PairRecord → PairRecord) → AreRising ps → Has ps top → (g top).number ≡ top.number
+    → find (is_numbered top.number) (map (change_at top.number g) ps) ≡ Some (g top)
+found [] top g rising has number = absurd has
+found (q ∷ qs) top g rising (inl e) number =
+    found_step (is_numbered top.number q) top.number q (g top) g (map (change_at top.number g) qs) refl
+    (λ _. (ap g e, number))
+    (λ no. (let yes : is_numbered top.number q ≡ true = eq-eqb q.number top.number (ap (λ (x : PairRecord). x.number) e) in absurd (false_true (sym no ∙ yes))))
+found (q ∷ qs) top g rising (inr has) number =
+    found_step (is_numbered top.number q) top.number q (g top) g (map (change_at top.number g) qs) refl
+    (λ yes. (ap g (one_pair (q ∷ qs) q top rising (inl refl) (inr has) (eqb-true q.number top.number yes)), number))
+    (λ _. found qs top g rising.1 has number)
+
+module _ {H P : Type 0} where
+  module _ (old : AgentRecord H P) (top : PairRecord) (rising : AreRising old.pairs) (has : Has old.pairs top) (eligible : is_eligible old.controlling top ≡ true)
+      (greatest : (p : PairRecord) → Has old.pairs p → is_eligible old.controlling p ≡ true → p.priority ≤ top.priority) where
+    abbrev g : PairRecord → PairRecord
+    g = nominated_by_self old.controlling old.lite
+
+    at_most : (b : Bool) (q : PairRecord) → Has old.pairs q → is_numbered top.number q ≡ b → is_eligible old.controlling (if b then g q else q) ≡ true
+        → q.priority ≤ top.priority
+    at_most true q there is able =
+        let same : q ≡ top = one_pair old.pairs q top rising there has (eqb-true q.number top.number is) in
+        subst (λ (x : PairRecord). x.priority ≤ top.priority) (sym same) (omega arith)
+    at_most false q there is able = greatest q there able
+
+    it_has : Has (change_pair top.number g old.pairs) (g top)
+    it_has = subst (λ (x : PairRecord). Has (change_pair top.number g old.pairs) x) (ap (λ b. if b then g top else top) (eq-eqb top.number top.number refl))
+        (Has-mapped (change_at top.number g) old.pairs top has)
+
+    it_greatest : (p : PairRecord) → Has (change_pair top.number g old.pairs) p → is_eligible old.controlling p ≡ true → p.priority ≤ (g top).priority
+    it_greatest p in_new able =
+        let o = Has-map (change_at top.number g) old.pairs p in_new in
+        let bound : o.0.priority ≤ top.priority =
+        at_most (is_numbered top.number o.0) o.0 o.1 refl (subst (λ (x : PairRecord). is_eligible old.controlling x ≡ true) (sym o.2) able) in
+        let own : p.priority ≡ o.0.priority = ap (λ (x : PairRecord). x.priority) (sym o.2) ∙ change_priority (is_numbered top.number o.0) old.controlling old.lite o.0 in
+        subst (λ n. n ≤ (g top).priority) (sym own) (subst (λ n. o.0.priority ≤ n) (sym (same_pair old.controlling old.lite top).1) bound)
+
+    it_stands : stands_at (announced top old).announced (g top).priority (announced top old).pairs ≡ true
+    it_stands = ap (λ (o : Option PairRecord). option_map_or (λ (p : PairRecord). p.priority == (g top).priority) o false)
+        (found old.pairs top g rising has (same_pair old.controlling old.lite top).0) ∙ eq-eqb (g top).priority (g top).priority refl
+
+    announces_top : IsTopAnnounced (announced top old)
+    announces_top = (Some (g top), (it_has, still_eligible old.controlling old.lite (is_nominated top) (is_valid top) top refl refl eligible, it_greatest), it_stands)
+
+  -- nomination leaves a greatest pair announced, wherever one is eligible
+  announces_greatest : (old new : AgentRecord H P) (path : Option Path) → AreRising old.pairs → Announces old path new → IsTopAnnounced new
+  announces_greatest old new path rising (None, none, (is, same)) =
+      subst (λ (a : AgentRecord H P). IsTopAnnounced a) (sym same) (None, none, tt)
+  announces_greatest old new path rising (Some top, (has, eligible, greatest), h) = either (stands_at old.announced top.priority old.pairs) h
+      (λ stands k. subst (λ (a : AgentRecord H P). IsTopAnnounced a) (sym k.1) (Some top, (has, eligible, greatest), stands))
+      (λ _ k. subst (λ (a : AgentRecord H P). IsTopAnnounced a) (sym k.1) (announces_top old top rising has eligible greatest))
+
+  pub nominates_top : (old new : AgentRecord H P) (path : Option Path) → AreRising old.pairs → Nominates old path new → IsTopAnnounced new
+  nominates_top old new path rising h = announces_greatest old new path rising (announces old new path h)

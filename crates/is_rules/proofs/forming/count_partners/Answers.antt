@@ -1,0 +1,10 @@
+use Rattle.std.proofs.Common.{rules, length-append}
+use Rattle.std.proofs.lemmas.List.Elements.{filter-append}
+use Rattle.is_rules.proofs.RangeLemmas.{places-more}
+use Rattle.is_rules.proofs.forming.count_partners.Goals as goal
+
+pub loop-place-preserved : goal.loop-place-preserved
+loop-place-preserved c = record {
+  counted = rw (places-more c.loop-place.place, filter-append, length-append) (search rules);
+  bound = search rules;
+}

@@ -1,0 +1,28 @@
+use Rattle.std.proofs.Common.{◌≡◌, ℕ, ◌+◌, ◌-◌, ◌<◌, [], ◌∷◌, List, length, filter, arith, refl, length-append}
+use Rattle.std.specs.List.{flat_map, range_with_len}
+use Rattle.std.proofs.lemmas.Grind.{flat_map-append}
+use Rattle.std.proofs.lemmas.List.Elements.{filter-append}
+use Rattle.is_candidate.specs.Candidates.{CandidateRecord}
+use Rattle.is_rules.specs.Forming.{is_alive_at, live_row}
+use Rattle.is_rules.proofs.RangeLemmas.{places-from}
+use Rattle.is_rules.proofs.forming.has_numbers_for_all.Goals as goal
+
+many : List CandidateRecord → List CandidateRecord → List ℕ → ℕ
+many local remote places = length (flat_map (live_row local remote) (filter (is_alive_at local) places))
+
+-- the combinations from the place l on are those of the place l, and those behind
+rest : (local remote : List CandidateRecord) (l n : ℕ) → l < n
+    → many local remote (range_with_len l (n - l)) ≡ many local remote (l ∷ []) + many local remote (range_with_len (l + 1) (n - (l + 1)))
+unfolding many
+rest local remote l n within = rw (places-from l n within, filter-append, flat_map-append, length-append) refl
+
+pub loop-l-preserved : goal.loop-l-preserved
+unfolding many
+loop-l-preserved c =
+    omega (arith, rest c.args.local.now c.args.remote.now c.loop-l.l (length c.args.local.now) c.loop-l-test.true, c.loop-l.invariant, c.count_live_row-many.ensures)
+
+pub returns-then-left-many : goal.returns-then-left-many
+unfolding many
+returns-then-left-many c =
+    let e = rest c.args.local.now c.args.remote.now c.loop-l.l (length c.args.local.now) c.loop-l-test.true in
+    ((λ no. cc), λ fits. absurd (omega (arith, e, c.loop-l.invariant, c.count_live_row-many.ensures, c.if-left-many.true, fits)))

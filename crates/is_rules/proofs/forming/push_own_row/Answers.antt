@@ -1,0 +1,8 @@
+use Rattle.std.proofs.Common.{append_assoc}
+use Rattle.std.proofs.lemmas.List.{map-append}
+use Rattle.std.proofs.lemmas.List.Elements.{filter-append}
+use Rattle.is_rules.proofs.RangeLemmas.{places-more}
+use Rattle.is_rules.proofs.forming.push_own_row.Goals as goal
+
+pub loop-r-preserved : goal.loop-r-preserved
+loop-r-preserved c = rw (places-more c.loop-r.r, filter-append, map-append, ← append_assoc, ← c.loop-r.invariant) c.in_ok-push_own_partner.ensures

@@ -1,0 +1,7 @@
+use Rattle.std.proofs.lemmas.List.{map-append}
+use Rattle.std.proofs.lemmas.List.Elements.{filter-append}
+use Rattle.is_rules.proofs.RangeLemmas.{places-more}
+use Rattle.is_rules.proofs.forming.remote_combinations.Goals as goal
+
+pub loop-l-preserved : goal.loop-l-preserved
+loop-l-preserved c = rw (places-more c.loop-l.l, filter-append, map-append, ← c.loop-l.invariant) c.in_ok-push_partner.ensures

@@ -1,0 +1,15 @@
+use Rattle.std.proofs.Common.{◌≡◌, ℕ, ◌-◌, [], ◌∷◌, ◌++◌, List, map, length, drop, rules, refl, length-append}
+use Rattle.std.proofs.lemmas.List.{map-append, length-map, drop-map}
+use Rattle.is_rules.specs.declared.request.Waiting.{Waiting}
+use Rattle.is_rules.specs.RequestView.{waiting_view}
+use Rattle.is_rules.specs.Queue.{queued_last}
+use Rattle.is_rules.proofs.queue.enqueue.Goals as goal
+
+-- what is dropped of the requests is dropped of their views
+queued-views : (old : List Waiting) (w : Waiting) (beyond : ℕ) (new : List Waiting) → beyond ≡ length (old ++ w ∷ []) - 100 → new ≡ drop beyond (old ++ w ∷ [])
+    → map waiting_view new ≡ queued_last (map waiting_view old ++ waiting_view w ∷ [])
+queued-views old w beyond new many is =
+    rw (is, many, ← drop-map waiting_view, map-append waiting_view, length-append, length-append, length-map) refl
+
+pub returns : goal.returns
+returns c = queued-views c.args.queue.now.items c.args.waiting c.saturating_sub-beyond.result c.drop_first.new.queue.items (search rules) (search rules)

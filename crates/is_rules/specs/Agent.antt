@@ -1,0 +1,102 @@
+-- What contracts see of an agent (RFC 8445).
+use Rattle.std.specs.Prelude.{◌≡◌, ℕ, ◌*◌, Bool, true, false, List, [], Option, None, Result, Ok, Err}
+use Rattle.is_proto.specs.Packets.{Packet}
+use Rattle.is_proto.specs.Moments.{MILLISECOND}
+use Rattle.is_stun.specs.declared.timing.StunTiming.{StunTiming}
+use Rattle.is_proto.specs.declared.error.IceError.{IceError}
+use Rattle.is_proto.specs.declared.error.IceError.TheVariants.{CredentialsTooLong}
+use Rattle.is_candidate.specs.Candidates.{CandidateRecord}
+use Rattle.is_pair.specs.Pairs.{PairRecord}
+use Rattle.is_rules.specs.declared.accepting.Source.{Source}
+use Rattle.is_rules.specs.declared.credentials.IceCreds.{IceCreds}
+use Rattle.is_rules.specs.declared.event.IceAgentEvent.{IceAgentEvent}
+use Rattle.is_rules.specs.declared.event.IceAgentStats.{IceAgentStats}
+use Rattle.is_rules.specs.declared.event.IceConnectionState.{IceConnectionState}
+use Rattle.is_rules.specs.declared.event.IceConnectionState.TheVariants.{New}
+use Rattle.is_rules.specs.Request.{RequestRecord}
+use Rattle.is_rules.specs.Fitting.{are_too_long}
+
+-- an agent with a provider of H, and with objects of P as preferences
+pub record AgentRecord (H P : Type 0) : Type 0 where
+  pub provider : H
+  pub preference : Option P
+  pub max_pairs : ℕ
+  pub timing : StunTiming
+  pub timing_advance : ℕ
+  pub lite : Bool
+  -- the MTU's target, and the length from which on packets are warned of
+  pub mtu : ℕ
+  pub mtu_warn : ℕ
+  -- credentials and role (RFC 8445, sections 5.3 and 6.1.1)
+  pub local_creds : IceCreds
+  pub remote_creds : Option IceCreds
+  pub controlling : Bool
+  pub tie_breaker : ℕ
+  -- candidates; a place in a list never moves
+  pub local : List CandidateRecord
+  pub remote : List CandidateRecord
+  -- the checklist: a bag of pairs, listed in the order of their numbers
+  pub pairs : List PairRecord
+  pub next_number : ℕ
+  -- the number of the pair that was announced last
+  pub announced : Option ℕ
+  -- the requests that wait for remote credentials
+  pub queue : List RequestRecord
+  pub state : IceConnectionState
+  -- the last moment that it was told of
+  pub last_moment : Option ℕ
+  -- what is to be polled
+  pub packets : List Packet
+  pub events : List IceAgentEvent
+  -- the sources that were told of, and what was counted
+  pub seen : List Source
+  pub stats : IceAgentStats
+
+abbrev pub no_stats : IceAgentStats
+no_stats = record {
+  bind_request_sent = 0;
+  bind_success_recv = 0;
+  bind_request_recv = 0;
+  discovered_recv_count = 0;
+  nomination_send_count = 0;
+}
+
+-- 250 ms, 9 retransmits, and 3 s at most
+abbrev pub default_timing : StunTiming
+default_timing = record { initial_rto = record { 0 = 250 * MILLISECOND }; max_retransmits = 9; max_rto = record { 0 = 3000 * MILLISECOND } }
+
+module _ {H P : Type 0} where
+  -- an agent as it is made
+  abbrev pub fresh : H → IceCreds → ℕ → AgentRecord H P
+  fresh provider creds tie_breaker = record {
+    provider = provider;
+    preference = None;
+    max_pairs = 100;
+    timing = default_timing;
+    timing_advance = 50 * MILLISECOND;
+    lite = false;
+    mtu = 1150;
+    mtu_warn = 1280;
+    local_creds = creds;
+    remote_creds = None;
+    controlling = false;
+    tie_breaker = tie_breaker;
+    local = [];
+    remote = [];
+    pairs = [];
+    next_number = 0;
+    announced = None;
+    queue = [];
+    state = New;
+    last_moment = None;
+    packets = [];
+    events = [];
+    seen = [];
+    stats = no_stats;
+  }
+
+  -- `new` and `with_hmac`
+  abbrev pub MakesAgent : H → IceCreds → ℕ → Result (AgentRecord H P) IceError → Type 0
+  MakesAgent provider creds tie_breaker (Ok a) = (are_too_long creds None ≡ false) × (a ≡ fresh provider creds tie_breaker)
+  MakesAgent provider creds tie_breaker (Err CredentialsTooLong) = are_too_long creds None ≡ true
+  MakesAgent provider creds tie_breaker (Err _) = ⊥

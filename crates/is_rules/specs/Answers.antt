@@ -1,0 +1,93 @@
+-- Answers to the agent's own checks (RFC 8445, section 7.2.5).
+use Rattle.std.specs.Prelude.{◌≡◌, ℕ, ◌==◌, ◌&&◌, Bool, true, false, List, [], ◌∷◌, ◌++◌, slice_get, slice_set, Option, Some, None, MatchBool, if◌then◌else◌}
+use Rattle.std.specs.List.{list_any}
+use Rattle.std.specs.Option.{option_map_or}
+use Rattle.std.specs.declared.net.socket_addr.SocketAddr.{SocketAddr}
+use Rattle.is_proto.specs.Lists.{Has, same}
+use Rattle.is_proto.specs.Moments.{counted}
+use Rattle.is_candidate.specs.Addresses.{same_address}
+use Rattle.is_candidate.specs.Candidates.{CandidateRecord, base_of, candidate_at}
+use Rattle.is_candidate.specs.Making.{peer_reflexive_candidate}
+use Rattle.is_candidate.specs.Priorities.{check_priority}
+use Rattle.is_pair.specs.Bag.{keeps_check}
+use Rattle.is_pair.specs.Checks.{Check}
+use Rattle.is_pair.specs.Pairs.{PairRecord, TakesAnswer}
+use Rattle.is_stun.specs.Checks.{ROLE_CONFLICT}
+use Rattle.is_stun.specs.Message.{Message}
+use Rattle.is_rules.specs.declared.told.Path.{Path}
+use Rattle.is_rules.specs.declared.told.Told.{Told}
+use Rattle.is_rules.specs.Told.{announced_alone}
+use Rattle.is_rules.specs.Agent.{AgentRecord}
+use Rattle.is_rules.specs.Sending.{path_of}
+use Rattle.is_rules.specs.Nominating.{Nominates}
+use Rattle.is_rules.specs.States.{evaluated}
+use Rattle.is_rules.specs.Roles.{switched}
+use Rattle.is_rules.specs.Serving.{Drops}
+
+-- a local candidate has the address, discarded ones too
+abbrev pub is_known_address : List CandidateRecord → SocketAddr → Bool
+is_known_address local address = list_any (λ c. same_address c.addr address) local
+
+-- a failure of code 487
+abbrev pub is_role_conflict : Message → Bool
+is_role_conflict m = option_map_or (λ (e : ℕ × List ℕ). e.0 == ROLE_CONFLICT) m.attributes.error_code false
+
+-- one more candidate, where there is one
+abbrev pub joined_by : Option CandidateRecord → List CandidateRecord → List CandidateRecord
+joined_by None cs = cs
+joined_by (Some c) cs = cs ++ c ∷ []
+
+-- a packet of the first path came back on the second one; protocols are not compared
+abbrev pub goes_back : Path → Path → Bool
+goes_back way path = same_address way.source path.destination && same_address way.destination path.source
+
+module _ {H P : Type 0} where
+  -- and the packet came back on the pair's path
+  abbrev pub keeps_check_on : AgentRecord H P → Path → List ℕ → PairRecord → Bool
+  keeps_check_on a way id p = keeps_check id p && goes_back way (path_of a p)
+
+  -- ---- success: any pair and kept check with the id, on the packet's path, may take it
+
+  abbrev pub success_counted : AgentRecord H P → AgentRecord H P
+  success_counted a = record a { stats = record a.stats { bind_success_recv = counted a.stats.bind_success_recv } }
+
+  -- the candidate that an unknown mapped address becomes (RFC 8445, section 7.2.5.3.1)
+  abbrev pub mapped_candidate : AgentRecord H P → PairRecord → SocketAddr → CandidateRecord
+  mapped_candidate a p mapped =
+      peer_reflexive_candidate None (candidate_at a.local p.local).proto (check_priority (candidate_at a.local p.local)) mapped
+      (base_of (candidate_at a.local p.local)) a.local_creds.ufrag
+
+  abbrev pub local_with : PairRecord → Option SocketAddr → AgentRecord H P → List CandidateRecord
+  local_with p None a = a.local
+  local_with p (Some mapped) a = if is_known_address a.local mapped then a.local else a.local ++ mapped_candidate a p mapped ∷ []
+
+  -- it forms no pair here
+  abbrev pub mapped_learnt : PairRecord → Option SocketAddr → AgentRecord H P → AgentRecord H P
+  mapped_learnt p mapped a = record a { local = local_with p mapped a }
+
+  -- the pair at the place takes the answer
+  abbrev pub Records : ℕ → AgentRecord H P → Path → Message → AgentRecord H P → Type 0
+  Records now old way m new =
+      (place : ℕ) × (p after : PairRecord)
+      × (slice_get old.pairs place ≡ Some p) × (keeps_check_on old way m.id p ≡ true) × TakesAnswer p now m.id after
+      × (new ≡ record (mapped_learnt p m.attributes.xor_mapped_address (success_counted old)) { pairs = slice_set old.pairs place after })
+
+  abbrev pub Concludes : ℕ → AgentRecord H P → Told → AgentRecord H P → Type 0
+  Concludes now old told new =
+      (path : Option Path) × (mid : AgentRecord H P) × Nominates old path mid × (told ≡ announced_alone path) × (new ≡ evaluated now mid)
+
+  -- then nomination and state are evaluated
+  abbrev pub TakesSuccess : ℕ → AgentRecord H P → Path → Message → Told → AgentRecord H P → Type 0
+  TakesSuccess now old way m told new =
+      (recorded : AgentRecord H P) × Records now old way m recorded × Concludes now recorded told new
+
+  -- ---- failure: a 487 (RFC 8445, section 7.2.5.1) acts only where its check was sent under the present role
+
+  -- nomination and state are not evaluated, and the check is not answered
+  abbrev pub GivesUpRole : AgentRecord H P → Path → Message → Told → AgentRecord H P → Type 0
+  GivesUpRole old way m told new =
+      (p : PairRecord) × (c : Check) × Has old.pairs p × (keeps_check_on old way m.id p ≡ true) × Has p.checks c × (c.id ≡ m.id)
+      × MatchBool (same c.controlling old.controlling) (Drops (switched old) told new) (Drops old told new)
+
+  abbrev pub TakesFailure : AgentRecord H P → Path → Message → Told → AgentRecord H P → Type 0
+  TakesFailure old way m told new = MatchBool (is_role_conflict m) (GivesUpRole old way m told new) (Drops old told new)

@@ -1,0 +1,106 @@
+-- What a call brought to the agent, and parts of the record by paths.
+use Rattle.std.specs.Prelude.{◌≡◌, ℕ, Bool, true, false, not, List, Some, is_some}
+use Rattle.is_proto.specs.Lists.{Has}
+use Rattle.is_pair.specs.Checks.{Check}
+use Rattle.is_pair.specs.Pairs.{PairRecord, is_valid, is_nominated}
+use Rattle.is_stun.specs.declared.header.Class.TheVariants as class
+use Rattle.is_stun.specs.Integrity.{IsSignedBy}
+use Rattle.is_stun.specs.Message.{Message}
+use Rattle.is_stun.specs.Reading.{Reads}
+use Rattle.is_rules.specs.declared.credentials.IceCreds.{IceCreds}
+use Rattle.is_rules.specs.declared.told.Path.{Path}
+use Rattle.is_rules.specs.Places.{local_place}
+use Rattle.is_rules.specs.Request.{RequestRecord, request_in}
+use Rattle.is_rules.specs.Steps.{Done, Flag, Entry}
+use Rattle.is_rules.specs.declared.roles.Conflict.{Conflict}
+use Rattle.is_rules.specs.declared.roles.Conflict.TheVariants.{Yields}
+use Rattle.is_rules.specs.Told.{turned}
+use Rattle.is_rules.specs.Agent.{AgentRecord}
+use Rattle.is_rules.specs.Sending.{path_of}
+use Rattle.is_rules.specs.Roles.{conflict_of}
+use Rattle.is_rules.specs.Serving.{names_another}
+use Rattle.is_rules.specs.Queue.{request_at}
+use Rattle.is_rules.specs.Answers.{is_role_conflict, goes_back}
+use Rattle.is_rules.specs.Steps.{Call, SetControlling, ReceivePacket, HandleTimeout}
+
+-- the role behind a request that is served past the tests
+abbrev pub role_once : Conflict → Bool → Bool
+role_once Yields controlling = not controlling
+role_once _ controlling = controlling
+
+-- this message, by this path at this moment, and it was accepted
+abbrev pub Brings : {P : Type 0} → Call P → Entry → ℕ → Path → Message → Type 0
+Brings (ReceivePacket now way bytes) e at by m = (now ≡ at) × (way ≡ by) × Reads bytes m × (e.answer ≡ Flag true)
+Brings _ e at by m = ⊥
+
+-- a request that was accepted now
+abbrev pub IsBrought : {P : Type 0} → Call P → Entry → RequestRecord → Type 0
+IsBrought call e q = (at : ℕ) × (by : Path) × (m : Message) × Brings call e at by m × (m.class ≡ class.Request) × (q ≡ request_in at by m)
+
+module _ {H P : Type 0} where
+  -- ---- parts of the record, by paths
+
+  -- a check with the id, sent under the role, is kept on the path
+  abbrev pub IsKept : AgentRecord H P → Path → List ℕ → Bool → Type 0
+  IsKept a path id controlling =
+      (p : PairRecord) × (c : Check) × Has a.pairs p × Has p.checks c × (c.id ≡ id) × (c.controlling ≡ controlling) × (path_of a p ≡ path)
+
+  abbrev pub IsValidOn : AgentRecord H P → Path → Type 0
+  IsValidOn a path = (p : PairRecord) × Has a.pairs p × (is_valid p ≡ true) × (path_of a p ≡ path)
+
+  abbrev pub IsNominatedOn : AgentRecord H P → Path → Type 0
+  IsNominatedOn a path = (p : PairRecord) × Has a.pairs p × (is_nominated p ≡ true) × (path_of a p ≡ path)
+
+  -- the pair stood there, on the same path, and is as valid and nominated as it was
+  abbrev pub Continues : AgentRecord H P → AgentRecord H P → PairRecord → Type 0
+  Continues old new p =
+      (q : PairRecord) × Has old.pairs q × (q.number ≡ p.number) × (path_of old q ≡ path_of new p)
+      × (is_valid q ≡ true → is_valid p ≡ true) × (is_nominated q ≡ true → is_nominated p ≡ true)
+
+  -- ---- requests
+
+  -- the step serves this request: the one that the call brought, or the one that the moment takes from the queue
+  abbrev pub IsServing : AgentRecord H P → Call P → Entry → RequestRecord → Type 0
+  IsServing old (HandleTimeout now) e q = (request_at now old ≡ Some q) × (e.answer ≡ Done)
+  IsServing old call e q =
+      (at : ℕ) × (by : Path) × (m : Message) × Brings call e at by m × (m.class ≡ class.Request) × (is_some old.remote_creds ≡ true)
+      × (q ≡ request_in at by m)
+
+  -- the peer nominates the path
+  abbrev pub IsAskedFor : AgentRecord H P → Call P → Entry → Path → Type 0
+  IsAskedFor old call e path = (q : RequestRecord) × IsServing old call e q × (q.use_candidate ≡ true) × (turned q.path ≡ path)
+
+  -- ----
+
+  -- the request gets past the tests of its user fragment and its destination
+  abbrev pub IsServedPastTests : AgentRecord H P → RequestRecord → Type 0
+  IsServedPastTests old q = (names_another old q ≡ false) × ((l : ℕ) × (local_place old.local q ≡ Some l))
+
+  -- ---- answers
+
+  -- an authentic success came back on the path, with the id of a check that was kept there
+  abbrev pub IsAnswered : (H → List ℕ → List ℕ → List ℕ) → AgentRecord H P → Call P → Entry → Path → Type 0
+  IsAnswered mac old call e path =
+      (at : ℕ) × (by : Path) × (m : Message) × (controlling : Bool) × (peer : IceCreds)
+      × Brings call e at by m × (m.class ≡ class.Success) × IsKept old path m.id controlling
+      × (old.remote_creds ≡ Some peer) × IsSignedBy (mac old.provider) m peer.pass
+      × (goes_back by path ≡ true)
+
+  -- ---- roles
+
+  -- a request of a greater tie-breaker claims the agent's role, which yields
+  abbrev pub YieldsTo : AgentRecord H P → Call P → Entry → AgentRecord H P → Type 0
+  YieldsTo old call e new =
+      (q : RequestRecord) × IsServing old call e q × (conflict_of old q ≡ Yields) × (new.controlling ≡ not old.controlling)
+
+  -- a 487 came to a check of the role that the agent does not have after it
+  abbrev pub IsRefusedBy : AgentRecord H P → Call P → Entry → AgentRecord H P → Type 0
+  IsRefusedBy old call e new =
+      (at : ℕ) × (by path : Path) × (m : Message) × (controlling : Bool)
+      × Brings call e at by m × (m.class ≡ class.Failure) × (is_role_conflict m ≡ true)
+      × IsKept old path m.id controlling × (new.controlling ≡ not controlling)
+
+-- the user sets the role
+abbrev pub IsRoleSet : {P : Type 0} → Call P → Bool → Type 0
+IsRoleSet (SetControlling controlling) role = role ≡ controlling
+IsRoleSet _ role = ⊥

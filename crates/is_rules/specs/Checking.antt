@@ -1,0 +1,69 @@
+-- Which pair is checked next, and its check (RFC 8445, sections 6.1.4.2 and 7.2.4).
+use Rattle.std.specs.Prelude.{◌≡◌, ℕ, ◌&&◌, List, ◌∷◌, ◌++◌, map, Option, Some, None, MatchBool}
+use Rattle.rand_core.specs.Stream.{Stream, fill_bytes}
+use Rattle.is_proto.specs.Moments.{counted}
+use Rattle.is_candidate.specs.Candidates.{candidate_at}
+use Rattle.is_candidate.specs.Priorities.{check_priority}
+use Rattle.is_pair.specs.Pairs.{PairRecord, is_nominated, heard, checked}
+use Rattle.is_pair.specs.Due.{asked, IsNextDue}
+use Rattle.is_stun.specs.declared.header.Class.TheVariants.{Request}
+use Rattle.is_stun.specs.Message.{Message}
+use Rattle.is_stun.specs.Checks.{binding_request}
+use Rattle.is_stun.specs.Laws.{IsPut}
+use Rattle.is_stun.specs.Writing.{written}
+use Rattle.is_rules.specs.declared.credentials.IceCreds.{IceCreds}
+use Rattle.is_rules.specs.declared.told.Issued.{Issued}
+use Rattle.is_rules.specs.Told.{issued_as}
+use Rattle.is_pair.specs.Bag.{change_pair}
+use Rattle.is_rules.specs.Agent.{AgentRecord}
+use Rattle.is_rules.specs.Sending.{with_packet, path_of}
+
+-- the peer's user fragment, a colon and the own one (RFC 8445, section 7.2.2)
+abbrev pub username_between : IceCreds → IceCreds → List ℕ
+username_between remote local = remote.ufrag ++ 58 ∷ local.ufrag
+
+module _ {H P : Type 0} where
+  abbrev pub all_asked : ℕ → AgentRecord H P → AgentRecord H P
+  all_asked now a = record a { pairs = map (asked now a.timing) a.pairs }
+
+  abbrev pub all_heard : ℕ → AgentRecord H P → AgentRecord H P
+  all_heard now a = record a { pairs = map (heard now) a.pairs }
+
+  -- with USE-CANDIDATE where the agent is controlling and the pair nominated (RFC 8445, section 7.1)
+  abbrev pub check_message : AgentRecord H P → IceCreds → PairRecord → List ℕ → Message
+  check_message a remote p id =
+      binding_request (username_between remote a.local_creds) id a.controlling a.tie_breaker
+      (check_priority (candidate_at a.local p.local)) (a.controlling && is_nominated p)
+
+  module _ (mac : H → List ℕ → List ℕ → List ℕ) where
+    -- it goes out on the pair's path, signed with the remote password, and is kept
+    abbrev pub check_sent : ℕ → IceCreds → PairRecord → List ℕ → AgentRecord H P → AgentRecord H P
+    check_sent now remote p id a =
+        with_packet (path_of a p) (written (mac a.provider) (Some remote.pass) (check_message a remote p id)) (record a {
+          pairs = change_pair p.number (checked now a.timing a.controlling id) a.pairs;
+          stats = record a.stats { bind_request_sent = counted a.stats.bind_request_sent };
+        })
+
+    -- under twelve bytes of the stream
+    abbrev pub ChecksPair : ℕ → IceCreds → PairRecord → AgentRecord H P → Stream → Option Issued → AgentRecord H P → Stream → Type 0
+    ChecksPair now remote p old s issued new t =
+        (id : List ℕ) × ((id, t) ≡ fill_bytes 12 s)
+        × IsPut (written (mac old.provider) (Some remote.pass) (check_message old remote p id)) (check_message old remote p id)
+        × (issued ≡ Some (issued_as (path_of old p) Request id)) × (new ≡ check_sent now remote p id old)
+
+    abbrev pub ChecksTop : ℕ → IceCreds → Option PairRecord → AgentRecord H P → Stream → Option Issued → AgentRecord H P → Stream → Type 0
+    ChecksTop now remote None old s issued new t = (issued ≡ None) × (new ≡ old) × (t ≡ s)
+    ChecksTop now remote (Some p) old s issued new t = ChecksPair now remote p old s issued new t
+
+    -- the pair that is due first is checked
+    abbrev pub ChecksNext : ℕ → IceCreds → AgentRecord H P → Stream → Option Issued → AgentRecord H P → Stream → Type 0
+    ChecksNext now remote old s issued new t =
+        (next : Option PairRecord) × IsNextDue now old.timing old.pairs next × ChecksTop now remote next old s issued new t
+
+    -- no check without remote credentials, and none under lite
+    abbrev pub MayCheck : ℕ → Option IceCreds → AgentRecord H P → Stream → Option Issued → AgentRecord H P → Stream → Type 0
+    MayCheck now None old s issued new t = (issued ≡ None) × (new ≡ old) × (t ≡ s)
+    MayCheck now (Some remote) old s issued new t =
+        MatchBool old.lite
+        ((issued ≡ None) × (new ≡ all_heard now old) × (t ≡ s))
+        (ChecksNext now remote (all_asked now old) s issued new t)

@@ -1,0 +1,59 @@
+-- A check before it is sent, and the pair of an answer: what the agent's inner functions say. No contract of a public call names any of it.
+use Rattle.std.specs.Prelude.{◌≡◌, ℕ, ◌&&◌, ◌||◌, Bool, true, not, List, Option, Some, None, is_some}
+use Rattle.std.specs.List.{list_any}
+use Rattle.is_proto.specs.Lists.{Has, same}
+use Rattle.is_proto.specs.Moments.{counted}
+use Rattle.is_candidate.specs.Candidates.{CandidateRecord, candidate_at}
+use Rattle.is_candidate.specs.Priorities.{check_priority}
+use Rattle.is_pair.specs.Bag.{has_number, pair_numbered, RecordsAnswer}
+use Rattle.is_pair.specs.Checks.{Check}
+use Rattle.is_pair.specs.Due.{is_due}
+use Rattle.is_pair.specs.Pairs.{PairRecord, is_nominated, is_valid}
+use Rattle.is_stun.specs.declared.timing.StunTiming.{StunTiming}
+use Rattle.is_rules.specs.declared.checking.Draft.{Draft}
+use Rattle.is_rules.specs.declared.told.Path.{Path}
+use Rattle.is_rules.specs.Agent.{AgentRecord}
+use Rattle.is_rules.specs.Answers.{keeps_check_on, success_counted}
+use Rattle.is_rules.specs.Sending.{path_of}
+
+-- the agent may nominate the pair by itself
+abbrev pub awaits_nomination : Bool → PairRecord → Bool
+awaits_nomination controlling p = controlling && is_valid p && not (is_nominated p)
+
+-- the pair is due at this moment, or is due once it is nominated at it: a nominated pair is due at once, unless it was asked
+-- for its moment before
+abbrev pub falls_due : Bool → ℕ → StunTiming → PairRecord → Bool
+falls_due controlling now t p = is_due now t p || (not (is_some p.due) && awaits_nomination controlling p)
+
+-- a check of the pair was sent under a role, which is the present one or not
+abbrev pub IsSentUnder : PairRecord → List ℕ → Bool → Bool → Type 0
+IsSentUnder p id controlling present = (c : Check) × Has p.checks c × (c.id ≡ id) × (present ≡ same c.controlling controlling)
+
+module _ {H P : Type 0} where
+  -- the draft is of a check of the pair
+  abbrev pub Drafts : AgentRecord H P → PairRecord → Draft → Type 0
+  Drafts a p d =
+      (d.path ≡ path_of a p) × (d.priority ≡ check_priority (candidate_at a.local p.local)) × (d.nominated ≡ is_nominated p)
+
+  -- and this is the number of the pair, which is one of the agent's
+  abbrev pub DraftsNext : AgentRecord H P → Option PairRecord → Option (ℕ × Draft) → Type 0
+  DraftsNext a None None = Unit {0}
+  DraftsNext a (Some p) (Some next) = (next.0 ≡ p.number) × (has_number p.number a.pairs ≡ true) × Drafts a p next.1
+  DraftsNext a next other = ⊥
+
+  -- the agent may issue a check at this moment
+  abbrev pub may_fall_due : ℕ → AgentRecord H P → Bool
+  may_fall_due now a = not a.lite && is_some a.remote_creds && list_any (falls_due a.controlling now a.timing) a.pairs
+
+  abbrev pub check_counted : AgentRecord H P → AgentRecord H P
+  check_counted a = record a { stats = record a.stats { bind_request_sent = counted a.stats.bind_request_sent } }
+
+  -- the pair of the number keeps a check with the id, and the packet came back on its path
+  abbrev pub KeepsCheckOn : AgentRecord H P → Path → List ℕ → ℕ → Type 0
+  KeepsCheckOn a way id number = (p : PairRecord) × (pair_numbered number a.pairs ≡ Some p) × (keeps_check_on a way id p ≡ true)
+
+  -- what is recorded of an answer, once room is made
+  abbrev pub IsRecorded : ℕ → ℕ → List ℕ → List CandidateRecord → AgentRecord H P → AgentRecord H P → Type 0
+  IsRecorded number now id local ready recorded =
+      (pairs : List PairRecord) × RecordsAnswer number now id ready.pairs pairs
+      × (recorded ≡ record (success_counted ready) { local = local; pairs = pairs })

@@ -1,0 +1,164 @@
+-- What a step leaves, said of each part of the record alone: what the layers above build their invariants on.
+use Rattle.std.specs.Prelude.{◌≡◌, ℕ, ◌<◌, ◌≤◌, Bool, true, false, List, [], ◌∷◌, Option, Some, None, ◌⊎◌, if◌then◌else◌}
+use Rattle.std.specs.Option.{option_or}
+use Rattle.rand_core.specs.Stream.{Stream}
+use Rattle.is_proto.specs.Lists.{Has}
+use Rattle.is_proto.specs.Packets.{Packet}
+use Rattle.is_candidate.specs.Candidates.{CandidateRecord}
+use Rattle.is_pair.specs.Pairs.{PairRecord, is_valid, is_nominated}
+use Rattle.is_stun.specs.declared.header.Class.TheVariants as class
+use Rattle.is_stun.specs.Message.{Message}
+use Rattle.is_stun.specs.Reading.{Reads}
+use Rattle.is_rules.specs.declared.credentials.IceCreds.{IceCreds}
+use Rattle.is_rules.specs.declared.told.Issued.{Issued}
+use Rattle.is_rules.specs.declared.told.Path.{Path}
+use Rattle.is_rules.specs.Request.{RequestRecord}
+use Rattle.is_rules.specs.Steps.{Answer, Entry, is_done, is_refusal, is_turned_down}
+use Rattle.is_rules.specs.Told.{nothing_told, issued_as, turned}
+use Rattle.is_rules.specs.Agent.{AgentRecord}
+use Rattle.is_rules.specs.Sending.{path_of}
+use Rattle.is_rules.specs.Roles.{conflict_of}
+use Rattle.is_rules.specs.Accepting.{IsAcceptedOn}
+use Rattle.is_rules.specs.Answers.{is_role_conflict}
+use Rattle.is_rules.specs.Steps.{Call, SetControlTieBreaker, SetIceLite, SetLocalCredentials, SetRemoteCredentials, RestartIce, RecreateCandidatePairs, ReceivePacket, Step}
+use Rattle.is_rules.specs.Sound.{IsSound, GivesBased}
+use Rattle.is_rules.specs.Brought.{role_once, Brings, IsBrought, IsKept, IsValidOn, IsNominatedOn, Continues, IsServing, IsAskedFor, IsServedPastTests, IsAnswered, YieldsTo, IsRefusedBy, IsRoleSet}
+use Rattle.is_rules.specs.Owed.{Owes}
+use Rattle.is_rules.specs.Points.{IsNominationPoint, IsTopAnnounced, AnswersAreValid}
+use Rattle.is_rules.specs.Issuing.{way_out, Queues, Waits, IsIssued}
+
+-- ---- what calls that answer Ok set
+
+abbrev pub tie_set_by : {P : Type 0} → Call P → ℕ → ℕ
+tie_set_by (SetControlTieBreaker tie_breaker) old = tie_breaker
+tie_set_by _ old = old
+
+abbrev pub lite_set_by : {P : Type 0} → Call P → Bool → Bool
+lite_set_by (SetIceLite lite) old = lite
+lite_set_by _ old = old
+
+abbrev pub remote_set_by : {P : Type 0} → Call P → Option IceCreds → Option IceCreds
+remote_set_by (SetRemoteCredentials creds) remote = Some creds
+remote_set_by (RestartIce creds keep) remote = None
+remote_set_by _ remote = remote
+
+abbrev pub remote_after : {P : Type 0} → Call P → Answer → Option IceCreds → Option IceCreds
+remote_after call answer remote = if is_done answer then remote_set_by call remote else remote
+
+abbrev pub local_set_by : {P : Type 0} → Call P → IceCreds → IceCreds
+local_set_by (SetLocalCredentials creds) local = creds
+local_set_by (RestartIce creds keep) local = creds
+local_set_by _ local = local
+
+abbrev pub local_after : {P : Type 0} → Call P → Answer → IceCreds → IceCreds
+local_after call answer local = if is_done answer then local_set_by call local else local
+
+-- a restart, or a re-creation, that answered Ok
+abbrev pub is_clearing : {P : Type 0} → Call P → Bool
+is_clearing (RestartIce creds keep) = true
+is_clearing RecreateCandidatePairs = true
+is_clearing _ = false
+
+abbrev pub clears : {P : Type 0} → Call P → Answer → Bool
+clears call answer = if is_clearing call then is_done answer else false
+
+-- the path that was announced last
+abbrev pub last_of : List (Option Path) → Option Path
+last_of [] = None
+last_of (path ∷ paths) = option_or (last_of paths) path
+
+module _ {H P : Type 0} where
+  module _ (mac : H → List ℕ → List ℕ → List ℕ) where
+    -- the call brought bytes that do not read as a message that is accepted
+    abbrev pub IsTurnedDown : AgentRecord H P → Call P → Type 0
+    IsTurnedDown old (ReceivePacket now way bytes) = ¬ ((m : Message) × Reads bytes m × IsAcceptedOn mac old way m)
+    IsTurnedDown old _ = ⊥
+
+    -- ---- paths: what the theorems of one agent stand on. Fields with a premise on lite are those that lite breaks
+
+    pub record PathEffect (old : AgentRecord H P) (call : Call P) (e : Entry) (new : AgentRecord H P) : Type 0 where
+      pub provider : new.provider ≡ old.provider
+      pub lite : new.lite ≡ lite_set_by call old.lite
+      pub remote_creds : new.remote_creds ≡ remote_after call e.answer old.remote_creds
+      -- what is brought was accepted: so it is a Binding message, and signed
+      pub accepted : (at : ℕ) (by : Path) (m : Message) → Brings call e at by m → IsAcceptedOn mac old by m
+      -- what waits was waiting, or came now; and what is answered and what waits, as bags
+      pub queue : (q : RequestRecord) → Has new.queue q → Has old.queue q ⊎ IsBrought call e q
+      pub owed : Owes old call e new
+      -- a request that is served had waited, or came now
+      pub serves : (q : RequestRecord) → IsServing old call e q → Has old.queue q ⊎ IsBrought call e q
+      -- a kept check was there, on its path, or went out now under the role that stays
+      pub checks : (path : Path) (id : List ℕ) (controlling : Bool) → IsKept new path id controlling
+          → IsKept old path id controlling
+          ⊎ ((e.told.issued ≡ Some (issued_as path class.Request id)) × (controlling ≡ old.controlling) × (new.controlling ≡ old.controlling))
+      -- a valid path was valid, or is answered now
+      pub valid : old.lite ≡ false → (path : Path) → IsValidOn new path → IsValidOn old path ⊎ IsAnswered mac old call e path
+      -- while the agent is controlled, a nominated path was nominated, or is asked for now
+      pub nominated : old.lite ≡ false → old.controlling ≡ false → new.controlling ≡ false
+          → (path : Path) → IsNominatedOn new path → IsNominatedOn old path ⊎ IsAskedFor old call e path
+      -- a success is the reply to the request that is served; and where that asks for it, the path is nominated while the agent is controlled
+      pub replied : (issued : Issued) → e.told.issued ≡ Some issued → issued.class ≡ class.Success
+          → (q : RequestRecord) × IsServing old call e q × (issued ≡ issued_as (turned q.path) class.Success q.id)
+          × (q.use_candidate ≡ true → new.controlling ≡ false → IsNominatedOn new (turned q.path))
+      -- an announced path was valid, or is answered now; while the agent is controlled it was nominated, or is asked for now
+      pub announced : old.lite ≡ false → (path : Path) → Has e.told.announced (Some path)
+          → IsValidOn old path ⊎ IsAnswered mac old call e path
+      pub announced_asked : old.lite ≡ false → old.controlling ≡ false → new.controlling ≡ false
+          → (path : Path) → Has e.told.announced (Some path) → IsNominatedOn old path ⊎ IsAskedFor old call e path
+      -- the announced number stays where no path is announced; else it is that of the last path, whose pair is valid and
+      -- nominated where it still stands
+      pub number_stays : last_of e.told.announced ≡ None → new.announced ≡ old.announced
+      pub number_names : (path : Path) → last_of e.told.announced ≡ Some path
+          → (p : PairRecord) → Has new.pairs p → new.announced ≡ Some p.number
+          → (path_of new p ≡ path) × (is_valid p ≡ true) × (is_nominated p ≡ true)
+      -- a clear tells nothing, and leaves new pairs alone, without checks, validity and nomination
+      pub cleared : clears call e.answer ≡ true → e.told ≡ nothing_told
+      pub cleared_pairs : clears call e.answer ≡ true → (p : PairRecord) → Has new.pairs p
+          → (old.next_number ≤ p.number) × (is_valid p ≡ false) × (is_nominated p ≡ false) × (p.checks ≡ [])
+      -- numbers rise, no number is given twice, and a pair keeps its path, its validity and its nomination
+      pub counter : old.next_number ≤ new.next_number
+      pub numbers : (p : PairRecord) → Has new.pairs p
+          → Continues old new p ⊎ ((old.next_number ≤ p.number) × (p.number < new.next_number))
+      -- the pair that takes an answer is valid, and where nomination is evaluated at the end, the announced pair is a greatest one
+      pub taken : AnswersAreValid call e new
+      pub points : IsNominationPoint old call e → IsTopAnnounced new
+
+    -- ---- packets and roles: what the theorems of two agents stand on
+
+    pub record TradeEffect (old : AgentRecord H P) (call : Call P) (e : Entry) (new : AgentRecord H P) : Type 0 where
+      pub tie_breaker : new.tie_breaker ≡ tie_set_by call old.tie_breaker
+      pub local_creds : new.local_creds ≡ local_after call e.answer old.local_creds
+      -- a refusal leaves the record, and tells nothing; and so do bytes that are not accepted
+      pub refused : is_refusal e.answer ≡ true → (new ≡ old) × (e.told ≡ nothing_told)
+      pub turned_down : IsTurnedDown old call → (new ≡ old) × (e.told ≡ nothing_told) × (is_turned_down e.answer ≡ true)
+      -- a packet was there, or is issued now; what is told to be issued stands among the packets
+      pub packets : (packet : Packet) → Has new.packets packet → Has old.packets packet ⊎ IsIssued mac old call e packet new.controlling
+      pub issued : (issued : Issued) → e.told.issued ≡ Some issued
+          → (packet : Packet) × Has new.packets packet × (way_out packet ≡ issued.path) × IsIssued mac old call e packet new.controlling
+      pub sends : Queues call e old.packets new.packets
+      pub waits : Waits old call e new
+      -- the role stays, or yields, or is given up, or is set
+      pub role : (new.controlling ≡ old.controlling)
+          ⊎ (YieldsTo old call e new ⊎ (IsRefusedBy old call e new ⊎ IsRoleSet call new.controlling))
+      -- a request that is served past the tests settles the role, and a 487 leaves the agent the other one than its check's
+      pub settled : (q : RequestRecord) → IsServing old call e q → IsServedPastTests old q
+          → new.controlling ≡ role_once (conflict_of old q) old.controlling
+      pub given_up : (at : ℕ) (by : Path) (m : Message) → Brings call e at by m → m.class ≡ class.Failure → is_role_conflict m ≡ true
+          → IsRefusedBy old call e new
+
+    -- the laws that the layers above cite
+    abbrev pub PathLaw : (P → CandidateRecord → ℕ → ℕ → Type 0) → Type 0
+    PathLaw answers =
+        (old new : AgentRecord H P) (s t : Stream) (call : Call P) (e : Entry)
+        → IsSound old → GivesBased call → Step mac answers old s call e new t → PathEffect old call e new × IsSound new
+
+    abbrev pub TradeLaw : (P → CandidateRecord → ℕ → ℕ → Type 0) → Type 0
+    TradeLaw answers =
+        (old new : AgentRecord H P) (s t : Stream) (call : Call P) (e : Entry)
+        → IsSound old → GivesBased call → Step mac answers old s call e new t → TradeEffect old call e new
+
+    -- a refused call keeps the record and the stream
+    abbrev pub RefusalKeeps : (P → CandidateRecord → ℕ → ℕ → Type 0) → Type 0
+    RefusalKeeps answers =
+        (old new : AgentRecord H P) (s t : Stream) (call : Call P) (e : Entry)
+        → Step mac answers old s call e new t → is_refusal e.answer ≡ true → (new ≡ old) × (t ≡ s)

@@ -1,0 +1,101 @@
+-- What a step issues, and what becomes of the queues.
+use Rattle.std.specs.Prelude.{◌≡◌, ℕ, Bool, List, [], ◌∷◌, ◌++◌, Option, Some, None, ◌⊎◌, if◌then◌else◌}
+use Rattle.is_proto.specs.Lists.{Has}
+use Rattle.is_proto.specs.Packets.{Packet}
+use Rattle.is_candidate.specs.Candidates.{CandidateRecord}
+use Rattle.is_candidate.specs.Priorities.{check_priority}
+use Rattle.is_stun.specs.declared.header.Class.{Class}
+use Rattle.is_stun.specs.declared.header.Class.TheVariants as class
+use Rattle.is_stun.specs.Message.{Message}
+use Rattle.is_stun.specs.Checks.{binding_request, binding_reply, binding_role_conflict_reply}
+use Rattle.is_stun.specs.Writing.{written}
+use Rattle.is_stun.specs.Laws.{IsPut}
+use Rattle.is_rules.specs.declared.credentials.IceCreds.{IceCreds}
+use Rattle.is_rules.specs.declared.told.Issued.{Issued}
+use Rattle.is_rules.specs.declared.told.Path.{Path}
+use Rattle.is_rules.specs.Request.{RequestRecord, request_in}
+use Rattle.is_rules.specs.Polls.{IsPolled}
+use Rattle.is_rules.specs.Steps.{Answer, Done, Polled, Entry, quiet, is_done}
+use Rattle.is_rules.specs.declared.roles.Conflict.TheVariants.{Insists}
+use Rattle.is_rules.specs.Told.{turned}
+use Rattle.is_rules.specs.Agent.{AgentRecord}
+use Rattle.is_rules.specs.Sending.{carried}
+use Rattle.is_rules.specs.Roles.{conflict_of}
+use Rattle.is_rules.specs.Queue.{queued_last, request_at}
+use Rattle.is_rules.specs.Checking.{username_between}
+use Rattle.is_rules.specs.Steps.{Call, RestartIce, HandleTimeout, PollTransmit}
+use Rattle.is_rules.specs.Brought.{Brings, IsServing}
+
+-- ---- the queue of packets
+
+-- the way that a packet takes
+abbrev pub way_out : Packet → Path
+way_out packet = record { proto = packet.proto; source = packet.source; destination = packet.destination }
+
+-- at most one packet is appended: the one that is told of
+abbrev pub IsQueued : Option Issued → List Packet → List Packet → Type 0
+IsQueued None old new = new ≡ old
+IsQueued (Some issued) old new = (packet : Packet) × (way_out packet ≡ issued.path) × (new ≡ old ++ packet ∷ [])
+
+abbrev pub IsEmptied : {X : Type 0} → Answer → List X → List X → Type 0
+IsEmptied answer old new = new ≡ (if is_done answer then [] else old)
+
+-- a poll hands out the first packet, a restart empties the queue, and any other call appends the one that it tells of
+abbrev pub Queues : {P : Type 0} → Call P → Entry → List Packet → List Packet → Type 0
+Queues PollTransmit e old new = (given : Option Packet) × (e ≡ quiet (Polled given)) × IsPolled old given new
+Queues (RestartIce creds keep) e old new = (e.told.issued ≡ None) × IsEmptied e.answer old new
+Queues _ e old new = IsQueued e.told.issued old new
+
+-- ---- the queue of requests
+
+-- a moment that is done takes some from the front, and then the one that it serves
+abbrev pub WaitsPast : Option RequestRecord → Answer → List RequestRecord → List RequestRecord → Type 0
+WaitsPast None answer old new = (gone : List RequestRecord) × (old ≡ gone ++ new)
+WaitsPast (Some q) Done old new = (gone : List RequestRecord) × (old ≡ gone ++ q ∷ new)
+WaitsPast (Some q) answer old new = new ≡ old
+
+-- a request is signed with the password of the agent that it goes to, and its answer with the same one (RFC 8445, section 7.2.2)
+abbrev pub key_for : Class → IceCreds → Option IceCreds → List ℕ
+key_for class.Request local (Some remote) = remote.pass
+key_for _ local remote = local.pass
+
+module _ {H P : Type 0} where
+  -- a request that came stands at the end, within the limit; else all is as it was
+  abbrev pub WaitsWith : AgentRecord H P → Call P → Entry → AgentRecord H P → Type 0
+  WaitsWith old call e new =
+      (new.queue ≡ old.queue)
+      ⊎ ((at : ℕ) × (by : Path) × (m : Message) × Brings call e at by m × (m.class ≡ class.Request) × (old.remote_creds ≡ None)
+      × (new.queue ≡ queued_last (old.queue ++ request_in at by m ∷ [])))
+
+  abbrev pub Waits : AgentRecord H P → Call P → Entry → AgentRecord H P → Type 0
+  Waits old (HandleTimeout now) e new = WaitsPast (request_at now old) e.answer old.queue new.queue
+  Waits old call e new = WaitsWith old call e new
+
+  -- ---- what is issued
+
+  -- what the bytes of a message say that the step issues, by its class; `controlling` is the role after the step
+  abbrev pub Says : Class → AgentRecord H P → Call P → Entry → List ℕ → Message → Path → Bool → Type 0
+  -- a check claims the role, which stays
+  Says class.Request old call e bytes m path controlling =
+      (peer : IceCreds) × (c : CandidateRecord) × (use_candidate : Bool)
+      × (old.remote_creds ≡ Some peer) × Has old.local c
+      × (m ≡ binding_request (username_between peer old.local_creds) m.id old.controlling old.tie_breaker (check_priority c) use_candidate)
+      × IsPut bytes m × (controlling ≡ old.controlling)
+  -- a success is the reply to the request served, and goes back where that came from
+  Says class.Success old call e bytes m path controlling =
+      (q : RequestRecord) × IsServing old call e q × (m ≡ binding_reply q.id q.path.source) × (path ≡ turned q.path)
+      × IsPut bytes (binding_reply q.id (carried q.path.source))
+  -- and so does a 487, which came to the agent's own role and no greater tie-breaker; the role stays
+  Says class.Failure old call e bytes m path controlling =
+      (q : RequestRecord) × IsServing old call e q × (m ≡ binding_role_conflict_reply q.id) × (path ≡ turned q.path)
+      × IsPut bytes m × (conflict_of old q ≡ Insists) × (controlling ≡ old.controlling)
+  -- no other message is issued
+  Says _ old call e bytes m path controlling = ⊥
+
+  -- the step issues the packet: it is signed for its class, and told of
+  abbrev pub IsIssued : (H → List ℕ → List ℕ → List ℕ) → AgentRecord H P → Call P → Entry → Packet → Bool → Type 0
+  IsIssued mac old call e packet controlling =
+      (m : Message)
+      × (packet.contents ≡ written (mac old.provider) (Some (key_for m.class old.local_creds old.remote_creds)) m)
+      × (e.told.issued ≡ Some record { path = way_out packet; class = m.class; id = record { 0 = m.id } })
+      × Says m.class old call e packet.contents m (way_out packet) controlling

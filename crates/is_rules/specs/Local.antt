@@ -1,0 +1,126 @@
+-- Local candidates (RFC 8445, section 5.1; RFC 8838, section 10).
+use Rattle.std.specs.Prelude.{◌≡◌, ℕ, ◌==◌, ◌&&◌, Bool, false, not, nat_lt, List, [], ◌∷◌, ◌++◌, length, position, count_by, slice_get, Option, Some, None, Result, Ok, Err, IsOkAnd, MatchBool}
+use Rattle.std.specs.Option.{option_and_then, option_copied}
+use Rattle.std.specs.Borrow.{Bor}
+use Rattle.is_proto.specs.declared.error.IceError.{IceError}
+use Rattle.is_proto.specs.declared.error.IceError.TheVariants.{OutOfMemory, PairIdsExhausted, PriorityTooHigh}
+use Rattle.is_candidate.specs.declared.candidate.kind.CandidateKind.TheVariants.{Host}
+use Rattle.is_candidate.specs.Kinds.{same_kind}
+use Rattle.is_candidate.specs.Candidates.{CandidateRecord, candidate_at}
+use Rattle.is_candidate.specs.Priorities.{candidate_priority}
+use Rattle.is_candidate.specs.Preferences.{default_preference}
+use Rattle.is_candidate.specs.Equality.{is_alike, is_same_place, is_same_origin}
+use Rattle.is_rules.specs.declared.local.Refusal.{Refusal}
+use Rattle.is_rules.specs.declared.local.Refusal.TheVariants as refusal
+use Rattle.is_rules.specs.Kept.{TOO_HIGH}
+use Rattle.is_rules.specs.Agent.{AgentRecord}
+use Rattle.is_rules.specs.Discarding.{change_place, local_discarded}
+use Rattle.is_rules.specs.Forming.{HasNumbers, partners, local_combinations, FormsAll}
+
+-- no pair priority fits 64 bits where both candidates have the greatest priority
+abbrev pub is_too_high : CandidateRecord → Bool
+is_too_high c = candidate_priority c == TOO_HIGH
+
+-- how many local candidates, discarded ones too, are of the kind and the IP version
+abbrev pub count_alike : CandidateRecord → List CandidateRecord → ℕ
+count_alike c cs = count_by (is_alike c) cs
+
+-- the preference that a candidate may be given which so many came before: by the object's stated relation, else the default one
+abbrev pub MayPrefer : {P : Type 0} → (P → CandidateRecord → ℕ → ℕ → Type 0) → Option P → CandidateRecord → ℕ → ℕ → Type 0
+MayPrefer answers None c before preference = preference ≡ default_preference c before
+MayPrefer answers (Some object) c before preference = answers object c before preference
+
+-- a discarded candidate that comes again
+abbrev pub comes_again : CandidateRecord → CandidateRecord → Bool
+comes_again c other = other.discarded && is_same_origin c other
+
+abbrev pub enabled : CandidateRecord → CandidateRecord
+enabled c = record c { discarded = false }
+
+abbrev pub preferred : ℕ → CandidateRecord → CandidateRecord
+preferred preference c = record c { local_preference = Some preference }
+
+module _ {H P : Type 0} where
+  -- ---- what becomes of the candidate, under its preference
+
+  -- under the agent's user fragment
+  abbrev pub as_own : AgentRecord H P → CandidateRecord → CandidateRecord
+  as_own a c = record c { ufrag = Some a.local_creds.ufrag }
+
+  abbrev pub appended : CandidateRecord → AgentRecord H P → AgentRecord H P
+  appended c a = record a { local = a.local ++ c ∷ [] }
+
+  -- it keeps its user fragment and its priority
+  abbrev pub enabled_again : ℕ → AgentRecord H P → AgentRecord H P
+  enabled_again place a = record a { local = change_place place enabled a.local }
+
+  -- a number for each pair that it may be in
+  abbrev pub HasNumbersAt : AgentRecord H P → CandidateRecord → Type 0
+  HasNumbersAt a c = HasNumbers a.next_number (length (partners c a.remote))
+
+  -- the candidate stands at the place of this record, and is formed with the remote ones; numbers are looked at before memory
+  abbrev pub Enters : AgentRecord H P → CandidateRecord → ℕ → AgentRecord H P → Result (Option ℕ) IceError → AgentRecord H P → Type 0
+  Enters old c place mid (Ok at) new = (at ≡ Some place) × HasNumbersAt old c × FormsAll mid (local_combinations c place old.remote) new
+  Enters old c place mid (Err PairIdsExhausted) new = (¬ HasNumbersAt old c) × (new ≡ old)
+  Enters old c place mid (Err OutOfMemory) new = HasNumbersAt old c × (new ≡ old)
+  Enters old c place mid (Err _) new = ⊥
+
+  abbrev pub IsNotAdded : AgentRecord H P → Result (Option ℕ) IceError → AgentRecord H P → Type 0
+  IsNotAdded old result new = IsOkAnd result (λ place. (place ≡ None) × (new ≡ old))
+
+  -- the candidate at the place is enabled again
+  abbrev pub EntersAgain : AgentRecord H P → ℕ → Result (Option ℕ) IceError → AgentRecord H P → Type 0
+  EntersAgain old place result new = Enters old (enabled (candidate_at old.local place)) place (enabled_again place old) result new
+
+  -- the candidate is appended, behind this record
+  abbrev pub EntersNew : AgentRecord H P → CandidateRecord → AgentRecord H P → Result (Option ℕ) IceError → AgentRecord H P → Type 0
+  EntersNew old c mid result new = Enters old (as_own old c) (length old.local) (appended (as_own old c) mid) result new
+
+  -- the first local candidate of equal address, base and protocol decides: it is enabled again, or stays before one of smaller
+  -- priority, or is superseded
+  abbrev pub EnrolsAt : AgentRecord H P → CandidateRecord → Option ℕ → Result (Option ℕ) IceError → AgentRecord H P → Type 0
+  EnrolsAt old c None result new = EntersNew old c old result new
+  EnrolsAt old c (Some place) result new =
+      MatchBool (comes_again c (candidate_at old.local place))
+      (EntersAgain old place result new)
+      (MatchBool (nat_lt (candidate_priority c) (candidate_priority (candidate_at old.local place)))
+      (IsNotAdded old result new)
+      (EntersNew old c (local_discarded place old) result new))
+
+  abbrev pub Enrols : AgentRecord H P → CandidateRecord → Result (Option ℕ) IceError → AgentRecord H P → Type 0
+  Enrols old c result new = EnrolsAt old c (position (is_same_place c) old.local) result new
+
+  -- ---- the call
+
+  -- under lite an agent has host candidates alone (RFC 8445, section 5.2)
+  abbrev pub is_unwanted : AgentRecord H P → CandidateRecord → Bool
+  is_unwanted a c = a.lite && not (same_kind c.kind Host)
+
+  abbrev pub Prefers : (P → CandidateRecord → ℕ → ℕ → Type 0) → AgentRecord H P → CandidateRecord → ℕ → Type 0
+  Prefers answers a c preference = MayPrefer answers a.preference c (count_alike c a.local) preference
+
+  abbrev pub EnrolsPreferred : (P → CandidateRecord → ℕ → ℕ → Type 0) → AgentRecord H P → CandidateRecord → Result (Option ℕ) IceError → AgentRecord H P → Type 0
+  EnrolsPreferred answers old c result new = (preference : ℕ) × Prefers answers old c preference × Enrols old (preferred preference c) result new
+
+  -- `add_local_candidate`: the place of the candidate, or none. Priorities are looked at before all else
+  abbrev pub AddsLocal : (P → CandidateRecord → ℕ → ℕ → Type 0) → AgentRecord H P → CandidateRecord → Result (Option ℕ) IceError → AgentRecord H P → Type 0
+  AddsLocal answers old c result new =
+      MatchBool (is_too_high c)
+      ((result ≡ Err PriorityTooHigh) × (new ≡ old))
+      (MatchBool (is_unwanted old c) (IsNotAdded old result new) (EnrolsPreferred answers old c result new))
+
+  -- the candidate that stands at the place is lent
+  abbrev pub LendsLocal : (P → CandidateRecord → ℕ → ℕ → Type 0) → AgentRecord H P → CandidateRecord → Result (Option (Bor CandidateRecord)) IceError → AgentRecord H P → Type 0
+  LendsLocal answers old c (Ok lent) new =
+      (place : Option ℕ) × AddsLocal answers old c (Ok place) new × (option_copied lent ≡ option_and_then (slice_get new.local) place)
+  LendsLocal answers old c (Err error) new = AddsLocal answers old c (Err error) new
+
+-- the refusals of this call, which own no memory, as errors
+abbrev pub error_of : Refusal → IceError
+error_of refusal.OutOfMemory = OutOfMemory
+error_of refusal.PairIdsExhausted = PairIdsExhausted
+error_of refusal.PriorityTooHigh = PriorityTooHigh
+
+abbrev pub widened : {A : Type 0} → Result A Refusal → Result A IceError
+widened (Ok x) = Ok x
+widened (Err r) = Err (error_of r)

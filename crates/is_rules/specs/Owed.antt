@@ -1,0 +1,75 @@
+-- Transactions: what accepted Binding requests ask for, what responses answer, and what waits in the queue.
+use Rattle.std.specs.Prelude.{◌≡◌, ℕ, ◌+◌, ◌≤◌, Bool, true, false, List, [], ◌∷◌, ◌++◌, Option, Some, None}
+use Rattle.is_stun.specs.declared.header.Class.{Class}
+use Rattle.is_stun.specs.declared.header.Class.TheVariants.{Request, Success, Failure}
+use Rattle.is_stun.specs.declared.header.Method.{Method}
+use Rattle.is_stun.specs.declared.header.Method.TheVariants.{Binding}
+use Rattle.is_stun.specs.Message.{Message}
+use Rattle.is_stun.specs.Reading.{message_of}
+use Rattle.is_rules.specs.declared.told.Path.{Path}
+use Rattle.is_rules.specs.declared.told.Issued.{Issued}
+use Rattle.is_rules.specs.Request.{RequestRecord}
+use Rattle.is_rules.specs.Steps.{Answer, Flag, Entry}
+use Rattle.is_rules.specs.Told.{turned}
+use Rattle.is_rules.specs.Agent.{AgentRecord}
+use Rattle.is_rules.specs.Steps.{Call, ReceivePacket}
+
+-- an id, and the way of its request
+pub record Transaction : Type 0 where
+  pub way : Path
+  pub id : List ℕ
+
+-- how many pass
+abbrev pub one_if : Bool → ℕ
+one_if true = 1
+one_if false = 0
+
+abbrev pub count : (Transaction → Bool) → List Transaction → ℕ
+count test [] = 0
+count test (x ∷ xs) = one_if (test x) + count test xs
+
+-- the transaction of a Binding request that came this way
+abbrev pub requested_as : Path → List ℕ → Method → Class → List Transaction
+requested_as way id Binding Request = record { way = way; id = id } ∷ []
+requested_as way id _ _ = []
+
+abbrev pub requested_by : Path → Message → List Transaction
+requested_by way m = requested_as way m.id m.method m.class
+
+-- the transaction of the Binding request that a packet brought, where it was accepted
+abbrev pub requested_in : Path → List ℕ → Answer → List Transaction
+requested_in way bytes (Flag true) = requested_by way (message_of bytes)
+requested_in way bytes _ = []
+
+abbrev pub request_of : {P : Type 0} → Call P → Answer → List Transaction
+request_of (ReceivePacket now way bytes) answer = requested_in way bytes answer
+request_of _ answer = []
+
+-- the transaction of a response, which goes back on the way of its request
+abbrev pub replied_as : Path → List ℕ → Class → List Transaction
+replied_as path id Success = record { way = turned path; id = id } ∷ []
+replied_as path id Failure = record { way = turned path; id = id } ∷ []
+replied_as path id _ = []
+
+abbrev pub reply_of : Option Issued → List Transaction
+reply_of None = []
+reply_of (Some issued) = replied_as issued.path issued.id.0 issued.class
+
+-- what waits
+abbrev pub transaction_of : RequestRecord → Transaction
+transaction_of q = record { way = q.path; id = q.id }
+
+abbrev pub owed : (Transaction → Bool) → List RequestRecord → ℕ
+owed test [] = 0
+owed test (q ∷ qs) = one_if (test (transaction_of q)) + owed test qs
+
+-- what a step answers and leaves waiting was waiting, or came now: counted by any test, so as bags
+abbrev pub Owes : {H P : Type 0} → AgentRecord H P → Call P → Entry → AgentRecord H P → Type 0
+Owes old call e new =
+    (test : Transaction → Bool)
+    → count test (reply_of e.told.issued) + owed test new.queue ≤ owed test old.queue + count test (request_of call e.answer)
+
+-- each of xs stands among ys, and no two of them at one place
+abbrev pub AreAmong : {X : Type 0} → List X → List X → Type 0
+AreAmong [] ys = Unit {0}
+AreAmong (x ∷ xs) ys = (front : List _) × (back : List _) × (ys ≡ front ++ x ∷ back) × AreAmong xs (front ++ back)

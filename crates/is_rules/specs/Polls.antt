@@ -1,0 +1,56 @@
+-- What is polled.
+use Rattle.std.specs.Prelude.{◌≡◌, ℕ, ◌*◌, min, max, ◌||◌, not, Bool, List, [], ◌∷◌, map, fold, Option, Some, None, MatchBool, IsSomeAnd}
+use Rattle.is_proto.specs.Lists.{is_empty}
+use Rattle.is_proto.specs.Moments.{MAX, SECOND, later}
+use Rattle.is_pair.specs.Due.{due_moment, asked}
+use Rattle.is_proto.specs.Packets.{Packet}
+use Rattle.is_rules.specs.declared.event.IceAgentEvent.{IceAgentEvent}
+use Rattle.is_rules.specs.Agent.{AgentRecord}
+
+-- a queue hands out its first
+abbrev pub IsPolled : {X : Type 0} → List X → Option X → List X → Type 0
+IsPolled old None new = (old ≡ []) × (new ≡ [])
+IsPolled old (Some x) new = old ≡ x ∷ new
+
+module _ {H P : Type 0} where
+  -- `poll_transmit`
+  abbrev pub PollsTransmit : AgentRecord H P → Option Packet → AgentRecord H P → Type 0
+  PollsTransmit old given new = IsPolled old.packets given new.packets × (new ≡ record old { packets = new.packets })
+
+  -- `poll_event`
+  abbrev pub PollsEvent : AgentRecord H P → Option IceAgentEvent → AgentRecord H P → Type 0
+  PollsEvent old given new = IsPolled old.events given new.events × (new ≡ record old { events = new.events })
+
+  -- a packet waits to be sent, or a request to be served
+  abbrev pub is_waiting : AgentRecord H P → Bool
+  is_waiting a = not (is_empty a.packets) || not (is_empty a.queue)
+
+  -- the next packet is paced (RFC 8445, section 14.2)
+  abbrev pub soon : AgentRecord H P → ℕ → ℕ
+  soon a last = later last a.timing_advance
+
+  -- the earliest due moment, asked at the last moment
+  abbrev pub earliest_due : AgentRecord H P → ℕ → ℕ
+  earliest_due a last = fold min MAX (map (due_moment last a.timing) a.pairs)
+
+  -- there is nothing to check
+  abbrev pub is_idle : AgentRecord H P → Bool
+  is_idle a = a.lite || is_empty a.pairs
+
+  -- where no packet waits, asking fixes the due moments
+  abbrev pub WakesIdle : AgentRecord H P → ℕ → ℕ → AgentRecord H P → Type 0
+  WakesIdle old last wake new =
+      MatchBool (is_idle old)
+      ((wake ≡ later last (3 * SECOND)) × (new ≡ old))
+      ((wake ≡ max (earliest_due old last) (soon old last)) × (new ≡ record old { pairs = map (asked last old.timing) old.pairs }))
+
+  abbrev pub Wakes : AgentRecord H P → ℕ → ℕ → AgentRecord H P → Type 0
+  Wakes old last wake new = MatchBool (is_waiting old) ((wake ≡ soon old last) × (new ≡ old)) (WakesIdle old last wake new)
+
+  -- `poll_timeout`: with no moment told yet, none is asked for
+  abbrev pub WakesFrom : Option ℕ → AgentRecord H P → Option ℕ → AgentRecord H P → Type 0
+  WakesFrom None old wake new = (wake ≡ None) × (new ≡ old)
+  WakesFrom (Some last) old wake new = IsSomeAnd wake (λ at. Wakes old last at new)
+
+  abbrev pub PollsTimeout : AgentRecord H P → Option ℕ → AgentRecord H P → Type 0
+  PollsTimeout old wake new = WakesFrom old.last_moment old wake new

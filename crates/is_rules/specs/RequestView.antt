@@ -1,0 +1,35 @@
+-- A request, and how a packet came, without where their parts lie in memory.
+use Rattle.is_stun.specs.declared.message.StunPacket.{StunPacket}
+use Rattle.is_rules.specs.declared.request.Request.{Request}
+use Rattle.is_rules.specs.declared.request.Waiting.{Waiting}
+use Rattle.is_rules.specs.declared.told.Path.{Path}
+use Rattle.is_rules.specs.Request.{RequestRecord}
+
+abbrev pub request_view : Request → RequestRecord
+request_view q = record {
+  moment = q.moment.0;
+  path = q.path;
+  id = q.id.0;
+  priority = q.priority;
+  use_candidate = q.use_candidate;
+  ufrag = q.ufrag.now;
+  ice_controlling = q.ice_controlling;
+  ice_controlled = q.ice_controlled;
+}
+
+-- a request that waits
+abbrev pub waiting_view : Waiting → RequestRecord
+waiting_view q = record {
+  moment = q.moment.0;
+  path = q.path;
+  id = q.id.0;
+  priority = q.priority;
+  use_candidate = q.use_candidate;
+  ufrag = q.ufrag;
+  ice_controlling = q.ice_controlling;
+  ice_controlled = q.ice_controlled;
+}
+
+-- the way that a packet came
+abbrev pub way_of : StunPacket → Path
+way_of packet = record { proto = packet.proto; source = packet.source; destination = packet.destination }

@@ -1,0 +1,64 @@
+-- Restarts (RFC 8445, section 9), and pairs that are formed anew.
+use Rattle.std.specs.Prelude.{◌≡◌, ℕ, ◌++◌, ◌∷◌, Bool, true, false, List, [], length, map, Some, None, Result, Ok, Err}
+use Rattle.is_proto.specs.declared.error.IceError.{IceError}
+use Rattle.is_proto.specs.declared.error.IceError.TheVariants.{OutOfMemory, PairIdsExhausted, CredentialsTooLong}
+use Rattle.is_candidate.specs.Candidates.{CandidateRecord}
+use Rattle.is_rules.specs.declared.credentials.IceCreds.{IceCreds}
+use Rattle.is_rules.specs.declared.event.IceAgentEvent.TheVariants.{IceRestart}
+use Rattle.is_rules.specs.declared.event.IceConnectionState.TheVariants.{Checking}
+use Rattle.is_rules.specs.Fitting.{are_too_long}
+use Rattle.is_rules.specs.Agent.{AgentRecord, no_stats}
+use Rattle.is_rules.specs.Forming.{HasNumbers, FormsAll, live_combinations}
+use Rattle.is_rules.specs.States.{with_state}
+
+abbrev pub with_ufrag : List ℕ → CandidateRecord → CandidateRecord
+with_ufrag ufrag c = record c { ufrag = Some ufrag }
+
+-- local candidates stay, with their discard marks and under the new user fragment, or go
+abbrev pub kept_local : Bool → List ℕ → List CandidateRecord → List CandidateRecord
+kept_local true ufrag cs = map (with_ufrag ufrag) cs
+kept_local false ufrag cs = []
+
+module _ {H P : Type 0} where
+  -- role, queued requests, the announced number and the pair counter stay, and so do settings and the last moment
+  abbrev pub cleared : IceCreds → Bool → AgentRecord H P → AgentRecord H P
+  cleared creds keep a = record a {
+    local_creds = creds;
+    remote_creds = None;
+    local = kept_local keep creds.ufrag a.local;
+    remote = [];
+    pairs = [];
+    packets = [];
+    events = [];
+    seen = [];
+    stats = no_stats;
+  }
+
+  -- a session begins anew
+  abbrev pub begun : IceCreds → AgentRecord H P → AgentRecord H P
+  begun creds a = with_state Checking (record a { events = a.events ++ IceRestart creds ∷ [] })
+
+  abbrev pub restarted : IceCreds → Bool → AgentRecord H P → AgentRecord H P
+  restarted creds keep a = begun creds (cleared creds keep a)
+
+  -- `ice_restart`
+  abbrev pub Restarts : AgentRecord H P → IceCreds → Bool → Result (Unit {0}) IceError → AgentRecord H P → Type 0
+  Restarts old creds keep (Ok _) new = (are_too_long creds None ≡ false) × (new ≡ restarted creds keep old)
+  Restarts old creds keep (Err CredentialsTooLong) new = (are_too_long creds None ≡ true) × (new ≡ old)
+  Restarts old creds keep (Err OutOfMemory) new = (are_too_long creds None ≡ false) × (new ≡ old)
+  Restarts old creds keep (Err _) new = ⊥
+
+  -- a number for each combination of live candidates
+  abbrev pub HasNumbersForAll : AgentRecord H P → Type 0
+  HasNumbersForAll a = HasNumbers a.next_number (length (live_combinations a.local a.remote))
+
+  -- no pairs, and the state Checking
+  abbrev pub emptied : AgentRecord H P → AgentRecord H P
+  emptied a = with_state Checking (record a { pairs = [] })
+
+  -- `recreate_candidate_pairs`: all candidates that are not discarded
+  abbrev pub Recreates : AgentRecord H P → Result (Unit {0}) IceError → AgentRecord H P → Type 0
+  Recreates old (Ok _) new = HasNumbersForAll old × FormsAll (emptied old) (live_combinations old.local old.remote) new
+  Recreates old (Err PairIdsExhausted) new = (¬ HasNumbersForAll old) × (new ≡ old)
+  Recreates old (Err OutOfMemory) new = HasNumbersForAll old × (new ≡ old)
+  Recreates old (Err _) new = ⊥

@@ -1,0 +1,213 @@
+-- Serving a Binding request (RFC 8445, section 7.3): a definition for each rule, in the order in which they act, each ending
+-- in the next one. `s` is the record as the rule finds it; `told` and `new` are what serving tells and leaves.
+use Rattle.std.specs.Prelude.{◌≡◌, ℕ, ◌==◌, ◌&&◌, Bool, true, false, not, List, [], ◌∷◌, ◌++◌, length, bytes_eq, Option, Some, None, is_some, MatchBool, MatchOption, if◌then◌else◌}
+use Rattle.std.specs.Option.{option_map_or}
+use Rattle.is_proto.specs.Moments.{MAX, counted}
+use Rattle.is_proto.specs.declared.error.IceError.{IceError}
+use Rattle.is_proto.specs.declared.error.IceError.TheVariants.{OutOfMemory, PairIdsExhausted}
+use Rattle.is_candidate.specs.Candidates.{CandidateRecord, candidate_at}
+use Rattle.is_candidate.specs.Making.{peer_reflexive_candidate}
+use Rattle.is_candidate.specs.Equality.{TEMPORARY}
+use Rattle.is_pair.specs.Pairs.{PairRecord, is_nominated, with_request, validated, nominated}
+use Rattle.is_stun.specs.declared.header.Class.TheVariants.{Success, Failure}
+use Rattle.is_stun.specs.Checks.{binding_reply, binding_role_conflict_reply}
+use Rattle.is_stun.specs.Laws.{IsPut}
+use Rattle.is_stun.specs.Writing.{written}
+use Rattle.is_rules.specs.declared.credentials.IceCreds.{IceCreds}
+use Rattle.is_rules.specs.declared.places.RemotePlace.{RemotePlace}
+use Rattle.is_rules.specs.declared.places.RemotePlace.TheVariants.{Known, Barred, Unknown}
+use Rattle.is_rules.specs.declared.roles.Conflict.{Conflict}
+use Rattle.is_rules.specs.declared.roles.Conflict.TheVariants.{Absent, Insists, Yields}
+use Rattle.is_rules.specs.declared.serving.Places.{Places}
+use Rattle.is_rules.specs.declared.told.Path.{Path}
+use Rattle.is_rules.specs.declared.told.Told.{Told}
+use Rattle.is_rules.specs.Told.{nothing_told, issued_as, issued_alone, told_by, turned}
+use Rattle.is_rules.specs.Request.{RequestRecord}
+use Rattle.is_rules.specs.Agent.{AgentRecord}
+use Rattle.is_pair.specs.Bag.{change_pair, is_valid_at, IsPairBetween}
+use Rattle.is_rules.specs.Places.{local_place, IsRemotePlace, remote_index}
+use Rattle.is_rules.specs.Forming.{formed, with_pair}
+use Rattle.is_rules.specs.Queue.{queued}
+use Rattle.is_rules.specs.Sending.{carried, path_between, with_packet}
+use Rattle.is_rules.specs.Nominating.{NominatesWhere}
+use Rattle.is_rules.specs.Roles.{conflict_of, switched}
+
+-- a lite agent makes no checks of its own: while it is controlled each request makes the pair valid
+abbrev pub validated_by_peer : Bool → Bool → PairRecord → PairRecord
+validated_by_peer controlling lite p = if lite && not controlling then validated p else p
+
+-- a controlled agent nominates the pair where the peer asks for it and it is not nominated yet (RFC 8445, section 7.3.1.5)
+abbrev pub nominated_by_peer : Bool → Bool → RequestRecord → PairRecord → PairRecord
+nominated_by_peer controlling lite q p = if not controlling && q.use_candidate && not (is_nominated p) then nominated lite p else p
+
+-- the pair records the peer's check, and may become valid and nominated
+abbrev pub served : Bool → Bool → RequestRecord → PairRecord → PairRecord
+served controlling lite q p = nominated_by_peer controlling lite q (validated_by_peer controlling lite (with_request q.moment p))
+
+-- the peer nominates while the agent is controlling
+abbrev pub is_misled : Bool → RequestRecord → Bool
+is_misled controlling q = controlling && q.use_candidate
+
+-- serving goes on to its places, by the role before it
+abbrev pub is_admitted : Conflict → Bool → RequestRecord → Bool
+is_admitted Absent controlling q = not (is_misled controlling q)
+is_admitted Insists controlling q = false
+is_admitted Yields controlling q = not (is_misled (not controlling) q)
+
+-- no pair joins the places, and one would be added
+abbrev pub wants_pair_at : RemotePlace → Option ℕ → Bool → Bool
+wants_pair_at Barred pair discarded = false
+wants_pair_at (Known r) pair discarded = not (is_some pair) && not discarded
+wants_pair_at Unknown pair discarded = not (is_some pair) && not discarded
+
+module _ {H P : Type 0} where
+  -- the request is dropped
+  abbrev pub Drops : AgentRecord H P → Told → AgentRecord H P → Type 0
+  Drops s told new = (told ≡ nothing_told) × (new ≡ s)
+
+  -- the request waits
+  abbrev pub Queues : RequestRecord → AgentRecord H P → Told → AgentRecord H P → Type 0
+  Queues q s told new = (told ≡ nothing_told) × (new ≡ queued q s)
+
+  -- ---- what each rule looks at and changes
+
+  -- the request names another peer than the one that is known, or none is known
+  abbrev pub names_another : AgentRecord H P → RequestRecord → Bool
+  names_another s q = option_map_or (λ (peer : IceCreds). not (bytes_eq q.ufrag peer.ufrag)) s.remote_creds true
+
+  abbrev pub request_counted : AgentRecord H P → AgentRecord H P
+  request_counted s = record s { stats = record s.stats { bind_request_recv = counted s.stats.bind_request_recv } }
+
+  -- the candidate that an unknown sender becomes (RFC 8445, section 7.3.1.3)
+  abbrev pub sender_candidate : AgentRecord H P → RequestRecord → CandidateRecord
+  sender_candidate s q = peer_reflexive_candidate (Some TEMPORARY) q.path.proto q.priority q.path.source q.path.source s.local_creds.ufrag
+
+  abbrev pub with_sender : RequestRecord → AgentRecord H P → AgentRecord H P
+  with_sender q s = record s { remote = s.remote ++ sender_candidate s q ∷ [] }
+
+  abbrev pub pair_served : RequestRecord → ℕ → AgentRecord H P → AgentRecord H P
+  pair_served q number s = record s { pairs = change_pair number (served s.controlling s.lite q) s.pairs }
+
+  -- ---- what serving prepares
+
+  -- the candidate that serving appends
+  abbrev pub sender_at : AgentRecord H P → RequestRecord → RemotePlace → Option CandidateRecord
+  sender_at s q (Known r) = None
+  sender_at s q Barred = None
+  sender_at s q Unknown = Some (sender_candidate s q)
+
+  -- ---- the rules
+
+  module _ (mac : H → List ℕ → List ℕ → List ℕ) where
+    -- the success reply, signed with the present local password, tells the address that the request came from, and goes out
+    -- on the pair's path (RFC 8445, section 7.3.1.2)
+    abbrev pub replied : RequestRecord → Path → AgentRecord H P → AgentRecord H P
+    replied q path s = with_packet path (written (mac s.provider) (Some s.local_creds.pass) (binding_reply q.id q.path.source)) s
+
+    -- the 487, under the same password, goes back the way that the request came
+    abbrev pub role_insisted : RequestRecord → AgentRecord H P → AgentRecord H P
+    role_insisted q s = with_packet (turned q.path) (written (mac s.provider) (Some s.local_creds.pass) (binding_role_conflict_reply q.id)) s
+
+    -- the reply goes out, behind what was announced
+    abbrev pub Replies : RequestRecord → Path → Option Path → AgentRecord H P → Told → AgentRecord H P → Type 0
+    Replies q path announced s told new =
+        IsPut (written (mac s.provider) (Some s.local_creds.pass) (binding_reply q.id q.path.source)) (binding_reply q.id (carried q.path.source))
+        × (told ≡ told_by (Some (issued_as path Success q.id)) announced None) × (new ≡ replied q path s)
+
+    -- the pair takes the request; a controlling agent evaluates nomination where it is valid; and the reply goes out
+    abbrev pub ServesPair : RequestRecord → ℕ → ℕ → ℕ → AgentRecord H P → Told → AgentRecord H P → Type 0
+    ServesPair q l r number s told new =
+        (path : Option Path) × (mid : AgentRecord H P)
+        × NominatesWhere (s.controlling && is_valid_at number s.pairs) (pair_served q number s) path mid
+        × Replies q (path_between s l r) path mid told new
+
+    -- a pair is added, without limit or redundancy: a number is left
+    abbrev pub AddsPair : RequestRecord → ℕ → ℕ → AgentRecord H P → Told → AgentRecord H P → Type 0
+    AddsPair q l r s told new = (s.next_number == MAX ≡ false) × ServesPair q l r s.next_number (with_pair (formed s l r) s) told new
+
+    -- a pair of the places takes it; where there is none, one is added, but none at a discarded local place, which drops it
+    -- (RFC 8445, section 7.3.1.4)
+    abbrev pub TakesAt : RequestRecord → ℕ → ℕ → Option ℕ → AgentRecord H P → Told → AgentRecord H P → Type 0
+    TakesAt q l r (Some number) s told new = ServesPair q l r number s told new
+    TakesAt q l r None s told new =
+        MatchBool (candidate_at s.local l).discarded (Drops s told new) (AddsPair q l r s told new)
+
+    abbrev pub Joins : RequestRecord → ℕ → ℕ → AgentRecord H P → Told → AgentRecord H P → Type 0
+    Joins q l r s told new = (pair : Option ℕ) × IsPairBetween s.pairs l r pair × TakesAt q l r pair s told new
+
+    -- an unknown sender is appended, and discarded candidates alone drop it
+    abbrev pub JoinsAt : RequestRecord → ℕ → RemotePlace → AgentRecord H P → Told → AgentRecord H P → Type 0
+    JoinsAt q l (Known r) s told new = Joins q l r s told new
+    JoinsAt q l Barred s told new = Drops s told new
+    JoinsAt q l Unknown s told new = Joins q l (length s.remote) (with_sender q s) told new
+
+    -- the remote place
+    abbrev pub MeetsSender : RequestRecord → ℕ → AgentRecord H P → Told → AgentRecord H P → Type 0
+    MeetsSender q l s told new = (place : RemotePlace) × IsRemotePlace s.remote q place × JoinsAt q l place s told new
+
+    -- USE-CANDIDATE while controlling is dropped; any other request counts
+    abbrev pub Admits : RequestRecord → ℕ → AgentRecord H P → Told → AgentRecord H P → Type 0
+    Admits q l s told new = MatchBool (is_misled s.controlling q) (Drops s told new) (MeetsSender q l (request_counted s) told new)
+
+    -- the 487 goes out, and serving ends
+    abbrev pub InsistsOnRole : RequestRecord → AgentRecord H P → Told → AgentRecord H P → Type 0
+    InsistsOnRole q s told new =
+        IsPut (written (mac s.provider) (Some s.local_creds.pass) (binding_role_conflict_reply q.id)) (binding_role_conflict_reply q.id)
+        × (told ≡ issued_alone (turned q.path) Failure q.id) × (new ≡ role_insisted q s)
+
+    -- a sender of the agent's own role: the greater tie-breaker keeps it (RFC 8445, section 7.3.1.1)
+    abbrev pub SettlesBy : Conflict → RequestRecord → ℕ → AgentRecord H P → Told → AgentRecord H P → Type 0
+    SettlesBy Absent q l s told new = Admits q l s told new
+    SettlesBy Insists q l s told new = InsistsOnRole q s told new
+    SettlesBy Yields q l s told new = Admits q l (switched s) told new
+
+    abbrev pub Settles : RequestRecord → ℕ → AgentRecord H P → Told → AgentRecord H P → Type 0
+    Settles q l s told new = SettlesBy (conflict_of s q) q l s told new
+
+    -- the local place; none drops it
+    abbrev pub ServesHere : RequestRecord → AgentRecord H P → Told → AgentRecord H P → Type 0
+    ServesHere q s told new = MatchOption (local_place s.local q) (Drops s told new) (λ l. Settles q l s told new)
+
+    -- a request that names another peer is dropped
+    abbrev pub Serves : RequestRecord → AgentRecord H P → Told → AgentRecord H P → Type 0
+    Serves q s told new = MatchBool (names_another s q) (Drops s told new) (ServesHere q s told new)
+
+    -- where no remote credentials are known the request waits
+    abbrev pub TakesRequest : RequestRecord → AgentRecord H P → Told → AgentRecord H P → Type 0
+    TakesRequest q s told new = MatchOption s.remote_creds (Queues q s told new) (λ _. Serves q s told new)
+
+  -- ---- when a pair is wanted and no number is left
+
+  -- the request gets to its local place, and these are places that it can be served at
+  abbrev pub Chooses : AgentRecord H P → RequestRecord → Option Places → Type 0
+  Chooses s q None = MatchBool (names_another s q) (Unit {0}) (local_place s.local q ≡ None)
+  Chooses s q (Some at) =
+      (names_another s q ≡ false) × (local_place s.local q ≡ Some at.local) × IsRemotePlace s.remote q at.remote
+      × IsPairBetween s.pairs at.local (remote_index s.remote at.remote) at.pair
+
+  -- a pair must be added there
+  abbrev pub wants_pair : AgentRecord H P → RequestRecord → Places → Bool
+  wants_pair s q at =
+      is_admitted (conflict_of s q) s.controlling q && wants_pair_at at.remote at.pair (candidate_at s.local at.local).discarded
+
+  -- numbers run from 0 to one below the greatest counter
+  abbrev pub lacks_number : AgentRecord H P → RequestRecord → Places → Bool
+  lacks_number s q at = s.next_number == MAX && wants_pair s q at
+
+  -- at some places a pair must be added, and no number is left
+  abbrev pub LacksNumber : AgentRecord H P → RequestRecord → Type 0
+  LacksNumber s q = (at : Places) × Chooses s q (Some at) × (lacks_number s q at ≡ true)
+
+  -- wherever it may be served
+  abbrev pub AlwaysLacksNumber : AgentRecord H P → RequestRecord → Type 0
+  AlwaysLacksNumber s q = LacksNumber s q × ((at : Places) → Chooses s q (Some at) → lacks_number s q at ≡ true)
+
+  -- why a request is not served: numbers are looked at before memory
+  abbrev pub MayRefuseRequest : AgentRecord H P → RequestRecord → IceError → Type 0
+  MayRefuseRequest s q PairIdsExhausted = LacksNumber s q
+  MayRefuseRequest s q OutOfMemory = ¬ AlwaysLacksNumber s q
+  MayRefuseRequest s q _ = ⊥
+
+  -- a request that waits is refused for want of memory alone
+  abbrev pub MayRefuseArrival : AgentRecord H P → RequestRecord → IceError → Type 0
+  MayRefuseArrival s q error = MatchOption s.remote_creds (error ≡ OutOfMemory) (λ _. MayRefuseRequest s q error)

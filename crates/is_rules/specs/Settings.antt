@@ -1,0 +1,29 @@
+-- What the user of an agent may set.
+use Rattle.std.specs.Prelude.{◌≡◌, ℕ, ◌==◌, ◌&&◌, true, false, nat_lt, max, map, Result, Ok, Err, if◌then◌else◌}
+use Rattle.is_proto.specs.declared.error.IceError.{IceError}
+use Rattle.is_proto.specs.declared.error.IceError.TheVariants.{MtuTooSmall}
+use Rattle.is_pair.specs.Pairs.{undue}
+use Rattle.is_rules.specs.Fitting.{MTU_FLOOR}
+use Rattle.is_rules.specs.Agent.{AgentRecord}
+
+module _ {H P : Type 0} where
+  -- `set_mtu`: each check has to fit
+  abbrev pub SetsMtu : AgentRecord H P → ℕ → ℕ → Result (Unit {0}) IceError → AgentRecord H P → Type 0
+  SetsMtu old target warn (Ok _) new = (nat_lt target MTU_FLOOR ≡ false) × (new ≡ record old { mtu = target; mtu_warn = warn })
+  SetsMtu old target warn (Err MtuTooSmall) new = (nat_lt target MTU_FLOOR ≡ true) × (new ≡ old)
+  SetsMtu old target warn (Err _) new = ⊥
+
+  -- `set_initial_stun_rto` and `set_max_stun_rto`: each pair is asked anew for its due moment, where one of them changes
+  abbrev pub with_rtos : ℕ → ℕ → AgentRecord H P → AgentRecord H P
+  with_rtos initial greatest a = record a {
+    timing = record a.timing { initial_rto = record { 0 = initial }; max_rto = record { 0 = greatest } };
+    pairs = if a.timing.initial_rto.0 == initial && a.timing.max_rto.0 == greatest then a.pairs else map undue a.pairs;
+  }
+
+  -- `set_max_stun_retransmits`: the kept checks are cut when the next one is made
+  abbrev pub with_retransmits : ℕ → AgentRecord H P → AgentRecord H P
+  with_retransmits n a = record a { timing = record a.timing { max_retransmits = n } }
+
+  -- `skip_pair_ids`: only upwards, so that no number is given twice
+  abbrev pub numbers_skipped : ℕ → AgentRecord H P → AgentRecord H P
+  numbers_skipped n a = record a { next_number = max a.next_number n }

@@ -1,0 +1,81 @@
+-- What a moment brings: the state, a queued request, nomination, pairs given up, and a check.
+use Rattle.std.specs.Prelude.{◌≡◌, ℕ, Bool, List, [], ◌∷◌, ◌++◌, Option, Some, None, MatchBool, MatchOption, Result, Ok, Err, if◌then◌else◌}
+use Rattle.std.specs.List.{list_any}
+use Rattle.rand_core.specs.Stream.{Stream}
+use Rattle.is_proto.specs.declared.error.IceError.{IceError}
+use Rattle.is_proto.specs.declared.error.IceError.TheVariants.{OutOfMemory}
+use Rattle.is_pair.specs.Pairs.{PairRecord}
+use Rattle.is_pair.specs.Due as due
+use Rattle.is_rules.specs.declared.event.IceAgentEvent.TheVariants.{IceRestart}
+use Rattle.is_rules.specs.declared.event.IceConnectionState.TheVariants.{New}
+use Rattle.is_rules.specs.declared.told.Issued.{Issued}
+use Rattle.is_rules.specs.declared.told.Path.{Path}
+use Rattle.is_rules.specs.declared.told.Told.{Told}
+use Rattle.is_rules.specs.Request.{RequestRecord}
+use Rattle.is_rules.specs.Told.{nothing_told, told_by}
+use Rattle.is_pair.specs.Bag.{without}
+use Rattle.is_rules.specs.Agent.{AgentRecord}
+use Rattle.is_rules.specs.Nominating.{Nominates}
+use Rattle.is_rules.specs.States.{same_state, evaluated}
+use Rattle.is_rules.specs.Serving.{Serves, MayRefuseRequest}
+use Rattle.is_rules.specs.Queue.{queue_cleared, first_taken, request_at}
+use Rattle.is_rules.specs.Checking.{MayCheck}
+
+module _ {H P : Type 0} where
+  -- ---- waking
+
+  -- in New the start is told of
+  abbrev pub start_told : AgentRecord H P → AgentRecord H P
+  start_told a = record a { events = if same_state a.state New then a.events ++ IceRestart a.local_creds ∷ [] else a.events }
+
+  -- then the state is evaluated, and outdated requests go
+  abbrev pub awake : ℕ → AgentRecord H P → AgentRecord H P
+  awake now a = queue_cleared now (evaluated now (start_told a))
+
+  -- ---- pairs given up
+
+  -- consent is lost (RFC 7675); under lite the peer was not heard of
+  abbrev pub is_given_up : ℕ → AgentRecord H P → PairRecord → Bool
+  is_given_up now a p = due.is_given_up a.lite now a.timing p
+
+  abbrev pub given_up_gone : ℕ → AgentRecord H P → AgentRecord H P
+  given_up_gone now a = record a { pairs = without (is_given_up now a) a.pairs }
+
+  -- where any goes, nomination and state are evaluated
+  abbrev pub GivesUp : ℕ → AgentRecord H P → Option Path → AgentRecord H P → Type 0
+  GivesUp now old path new =
+      MatchBool (list_any (is_given_up now old) old.pairs)
+      ((mid : AgentRecord H P) × Nominates (given_up_gone now old) path mid × (new ≡ evaluated now mid))
+      ((path ≡ None) × (new ≡ old))
+
+  -- ---- the call
+
+  abbrev pub at_moment : ℕ → AgentRecord H P → AgentRecord H P
+  at_moment now a = record a { last_moment = Some now }
+
+  -- why a moment is refused: as the queued request is that it serves, else for want of memory alone
+  abbrev pub MayRefuseMoment : ℕ → AgentRecord H P → IceError → Type 0
+  MayRefuseMoment now a error =
+      MatchOption (request_at now a) (error ≡ OutOfMemory) (λ q. MayRefuseRequest (first_taken (awake now a)) q error)
+
+  module _ (mac : H → List ℕ → List ℕ → List ℕ) where
+    -- a queued request is served, and the call ends: the last moment stays
+    abbrev pub ServesQueued : RequestRecord → AgentRecord H P → Stream → Told → AgentRecord H P → Stream → Type 0
+    ServesQueued q old s told new t = Serves mac q (first_taken old) told new × (t ≡ s)
+
+    -- nomination, pairs given up, and a check
+    abbrev pub Proceeds : ℕ → AgentRecord H P → Stream → Told → AgentRecord H P → Stream → Type 0
+    Proceeds now old s told new t =
+        (first second : Option Path) × (issued : Option Issued) × (named kept : AgentRecord H P)
+        × Nominates (at_moment now old) first named
+        × GivesUp now named second kept
+        × MayCheck mac now kept.remote_creds kept s issued new t
+        × (told ≡ told_by issued first second)
+
+    -- `handle_timeout`
+    abbrev pub TimesOut : ℕ → AgentRecord H P → Stream → Result (Unit {0}) IceError → Told → AgentRecord H P → Stream → Type 0
+    TimesOut now old s (Ok _) told new t =
+        MatchOption (request_at now old)
+        (Proceeds now (awake now old) s told new t)
+        (λ q. ServesQueued q (awake now old) s told new t)
+    TimesOut now old s (Err error) told new t = MayRefuseMoment now old error × (told ≡ nothing_told) × (new ≡ old) × (t ≡ s)

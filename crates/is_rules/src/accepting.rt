@@ -1,0 +1,39 @@
+//! What accepting a packet looks at: the sources that were seen, and texts that must be equal.
+
+ghost use Rattle.std.specs.Prelude.{◌≡◌, ◌↔◌, IsTrue};
+ghost use Rattle.std.specs.List.{list_any};
+ghost use Rattle.is_rules.specs.Accepting.{is_source};
+
+use crate::told::Path;
+use is_candidate::candidate::address::{same_address, same_protocol};
+use is_proto::Protocol;
+use std::net::SocketAddr;
+
+/// A protocol and an address from which authentic packets came.
+#[derive(Clone, Copy, Debug, PartialEq, Eq)]
+pub struct Source {
+    /// The protocol.
+    pub proto: Protocol,
+    /// The address.
+    pub address: SocketAddr,
+}
+
+fn is_source(source: &Source, way: &Path) -> bool
+    ensures { result ≡ is_source way.now source.now }
+{
+    same_address(source.address, way.source) && same_protocol(source.proto, way.proto)
+}
+
+/// Packets from this source were told of.
+pub fn is_seen(seen: &[Source], way: &Path) -> bool
+    ensures { result ≡ list_any (is_source way.now) seen.now }
+{
+    seen.iter().any(|source| is_source(source, way))
+}
+
+/// Two texts are equal.
+pub fn is_same(a: &str, b: &str) -> bool
+    ensures { IsTrue result ↔ (a.now ≡ b.now) }
+{
+    a == b
+}

@@ -1,0 +1,135 @@
+//! Answers to the agent's checks (RFC 8445, section 7.2.5). They count only on the path that their check went.
+
+ghost use Rattle.std.specs.Prelude.{◌≡◌, ◌<◌, IsTrue, IfSome, true, is_some, vec_len, vec_capacity};
+ghost use Rattle.std.specs.List.{list_any};
+ghost use Rattle.is_candidate.specs.Priorities.{candidate_priority};
+ghost use Rattle.is_pair.specs.Checks.{is_kept};
+ghost use Rattle.is_pair.specs.Pairs.{PairRecord};
+ghost use Rattle.is_pair.specs.Bag.{is_keeper, keeps, keeps_check, pair_numbered};
+ghost use Rattle.is_pair.specs.Checklists.{bag_of};
+ghost use Rattle.is_rules.specs.FormingView.{sides_view};
+ghost use Rattle.is_rules.specs.Nominating.{path_in};
+ghost use Rattle.is_stun.specs.MessageView.{message_view};
+ghost use Rattle.is_rules.specs.Kept.{TOO_HIGH, NoneTooHigh};
+ghost use Rattle.is_rules.specs.Due.{IsSentUnder};
+ghost use Rattle.is_rules.specs.Answers.{is_known_address, is_role_conflict, goes_back, joined_by};
+
+use crate::local::append;
+use crate::nomination::path_in;
+use crate::sides::Sides;
+use crate::told::Path;
+use is_candidate::Candidate;
+use is_candidate::candidate::address::same_address;
+use is_pair::checklist::{Checklist, PairTest};
+use is_pair::pair::CandidatePair;
+use is_stun::stun::{StunMessage, TransId};
+use std::net::SocketAddr;
+
+/// The code of a role conflict (RFC 8445, section 7.3.1.1).
+const ROLE_CONFLICT: u16 = 487;
+
+// ---- which answers are awaited
+
+/// Any pair passes.
+#[derive(Clone, Copy)]
+struct Any;
+
+impl PairTest for Any {
+    ghost use Rattle.std.specs.Prelude.{true};
+
+    ghost passes = { λ t p. true };
+
+    fn passes(&self, _pair: &CandidatePair) -> bool {
+        true
+    }
+}
+
+/// A pair keeps a check of the id.
+pub fn keeps_any(pairs: &Checklist, id: TransId) -> bool
+    ensures { result ≡ list_any (keeps_check id.0) (bag_of pairs.now) }
+{
+    pairs.has_keeper(id, &Any)
+}
+
+/// A packet that went the first way goes back on this path. Protocols are not compared.
+fn goes_back(way: &Path, path: &Path) -> bool
+    ensures { result ≡ goes_back way.now path.now }
+{
+    same_address(way.source, path.destination) && same_address(way.destination, path.source)
+}
+
+/// Whether a packet came back on a pair's path.
+#[derive(Clone, Copy)]
+struct GoesBack<'a> {
+    sides: Sides<'a>,
+    way: &'a Path,
+}
+
+impl PairTest for GoesBack<'_> {
+    ghost use Rattle.is_rules.specs.Answers.{goes_back};
+    ghost use Rattle.is_rules.specs.FormingView.{sides_view};
+    ghost use Rattle.is_rules.specs.Nominating.{path_in};
+
+    ghost passes = { λ t p. goes_back t.way.now (path_in (sides_view t.sides) p) };
+
+    fn passes(&self, pair: &CandidatePair) -> bool {
+        goes_back(self.way, &path_in(self.sides, pair))
+    }
+}
+
+/// The number of a pair that keeps a check of the id and on whose path the packet came back.
+pub fn keeper_on(pairs: &Checklist, sides: Sides<'_>, way: &Path, id: TransId) -> Option<u64>
+    ensures any { list_any (is_keeper id.0 (λ p. goes_back way.now (path_in (sides_view sides.entry) p))) (bag_of pairs.now) ≡ is_some result }
+    ensures kept { IfSome result (λ number. (p : PairRecord) × (pair_numbered number (bag_of pairs.now) ≡ Some p) × (is_keeper id.0 (λ p. goes_back way.now (path_in (sides_view sides.entry) p)) p ≡ true)) }
+{
+    pairs.numbers_rise();
+    match pairs.keeper(id, &GoesBack { sides, way }) {
+        Some(pair) => Some(pair.id().0),
+        None => None,
+    }
+}
+
+// ---- success
+
+/// A local candidate has the address, discarded ones too.
+pub fn is_known_address(local: &[Candidate], address: SocketAddr) -> bool
+    ensures { result ≡ is_known_address local.now address }
+{
+    local.iter().any(|c| same_address(c.addr(), address))
+}
+
+/// Appends the candidate, where there is one, within the room that there is.
+pub fn join(local: &mut Vec<Candidate>, mapped: Option<Candidate>)
+    requires room { vec_len local.old < vec_capacity local.old }
+    requires all_low { NoneTooHigh local.old.items }
+    requires low { IfSome mapped (λ c. candidate_priority c < TOO_HIGH) }
+    ensures items { local.new.items ≡ joined_by mapped local.old.items }
+    ensures all_low { NoneTooHigh local.new.items }
+{
+    if let Some(candidate) = mapped {
+        append(local, candidate);
+    }
+}
+
+// ---- failure
+
+/// A failure of code 487.
+pub fn is_role_conflict(message: &StunMessage<'_>) -> bool
+    ensures { result ≡ is_role_conflict (message_view message.now) }
+{
+    match message.error_code() {
+        Some((code, _)) => code == ROLE_CONFLICT,
+        None => false,
+    }
+}
+
+/// The pair's check of the id was sent under this role.
+pub fn is_of_role(pair: &CandidatePair, id: TransId, controlling: bool) -> bool
+    requires kept { IsTrue (is_kept id.0 pair.now.checks) }
+    ensures { IsSentUnder pair.now id.0 controlling result }
+{
+    match pair.binding_attempt(id) {
+        Some(check) => check.controlling() == controlling,
+        None => false,
+    }
+}

@@ -1,0 +1,29 @@
+//! What a check of the agent's own says, and where it goes (RFC 8445, section 7.2).
+
+ghost use Rattle.std.specs.Prelude.{◌≡◌, OnOk, string_bytes};
+ghost use Rattle.is_rules.specs.Checking.{username_between};
+
+use crate::credentials::IceCreds;
+use crate::told::Path;
+use std::alloc::AllocError;
+
+/// Writes the peer's user fragment, a colon and the own one over the name.
+pub fn write_username(name: &mut String, peer: &IceCreds, own: &IceCreds) -> Result<(), AllocError>
+    ensures { OnOk result (string_bytes name.new ≡ username_between peer.now own.now) }
+{
+    name.clear();
+    name.push_str(peer.ufrag.as_str())?;
+    name.push_str(":")?;
+    name.push_str(own.ufrag.as_str())
+}
+
+/// What a check says of its pair, and where it goes.
+#[derive(Clone, Copy)]
+pub struct Draft {
+    /// The way that it goes.
+    pub path: Path,
+    /// The priority that it names.
+    pub priority: u32,
+    /// The pair is nominated.
+    pub nominated: bool,
+}

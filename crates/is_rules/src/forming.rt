@@ -1,0 +1,349 @@
+//! Forming pairs of candidates (RFC 8445, section 6.1.2).
+//!
+//! The combinations are counted and listed, and room for as many pairs is made; what follows can't be refused.
+
+ghost use Rattle.std.specs.Prelude.{◌≡◌, ℕ, ◌≤◌, ◌<◌, ◌+◌, ◌++◌, ◌∷◌, [], ◌↔◌, true, IsTrue, IfOk, filter, length, map};
+ghost use Rattle.std.specs.Option.{option_copied};
+ghost use Rattle.std.specs.List.{flat_map};
+ghost use Rattle.is_candidate.specs.Candidates.{candidate_at};
+ghost use Rattle.is_pair.specs.Bag.{are_below, IsGreatest};
+ghost use Rattle.is_pair.specs.Checklists.{bag_of, HasRoom};
+ghost use Rattle.is_rules.specs.Each.{Each};
+ghost use Rattle.is_rules.specs.Forming.{is_alive, is_alive_at, is_partner, is_partner_at, partners, remote_combinations, local_combinations, live_row, live_combinations, is_redundant, combined_priority, pair_of, formed_as, Tries, FormsEach, HasNumbers};
+ghost use Rattle.is_rules.specs.FormingView.{sides_view};
+ghost use Rattle.is_rules.specs.Cuts.{EvictionCuts};
+
+use crate::places::{address_at, base_at, candidate_at, kind_at, priority_at, proto_at};
+use crate::sides::Sides;
+use is_candidate::Candidate;
+use is_candidate::candidate::address::{same_address, same_protocol, same_version};
+use is_candidate::candidate::internals::is_discarded;
+use is_pair::checklist::{Checklist, PairTest};
+use is_pair::pair::{CandidatePair, PairId};
+use is_pair::take_over;
+use std::alloc::{AllocError, Global};
+
+// ---- one combination
+
+/// Whether a pair takes the same path as a combination.
+#[derive(Clone, Copy)]
+struct Redundant<'a> {
+    sides: Sides<'a>,
+    at: (usize, usize),
+}
+
+impl PairTest for Redundant<'_> {
+    ghost use Rattle.is_rules.specs.Forming.{is_redundant};
+    ghost use Rattle.is_rules.specs.FormingView.{sides_view};
+
+    ghost passes = { λ t p. is_redundant (sides_view t.sides) t.at p };
+
+    fn passes(&self, pair: &CandidatePair) -> bool {
+        let Sides { local, remote, .. } = self.sides;
+        let (l, r) = self.at;
+        same_address(base_at(local, pair.local_idx()), base_at(local, l))
+            && same_protocol(proto_at(local, pair.local_idx()), proto_at(local, l))
+            && same_address(address_at(remote, pair.remote_idx()), address_at(remote, r))
+            && same_protocol(proto_at(remote, pair.remote_idx()), proto_at(remote, r))
+    }
+}
+
+/// The redundant pair of greatest priority.
+fn top_redundant<'a>(
+    pairs: &'a Checklist,
+    sides: Sides<'_>,
+    at: (usize, usize),
+) -> Option<&'a CandidatePair>
+    ensures { IsGreatest (is_redundant (sides_view sides.entry) at) (bag_of pairs.now) (option_copied result) }
+{
+    pairs.greatest(&Redundant { sides, at })
+}
+
+/// The priority of the pair of a combination.
+pub(crate) fn combined_priority(sides: Sides<'_>, at: (usize, usize)) -> u64
+    ensures { result ≡ combined_priority (sides_view sides.entry) at }
+{
+    let remote = priority_at(sides.remote, at.1);
+    let local = priority_at(sides.local, at.0);
+    CandidatePair::calculate_prio(sides.controlling, remote, local)
+}
+
+/// The pair of a combination.
+pub fn pair_of(alloc: Global, sides: Sides<'_>, at: (usize, usize), number: u64) -> CandidatePair
+    ensures { result ≡ pair_of (sides_view sides.entry) at number }
+{
+    CandidatePair::new(
+        alloc,
+        PairId(number),
+        at.0,
+        kind_at(sides.local, at.0),
+        at.1,
+        kind_at(sides.remote, at.1),
+        combined_priority(sides, at),
+    )
+}
+
+/// The pair of the next number comes within the room that there is.
+fn add(pairs: &mut Checklist, next_number: &mut u64, pair: CandidatePair)
+    requires room { HasRoom 1 pairs.old }
+    requires number { next_number.old < 18446744073709551615 }
+    requires its { pair.number ≡ next_number.old }
+    requires last { are_below next_number.old (bag_of pairs.old) ≡ true }
+    requires unchecked { pair.checks ≡ [] }
+    ensures added { bag_of pairs.new ≡ bag_of pairs.old ++ pair ∷ [] }
+    ensures room { (n : ℕ) → HasRoom (n + 1) pairs.old → HasRoom n pairs.new }
+    ensures next { next_number.new ≡ next_number.old + 1 }
+    ensures below { are_below next_number.new (bag_of pairs.new) ≡ true }
+{
+    pairs.add(pair);
+    *next_number += 1;
+}
+
+/// A combination becomes a pair, against the redundant pair of greatest priority.
+fn try_one(
+    alloc: Global,
+    sides: Sides<'_>,
+    at: (usize, usize),
+    pairs: &mut Checklist,
+    next_number: &mut u64,
+)
+    requires room { HasRoom 1 pairs.old }
+    requires number { next_number.old < 18446744073709551615 }
+    requires last { are_below next_number.old (bag_of pairs.old) ≡ true }
+    ensures tries { Tries (sides_view sides.entry) at (formed_as (bag_of pairs.old) next_number.old) (formed_as (bag_of pairs.new) next_number.new) }
+    ensures room { (n : ℕ) → HasRoom (n + 1) pairs.old → HasRoom n pairs.new }
+    ensures next { next_number.new ≤ next_number.old + 1 }
+    ensures below { are_below next_number.new (bag_of pairs.new) ≡ true }
+{
+    let mut pair = pair_of(alloc, sides, at, *next_number);
+    match top_redundant(pairs, sides, at) {
+        None => add(pairs, next_number, pair),
+        Some(found) => {
+            if found.prio() >= pair.prio() {
+                return;
+            }
+            let number = found.id().0;
+            take_over(&mut pair, found, sides.lite);
+            pairs.remove(number);
+            add(pairs, next_number, pair)
+        }
+    }
+}
+
+/// Each combination in turn.
+fn try_each(
+    alloc: Global,
+    sides: Sides<'_>,
+    all: &[(usize, usize)],
+    pairs: &mut Checklist,
+    next_number: &mut u64,
+)
+    requires room { HasRoom (length all.now) pairs.old }
+    requires numbers { HasNumbers next_number.old (length all.now) }
+    requires last { are_below next_number.old (bag_of pairs.old) ≡ true }
+    ensures forms { Each (Tries (sides_view sides.entry)) all.now (formed_as (bag_of pairs.old) next_number.old) (formed_as (bag_of pairs.new) next_number.new) }
+    ensures below { are_below next_number.new (bag_of pairs.new) ≡ true }
+{
+    for at in all {
+        try_one(alloc, sides, *at, pairs, next_number);
+    }
+}
+
+/// As many pairs stay as the limit lets, and none that went is above one that stays.
+pub fn eviction_cuts()
+    ensures { EvictionCuts }
+{}
+
+/// The combinations become pairs, and then the limit holds.
+pub fn form_each(
+    alloc: Global,
+    sides: Sides<'_>,
+    limit: usize,
+    all: &[(usize, usize)],
+    pairs: &mut Checklist,
+    next_number: &mut u64,
+)
+    requires room { HasRoom (length all.now) pairs.old }
+    requires numbers { HasNumbers next_number.old (length all.now) }
+    requires last { are_below next_number.old (bag_of pairs.old) ≡ true }
+    ensures forms { FormsEach (sides_view sides.entry) limit all.now (formed_as (bag_of pairs.old) next_number.old) (formed_as (bag_of pairs.new) next_number.new) }
+    ensures below { are_below next_number.new (bag_of pairs.new) ≡ true }
+{
+    try_each(alloc, sides, all, pairs, next_number);
+    pairs.evict(limit);
+}
+
+// ---- combinations
+
+fn is_alive(c: &Candidate) -> bool
+    ensures { result ≡ is_alive c.now }
+{
+    !is_discarded(c)
+}
+
+// ---- the combinations of one candidate
+
+fn is_partner(candidate: &Candidate, other: &Candidate) -> bool
+    ensures { result ≡ is_partner candidate.now other.now }
+{
+    !is_discarded(other)
+        && same_protocol(other.proto(), candidate.proto())
+        && same_version(other.addr(), candidate.addr())
+}
+
+/// How many live candidates may be paired with this one.
+fn count_partners(candidate: &Candidate, others: &[Candidate]) -> usize
+    ensures { result ≡ length (partners candidate.now others.now) }
+{
+    let mut count = 0;
+    for place in 0..others.len() {
+        if is_partner(candidate, candidate_at(others, place)) {
+            count += 1;
+        }
+    }
+    count
+}
+
+/// There is a number for each pair of the candidate.
+pub fn has_numbers_for(next_number: u64, candidate: &Candidate, others: &[Candidate]) -> bool
+    ensures { IsTrue result ↔ HasNumbers next_number (length (partners candidate.now others.now)) }
+{
+    count_partners(candidate, others) as u64 <= u64::MAX - next_number
+}
+
+fn push_partner(
+    all: &mut Vec<(usize, usize)>,
+    candidate: &Candidate,
+    local: &[Candidate],
+    l: usize,
+    place: usize,
+) -> Result<(), AllocError>
+    requires { l < length local.now }
+    ensures { IfOk result (λ _. all.new.items ≡ all.old.items ++ map (λ x. (x, place)) (filter (is_partner_at candidate.now local.now) (l ∷ []))) }
+{
+    if is_partner(candidate, candidate_at(local, l)) {
+        all.push((l, place))?;
+    }
+    Ok(())
+}
+
+/// The combinations of a remote candidate, which is to stand at the place.
+pub fn remote_combinations(
+    alloc: Global,
+    candidate: &Candidate,
+    place: usize,
+    local: &[Candidate],
+) -> Result<Vec<(usize, usize)>, AllocError>
+    ensures { IfOk result (λ all. all.items ≡ remote_combinations candidate.now place local.now) }
+{
+    let mut all = Vec::new(alloc);
+    for l in 0..local.len() {
+        push_partner(&mut all, candidate, local, l, place)?;
+    }
+    Ok(all)
+}
+
+fn push_own_partner(
+    all: &mut Vec<(usize, usize)>,
+    candidate: &Candidate,
+    remote: &[Candidate],
+    r: usize,
+    place: usize,
+) -> Result<(), AllocError>
+    requires { r < length remote.now }
+    ensures { IfOk result (λ _. all.new.items ≡ all.old.items ++ map (λ x. (place, x)) (filter (is_partner_at candidate.now remote.now) (r ∷ []))) }
+{
+    if is_partner(candidate, candidate_at(remote, r)) {
+        all.push((place, r))?;
+    }
+    Ok(())
+}
+
+fn push_own_row(
+    all: &mut Vec<(usize, usize)>,
+    candidate: &Candidate,
+    place: usize,
+    remote: &[Candidate],
+) -> Result<(), AllocError>
+    ensures { IfOk result (λ _. all.new.items ≡ all.old.items ++ local_combinations candidate.now place remote.now) }
+{
+    for r in 0..remote.len() {
+        push_own_partner(all, candidate, remote, r, place)?;
+    }
+    Ok(())
+}
+
+/// The combinations of a local candidate, which is to stand at the place.
+pub fn local_combinations(
+    alloc: Global,
+    candidate: &Candidate,
+    place: usize,
+    remote: &[Candidate],
+) -> Result<Vec<(usize, usize)>, AllocError>
+    ensures { IfOk result (λ all. all.items ≡ local_combinations candidate.now place remote.now) }
+{
+    let mut all = Vec::new(alloc);
+    push_own_row(&mut all, candidate, place, remote)?;
+    Ok(all)
+}
+
+// ---- the combinations of all candidates
+
+fn push_live_row(
+    all: &mut Vec<(usize, usize)>,
+    local: &[Candidate],
+    remote: &[Candidate],
+    l: usize,
+) -> Result<(), AllocError>
+    requires { l < length local.now }
+    ensures { IfOk result (λ _. all.new.items ≡ all.old.items ++ flat_map (live_row local.now remote.now) (filter (is_alive_at local.now) (l ∷ []))) }
+{
+    let candidate = candidate_at(local, l);
+    if is_alive(candidate) {
+        return push_own_row(all, candidate, l, remote);
+    }
+    Ok(())
+}
+
+/// The combinations of all live candidates, local places outermost.
+pub fn live_combinations(
+    alloc: Global,
+    local: &[Candidate],
+    remote: &[Candidate],
+) -> Result<Vec<(usize, usize)>, AllocError>
+    ensures { IfOk result (λ all. all.items ≡ live_combinations local.now remote.now) }
+{
+    let mut all = Vec::new(alloc);
+    for l in 0..local.len() {
+        push_live_row(&mut all, local, remote, l)?;
+    }
+    Ok(all)
+}
+
+/// How many combinations the local place has.
+fn count_live_row(local: &[Candidate], remote: &[Candidate], l: usize) -> usize
+    requires { l < length local.now }
+    ensures { result ≡ length (flat_map (live_row local.now remote.now) (filter (is_alive_at local.now) (l ∷ []))) }
+{
+    let candidate = candidate_at(local, l);
+    if is_alive(candidate) {
+        count_partners(candidate, remote)
+    } else {
+        0
+    }
+}
+
+/// There is a number for each combination of live candidates. Takes no memory.
+pub fn has_numbers_for_all(next_number: u64, local: &[Candidate], remote: &[Candidate]) -> bool
+    ensures { IsTrue result ↔ HasNumbers next_number (length (live_combinations local.now remote.now)) }
+{
+    let mut left = u64::MAX - next_number;
+    for l in 0..local.len() {
+        let many = count_live_row(local, remote, l) as u64;
+        if left < many {
+            return false;
+        }
+        left -= many;
+    }
+    true
+}

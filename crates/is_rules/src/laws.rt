@@ -1,0 +1,90 @@
+//! What holds of each step of an agent, and of each run. Each law is the contract of a function that does nothing.
+
+ghost use Rattle.is_rules.specs.Sound.{FreshIsSound};
+ghost use Rattle.is_rules.specs.Effects.{PathLaw, TradeLaw, RefusalKeeps};
+ghost use Rattle.is_rules.specs.Runs.{EntriesArePoints, RunsAreSound, AnnouncedAreAnswered, AnnouncedAreAskedFor, PointsAreTop, TakersAreValid, AskedAreNominated, RepliesAreAmong, UnacceptedChangeNothing};
+ghost use Rattle.is_rules.specs.Reporting.{QueuesLaw};
+ghost use Rattle.is_rules.specs.RoleView.{FreshIsNew, RoleLaw};
+
+use is_candidate::LocalPreference;
+use is_proto::Sha1HmacProvider;
+
+/// A refused call keeps the record, and draws no random word.
+pub fn refusal_keeps<H: Sha1HmacProvider, P: LocalPreference>()
+    ensures { RefusalKeeps H.mac P.answers }
+{}
+
+/// An agent is sound as it is made.
+pub fn fresh_is_sound<H: Sha1HmacProvider, P: LocalPreference>()
+    ensures { FreshIsSound H P }
+{}
+
+/// Each step of a sound agent has its effect on paths, and leaves a sound agent, whatever the calls, bytes and ties are.
+pub fn path_effect<H: Sha1HmacProvider, P: LocalPreference>()
+    ensures { PathLaw H.mac P.answers }
+{}
+
+/// Each step of a sound agent has its effect on packets and roles.
+pub fn trade_effect<H: Sha1HmacProvider, P: LocalPreference>()
+    ensures { TradeLaw H.mac P.answers }
+{}
+
+/// A run from a fresh agent leaves a sound one.
+pub fn runs_are_sound<H: Sha1HmacProvider, P: LocalPreference>()
+    ensures { RunsAreSound H.mac P.answers }
+{}
+
+/// Each entry of a run's log stands between two records, so that what holds at each entry says something of each.
+pub fn entries_are_points<H: Sha1HmacProvider, P: LocalPreference>()
+    ensures { EntriesArePoints H.mac P.answers }
+{}
+
+/// From a fresh agent that is never lite, each announced path met an authentic answer to a check sent since the last clear.
+pub fn announced_are_answered<H: Sha1HmacProvider, P: LocalPreference>()
+    ensures { AnnouncedAreAnswered H.mac P.answers }
+{}
+
+/// Each path announced while controlled since the last clear was asked for by an accepted request with USE-CANDIDATE.
+pub fn announced_are_asked_for<H: Sha1HmacProvider, P: LocalPreference>()
+    ensures { AnnouncedAreAskedFor H.mac P.answers }
+{}
+
+/// At each nomination point at which a pair is eligible, the path announced last is that of one of greatest stored priority.
+pub fn points_are_top<H: Sha1HmacProvider, P: LocalPreference>()
+    ensures { PointsAreTop H.mac P.answers }
+{}
+
+/// At an accepted success a pair that keeps its check, on its path, is valid.
+pub fn takers_are_valid<H: Sha1HmacProvider, P: LocalPreference>()
+    ensures { TakersAreValid H.mac P.answers }
+{}
+
+/// Where a request with USE-CANDIDATE is answered with success, and the agent is controlled, a pair of the reply's path is nominated.
+pub fn asked_are_nominated<H: Sha1HmacProvider, P: LocalPreference>()
+    ensures { AskedAreNominated H.mac P.answers }
+{}
+
+/// From a fresh agent the responses are, as a bag, among the accepted Binding requests.
+pub fn replies_are_among<H: Sha1HmacProvider, P: LocalPreference>()
+    ensures { RepliesAreAmong H.mac P.answers }
+{}
+
+/// Bytes that do not read as a message that is accepted change nothing and tell nothing, and are answered by false or their fault.
+pub fn unaccepted_change_nothing<H: Sha1HmacProvider, P: LocalPreference>()
+    ensures { UnacceptedChangeNothing H.mac P.answers }
+{}
+
+/// Each step of a sound agent is such that the agent at the other end may rely on it, in what it shows of role, packets and checks.
+pub fn role_effect<H: Sha1HmacProvider, P: LocalPreference>()
+    ensures { RoleLaw H.mac P.answers }
+{}
+
+/// An agent as it is made is new to the agent at the other end.
+pub fn fresh_is_new<H: Sha1HmacProvider, P: LocalPreference>()
+    ensures { FreshIsNew H P }
+{}
+
+/// Packets and events are polled in the order in which they were issued, and a restart leaves its own alone.
+pub fn queues_are_kept<H: Sha1HmacProvider, P: LocalPreference>()
+    ensures { QueuesLaw H.mac P.answers }
+{}

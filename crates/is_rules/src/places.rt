@@ -1,0 +1,243 @@
+//! Where a request is served: the choices that serving it rests on.
+
+ghost use Rattle.std.specs.Prelude.{◌≡◌, ◌+◌, ◌<◌, length, position, true, IfSome};
+ghost use Rattle.std.specs.List.{list_any};
+ghost use Rattle.is_candidate.specs.Candidates.{base_of, candidate_at, nowhere};
+ghost use Rattle.is_candidate.specs.Priorities.{candidate_priority, check_priority};
+ghost use Rattle.is_rules.specs.Kept.{TOO_HIGH, NoneTooHigh};
+ghost use Rattle.is_rules.specs.RequestView.{request_view};
+ghost use Rattle.is_rules.specs.Places.{is_at, is_live, is_reached, local_place, is_sender, IsGreatestBelow, IsGreatestPlace, IsRemotePlace, remote_index};
+
+use crate::request::Request;
+use is_candidate::candidate::address::{same_address, same_protocol};
+use is_candidate::candidate::internals::{base, is_discarded};
+use is_candidate::candidate::kind::is_direct;
+use is_candidate::candidate::priority::check_priority;
+use is_candidate::{Candidate, CandidateKind};
+use is_proto::Protocol;
+use std::net::{Ipv4Addr, SocketAddr, SocketAddrV4};
+
+/// Where the remote candidate of a request stands.
+#[derive(Clone, Copy, Debug, PartialEq, Eq)]
+pub enum RemotePlace {
+    /// At this place.
+    Known(usize),
+    /// Discarded candidates alone have the address and the protocol.
+    Barred,
+    /// No candidate has them.
+    Unknown,
+}
+
+/// The candidate at a place.
+pub fn candidate_at(candidates: &[Candidate], place: usize) -> &Candidate
+    requires { place < length candidates.now }
+    ensures { result.now ≡ candidate_at candidates.now place }
+{
+    &candidates[place]
+}
+
+/// What a place past the end reads as, where no pair stands.
+fn nowhere() -> SocketAddr
+    ensures { result ≡ nowhere.addr }
+{
+    SocketAddr::V4(SocketAddrV4::new(Ipv4Addr::UNSPECIFIED, 0))
+}
+
+/// The address of the candidate at a place.
+pub fn address_at(candidates: &[Candidate], place: usize) -> SocketAddr
+    ensures { result ≡ (candidate_at candidates.now place).addr }
+{
+    match candidates.get(place) {
+        Some(c) => c.addr(),
+        None => nowhere(),
+    }
+}
+
+/// The base of the candidate at a place.
+pub fn base_at(candidates: &[Candidate], place: usize) -> SocketAddr
+    ensures { result ≡ base_of (candidate_at candidates.now place) }
+{
+    match candidates.get(place) {
+        Some(c) => base(c),
+        None => nowhere(),
+    }
+}
+
+/// The protocol of the candidate at a place.
+pub fn proto_at(candidates: &[Candidate], place: usize) -> Protocol
+    ensures { result ≡ (candidate_at candidates.now place).proto }
+{
+    match candidates.get(place) {
+        Some(c) => c.proto(),
+        None => Protocol::Udp,
+    }
+}
+
+/// The kind of the candidate at a place.
+pub(crate) fn kind_at(candidates: &[Candidate], place: usize) -> CandidateKind
+    ensures { result ≡ (candidate_at candidates.now place).kind }
+{
+    match candidates.get(place) {
+        Some(c) => c.kind(),
+        None => CandidateKind::Host,
+    }
+}
+
+/// Whether the candidate at a place is discarded.
+pub fn is_discarded_at(candidates: &[Candidate], place: usize) -> bool
+    ensures { result ≡ (candidate_at candidates.now place).discarded }
+{
+    match candidates.get(place) {
+        Some(c) => is_discarded(c),
+        None => true,
+    }
+}
+
+/// The priority of the candidate at a place.
+pub fn priority_at(candidates: &[Candidate], place: usize) -> u32
+    ensures priority { result ≡ candidate_priority (candidate_at candidates.now place) }
+    ensures low { NoneTooHigh candidates.now → result < TOO_HIGH }
+{
+    match candidates.get(place) {
+        Some(c) => c.prio(),
+        None => NOWHERE_PRIORITY,
+    }
+}
+
+/// What PRIORITY says in a check from the candidate at a place.
+pub fn check_priority_at(candidates: &[Candidate], place: usize) -> u32
+    ensures priority { result ≡ check_priority (candidate_at candidates.now place) }
+    ensures low { NoneTooHigh candidates.now → result < TOO_HIGH }
+{
+    match candidates.get(place) {
+        Some(c) => check_priority(c),
+        None => NOWHERE_CHECK_PRIORITY,
+    }
+}
+
+/// The priority of what a place past the end reads as: a host candidate over UDP.
+const NOWHERE_PRIORITY: u32 = 126 * 0x100_0000 + 65534 * 0x100 + 255;
+
+/// The same, were it peer reflexive.
+const NOWHERE_CHECK_PRIORITY: u32 = 110 * 0x100_0000 + 65534 * 0x100 + 255;
+
+fn is_at(address: SocketAddr, proto: Protocol, candidate: &Candidate) -> bool
+    ensures { result ≡ is_at address proto candidate.now }
+{
+    same_address(candidate.addr(), address) && same_protocol(candidate.proto(), proto)
+}
+
+fn is_reached(request: &Request<'_>, candidate: &Candidate) -> bool
+    ensures { result ≡ is_reached (request_view request.now) candidate.now }
+{
+    is_direct(candidate.kind()) && is_at(request.path.destination, request.path.proto, candidate)
+}
+
+fn is_live_reached(request: &Request<'_>, candidate: &Candidate) -> bool
+    ensures { result ≡ is_live (is_reached (request_view request.now)) candidate.now }
+{
+    is_reached(request, candidate) && !is_discarded(candidate)
+}
+
+fn live_local_place(local: &[Candidate], request: &Request<'_>) -> Option<usize>
+    ensures place { result ≡ position (is_live (is_reached (request_view request.now))) local.now }
+    ensures within { IfSome result (λ place. place < length local.now) }
+{
+    local.iter().position(|c| is_live_reached(request, c))
+}
+
+fn any_local_place(local: &[Candidate], request: &Request<'_>) -> Option<usize>
+    ensures place { result ≡ position (is_reached (request_view request.now)) local.now }
+    ensures within { IfSome result (λ place. place < length local.now) }
+{
+    local.iter().position(|c| is_reached(request, c))
+}
+
+/// The first place of a host or relayed candidate with the request's destination and protocol; a live one before
+/// discarded ones.
+pub fn local_place(local: &[Candidate], request: &Request<'_>) -> Option<usize>
+    ensures place { result ≡ local_place local.now (request_view request.now) }
+    ensures within { IfSome result (λ place. place < length local.now) }
+{
+    match live_local_place(local, request) {
+        Some(place) => Some(place),
+        None => any_local_place(local, request),
+    }
+}
+
+fn is_sender(request: &Request<'_>, candidate: &Candidate) -> bool
+    ensures { result ≡ is_sender (request_view request.now) candidate.now }
+{
+    is_at(request.path.source, request.path.proto, candidate)
+}
+
+fn is_live_sender(request: &Request<'_>, candidate: &Candidate) -> bool
+    ensures { result ≡ is_live (is_sender (request_view request.now)) candidate.now }
+{
+    is_sender(request, candidate) && !is_discarded(candidate)
+}
+
+/// The better of the best place so far and the next one.
+fn better_sender(
+    remote: &[Candidate],
+    request: &Request<'_>,
+    best: Option<usize>,
+    place: usize,
+) -> Option<usize>
+    requires within { place < length remote.now }
+    requires best { IsGreatestBelow place (is_live (is_sender (request_view request.now))) remote.now best }
+    ensures { IsGreatestBelow (place + 1) (is_live (is_sender (request_view request.now))) remote.now result }
+{
+    let candidate = candidate_at(remote, place);
+    if !is_live_sender(request, candidate) {
+        return best;
+    }
+    match best {
+        None => Some(place),
+        Some(top) => {
+            if candidate_at(remote, top).prio() < candidate.prio() {
+                Some(place)
+            } else {
+                Some(top)
+            }
+        }
+    }
+}
+
+/// Of the live candidates with the request's source and protocol, the place of one of greatest priority.
+fn live_remote_place(remote: &[Candidate], request: &Request<'_>) -> Option<usize>
+    ensures { IsGreatestPlace (is_live (is_sender (request_view request.now))) remote.now result }
+{
+    let mut best = None;
+    for place in 0..remote.len() {
+        best = better_sender(remote, request, best, place);
+    }
+    best
+}
+
+fn knows_sender(remote: &[Candidate], request: &Request<'_>) -> bool
+    ensures { result ≡ list_any (is_sender (request_view request.now)) remote.now }
+{
+    remote.iter().any(|c| is_sender(request, c))
+}
+
+/// Where the request's sender stands among the remote candidates.
+pub fn remote_place(remote: &[Candidate], request: &Request<'_>) -> RemotePlace
+    ensures { IsRemotePlace remote.now (request_view request.now) result }
+{
+    match live_remote_place(remote, request) {
+        Some(place) => RemotePlace::Known(place),
+        None if knows_sender(remote, request) => RemotePlace::Barred,
+        None => RemotePlace::Unknown,
+    }
+}
+
+/// The place of the remote candidate, where an unknown one is appended.
+pub fn remote_index(remote: &[Candidate], place: RemotePlace) -> usize
+    ensures { result ≡ remote_index remote.now place }
+{
+    match place {
+        RemotePlace::Known(place) => place,
+        RemotePlace::Barred | RemotePlace::Unknown => remote.len(),
+    }
+}

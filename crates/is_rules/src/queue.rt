@@ -1,0 +1,50 @@
+//! Requests that wait for remote credentials.
+
+ghost use Rattle.std.specs.Prelude.{◌≡◌, ◌<◌, ◌+◌, ◌++◌, ◌∷◌, [], drop, map, length, take_while};
+ghost use Rattle.std.specs.VecDeque.{deque_len, deque_capacity};
+ghost use Rattle.is_rules.specs.RequestView.{waiting_view};
+ghost use Rattle.is_rules.specs.Queue.{queued_last, is_outdated};
+
+use crate::request::Waiting;
+use is_proto::Instant;
+use is_stun::stun::StunTiming;
+use std::collections::VecDeque;
+
+/// How many requests wait at most.
+const QUEUE_LIMIT: usize = 100;
+
+/// So many go from the front.
+pub fn drop_first(queue: &mut VecDeque<Waiting>, count: usize)
+    ensures items { queue.new.items ≡ drop count queue.old.items }
+{
+    for _ in 0..count {
+        let _ = queue.pop_front();
+    }
+}
+
+/// The request waits behind the others, within the room that there is; past the limit the oldest go.
+pub fn enqueue(queue: &mut VecDeque<Waiting>, waiting: Waiting)
+    requires { deque_len queue.old < deque_capacity queue.old }
+    ensures { map waiting_view queue.new.items ≡ queued_last (map waiting_view queue.old.items ++ waiting_view waiting ∷ []) }
+{
+    queue.push_back_reserved(waiting);
+    let beyond = queue.len().saturating_sub(QUEUE_LIMIT);
+    drop_first(queue, beyond);
+}
+
+/// The request is as old as a whole run of checks.
+fn is_outdated(waiting: &Waiting, now: Instant, timing: &StunTiming) -> bool
+    ensures { result ≡ is_outdated now.0 timing.now (waiting_view waiting.now) }
+{
+    now - waiting.moment >= timing.timeout()
+}
+
+/// How many requests at the front are outdated.
+pub fn count_outdated(queue: &VecDeque<Waiting>, now: Instant, timing: &StunTiming) -> usize
+    ensures { result ≡ length (take_while (λ q. is_outdated now.0 timing.now (waiting_view q)) queue.now.items) }
+{
+    queue
+        .iter()
+        .take_while(|waiting| is_outdated(waiting, now, timing))
+        .count()
+}

@@ -1,0 +1,127 @@
+//! A Binding request, as the agent serves it.
+
+ghost use Rattle.std.specs.Prelude.{◌≡◌, IfOk};
+ghost use Rattle.is_stun.specs.MessageView.{message_view};
+ghost use Rattle.is_rules.specs.Request.{request_in, sender_ufrag};
+ghost use Rattle.is_rules.specs.RequestView.{request_view, waiting_view, way_of};
+
+use crate::told::Path;
+use is_proto::{Instant, Text};
+use is_stun::stun::{StunMessage, StunPacket, TransId};
+use std::alloc::{AllocError, Global};
+
+/// A Binding request that came to the agent (RFC 8445, section 7.3).
+#[derive(Clone, Copy)]
+pub struct Request<'a> {
+    /// When it came.
+    pub moment: Instant,
+    /// How it came: from the sender's address to the own one.
+    pub path: Path,
+    /// Its transaction id.
+    pub id: TransId,
+    /// The priority that it names.
+    pub priority: u32,
+    /// It asks for nomination.
+    pub use_candidate: bool,
+    /// The sender's user fragment.
+    pub ufrag: &'a str,
+    /// The sender's tie-breaker, where it claims to be controlling.
+    pub ice_controlling: Option<u64>,
+    /// The sender's tie-breaker, where it claims to be controlled.
+    pub ice_controlled: Option<u64>,
+}
+
+/// The way that a packet came.
+pub fn way_of(packet: &StunPacket<'_>) -> Path
+    ensures { result ≡ way_of packet.now }
+{
+    Path {
+        proto: packet.proto,
+        source: packet.source,
+        destination: packet.destination,
+    }
+}
+
+/// The sender's user fragment, behind the first colon of the user name.
+fn sender_ufrag<'a>(message: &StunMessage<'a>) -> &'a str
+    ensures { result.now ≡ sender_ufrag (message_view message.now) }
+{
+    match message.split_username() {
+        Some((_, ufrag)) => ufrag,
+        None => "",
+    }
+}
+
+impl<'a> Request<'a> {
+    /// The request that the packet is, which came at this moment.
+    pub fn new(now: Instant, packet: &StunPacket<'a>) -> Request<'a>
+        ensures { request_view result ≡ request_in now.0 (way_of packet.now) (message_view packet.now.message) }
+    {
+        let message = &packet.message;
+        Request {
+            moment: now,
+            path: way_of(packet),
+            id: message.trans_id(),
+            priority: message.prio().unwrap_or(0),
+            use_candidate: message.use_candidate(),
+            ufrag: sender_ufrag(message),
+            ice_controlling: message.ice_controlling(),
+            ice_controlled: message.ice_controlled(),
+        }
+    }
+}
+
+/// A request that waits for remote credentials.
+#[derive(Drop)]
+pub struct Waiting {
+    /// When it came.
+    pub moment: Instant,
+    /// How it came: from the sender's address to the own one.
+    pub path: Path,
+    /// Its transaction id.
+    pub id: TransId,
+    /// The priority that it names.
+    pub priority: u32,
+    /// It asks for nomination.
+    pub use_candidate: bool,
+    /// The sender's user fragment.
+    pub ufrag: Text,
+    /// The sender's tie-breaker, where it claims to be controlling.
+    pub ice_controlling: Option<u64>,
+    /// The sender's tie-breaker, where it claims to be controlled.
+    pub ice_controlled: Option<u64>,
+}
+
+impl Waiting {
+    /// The request, with a user fragment of its own.
+    pub fn new(alloc: Global, request: &Request<'_>) -> Result<Waiting, AllocError>
+        ensures { IfOk result (λ waiting. waiting_view waiting ≡ request_view request.now) }
+    {
+        Ok(Waiting {
+            moment: request.moment,
+            path: request.path,
+            id: request.id,
+            priority: request.priority,
+            use_candidate: request.use_candidate,
+            ufrag: Text::from_str(alloc, request.ufrag)?,
+            ice_controlling: request.ice_controlling,
+            ice_controlled: request.ice_controlled,
+        })
+    }
+
+    /// The request as it came.
+    pub fn request(&self) -> Request<'_>
+        ensures { request_view result ≡ waiting_view self.now }
+    {
+        Request {
+            moment: self.moment,
+            path: self.path,
+            id: self.id,
+            priority: self.priority,
+            use_candidate: self.use_candidate,
+            ufrag: self.ufrag.as_str(),
+            ice_controlling: self.ice_controlling,
+            ice_controlled: self.ice_controlled,
+        }
+    }
+}

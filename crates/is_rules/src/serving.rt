@@ -1,0 +1,58 @@
+//! What serving a Binding request takes and decides before anything changes (RFC 8445, section 7.3).
+
+ghost use Rattle.std.specs.Prelude.{◌≡◌, ◌<◌, ◌&&◌, false};
+ghost use Rattle.is_rules.specs.RequestView.{request_view};
+ghost use Rattle.is_rules.specs.Serving.{is_misled, is_admitted, wants_pair_at};
+
+use crate::places::RemotePlace;
+use crate::request::Request;
+use crate::roles::Conflict;
+use is_candidate::Candidate;
+
+/// Where a request can be served.
+#[derive(Clone, Copy, Debug, PartialEq, Eq)]
+pub struct Places {
+    /// The place of the local candidate that it came to.
+    pub local: usize,
+    /// Where its sender stands among the remote candidates.
+    pub remote: RemotePlace,
+    /// The number of the pair of both.
+    pub pair: Option<u64>,
+}
+
+/// What serving a request takes, made before anything changes.
+#[derive(Drop)]
+pub struct Supplies {
+    /// Room for the reply.
+    pub reply: Vec<u8>,
+    /// The candidate that an unknown sender becomes.
+    pub sender: Option<Candidate>,
+}
+
+/// The peer nominates while the agent is controlling.
+pub fn is_misled(controlling: bool, request: &Request<'_>) -> bool
+    ensures { result ≡ is_misled controlling (request_view request.now) }
+{
+    controlling && request.use_candidate
+}
+
+/// Serving goes on to its places, by the role before it.
+pub fn is_admitted(conflict: Conflict, controlling: bool, request: &Request<'_>) -> bool
+    ensures { result ≡ is_admitted conflict controlling (request_view request.now) }
+{
+    match conflict {
+        Conflict::Absent => !is_misled(controlling, request),
+        Conflict::Insists => false,
+        Conflict::Yields => !is_misled(!controlling, request),
+    }
+}
+
+/// No pair joins the places, and one would be added.
+pub fn wants_pair_at(remote: RemotePlace, pair: Option<u64>, discarded: bool) -> bool
+    ensures { result ≡ wants_pair_at remote pair discarded }
+{
+    match remote {
+        RemotePlace::Barred => false,
+        RemotePlace::Known(_) | RemotePlace::Unknown => pair.is_none() && !discarded,
+    }
+}
