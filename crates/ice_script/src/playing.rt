@@ -7,9 +7,6 @@ use is::{Answer, Call, DefaultSha1HmacProvider, IceAgent, IceCreds, IceError, So
 use std::alloc::Global;
 use std::io::{Read, Write};
 
-#[cfg(test)]
-mod tests;
-
 type Agent = IceAgent<DefaultSha1HmacProvider>;
 
 /// Plays a script, and gives the exit status: 0 where every line was taken; 1 where one could not be,
