@@ -1,14 +1,7 @@
 //! Plays a script of agent calls: reads it from standard input, prints answers, packets, events and wake-ups.
 #![tactic(auto)]
 
-mod counter;
-mod fault;
-mod fields;
-mod play;
-mod print;
-mod script;
-
-use play::play;
+use ice_script::play;
 use std::io;
 use std::io::{BufWriter, Write};
 use std::process::ExitCode;

@@ -5,6 +5,7 @@ mod calls;
 mod nomination;
 mod order;
 mod replies;
+mod scripts;
 mod world;
 
 use is::stun::{Class, StunMessage, TransId};

@@ -1,7 +1,6 @@
 //! Two agents that begin in one role, and what is printed of them. Packets were made by another library.
 
-use super::play_script;
-use std::test::Fail;
+use super::prints;
 
 /// Two controlling agents: the one with the smaller tie-breaker yields.
 const CONTROLLING: &str = r#"{"call":"agent","ufrag":"AAAA","pass":"PPPP","tie":10}
@@ -205,16 +204,13 @@ B wake 750000000
 "#;
 
 #[test]
-fn roles_are_settled_by_the_tie_breakers(rt: HostRuntime) -> Result<(), Fail> {
+fn roles_are_settled_by_the_tie_breakers(rt: HostRuntime) {
     let sessions = [
         (CONTROLLING, CONTROLLING_OUT),
         (CONTROLLED, CONTROLLED_OUT),
         (EQUAL, EQUAL_OUT),
     ];
     for (script, output) in sessions {
-        let played = play_script(rt.alloc(), script.as_bytes());
-        assert_eq!(&rt; played.output.as_slice(), output.as_bytes(), "{script}");
-        assert_eq!(&rt; played.status, 0);
+        prints(&rt, rt.alloc(), script, output);
     }
-    Ok(())
 }

@@ -1,7 +1,7 @@
 -- Each poll takes from a queue.
 use Rattle.std.proofs.Common.{length}
 use Rattle.is.specs.View.{record_of}
-use Rattle.ice_run.proofs.play.poll.Given as goal
+use Rattle.ice_script.proofs.playing.poll.Given as goal
 
 abbrev pub invariant-loop-packet : goal.invariant-loop-packet
 invariant-loop-packet g l = Unit {0}

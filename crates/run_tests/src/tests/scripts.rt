@@ -1,15 +1,13 @@
-use super::{Agent, play};
-use crate::counter::Counter;
-use is::stun::{Class, TransId};
-use is::{
-    Answer, Call, Candidate, IceAgentEvent, IceCreds, Instant, Issued, Path, Protocol, Text, run,
-};
+//! Scripts: the status that each ends with, and what it writes.
+
+use ice_script::play;
 use std::alloc::{AllocError, Global};
 use std::io;
 use std::io::{Read, Write};
-use std::net::{Ipv4Addr, SocketAddr, SocketAddrV4};
+use std::process::Abort;
 use std::test::Fail;
 
+mod logs;
 mod roles;
 mod sessions;
 
@@ -61,6 +59,29 @@ fn play_script(alloc: Global, mut script: &[u8]) -> Played {
     }
 }
 
+/// Plays the script, which is to end with this status and to write this.
+fn ends(rt: &impl Abort, alloc: Global, script: &str, status: u8, output: &str, errors: &str) {
+    let played = play_script(alloc, script.as_bytes());
+    assert!(rt;
+        played.status == status,
+        "status {} of {script}",
+        played.status
+    );
+    assert!(rt;
+        played.output.as_slice() == output.as_bytes(),
+        "output of {script}"
+    );
+    assert!(rt;
+        played.errors.as_slice() == errors.as_bytes(),
+        "errors of {script}"
+    );
+}
+
+/// Plays the script, each of whose lines is to be taken, and which is to print this.
+fn prints(rt: &impl Abort, alloc: Global, script: &str, output: &str) {
+    ends(rt, alloc, script, 0, output, "");
+}
+
 /// The line of a packet from 10.0.0.2:2000 whose bytes are the request's, with these parts for its own.
 fn packet_line(
     alloc: Global,
@@ -92,10 +113,7 @@ fn packets_that_are_not_accepted_change_nothing(rt: HostRuntime) -> Result<(), F
     let refused =
         "A packet unparsed Magic\nA wake none\nA packet false\nA wake none\nA packet false\nA wake none\n";
     let expected = format!(in alloc; "{AGENT_MADE}{refused}{SERVED}")?;
-    let played = play_script(alloc, script.as_bytes());
-    assert_eq!(&rt; played.status, 0);
-    assert_eq!(&rt; played.errors.len(), 0);
-    assert_eq!(&rt; played.output.as_slice(), expected.as_bytes());
+    prints(&rt, rt.alloc(), script.as_str(), expected.as_str());
     Ok(())
 }
 
@@ -149,33 +167,30 @@ fn each_fault_of_a_line_ends_the_script(rt: HostRuntime) -> Result<(), Fail> {
     for (line, fault) in table {
         let script = format!(in rt.alloc(); "{agent}\n\n{line}\n{agent}\n")?;
         let told = format!(in rt.alloc(); "line 3: {fault}\n")?;
-        let played = play_script(rt.alloc(), script.as_bytes());
-        assert_eq!(&rt; played.status, 1, "at {line}");
-        assert_eq!(&rt;
-            played.output.as_slice(),
-            b"A agent ok\nA wake none\n".as_slice(),
-            "at {line}"
+        ends(
+            &rt,
+            rt.alloc(),
+            script.as_str(),
+            1,
+            "A agent ok\nA wake none\n",
+            told.as_str(),
         );
-        assert_eq!(&rt; played.errors.as_slice(), told.as_bytes(), "at {line}");
     }
     Ok(())
 }
 
 #[test]
-fn no_retransmits_are_refused(rt: HostRuntime) -> Result<(), Fail> {
+fn no_retransmits_are_refused(rt: HostRuntime) {
     let script = "{\"call\":\"agent\",\"ufrag\":\"AAAA\",\"pass\":\"PPPP\",\"tie\":1}\n\
         {\"call\":\"retransmits\",\"number\":0}\n";
-    let played = play_script(rt.alloc(), script.as_bytes());
-    assert_eq!(&rt; played.status, 1);
-    assert_eq!(&rt;
-        played.output.as_slice(),
-        b"A agent ok\nA wake none\n".as_slice()
+    ends(
+        &rt,
+        rt.alloc(),
+        script,
+        1,
+        "A agent ok\nA wake none\n",
+        "line 2: bad number\n",
     );
-    assert_eq!(&rt;
-        played.errors.as_slice(),
-        b"line 2: bad number\n".as_slice()
-    );
-    Ok(())
 }
 
 #[test]
@@ -185,13 +200,14 @@ fn an_agent_gets_no_packet_of_its_own(rt: HostRuntime) -> Result<(), Fail> {
     let request = packet_line(alloc, HEADER, USERNAME, INTEGRITY)?;
     let script = format!(in alloc; "{AGENT}{request}{own}\n")?;
     let expected = format!(in alloc; "{AGENT_MADE}{SERVED}")?;
-    let played = play_script(alloc, script.as_bytes());
-    assert_eq!(&rt; played.status, 1);
-    assert_eq!(&rt;
-        played.errors.as_slice(),
-        b"line 5: bad packet\n".as_slice()
+    ends(
+        &rt,
+        rt.alloc(),
+        script.as_str(),
+        1,
+        expected.as_str(),
+        "line 5: bad packet\n",
     );
-    assert_eq!(&rt; played.output.as_slice(), expected.as_bytes());
     Ok(())
 }
 
@@ -209,9 +225,7 @@ fn refused_candidates_change_nothing(rt: HostRuntime) -> Result<(), Fail> {
         "A relay refused BadCandidate\nA wake none\n",
         "A invalidate false\nA wake none\n"
     )?;
-    let played = play_script(rt.alloc(), script.as_bytes());
-    assert_eq!(&rt; played.status, 0);
-    assert_eq!(&rt; played.output.as_slice(), expected.as_bytes());
+    prints(&rt, rt.alloc(), script.as_str(), expected.as_str());
     Ok(())
 }
 
@@ -227,12 +241,10 @@ fn two_agents_take_their_own_calls(rt: HostRuntime) -> Result<(), Fail> {
         "{\"call\":\"host\",\"on\":\"B\",\"addr\":\"[2001:DB8::0:1]:007\",\"proto\":\"UDP\"}\n",
         "{\"call\":\"host\",\"addr\":\"0.0.0.0:1\",\"proto\":\"udp\"}"
     )?;
-    let played = play_script(rt.alloc(), script.as_bytes());
     let expected =
         "A agent ok\nA wake none\nB agent ok\nB wake none\nA agent refused CredentialsTooLong\nA wake none\n\
         B host added\nB wake none\nA host refused BadCandidate\nA wake none\n";
-    assert_eq!(&rt; played.status, 0);
-    assert_eq!(&rt; played.output.as_slice(), expected.as_bytes());
+    prints(&rt, rt.alloc(), script.as_str(), expected);
     Ok(())
 }
 
@@ -268,100 +280,28 @@ impl Write for FailingWriter {
 }
 
 #[test]
-fn what_fails_ends_the_script(rt: HostRuntime) -> Result<(), Fail> {
+fn what_fails_ends_the_script(rt: HostRuntime) {
     let mut output = Vec::new(rt.alloc());
     let mut errors = Vec::new(rt.alloc());
     let mut reader = FailingReader(AGENT.as_bytes());
-    assert_eq!(&rt; play(rt.alloc(), &mut reader, &mut output, &mut errors), 2);
-    assert_eq!(&rt; output.len(), 0);
+    assert!(&rt; play(rt.alloc(), &mut reader, &mut output, &mut errors) == 2);
+    assert!(&rt; output.is_empty());
     for writes in [0, 3] {
         let mut script = AGENT.as_bytes();
-        assert_eq!(&rt;
-            play(
-                rt.alloc(),
-                &mut script,
-                &mut FailingWriter(writes),
-                &mut errors
-            ),
-            2
-        );
+        let mut writer = FailingWriter(writes);
+        assert!(&rt; play(rt.alloc(), &mut script, &mut writer, &mut errors) == 2);
     }
     let mut script = b"[]".as_slice();
-    assert_eq!(&rt;
-        play(rt.alloc(), &mut script, &mut output, &mut FailingWriter(0)),
-        2
-    );
-    assert_eq!(&rt; play_script(rt.alloc(), b"{}\n\xff").status, 2);
-    assert_eq!(&rt; errors.len(), 0);
-    Ok(())
+    assert!(&rt; play(rt.alloc(), &mut script, &mut output, &mut FailingWriter(0)) == 2);
+    assert!(&rt; play_script(rt.alloc(), b"{}\n\xff").status == 2);
+    assert!(&rt; errors.is_empty());
 }
 
 #[test]
 fn a_script_has_a_greatest_length(rt: HostRuntime) -> Result<(), Fail> {
     let longest = vec![in rt.alloc(); b'x'; 16777216]?;
-    assert_eq!(&rt; play_script(rt.alloc(), &longest).status, 1);
+    assert!(&rt; play_script(rt.alloc(), &longest).status == 1);
     let longer = vec![in rt.alloc(); b'x'; 16777217]?;
-    assert_eq!(&rt; play_script(rt.alloc(), &longer).status, 2);
-    Ok(())
-}
-
-#[test]
-fn a_log_tells_what_each_call_issued(rt: HostRuntime) -> Result<(), Fail> {
-    let alloc = rt.alloc();
-    let text = |word| Text::from_str(alloc, word);
-    let creds = IceCreds {
-        ufrag: text("p9KA")?,
-        pass: text("xJcE9AQAR7kczUDVOXRUCl")?,
-    };
-    let peer = IceCreds {
-        ufrag: text("SQAt")?,
-        pass: text("x")?,
-    };
-    let here = SocketAddr::V4(SocketAddrV4::new(Ipv4Addr::new(10, 0, 0, 1), 1000));
-    let there = SocketAddr::V4(SocketAddrV4::new(Ipv4Addr::new(10, 0, 0, 2), 2000));
-    let digits = format!(in alloc;
-        "{HEADER}{ID_AND_TYPE}{USERNAME}{ATTRIBUTES}{INTEGRITY}{FINGERPRINT}"
-    )?;
-    let mut agent: Agent = Agent::new(alloc, creds, 1)?;
-    let calls = vec![in alloc;
-        Call::SetRemoteCredentials(peer),
-        Call::AddLocalCandidate(Candidate::host(alloc, here, Protocol::Udp)?),
-        Call::Packet {
-            now: Instant(0),
-            proto: Protocol::Udp,
-            source: there,
-            destination: here,
-            bytes: hex::decode(alloc, digits.as_str())?,
-        },
-        Call::PollEvent,
-    ]?;
-    let log = run(&mut agent, calls, &mut Counter::new());
-    let reply = Issued {
-        path: Path {
-            proto: Protocol::Udp,
-            source: here,
-            destination: there,
-        },
-        class: Class::Success,
-        id: TransId(*b"juc15uxUngGc"),
-    };
-    let discovered = IceAgentEvent::DiscoveredRecv {
-        proto: Protocol::Udp,
-        source: there,
-    };
-    let expected = [
-        (Answer::Done, None),
-        (Answer::Added, None),
-        (Answer::Flag(true), Some(reply)),
-        (Answer::Event(Some(discovered)), None),
-    ];
-    assert!(&rt; !log.stopped);
-    assert_eq!(&rt; log.entries.len(), expected.len());
-    for ((number, entry), (answer, issued)) in log.entries.iter().enumerate().zip(expected.iter()) {
-        assert_eq!(&rt; entry.number, number);
-        assert_eq!(&rt; &entry.answer, answer);
-        assert_eq!(&rt; &entry.issued, issued);
-        assert_eq!(&rt; entry.announced, [None, None]);
-    }
+    assert!(&rt; play_script(rt.alloc(), &longer).status == 2);
     Ok(())
 }

@@ -7,9 +7,6 @@ use is::{Answer, Call, DefaultSha1HmacProvider, IceAgent, IceCreds, IceError, So
 use std::alloc::Global;
 use std::io::{Read, Write};
 
-#[cfg(test)]
-mod tests;
-
 type Agent = IceAgent<DefaultSha1HmacProvider>;
 
 /// Plays a script, and gives the exit status: 0 where every line was taken; 1 where one could not be,
@@ -26,26 +23,24 @@ pub fn play<R: Read, W: Write, E: Write>(
     let Ok(text) = read_script(alloc, input) else {
         return 2;
     };
-    let mut agents = Agents { a: None, b: None };
-    let mut shared = Shared {
-        random: Counter::new(),
-        sent: Vec::new(alloc),
+    let Err(Ended { line, stop }) = play_text(alloc, text.as_str(), output) else {
+        return 0;
     };
-    let mut number = 0u64;
-    for line in text.as_str().split('\n') {
-        number = number.saturating_add(1);
-        match play_line(alloc, line, &mut agents, &mut shared, output) {
-            Ok(()) => {}
-            Err(Stop::Broken) => return 2,
-            Err(Stop::Line(fault)) => {
-                return match writeln!(errors, "line {number}: {fault}") {
-                    Ok(()) => 1,
-                    Err(_) => 2,
-                };
-            }
-        }
+    match stop {
+        Stop::Broken => 2,
+        Stop::Line(fault) => match writeln!(errors, "line {line}: {fault}") {
+            Ok(()) => 1,
+            Err(_) => 2,
+        },
     }
-    0
+}
+
+/// Where and why a script ends early.
+#[derive(Clone, Copy)]
+struct Ended {
+    /// The number of the line, from 1 on.
+    line: u64,
+    stop: Stop,
 }
 
 /// The agents of a script, each from the line on that makes it.
@@ -61,6 +56,34 @@ struct Shared {
     random: Counter,
     /// The packets that both agents sent, in order.
     sent: Vec<Sent>,
+}
+
+/// Plays the lines of a script, from no agents on.
+fn play_text<W: Write>(alloc: Global, text: &str, output: &mut W) -> Result<(), Ended> {
+    let mut agents = Agents { a: None, b: None };
+    let mut shared = Shared {
+        random: Counter::new(),
+        sent: Vec::new(alloc),
+    };
+    play_lines(alloc, text, &mut agents, &mut shared, output)
+}
+
+/// Plays the lines in turn, until one can't be taken.
+fn play_lines<W: Write>(
+    alloc: Global,
+    text: &str,
+    agents: &mut Agents,
+    shared: &mut Shared,
+    output: &mut W,
+) -> Result<(), Ended> {
+    let mut number = 0u64;
+    for line in text.split('\n') {
+        number = number.saturating_add(1);
+        if let Err(stop) = play_line(alloc, line, agents, shared, output) {
+            return Err(Ended { line: number, stop });
+        }
+    }
+    Ok(())
 }
 
 fn play_line<W: Write>(

@@ -1,7 +1,6 @@
 //! Whole sessions: scripts, and what is printed of them. Packets were made by another library.
 
-use super::play_script;
-use std::test::Fail;
+use super::prints;
 
 /// A check, its answer, and a check that nominates.
 const ANSWERED: &str = r#"{"call":"agent","ufrag":"AAAA","pass":"PPPP","tie":1}
@@ -331,7 +330,7 @@ B wake 750000000
 "#;
 
 #[test]
-fn sessions_print_what_was_worked_out(rt: HostRuntime) -> Result<(), Fail> {
+fn sessions_print_what_was_worked_out(rt: HostRuntime) {
     let sessions = [
         (ANSWERED, ANSWERED_OUT),
         (UNANSWERED, UNANSWERED_OUT),
@@ -342,9 +341,6 @@ fn sessions_print_what_was_worked_out(rt: HostRuntime) -> Result<(), Fail> {
         (CONNECTED, CONNECTED_OUT),
     ];
     for (script, output) in sessions {
-        let played = play_script(rt.alloc(), script.as_bytes());
-        assert_eq!(&rt; played.output.as_slice(), output.as_bytes(), "{script}");
-        assert_eq!(&rt; played.status, 0);
+        prints(&rt, rt.alloc(), script, output);
     }
-    Ok(())
 }
