@@ -1,9 +1,11 @@
 //! An ICE agent (RFC 8445) that is proved. It has no sockets, no clock, no threads and no random source of its own: the
 //! caller hands in moments, candidates, packets and random words, and takes out packets, events and the next moment.
 //!
-//! A session is a loop over an [`IceAgent`]: `handle_packet` for each packet that came, then `poll_transmit` and
-//! `poll_event` until each gives nothing, and `poll_timeout` for when to come back. [`run`] makes a whole list of such
-//! calls, with packets as raw bytes, and logs what became of each. A [`World`] is two agents and the packets between them.
+//! A session is a loop over an [`IceAgent`]: `handle_packet` for each packet that came, or `handle_timeout` at the moment
+//! that was asked for; then `poll_timeout` for when to come back, and `poll_transmit` and `poll_event` until each gives
+//! nothing. The wake-up is asked for first, since it is sooner while a packet waits, so that a path is announced sooner.
+//! [`run`] makes a whole list of such calls, with packets as raw bytes, and logs what became of each. A [`World`] is two
+//! agents and the packets between them.
 #![tactic(auto)]
 
 mod calls;

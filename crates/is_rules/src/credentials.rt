@@ -54,6 +54,9 @@ impl IceCreds {
     /// Random credentials: 16 characters of the user fragment and 22 of the password, of the 64 that may stand there
     /// (RFC 8839, section 5.4). The low six bits of each byte that is drawn choose one.
     ///
+    /// The random source must be unpredictable: who foresees it knows the password, and signs as the peer does. One such is
+    /// `ChaCha20Rng` of the kit's `rand_chacha`, seeded from the system (`std::random`).
+    ///
     /// Refused with `OutOfMemory` where there is no room; then nothing is drawn.
     pub fn new<R: Rng>(alloc: Global, rng: &mut R) -> Result<IceCreds, IceError>
         ensures { DrawsCreds (R.stream rng.old) result (R.stream rng.new) }
