@@ -39,3 +39,4 @@ pub mod LogLaws
 pub mod PointLaws
 pub mod EffectLaws
 pub mod RoleLaws
+pub mod Wakes

@@ -47,3 +47,4 @@ pub mod Logs
 pub mod Runs
 pub mod Standing
 pub mod RoleView
+pub mod Progress

@@ -5,6 +5,7 @@ ghost use Rattle.is_agent.specs.Effects.{PathLaw, TradeLaw, RefusalKeeps};
 ghost use Rattle.is_agent.specs.Runs.{EntriesArePoints, RunsAreSound, AnnouncedAreAnswered, AnnouncedAreAskedFor, PointsAreTop, TakersAreValid, AskedAreNominated, RepliesAreAmong, UnacceptedChangeNothing};
 ghost use Rattle.is_agent.specs.Reporting.{QueuesLaw};
 ghost use Rattle.is_agent.specs.RoleView.{FreshIsNew, RoleLaw};
+ghost use Rattle.is_agent.specs.Progress.{WakesAhead, WakesInTime};
 
 use is_candidate::LocalPreference;
 use is_proto::Sha1HmacProvider;
@@ -87,4 +88,14 @@ pub fn fresh_is_new<H: Sha1HmacProvider, P: LocalPreference>()
 /// Packets and events are polled in the order in which they were issued, and a restart leaves its own alone.
 pub fn queues_are_kept<H: Sha1HmacProvider, P: LocalPreference>()
     ensures { QueuesLaw H.mac P.answers }
+{}
+
+/// Each wake-up lies behind the last moment.
+pub fn wakes_ahead<H: Sha1HmacProvider, P: LocalPreference>()
+    ensures { WakesAhead H P }
+{}
+
+/// No wake-up comes behind the moment at which a pair is due, but for the pacing.
+pub fn wakes_in_time<H: Sha1HmacProvider, P: LocalPreference>()
+    ensures { WakesInTime H P }
 {}
