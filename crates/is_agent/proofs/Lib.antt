@@ -40,3 +40,6 @@ pub mod PointLaws
 pub mod EffectLaws
 pub mod RoleLaws
 pub mod Wakes
+pub mod Thinning
+pub mod Moving
+pub mod Starving

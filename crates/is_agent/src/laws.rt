@@ -5,7 +5,7 @@ ghost use Rattle.is_agent.specs.Effects.{PathLaw, TradeLaw, RefusalKeeps};
 ghost use Rattle.is_agent.specs.Runs.{EntriesArePoints, RunsAreSound, AnnouncedAreAnswered, AnnouncedAreAskedFor, PointsAreTop, TakersAreValid, AskedAreNominated, RepliesAreAmong, UnacceptedChangeNothing};
 ghost use Rattle.is_agent.specs.Reporting.{QueuesLaw};
 ghost use Rattle.is_agent.specs.RoleView.{FreshIsNew, RoleLaw};
-ghost use Rattle.is_agent.specs.Progress.{WakesAhead, WakesInTime};
+ghost use Rattle.is_agent.specs.Progress.{NoPairStarves, WakesAhead, WakesAreOfUse, WakesInTime};
 
 use is_candidate::LocalPreference;
 use is_proto::Sha1HmacProvider;
@@ -98,4 +98,14 @@ pub fn wakes_ahead<H: Sha1HmacProvider, P: LocalPreference>()
 /// No wake-up comes behind the moment at which a pair is due, but for the pacing.
 pub fn wakes_in_time<H: Sha1HmacProvider, P: LocalPreference>()
     ensures { WakesInTime H P }
+{}
+
+/// No wake-up of an agent that has a pair to check is in vain: a check goes out, a pair is given up, or fewer requests wait.
+pub fn wakes_are_of_use<H: Sha1HmacProvider, P: LocalPreference>()
+    ensures { WakesAreOfUse P H.mac }
+{}
+
+/// A pair is checked, or given up, within as many turns as there are pairs that are due no later than it.
+pub fn no_pair_starves<H: Sha1HmacProvider, P: LocalPreference>()
+    ensures { NoPairStarves P H.mac }
 {}
