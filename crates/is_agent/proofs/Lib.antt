@@ -43,3 +43,4 @@ pub mod Wakes
 pub mod Thinning
 pub mod Moving
 pub mod Starving
+pub mod Announcing
