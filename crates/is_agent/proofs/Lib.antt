@@ -44,3 +44,5 @@ pub mod Thinning
 pub mod Moving
 pub mod Starving
 pub mod Announcing
+pub mod Arriving
+pub mod Rounding

@@ -5,7 +5,7 @@ ghost use Rattle.is_agent.specs.Effects.{PathLaw, TradeLaw, RefusalKeeps};
 ghost use Rattle.is_agent.specs.Runs.{EntriesArePoints, RunsAreSound, AnnouncedAreAnswered, AnnouncedAreAskedFor, PointsAreTop, TakersAreValid, AskedAreNominated, RepliesAreAmong, UnacceptedChangeNothing};
 ghost use Rattle.is_agent.specs.Reporting.{QueuesLaw};
 ghost use Rattle.is_agent.specs.RoleView.{FreshIsNew, RoleLaw};
-ghost use Rattle.is_agent.specs.Progress.{AnswersAnnounce, MomentsAnnounce, NoPairStarves, WakesAhead, WakesAreOfUse, WakesInTime};
+ghost use Rattle.is_agent.specs.Progress.{AnsweredAnnounce, AnswersAnnounce, MomentsAnnounce, NoPairStarves, WakesAhead, WakesAreOfUse, WakesInTime};
 
 use is_candidate::LocalPreference;
 use is_proto::Sha1HmacProvider;
@@ -113,6 +113,12 @@ pub fn no_pair_starves<H: Sha1HmacProvider, P: LocalPreference>()
 /// Once an answer is accepted, a controlling agent has announced a path.
 pub fn answers_announce<H: Sha1HmacProvider, P: LocalPreference>()
     ensures { AnswersAnnounce H.mac P.answers }
+{}
+
+/// A controlling agent announces a path within as many rounds as there are pairs that are due no later than one whose checks are
+/// answered in their rounds.
+pub fn answered_announce<H: Sha1HmacProvider, P: LocalPreference>()
+    ensures { AnsweredAnnounce H.mac P.answers }
 {}
 
 /// At each moment that serves no request, where a pair is valid and nominated, a path is announced.
