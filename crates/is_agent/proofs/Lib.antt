@@ -46,3 +46,4 @@ pub mod Starving
 pub mod Announcing
 pub mod Arriving
 pub mod Rounding
+pub mod LoggedRounds

@@ -48,3 +48,4 @@ pub mod Runs
 pub mod Standing
 pub mod RoleView
 pub mod Progress
+pub mod Rounds

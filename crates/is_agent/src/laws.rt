@@ -6,6 +6,7 @@ ghost use Rattle.is_agent.specs.Runs.{EntriesArePoints, RunsAreSound, AnnouncedA
 ghost use Rattle.is_agent.specs.Reporting.{QueuesLaw};
 ghost use Rattle.is_agent.specs.RoleView.{FreshIsNew, RoleLaw};
 ghost use Rattle.is_agent.specs.Progress.{AnsweredAnnounce, AnswersAnnounce, MomentsAnnounce, NoPairStarves, WakesAhead, WakesAreOfUse, WakesInTime};
+ghost use Rattle.is_agent.specs.Rounds.{AnsweredRoundsAnnounce, PartsAreRuns, TurnsAreOfUse};
 
 use is_candidate::LocalPreference;
 use is_proto::Sha1HmacProvider;
@@ -124,4 +125,21 @@ pub fn answered_announce<H: Sha1HmacProvider, P: LocalPreference>()
 /// At each moment that serves no request, where a pair is valid and nominated, a path is announced.
 pub fn moments_announce<H: Sha1HmacProvider, P: LocalPreference>()
     ensures { MomentsAnnounce H.mac P.answers }
+{}
+
+/// Each part of a run's log leads from a record to another.
+pub fn parts_are_runs<H: Sha1HmacProvider, P: LocalPreference>()
+    ensures { PartsAreRuns H.mac P.answers }
+{}
+
+/// From a fresh agent, wherever the log has a record with n pairs due by some moment, and then n rounds in which the checks of one of
+/// these pairs are answered, a path is announced in one of the rounds, while the agent is controlling.
+pub fn answered_rounds_announce<H: Sha1HmacProvider, P: LocalPreference>()
+    ensures { AnsweredRoundsAnnounce H.mac P.answers }
+{}
+
+/// From a fresh agent, wherever a wake-up is asked for that is of use, and kept: a check goes out, a pair is given up, or fewer
+/// requests wait.
+pub fn turns_are_of_use<H: Sha1HmacProvider, P: LocalPreference>()
+    ensures { TurnsAreOfUse H.mac P.answers }
 {}
