@@ -27,3 +27,5 @@ pub use Rattle.is_agent.specs.Serving
 pub use Rattle.is_agent.specs.Steps
 pub use Rattle.is_agent.specs.Logs
 pub use Rattle.is_agent.specs.Runs
+pub use Rattle.is_agent.specs.Progress
+pub use Rattle.is_agent.specs.Rounds
