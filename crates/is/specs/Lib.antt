@@ -27,3 +27,5 @@ pub use Rattle.is_rules.specs.Serving
 pub use Rattle.is_rules.specs.Steps
 pub use Rattle.is_rules.specs.Logs
 pub use Rattle.is_rules.specs.Runs
+pub use Rattle.is_rules.specs.Progress
+pub use Rattle.is_rules.specs.Rounds

@@ -4,6 +4,8 @@ ghost use Rattle.is_agent.specs.View.{record_of};
 ghost use Rattle.is_rules.specs.Logs.{NeverLite, replies, requests};
 ghost use Rattle.is_rules.specs.Owed.{AreAmong};
 ghost use Rattle.is_rules.specs.Runs.{IsFresh, PathsAreAnswered, PathsAreAskedFor, LastPathsAreTop, SuccessesMakeValid, RequestsNominate};
+ghost use Rattle.is_rules.specs.Progress.{SuccessesAnnounce, NominationsAnnounce};
+ghost use Rattle.is_rules.specs.Rounds.{MomentsAreOfUse, PartsStand, RoundsAnnounce};
 ghost use Rattle.is.specs.Log.{IsRunLog, log_of, EntriesStand};
 ghost use Rattle.is.specs.Accepted.{PacketsAreSettled};
 ghost use Rattle.is.specs.Queues.{OthersIssueNone, QueuesAreKept};
@@ -82,6 +84,26 @@ pub fn run<H: Sha1HmacProvider + Drop, P: LocalPreference, R: Rng>(
     ensures nomination { IsFresh (record_of agent.old)
         → LastPathsAreTop H.mac P.answers (record_of agent.old) (R.stream rng.old) (log_of calls.items result) }
 
+    // So behind each accepted success a controlling agent has announced, and behind each moment that served no queued request an
+    // agent with a pair that is valid and nominated.
+    ensures successes { IsFresh (record_of agent.old)
+        → SuccessesAnnounce H.mac P.answers (record_of agent.old) (R.stream rng.old) (log_of calls.items result) }
+    ensures nominations { IsFresh (record_of agent.old)
+        → NominationsAnnounce H.mac P.answers (record_of agent.old) (R.stream rng.old) (log_of calls.items result) }
+
+    // Each part of the log leads from a record to another, of which the two next clauses speak.
+    ensures parts { PartsStand H.mac P.answers (record_of agent.old) (R.stream rng.old) (log_of calls.items result) }
+
+    // Progress: a moment at a wake-up, or later, is of use: a check goes out, a pair is given up, or fewer requests wait. The wake-up
+    // was asked for while no packet waited, by an agent that is not lite, knows the peer and has a pair.
+    ensures of_use { IsFresh (record_of agent.old)
+        → MomentsAreOfUse H.mac P.answers (record_of agent.old) (R.stream rng.old) (log_of calls.items result) }
+
+    // Progress: where n pairs are due by some moment, and in each of the n rounds behind it in which a check goes out on the path of
+    // one of them an accepted success comes, a controlling agent announces a path in one of the rounds. Whatever else comes.
+    ensures rounds { IsFresh (record_of agent.old)
+        → RoundsAnnounce H.mac P.answers (record_of agent.old) (R.stream rng.old) (log_of calls.items result) }
+
     // At an accepted success a pair that keeps its check, on its path, is valid.
     ensures takers { IsFresh (record_of agent.old)
         → SuccessesMakeValid H.mac P.answers (record_of agent.old) (R.stream rng.old) (log_of calls.items result) }
@@ -105,6 +127,11 @@ pub fn run<H: Sha1HmacProvider + Drop, P: LocalPreference, R: Rng>(
     laws::announced_are_answered::<H, P>();
     laws::announced_are_asked_for::<H, P>();
     laws::points_are_top::<H, P>();
+    laws::answers_announce::<H, P>();
+    laws::moments_announce::<H, P>();
+    laws::parts_are_runs::<H, P>();
+    laws::turns_are_of_use::<H, P>();
+    laws::answered_rounds_announce::<H, P>();
     laws::takers_are_valid::<H, P>();
     laws::asked_are_nominated::<H, P>();
     laws::replies_are_among::<H, P>();

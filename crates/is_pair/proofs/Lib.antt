@@ -16,3 +16,5 @@ pub mod ChangedLemmas
 pub mod AnswerLemmas
 pub mod LeastLemmas
 pub mod DueLemmas
+pub mod Later
+pub mod Fewer

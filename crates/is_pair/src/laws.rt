@@ -7,6 +7,7 @@ ghost use Rattle.std.specs.Ordering.{is_eq};
 ghost use Rattle.is_pair.specs.Order.{pair_cmp};
 ghost use Rattle.is_pair.specs.Pairs.{PairRecord};
 ghost use Rattle.is_pair.specs.Priorities.{combined, pair_priority};
+ghost use Rattle.is_pair.specs.Turns.{CheckedIsLater, FewerAreAhead};
 
 use crate::pair::{CandidatePair, CheckState, NominationState, PairId};
 
@@ -38,4 +39,14 @@ pub fn states_are_compared()
     ensures of_numbers { (a b : PairId) → IsTrue (⟦<PairId as PartialEq>⟧.eq a b) ↔ (a ≡ b) }
     ensures of_checks { (a b : CheckState) → IsTrue (⟦<CheckState as PartialEq>⟧.eq a b) ↔ (a ≡ b) }
     ensures of_nomination { (a b : NominationState) → IsTrue (⟦<NominationState as PartialEq>⟧.eq a b) ↔ (a ≡ b) }
+{}
+
+/// Where the timing paces checks, a pair that was just checked is due behind the moment of its check.
+pub fn checked_is_later()
+    ensures { CheckedIsLater }
+{}
+
+/// So where a pair that is due by some moment is checked, fewer pairs are due by it.
+pub fn fewer_are_ahead()
+    ensures { FewerAreAhead }
 {}

@@ -36,3 +36,11 @@ pub mod LogLaws
 pub mod PointLaws
 pub mod EffectLaws
 pub mod RoleLaws
+pub mod Wakes
+pub mod Thinning
+pub mod Moving
+pub mod Starving
+pub mod Announcing
+pub mod Arriving
+pub mod Rounding
+pub mod LoggedRounds

@@ -42,3 +42,5 @@ pub mod Logs
 pub mod Runs
 pub mod Standing
 pub mod RoleView
+pub mod Progress
+pub mod Rounds

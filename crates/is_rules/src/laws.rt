@@ -5,6 +5,8 @@ ghost use Rattle.is_rules.specs.Effects.{PathLaw, TradeLaw, RefusalKeeps};
 ghost use Rattle.is_rules.specs.Runs.{EntriesArePoints, RunsAreSound, AnnouncedAreAnswered, AnnouncedAreAskedFor, PointsAreTop, TakersAreValid, AskedAreNominated, RepliesAreAmong, UnacceptedChangeNothing};
 ghost use Rattle.is_rules.specs.Reporting.{QueuesLaw};
 ghost use Rattle.is_rules.specs.RoleView.{FreshIsNew, RoleLaw};
+ghost use Rattle.is_rules.specs.Progress.{AnsweredAnnounce, AnswersAnnounce, MomentsAnnounce, NoPairStarves, WakesAhead, WakesAreOfUse, WakesInTime};
+ghost use Rattle.is_rules.specs.Rounds.{AnsweredRoundsAnnounce, PartsAreRuns, TurnsAreOfUse};
 
 use is_candidate::LocalPreference;
 use is_proto::Sha1HmacProvider;
@@ -87,4 +89,57 @@ pub fn fresh_is_new<H: Sha1HmacProvider, P: LocalPreference>()
 /// Packets and events are polled in the order in which they were issued, and a restart leaves its own alone.
 pub fn queues_are_kept<H: Sha1HmacProvider, P: LocalPreference>()
     ensures { QueuesLaw H.mac P.answers }
+{}
+
+/// Each wake-up lies behind the last moment.
+pub fn wakes_ahead<H: Sha1HmacProvider, P: LocalPreference>()
+    ensures { WakesAhead H P }
+{}
+
+/// No wake-up comes behind the moment at which a pair is due, but for the pacing.
+pub fn wakes_in_time<H: Sha1HmacProvider, P: LocalPreference>()
+    ensures { WakesInTime H P }
+{}
+
+/// No wake-up of an agent that has a pair to check is in vain: a check goes out, a pair is given up, or fewer requests wait.
+pub fn wakes_are_of_use<H: Sha1HmacProvider, P: LocalPreference>()
+    ensures { WakesAreOfUse P H.mac }
+{}
+
+/// A pair is checked, or given up, within as many turns as there are pairs that are due no later than it.
+pub fn no_pair_starves<H: Sha1HmacProvider, P: LocalPreference>()
+    ensures { NoPairStarves P H.mac }
+{}
+
+/// Once an answer is accepted, a controlling agent has announced a path.
+pub fn answers_announce<H: Sha1HmacProvider, P: LocalPreference>()
+    ensures { AnswersAnnounce H.mac P.answers }
+{}
+
+/// A controlling agent announces a path within as many rounds as there are pairs that are due no later than one whose checks are
+/// answered in their rounds.
+pub fn answered_announce<H: Sha1HmacProvider, P: LocalPreference>()
+    ensures { AnsweredAnnounce H.mac P.answers }
+{}
+
+/// At each moment that serves no request, where a pair is valid and nominated, a path is announced.
+pub fn moments_announce<H: Sha1HmacProvider, P: LocalPreference>()
+    ensures { MomentsAnnounce H.mac P.answers }
+{}
+
+/// Each part of a run's log leads from a record to another.
+pub fn parts_are_runs<H: Sha1HmacProvider, P: LocalPreference>()
+    ensures { PartsAreRuns H.mac P.answers }
+{}
+
+/// From a fresh agent, wherever the log has a record with n pairs due by some moment, and then n rounds in which the checks of one of
+/// these pairs are answered, a path is announced in one of the rounds, while the agent is controlling.
+pub fn answered_rounds_announce<H: Sha1HmacProvider, P: LocalPreference>()
+    ensures { AnsweredRoundsAnnounce H.mac P.answers }
+{}
+
+/// From a fresh agent, wherever a wake-up is asked for that is of use, and kept: a check goes out, a pair is given up, or fewer
+/// requests wait.
+pub fn turns_are_of_use<H: Sha1HmacProvider, P: LocalPreference>()
+    ensures { TurnsAreOfUse H.mac P.answers }
 {}

@@ -18,6 +18,21 @@ returns-clause-asked_for g c = c.announced_are_asked_for.ensures _ _ _
 pub returns-clause-nomination : goal.returns-clause-nomination
 returns-clause-nomination g c = c.points_are_top.ensures _ _ _
 
+pub returns-clause-successes : goal.returns-clause-successes
+returns-clause-successes g c = c.answers_announce.ensures _ _ _
+
+pub returns-clause-nominations : goal.returns-clause-nominations
+returns-clause-nominations g c = c.moments_announce.ensures _ _ _
+
+pub returns-clause-parts : goal.returns-clause-parts
+returns-clause-parts g c = c.parts_are_runs.ensures _ _ _ _ _ (run_of _ _ _ _ _ _ c.args.calls.items c.run_calls.result c.run_calls.ensures)
+
+pub returns-clause-of_use : goal.returns-clause-of_use
+returns-clause-of_use g c = c.turns_are_of_use.ensures _ _ _
+
+pub returns-clause-rounds : goal.returns-clause-rounds
+returns-clause-rounds g c = c.answered_rounds_announce.ensures _ _ _
+
 pub returns-clause-takers : goal.returns-clause-takers
 returns-clause-takers g c = c.takers_are_valid.ensures _ _ _
 

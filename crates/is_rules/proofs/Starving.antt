@@ -1,0 +1,318 @@
+-- Turn after turn: a pair that is due is checked within as many turns as there are pairs that are due no later.
+use Rattle.std.proofs.Common.{◌≡◌, ◌≢◌, ℕ, suc, ◌<◌, ◌≤◌, Bool, true, false, not, List, [], ◌∷◌, length, map, filter, drop, take_while, max, nat_le, nat_lt, Option, Some, None, is_some, unwrap_or, Result, Ok, Err, inl, inr, ◌⊎◌, refl, ap, sym, ◌∙◌, subst, arith, if◌then◌else◌}
+use Rattle.std.specs.Prelude.{MatchBool, MatchOption}
+use Rattle.std.proofs.lemmas.Bool.Decides.{nat_tests}
+use Rattle.std.proofs.lemmas.List.{length-drop}
+use Rattle.rand_core.specs.Stream.{Stream}
+use Rattle.is_proto.specs.Lists.{Has, is_empty, head, drop_while}
+use Rattle.is_proto.specs.Moments.{MAX}
+use Rattle.is_pair.specs.Pairs.{PairRecord}
+use Rattle.is_pair.specs.Due.{asked, due_moment}
+use Rattle.is_stun.specs.declared.header.Class.TheVariants as class
+use Rattle.is_stun.specs.declared.timing.StunTiming.{StunTiming}
+use Rattle.is_rules.specs.declared.credentials.IceCreds.{IceCreds}
+use Rattle.is_rules.specs.declared.told.Told.{Told}
+use Rattle.is_rules.specs.declared.event.IceAgentEvent.{IceAgentEvent}
+use Rattle.is_rules.specs.Told.{issued_as}
+use Rattle.is_rules.specs.Request.{RequestRecord}
+use Rattle.is_rules.specs.Agent.{AgentRecord}
+use Rattle.is_rules.specs.Sending.{path_of}
+use Rattle.is_rules.specs.Queue.{is_outdated, queue_left, next_request, first_taken, request_at}
+use Rattle.is_rules.specs.Polls.{PollsTimeout, WakesFrom, Wakes, WakesIdle, is_waiting, is_idle, soon, earliest_due}
+use Rattle.is_rules.specs.Timeouts.{awake, Proceeds, ServesQueued, TimesOut}
+use Rattle.is_rules.specs.Sound.{IsSound}
+use Rattle.is_rules.proofs.Frames.{either, Frame, Turns as Yields, serves}
+use Rattle.is_rules.proofs.Moves.{Has-map}
+use Rattle.is_rules.proofs.Serves.{Has-mapped}
+use Rattle.is_rules.proofs.Rising.{rising-each}
+use Rattle.is_rules.proofs.Tells.{one_pair}
+use Rattle.is_pair.specs.Turns.{IsPaced, is_due_by, due_by}
+use Rattle.is_pair.proofs.Fewer.{no-more, some-pass}
+use Rattle.is_rules.specs.Progress.{IsGone, IsChecking, ChecksOn, IsOfUse, WakesAreOfUse, Turn, Turns, IsIdle, NoPairStarves}
+use Rattle.is_rules.proofs.Wakes.{wakes-from, all-are-asked, least-is}
+use Rattle.is_rules.proofs.Thinning.{Distinct, is_fixed_by, Base, base_of}
+use Rattle.is_rules.proofs.Moving.{Matches, Follows, follows-on, follows-same, follows-map, gone-follows, same-path, Moved, moment-follows, moment-moves, moment-keeps}
+
+le-is : (n m : ℕ) → n ≤ m → nat_le n m ≡ true
+le-is n m h = grind (arith, nat_tests, h)
+
+some-pairs : (ps : List PairRecord) (p : PairRecord) → Has ps p → is_empty ps ≡ false
+some-pairs [] p has = absurd has
+some-pairs (q ∷ qs) p has = refl
+
+-- ---- the queue of requests
+
+none-waits : (now : ℕ) (t : StunTiming) (remote : Option IceCreds) (queue : List RequestRecord) → queue ≡ [] → next_request remote (queue_left now t remote queue) ≡ None
+none-waits now t remote queue none = subst (λ q. next_request remote (queue_left now t remote q) ≡ None) (sym none) (by remote) where
+  by : (remote : Option IceCreds) → next_request remote (queue_left now t remote []) ≡ None
+  by None = refl
+  by (Some peer) = refl
+
+none-left : (now : ℕ) (t : StunTiming) (remote : Option IceCreds) (queue : List RequestRecord) → queue ≡ [] → queue_left now t remote queue ≡ []
+none-left now t remote queue none = subst (λ q. queue_left now t remote q ≡ []) (sym none) (by remote) where
+  by : (remote : Option IceCreds) → queue_left now t remote [] ≡ []
+  by None = refl
+  by (Some peer) = refl
+
+shorter : (xs : List RequestRecord) (q : RequestRecord) → head xs ≡ Some q → length (drop 1 xs) < length xs
+shorter [] q is = absurd (cc)
+shorter (x ∷ xs) q is = omega arith
+
+front-gone : (test : RequestRecord → Bool) (xs : List RequestRecord) → length (drop_while test xs) ≤ length xs
+front-gone test xs = omega (arith, length-drop (length (take_while test xs)) xs)
+
+queue-shorter : (now : ℕ) (t : StunTiming) (remote : Option IceCreds) (queue : List RequestRecord) (q : RequestRecord) → next_request remote (queue_left now t remote queue) ≡ Some q
+    → length (drop 1 (queue_left now t remote queue)) < length queue
+queue-shorter now t None queue q is = absurd (cc)
+queue-shorter now t (Some peer) queue q is =
+    let a = shorter (drop_while (is_outdated now t) queue) q is in
+    let b = front-gone (is_outdated now t) queue in
+    omega (arith, a, b)
+
+none-head : (xs : List RequestRecord) → head xs ≡ None → xs ≡ []
+none-head [] is = refl
+none-head (x ∷ xs) is = absurd (cc)
+
+queue-gone : (now : ℕ) (t : StunTiming) (remote : Option IceCreds) (queue : List RequestRecord) → is_some remote ≡ true → next_request remote (queue_left now t remote queue) ≡ None
+    → queue_left now t remote queue ≡ []
+queue-gone now t None queue known is = absurd (cc)
+queue-gone now t (Some peer) queue known is = none-head (drop_while (is_outdated now t) queue) is
+
+module _ {H P : Type 0} where
+  module _ (mac : H → List ℕ → List ℕ → List ℕ) where
+    -- ---- a turn
+
+    -- what a turn begins with
+    pub record Fits (at : ℕ) (a : AgentRecord H P) : Type 0 where
+      pub distinct : Distinct a.pairs
+      pub checking : IsChecking a
+      pub idle : IsIdle a
+      pub last : a.last_moment ≡ Some at
+
+    -- the asking leaves pairs of the same places
+    asks-follow : (at wake : ℕ) (old new : AgentRecord H P) → old.last_moment ≡ Some at → PollsTimeout old (Some wake) new → (base_of new ≡ base_of old) × Follows old.pairs new.pairs
+    asks-follow at wake old new is h = either (is_waiting old) (wakes-from old new at wake is h)
+        (λ _ k. same k.1)
+        (λ _ k. either (is_idle old) k (λ _ l. same l.1) (λ _ l. changed l.1)) where
+          same : new ≡ old → (base_of new ≡ base_of old) × Follows old.pairs new.pairs
+          same e = (ap (λ (a : AgentRecord H P). base_of a) e, subst (λ (a : AgentRecord H P). Follows old.pairs a.pairs) (sym e) (follows-same old.pairs))
+
+          changed : new ≡ record old { pairs = map (asked at old.timing) old.pairs } → (base_of new ≡ base_of old) × Follows old.pairs new.pairs
+          changed e = (
+            ap (λ (a : AgentRecord H P). base_of a) e,
+            subst (λ (a : AgentRecord H P). Follows old.pairs a.pairs) (sym e)
+                (follows-map (asked at old.timing) old.pairs (λ p. record { number = refl; local = refl; remote = refl; valid = refl })),
+          )
+
+    proceeds-from : (now : ℕ) (a : AgentRecord H P) (s t : Stream) (told : Told) (new : AgentRecord H P) → a.queue ≡ [] → TimesOut mac now a s (Ok tt) told new t
+        → Proceeds mac now (awake now a) s told new t
+    proceeds-from now a s t told new none h =
+        subst (λ o. MatchOption o (Proceeds mac now (awake now a) s told new t) (λ q. ServesQueued mac q (awake now a) s told new t))
+        (none-waits now a.timing a.remote_creds a.queue none) h
+
+    pub turn-fits : (old new : AgentRecord H P) (at now : ℕ) (told : Told) → Fits at old → Turn mac old now told new
+        → Fits now new × Follows old.pairs new.pairs × (new.timing ≡ old.timing) × (new.local ≡ old.local) × (new.remote ≡ old.remote)
+        × (new.controlling ≡ old.controlling) × (new.next_number ≡ old.next_number)
+    turn-fits old new at now told f turn =
+        let a = asks-follow at turn.wake old turn.asked f.last turn.polled in
+        let queue : turn.asked.queue ≡ [] = ap (λ (x : Base). x.queue) a.0 ∙ f.idle.queue in
+        let known : is_some turn.asked.remote_creds ≡ true = ap (λ (x : Base). is_some x.remote_creds) a.0 ∙ f.checking.peer in
+        let full : turn.asked.lite ≡ false = ap (λ (x : Base). x.lite) a.0 ∙ f.checking.full in
+        let m = moment-follows mac now (awake now turn.asked) turn.after turn.before turn.behind told known full
+        (proceeds-from now turn.asked turn.before turn.behind told turn.after queue turn.moment) in
+        let taken : base_of new ≡ base_of turn.after = ap (λ (a : AgentRecord H P). base_of a) turn.taken in
+        let all = follows-on old.pairs turn.asked.pairs turn.after.pairs a.1 m.1 in
+        let follows : Follows old.pairs new.pairs = subst (λ ps. Follows old.pairs ps) (sym (ap (λ (a : AgentRecord H P). a.pairs) turn.taken)) all in (
+          record {
+            distinct = follows.distinct f.distinct;
+            checking = record {
+              full = ap (λ (x : Base). x.lite) taken ∙ (ap (λ (x : Base). x.lite) m.0 ∙ full);
+              peer = ap (λ (x : Base). is_some x.remote_creds) taken ∙ (ap (λ (x : Base). is_some x.remote_creds) m.0 ∙ known);
+            };
+            idle = record {
+              packets = ap (λ (a : AgentRecord H P). a.packets) turn.taken;
+              queue = ap (λ (x : Base). x.queue) taken ∙ (ap (λ (x : Base). x.queue) m.0 ∙ none-left now turn.asked.timing turn.asked.remote_creds turn.asked.queue queue);
+            };
+            last = ap (λ (x : Base). x.last_moment) taken ∙ ap (λ (x : Base). x.last_moment) m.0;
+          },
+          follows,
+          ap (λ (x : Base). x.timing) taken ∙ (ap (λ (x : Base). x.timing) m.0 ∙ ap (λ (x : Base). x.timing) a.0),
+          ap (λ (x : Base). x.local) taken ∙ (ap (λ (x : Base). x.local) m.0 ∙ ap (λ (x : Base). x.local) a.0),
+          ap (λ (x : Base). x.remote) taken ∙ (ap (λ (x : Base). x.remote) m.0 ∙ ap (λ (x : Base). x.remote) a.0),
+          ap (λ (x : Base). x.controlling) taken ∙ (ap (λ (x : Base). x.controlling) m.0 ∙ ap (λ (x : Base). x.controlling) a.0),
+          ap (λ (x : Base). x.next_number) taken ∙ (ap (λ (x : Base). x.next_number) m.0 ∙ ap (λ (x : Base). x.next_number) a.0),
+        )
+
+    -- a pair that is due waits, and one fewer goes before it
+    abbrev pub StillWaits : ℕ → ℕ → ℕ → AgentRecord H P → AgentRecord H P → PairRecord → Type 0
+    StillWaits at now by old new p =
+        (q : PairRecord) × Has new.pairs q × Matches p q × (q.checks ≡ p.checks) × (due_moment now new.timing q ≤ by)
+        × (IsPaced old.timing → now < MAX → length (due_by by now new.timing new.pairs) < length (due_by by at old.timing old.pairs))
+
+    abbrev pub Does : ℕ → ℕ → ℕ → AgentRecord H P → Told → AgentRecord H P → PairRecord → Type 0
+    Does at now by old told new p =
+        IsGone p.number new.pairs ⊎ ((o : PairRecord) × Has old.pairs o × ChecksOn old told o × ((o.number ≡ p.number) ⊎ StillWaits at now by old new p))
+
+    -- the moment behind the asking
+    asked-moves : (old new : AgentRecord H P) (s t : Stream) (at now by : ℕ) (told : Told) → Distinct old.pairs → IsChecking old → old.queue ≡ [] → by ≤ now
+        → (p : PairRecord) → Has old.pairs p → due_moment at old.timing p ≤ by
+        → TimesOut mac now (record old { pairs = map (asked at old.timing) old.pairs }) s (Ok tt) told new t
+        → Does at now by old told new p
+    asked-moves old new s t at now by told distinct checking queue from p has due h =
+        let a : AgentRecord H P = record old { pairs = map (asked at old.timing) old.pairs } in
+        let f = follows-map (asked at old.timing) old.pairs (λ q. record { number = refl; local = refl; remote = refl; valid = refl }) in
+        let m = moment-moves mac now by (awake now a) new s t told checking.peer checking.full (f.distinct distinct)
+        (λ q there. (let o = Has-map (asked at old.timing) old.pairs q there in ap (λ (x : PairRecord). is_some x.due) (sym o.2)))
+        from (asked at old.timing p) (Has-mapped (asked at old.timing) old.pairs p has) due
+        (proceeds-from now a s t told new queue h) in
+        on-does at now by old new told p m where
+          counted : (at by : ℕ) (old : AgentRecord H P) → length (filter (is_fixed_by by) (map (asked at old.timing) old.pairs)) ≤ length (due_by by at old.timing old.pairs)
+          counted at by old = no-more (is_due_by by at old.timing) (is_fixed_by by) (asked at old.timing) old.pairs (λ q there is. is)
+
+          on-does : (at now by : ℕ) (old new : AgentRecord H P) (told : Told) (p : PairRecord)
+              → Moved mac now by (awake now (record old { pairs = map (asked at old.timing) old.pairs })) told new (asked at old.timing p) → Does at now by old told new p
+          on-does at now by old new told p m = elim m.does [
+            | inl gone ↦ inl gone
+            | inr (o, there, out, which) ↦
+                (let x = Has-map (asked at old.timing) old.pairs o there in
+                let timing : new.timing ≡ old.timing = ap (λ (b : Base). b.timing) m.base in
+                inr (
+                  x.0,
+                  x.1,
+                  (out.0, out.1 ∙ ap (λ w. Some (issued_as w class.Request out.0)) (ap (λ (y : PairRecord). path_of old y) (sym x.2))),
+                  elim which [
+                    | inl same ↦ inl (ap (λ (y : PairRecord). y.number) x.2 ∙ ap (λ (y : PairRecord). y.number) same)
+                    | inr (q, q_there, matches, checks, q_due, fewer) ↦
+                        (let less = counted at by old in
+                        let fewer_old : IsPaced old.timing → now < MAX → length (due_by by now old.timing new.pairs) < length (due_by by at old.timing old.pairs) =
+                        λ paced early. (let g = fewer paced early in omega (arith, g, less)) in
+                        inr (
+                          q,
+                          q_there,
+                          record { number = matches.number; local = matches.local; remote = matches.remote; valid = matches.valid },
+                          checks,
+                          subst (λ (y : StunTiming). due_moment now y q ≤ by) (sym timing) q_due,
+                          subst (λ (y : StunTiming). IsPaced old.timing → now < MAX → length (due_by by now y new.pairs) < length (due_by by at old.timing old.pairs)) (sym timing) fewer_old,
+                        ))
+                  ],
+                ))
+          ]
+
+    pub turn-moves : (old new : AgentRecord H P) (at now by : ℕ) (told : Told) → Fits at old → by ≤ now
+        → (p : PairRecord) → Has old.pairs p → due_moment at old.timing p ≤ by → Turn mac old now told new → Does at now by old told new p
+    turn-moves old new at now by told f from p has due turn =
+        let a = all-are-asked old turn.asked at turn.wake f.last f.checking.full f.idle.packets f.idle.queue (some-pairs old.pairs p has) turn.polled in
+        let m : TimesOut mac now (record old { pairs = map (asked at old.timing) old.pairs }) turn.before (Ok tt) told turn.after turn.behind =
+        subst (λ (x : AgentRecord H P). TimesOut mac now x turn.before (Ok tt) told turn.after turn.behind) a.1 turn.moment in
+        let d = asked-moves old turn.after turn.before turn.behind at now by told f.distinct f.checking f.idle.queue from p has due m in
+        subst (λ (x : AgentRecord H P). Does at now by old told x p) (sym turn.taken) d
+
+    -- a pair that was checked less often than it may be is not given up
+    pub turn-keeps : (old new : AgentRecord H P) (at now : ℕ) (told : Told) → Fits at old → (p : PairRecord) → Has old.pairs p → nat_lt (length p.checks) old.timing.max_retransmits ≡ true
+        → Turn mac old now told new → IsGone p.number new.pairs → ⊥
+    turn-keeps old new at now told f p has young turn gone =
+        let a = all-are-asked old turn.asked at turn.wake f.last f.checking.full f.idle.packets f.idle.queue (some-pairs old.pairs p has) turn.polled in
+        let m : TimesOut mac now (record old { pairs = map (asked at old.timing) old.pairs }) turn.before (Ok tt) told turn.after turn.behind =
+        subst (λ (x : AgentRecord H P). TimesOut mac now x turn.before (Ok tt) told turn.after turn.behind) a.1 turn.moment in
+        let k = proceeds-from now (record old { pairs = map (asked at old.timing) old.pairs }) turn.before turn.behind told turn.after f.idle.queue m in
+        moment-keeps mac now (awake now (record old { pairs = map (asked at old.timing) old.pairs })) turn.after turn.before turn.behind told f.checking.peer f.checking.full
+        (asked at old.timing p) (Has-mapped (asked at old.timing) old.pairs p has) young k
+        (subst (λ (a : AgentRecord H P). IsGone p.number a.pairs) turn.taken gone)
+
+    -- ---- turn after turn
+
+    gone-through : (turns : List (ℕ × Told)) (first last : AgentRecord H P) (at n : ℕ) → Fits at first → Turns mac turns first last → IsGone n first.pairs → IsGone n last.pairs
+    gone-through [] first last at n f is gone = subst (λ (a : AgentRecord H P). IsGone n a.pairs) (sym is) gone
+    gone-through (x ∷ rest) first last at n f (mid, turn, more) gone =
+        let k = turn-fits first mid at x.0 x.1 f turn in
+        gone-through rest mid last x.0 n k.0 more (gone-follows first.pairs mid.pairs n k.1 gone)
+
+    abbrev Reached : List (ℕ × Told) → AgentRecord H P → AgentRecord H P → PairRecord → Type 0
+    Reached turns first last p = ((x : ℕ × Told) × Has turns x × ChecksOn first x.1 p) ⊎ IsGone p.number last.pairs
+
+    starves-not : (turns : List (ℕ × Told)) (first last : AgentRecord H P) (p : PairRecord) (at by : ℕ) → Fits at first → IsPaced first.timing → Has first.pairs p
+        → due_moment at first.timing p ≤ by → ((x : ℕ × Told) → Has turns x → (by ≤ x.0) × (x.0 < MAX)) → Turns mac turns first last
+        → length (due_by by at first.timing first.pairs) ≤ length turns → Reached turns first last p
+    starves-not [] first last p at by f paced has due moments is enough =
+        let some : 0 < length (due_by by at first.timing first.pairs) = some-pass (is_due_by by at first.timing) first.pairs p has (le-is (due_moment at first.timing p) by due) in
+        absurd (let no : ⊥ = omega (arith, some, enough) in no)
+    starves-not (x ∷ rest) first last p at by f paced has due moments (mid, turn, more) enough =
+        let k = turn-fits first mid at x.0 x.1 f turn in
+        let times = moments x (inl refl) in
+        elim (turn-moves first mid at x.0 by x.1 f times.0 p has due turn) [
+          | inl gone ↦ inr (gone-through rest mid last x.0 p.number k.0 more gone)
+          | inr (o, there, out, inl same) ↦
+              (let one : o ≡ p = f.distinct o p there has same in
+              inl (x, inl refl, subst (λ (y : PairRecord). ChecksOn first x.1 y) one out))
+          | inr (o, there, out, inr (q, q_there, matches, checks, q_due, fewer)) ↦
+              onward matches (starves-not rest mid last q x.0 by k.0 (subst (λ (t : StunTiming). IsPaced t) (sym k.2) paced) q_there q_due (λ y has_y. moments y (inr has_y)) more
+              (let g = fewer paced times.1 in omega (arith, g, enough)))
+              (same-path first mid p q k.3 k.4 matches)
+        ] where
+          onward : {q : PairRecord} → Matches p q → Reached rest mid last q → path_of mid q ≡ path_of first p → Reached (x ∷ rest) first last p
+          onward {q = q} matches (inl (y, has_y, (id, out))) path = inl (y, inr has_y, (id, out ∙ ap (λ w. Some (issued_as w class.Request id)) path))
+          onward {q = q} matches (inr gone) path = inr (subst (λ n. IsGone n last.pairs) matches.number gone)
+
+    pub distinct-sound : (a : AgentRecord H P) → IsSound a → Distinct a.pairs
+    distinct-sound a sound p q has_p has_q same = one_pair a.pairs p q (rising-each a.pairs sound.rising) has_p has_q same
+
+    -- ---- a wake-up is of use
+
+    -- a request that waited is served, or outdated ones go
+    queue-of-use : (old asked_old new : AgentRecord H P) (s t : Stream) (now : ℕ) (told : Told) (first : RequestRecord) (behind : List RequestRecord) → base_of asked_old ≡ base_of old → is_some old.remote_creds ≡ true → old.lite ≡ false
+        → old.queue ≡ first ∷ behind → TimesOut mac now asked_old s (Ok tt) told new t → length new.queue < length old.queue
+    queue-of-use old asked_old new s t now told first behind base known full waits h =
+        by (request_at now asked_old) refl (let long : length old.queue ≡ suc (length behind) = ap length waits in omega (arith, long)) h where
+          queue_is : asked_old.queue ≡ old.queue
+          queue_is = ap (λ (x : Base). x.queue) base
+
+          by : (o : Option RequestRecord) → request_at now asked_old ≡ o → 0 < length old.queue
+              → MatchOption o (Proceeds mac now (awake now asked_old) s told new t) (λ q. ServesQueued mac q (awake now asked_old) s told new t) → length new.queue < length old.queue
+          by None is some k =
+              let m = moment-follows mac now (awake now asked_old) new s t told (ap (λ (x : Base). is_some x.remote_creds) base ∙ known) (ap (λ (x : Base). x.lite) base ∙ full) k in
+              let none : new.queue ≡ [] = ap (λ (x : Base). x.queue) m.0
+              ∙ queue-gone now asked_old.timing asked_old.remote_creds asked_old.queue (ap (λ (x : Base). is_some x.remote_creds) base ∙ known) is in
+              subst (λ qs. length qs < length old.queue) (sym none) some
+          by (Some q) is some (k, drawn) =
+              let less = queue-shorter now asked_old.timing asked_old.remote_creds asked_old.queue q is in
+              let kept : new.queue ≡ drop 1 (queue_left now asked_old.timing asked_old.remote_creds asked_old.queue) = yields (serves mac q (first_taken (awake now asked_old)) new told k) in
+              subst (λ n. length new.queue < n) (ap length queue_is) (subst (λ qs. length qs < length asked_old.queue) (sym kept) less) where
+                yields : Yields mac q (first_taken (awake now asked_old)) told new → new.queue ≡ drop 1 (queue_left now asked_old.timing asked_old.remote_creds asked_old.queue)
+                yields (inl stays) = ap (λ (f : Frame H). f.queue) stays.0
+                yields (inr (conflict, (frame, out))) = ap (λ (f : Frame H). f.queue) frame
+
+    pub wakes-are-of-use : WakesAreOfUse P mac
+    wakes-are-of-use old asked_old new s t wake now told sound checking packets some early polls kept h = by-last old.last_moment refl polls where
+      by-last : (o : Option ℕ) → old.last_moment ≡ o → WakesFrom o old (Some wake) asked_old → IsOfUse old told new
+      by-last None is (nothing, same) = absurd (cc)
+      by-last (Some at) is k = by-queue old.queue refl where
+        polled : PollsTimeout old (Some wake) asked_old
+        polled = polls
+
+        by-queue : (queue : List RequestRecord) → old.queue ≡ queue → IsOfUse old told new
+        by-queue (first ∷ behind) waits =
+            inr (queue-of-use old asked_old new s t now told first behind (asks-follow at wake old asked_old is polled).0 checking.peer checking.full waits h)
+        by-queue [] none =
+            let a = all-are-asked old asked_old at wake is checking.full packets none some polled in
+            let low : earliest_due old at ≤ wake = below (earliest_due old at) (soon old at) a.0 in
+            let p = least-is (due_moment at old.timing) MAX wake old.pairs low early in
+            let m : TimesOut mac now (record old { pairs = map (asked at old.timing) old.pairs }) s (Ok tt) told new t =
+            subst (λ (x : AgentRecord H P). TimesOut mac now x s (Ok tt) told new t) a.1 h in
+            use_of p.0 p.1 (asked-moves old new s t at now now told (distinct-sound old sound) checking none (omega arith) p.0 p.1 (let d = p.2 in omega (arith, d, kept)) m) where
+              below : (x y : ℕ) → wake ≡ max x y → x ≤ wake
+              below x y e = omega (arith, e)
+
+              use_of : (p : PairRecord) → Has old.pairs p → Does at now now old told new p → IsOfUse old told new
+              use_of p has (inl gone) = inl (p, has, inr gone)
+              use_of p has (inr (o, there, out, which)) = inl (o, there, inl out)
+
+    pub no-pair-starves : NoPairStarves P mac
+    no-pair-starves first last turns p at by sound packets waits moments turning enough =
+        starves-not turns first last p at by
+        (record {
+          distinct = distinct-sound first sound;
+          checking = waits.checking;
+          idle = record { packets = packets; queue = waits.queue };
+          last = waits.last;
+        })
+        waits.paced waits.there waits.due moments turning enough

@@ -1,0 +1,107 @@
+-- The wake-up that an agent asks for: behind the last moment, and behind no pair's due moment but for the pacing.
+use Rattle.std.proofs.Common.{◌≡◌, ℕ, ◌+◌, ◌*◌, ◌<◌, ◌≤◌, ◌||◌, Bool, true, false, not, List, [], ◌∷◌, map, fold, min, max, nat_le, Option, Some, None, inl, inr, refl, ap, sym, ◌∙◌, subst, arith}
+use Rattle.std.proofs.lemmas.Bool.Decides.{nat_tests}
+use Rattle.std.specs.Prelude.{MatchBool, IsSomeAnd}
+use Rattle.is_proto.specs.Lists.{Has, is_empty}
+use Rattle.is_proto.specs.Moments.{MAX, SECOND, later}
+use Rattle.is_pair.specs.Pairs.{PairRecord}
+use Rattle.is_pair.specs.Due.{asked, due_moment}
+use Rattle.is_rules.specs.Agent.{AgentRecord}
+use Rattle.is_rules.specs.Polls.{PollsTimeout, WakesFrom, Wakes, WakesIdle, is_waiting, is_idle, soon, earliest_due}
+use Rattle.is_rules.proofs.Frames.{either}
+use Rattle.is_rules.specs.Progress.{WakesAhead, WakesInTime}
+
+-- ---- the least of a list
+
+least-start : {X : Type 0} (f : X → ℕ) (m : ℕ) (xs : List X) → fold min m (map f xs) ≤ m
+least-start f m [] = omega arith
+least-start f m (x ∷ xs) = let k : fold min (min m (f x)) (map f xs) ≤ min m (f x) = least-start f (min m (f x)) xs in omega (arith, k)
+
+pub least-below : {X : Type 0} (f : X → ℕ) (m : ℕ) (xs : List X) (x : X) → Has xs x → fold min m (map f xs) ≤ f x
+least-below f m [] x has = absurd has
+least-below f m (y ∷ ys) x (inl e) =
+    let k : fold min (min m (f y)) (map f ys) ≤ min m (f y) = least-start f (min m (f y)) ys in
+    let same : f y ≡ f x = ap f e in
+    omega (arith, k, same)
+least-below f m (y ∷ ys) x (inr has) = least-below f (min m (f y)) ys x has
+
+le-of : (n m : ℕ) → nat_le n m ≡ true → n ≤ m
+le-of n m h = grind (arith, nat_tests, h)
+
+lt-of-not : (n m : ℕ) → nat_le n m ≡ false → m < n
+lt-of-not n m h = grind (arith, nat_tests, h)
+
+-- where the least is below the start, it is that of an element
+pub least-is : {X : Type 0} (f : X → ℕ) (m w : ℕ) (xs : List X) → fold min m (map f xs) ≤ w → w < m → (x : X) × Has xs x × (f x ≤ w)
+least-is f m w [] low above = absurd (let no : ⊥ = omega (arith, low, above) in no)
+least-is f m w (x ∷ xs) low above =
+    elim (nat_le (f x) w) as (λ b. nat_le (f x) w ≡ b → (y : _) × Has (x ∷ xs) y × (f y ≤ w)) [
+      | true ↦ λ is. (x, inl refl, le-of (f x) w is)
+      | false ↦ λ is.
+          (let more : w < f x = lt-of-not (f x) w is in
+          let rest = least-is f (min m (f x)) w xs low (omega (arith, more, above)) in
+          (rest.0, inr rest.1, rest.2))
+    ] refl
+
+-- ---- wake-ups
+
+later-behind : (at by : ℕ) → 0 < by → at < MAX → at < later at by
+later-behind at by some early = omega (arith, some, early)
+
+max-behind : (x y at : ℕ) → at < y → at < max x y
+max-behind x y at h = omega (arith, h)
+
+max-right : (x y : ℕ) → y ≤ max x y
+max-right x y = omega arith
+
+max-least : (x y z : ℕ) → x ≤ y → max x z ≤ max y z
+max-least x y z h = omega (arith, h)
+
+idle-has : (lite : Bool) (pairs : List PairRecord) (p : PairRecord) → lite ≡ false → Has pairs p → lite || is_empty pairs ≡ true → ⊥
+idle-has true pairs p full has h = absurd (cc)
+idle-has false [] p full has h = absurd has
+idle-has false (q ∷ qs) p full has h = absurd (cc)
+
+not-idle : (lite : Bool) (pairs : List PairRecord) → lite ≡ false → is_empty pairs ≡ false → (lite || is_empty pairs) ≡ false
+not-idle true pairs full some = absurd (cc)
+not-idle false pairs full some = some
+
+module _ {H P : Type 0} where
+  pub wakes-from : (old new : AgentRecord H P) (last wake : ℕ) → old.last_moment ≡ Some last → PollsTimeout old (Some wake) new → Wakes old last wake new
+  wakes-from old new last wake is h = subst (λ o. WakesFrom o old (Some wake) new) is h
+
+  pub wakes-ahead : WakesAhead H P
+  wakes-ahead old new None h = tt
+  wakes-ahead old new (Some wake) h = λ last is some early.
+      let next : last < soon old last = later-behind last old.timing_advance some early in
+      either (is_waiting old) (wakes-from old new last wake is h)
+      (λ _ k. subst (λ n. last < n) (sym k.0) next)
+      (λ _ k. either (is_idle old) k
+      (λ _ l. subst (λ n. last < n) (sym l.0) (later-behind last (3 * SECOND) (omega arith) early))
+      (λ _ l. subst (λ n. last < n) (sym l.0) (max-behind (earliest_due old last) (soon old last) last next)))
+
+  pub wakes-in-time : WakesInTime H P
+  wakes-in-time old new None h = tt
+  wakes-in-time old new (Some wake) h = λ last is full p has.
+      either (is_waiting old) (wakes-from old new last wake is h)
+      (λ _ k. subst (λ n. n ≤ max (due_moment last old.timing p) (soon old last)) (sym k.0) (max-right (due_moment last old.timing p) (soon old last)))
+      (λ _ k. either (is_idle old) k
+      (λ idle _. absurd (idle-has old.lite old.pairs p full has idle))
+      (λ _ l. subst (λ n. n ≤ max (due_moment last old.timing p) (soon old last)) (sym l.0)
+      (max-least (earliest_due old last) (due_moment last old.timing p) (soon old last)
+      (least-below (due_moment last old.timing) MAX old.pairs p has))))
+
+  not-waiting : (a : AgentRecord H P) → a.packets ≡ [] → a.queue ≡ [] → is_waiting a ≡ false
+  not-waiting a no_packets no_queue =
+      ap (λ ps. not (is_empty ps) || not (is_empty a.queue)) no_packets ∙ ap (λ qs. not (is_empty qs)) no_queue
+
+  -- where nothing waits, and there is a pair to check, all pairs are asked
+  pub all-are-asked : (old new : AgentRecord H P) (last wake : ℕ) → old.last_moment ≡ Some last → old.lite ≡ false → old.packets ≡ [] → old.queue ≡ []
+      → is_empty old.pairs ≡ false → PollsTimeout old (Some wake) new
+      → (wake ≡ max (earliest_due old last) (soon old last)) × (new ≡ record old { pairs = map (asked last old.timing) old.pairs })
+  all-are-asked old new last wake is full no_packets no_queue some h =
+      let w : WakesIdle old last wake new =
+      subst (λ b. MatchBool b ((wake ≡ soon old last) × (new ≡ old)) (WakesIdle old last wake new)) (not-waiting old no_packets no_queue) (wakes-from old new last wake is h) in
+      subst (λ b. MatchBool b ((wake ≡ later last (3 * SECOND)) × (new ≡ old))
+      ((wake ≡ max (earliest_due old last) (soon old last)) × (new ≡ record old { pairs = map (asked last old.timing) old.pairs })))
+      (not-idle old.lite old.pairs full some) w

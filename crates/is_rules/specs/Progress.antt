@@ -1,0 +1,206 @@
+-- What an agent brings about whose wake-ups are kept: none comes too late, none is in vain, and no pair starves.
+use Rattle.std.specs.Prelude.{◌≡◌, ◌≢◌, ℕ, ◌<◌, ◌≤◌, max, true, false, List, [], ◌∷◌, length, Option, Some, None, is_some, IfSome, Ok, ◌⊎◌}
+use Rattle.rand_core.specs.Stream.{Stream}
+use Rattle.is_proto.specs.Lists.{Has, is_empty}
+use Rattle.is_proto.specs.Moments.{MAX}
+use Rattle.is_candidate.specs.Candidates.{CandidateRecord}
+use Rattle.is_pair.specs.Pairs.{PairRecord, is_valid, is_nominated}
+use Rattle.is_pair.specs.Due.{due_moment}
+use Rattle.is_stun.specs.declared.header.Class.TheVariants as class
+use Rattle.is_stun.specs.Message.{Message}
+use Rattle.is_rules.specs.declared.event.IceAgentEvent.{IceAgentEvent}
+use Rattle.is_rules.specs.declared.told.Path.{Path}
+use Rattle.is_rules.specs.declared.told.Told.{Told}
+use Rattle.is_rules.specs.Told.{issued_as}
+use Rattle.is_rules.specs.Agent.{AgentRecord}
+use Rattle.is_rules.specs.Sending.{path_of}
+use Rattle.is_stun.specs.Reading.{Reads}
+use Rattle.is_rules.specs.Nominating.{is_eligible}
+use Rattle.is_rules.specs.Points.{IsTopAnnounced}
+use Rattle.is_rules.specs.Queue.{request_at}
+use Rattle.is_rules.specs.Steps.{Done, Entry, Flag, HandleTimeout, ReceivePacket, Step}
+use Rattle.is_rules.specs.Polls.{PollsTimeout, soon}
+use Rattle.is_rules.specs.Timeouts.{TimesOut}
+use Rattle.is_rules.specs.Sound.{IsSound}
+use Rattle.is_rules.specs.Brought.{Brings}
+use Rattle.is_rules.specs.Logs.{Logged}
+use Rattle.is_rules.specs.Runs.{IsFresh, AtEach, IsTopPath}
+use Rattle.is_pair.specs.Turns.{IsPaced, due_by}
+
+-- no pair has the number
+abbrev pub IsGone : ℕ → List PairRecord → Type 0
+IsGone number pairs = (p : PairRecord) → Has pairs p → p.number ≢ number
+
+-- raw bytes that came, and what became of them
+pub record Arrival : Type 0 where
+  pub at : ℕ
+  pub way : Path
+  pub bytes : List ℕ
+  pub entry : Entry
+
+-- they read as a success, and were accepted
+abbrev pub IsSuccess : Arrival → Type 0
+IsSuccess x = (m : Message) × Reads x.bytes m × (x.entry.answer ≡ Flag true) × (m.class ≡ class.Success)
+
+abbrev pub IsMet : List Arrival → Type 0
+IsMet arrivals = (x : Arrival) × Has arrivals x × IsSuccess x
+
+-- a turn, and what came behind it
+pub record Round : Type 0 where
+  pub now : ℕ
+  pub told : Told
+  pub arrivals : List Arrival
+
+module _ {H P : Type 0} where
+  -- it checks pairs: it is not lite, and the peer is known
+  pub record IsChecking (a : AgentRecord H P) : Type 0 where
+    pub full : a.lite ≡ false
+    pub peer : is_some a.remote_creds ≡ true
+
+  -- a check goes out on the pair's path
+  abbrev pub ChecksOn : AgentRecord H P → Told → PairRecord → Type 0
+  ChecksOn a told p = (id : List ℕ) × (told.issued ≡ Some (issued_as (path_of a p) class.Request id))
+
+  -- a check goes out, a pair is given up, or fewer requests wait
+  abbrev pub IsOfUse : AgentRecord H P → Told → AgentRecord H P → Type 0
+  IsOfUse old told new =
+      ((p : PairRecord) × Has old.pairs p × (ChecksOn old told p ⊎ IsGone p.number new.pairs)) ⊎ (length new.queue < length old.queue)
+
+  -- a pair is eligible, and the announced pair is one of the greatest of these
+  abbrev pub HasAnnounced : AgentRecord H P → Type 0
+  HasAnnounced a = IsTopAnnounced a × ((p : PairRecord) × Has a.pairs p × (is_eligible a.controlling p ≡ true))
+
+  -- ---- turns
+
+  -- nothing waits, so that the agent is asked for its next check
+  pub record IsIdle (a : AgentRecord H P) : Type 0 where
+    pub packets : a.packets ≡ []
+    pub queue : a.queue ≡ []
+
+  -- a pair waits for its check: asked at its last moment, it is due by the given one
+  pub record Awaits (at by : ℕ) (a : AgentRecord H P) (p : PairRecord) : Type 0 where
+    pub checking : IsChecking a
+    pub paced : IsPaced a.timing
+    pub queue : a.queue ≡ []
+    pub last : a.last_moment ≡ Some at
+    pub there : Has a.pairs p
+    pub due : due_moment at a.timing p ≤ by
+
+  -- no pair is valid yet, and this one will not be given up before its check
+  pub record IsUnanswered (a : AgentRecord H P) (p : PairRecord) : Type 0 where
+    pub invalid : (q : PairRecord) → Has a.pairs q → is_valid q ≡ false
+    pub young : length p.checks < a.timing.max_retransmits
+
+  module _ (mac : H → List ℕ → List ℕ → List ℕ) where
+    -- asked for its wake-up, the agent is given a moment, then or later, and what it has to send and to tell is taken
+    pub record Turn (old : AgentRecord H P) (now : ℕ) (told : Told) (new : AgentRecord H P) : Type 0 where
+      pub wake : ℕ
+      pub asked : AgentRecord H P
+      pub polled : PollsTimeout old (Some wake) asked
+      pub kept : wake ≤ now
+      pub before : Stream
+      pub behind : Stream
+      pub after : AgentRecord H P
+      pub moment : TimesOut mac now asked before (Ok tt) told after behind
+      pub left : List IceAgentEvent
+      pub taken : new ≡ record after { packets = []; events = left }
+
+    -- turn after turn, each at its moment and with what it tells
+    abbrev pub Turns : List (ℕ × Told) → AgentRecord H P → AgentRecord H P → Type 0
+    Turns [] old new = new ≡ old
+    Turns (x ∷ rest) old new = (mid : AgentRecord H P) × Turn old x.0 x.1 mid × Turns rest mid new
+
+    -- ---- rounds
+
+    module _ (answers : P → CandidateRecord → ℕ → ℕ → Type 0) where
+      -- packets come one after another; what the agent has to send and to tell is taken, and it is controlling behind each
+      abbrev pub Arrives : List Arrival → AgentRecord H P → AgentRecord H P → Type 0
+      Arrives [] old new = new ≡ old
+      Arrives (x ∷ rest) old new =
+          (after mid : AgentRecord H P) × (left : List IceAgentEvent) × (s t : Stream)
+          × Step mac answers old s (ReceivePacket x.at x.way x.bytes) x.entry after t × (after.controlling ≡ true)
+          × (mid ≡ record after { packets = []; events = left }) × Arrives rest mid new
+
+      abbrev pub Rounds : List Round → AgentRecord H P → AgentRecord H P → Type 0
+      Rounds [] old new = new ≡ old
+      Rounds (x ∷ rest) old new = (mid next : AgentRecord H P) × Turn old x.now x.told mid × Arrives x.arrivals mid next × Rounds rest next new
+
+      -- behind one of the packets, which is an accepted success, a path is announced
+      abbrev pub AnnouncesBehind : (arrivals : List Arrival) (old new : AgentRecord H P) → Arrives arrivals old new → Type 0
+      AnnouncesBehind [] old new came = ⊥
+      AnnouncesBehind (x ∷ rest) old new came = (IsSuccess x × HasAnnounced came.0) ⊎ AnnouncesBehind rest came.1 new came.8
+
+      -- so in one of the rounds
+      abbrev pub AnnouncesIn : (rounds : List Round) (old new : AgentRecord H P) → Rounds rounds old new → Type 0
+      AnnouncesIn [] old new run = ⊥
+      AnnouncesIn (x ∷ rest) old new run = AnnouncesBehind x.arrivals run.0 run.1 run.3 ⊎ AnnouncesIn rest run.1 new run.4
+
+-- ---- the laws of wake-ups
+
+-- the wake-up lies behind the last moment
+abbrev pub LiesAhead : {H P : Type 0} → AgentRecord H P → Option ℕ → Type 0
+LiesAhead old wake = IfSome wake (λ at. (last : ℕ) → old.last_moment ≡ Some last → 0 < old.timing_advance → last < MAX → last < at)
+
+-- it does not come behind the moment at which a pair is due, but for the pacing
+abbrev pub ComesInTime : {H P : Type 0} → AgentRecord H P → Option ℕ → Type 0
+ComesInTime old wake =
+    IfSome wake (λ at. (last : ℕ) → old.last_moment ≡ Some last → old.lite ≡ false
+    → (p : PairRecord) → Has old.pairs p → at ≤ max (due_moment last old.timing p) (soon old last))
+
+abbrev pub WakesAhead : Type 0 → Type 0 → Type 0
+WakesAhead H P = (old new : AgentRecord H P) (wake : Option ℕ) → PollsTimeout old wake new → LiesAhead old wake
+
+abbrev pub WakesInTime : Type 0 → Type 0 → Type 0
+WakesInTime H P = (old new : AgentRecord H P) (wake : Option ℕ) → PollsTimeout old wake new → ComesInTime old wake
+
+-- none is in vain: a moment at it, or later, is of use
+abbrev pub WakesAreOfUse : {H : Type 0} (P : Type 0) → (H → List ℕ → List ℕ → List ℕ) → Type 0
+WakesAreOfUse {H = H} P mac =
+    (old asked new : AgentRecord H P) (s t : Stream) (wake now : ℕ) (told : Told)
+    → IsSound old → IsChecking old → old.packets ≡ [] → is_empty old.pairs ≡ false → wake < MAX
+    → PollsTimeout old (Some wake) asked → wake ≤ now → TimesOut mac now asked s (Ok tt) told new t
+    → IsOfUse old told new
+
+-- A pair is checked, or given up, within as many turns as there are pairs that are due no later than it. The turns come at the
+-- moment at which it is due, or later.
+abbrev pub NoPairStarves : {H : Type 0} (P : Type 0) → (H → List ℕ → List ℕ → List ℕ) → Type 0
+NoPairStarves {H = H} P mac =
+    (first last : AgentRecord H P) (turns : List (ℕ × Told)) (p : PairRecord) (at by : ℕ)
+    → IsSound first → first.packets ≡ [] → Awaits at by first p
+    → ((x : ℕ × Told) → Has turns x → (by ≤ x.0) × (x.0 < MAX))
+    → Turns mac turns first last
+    → length (due_by by at first.timing first.pairs) ≤ length turns
+    → ((x : ℕ × Told) × Has turns x × ChecksOn first x.1 p) ⊎ IsGone p.number last.pairs
+
+-- ---- answers
+
+-- A controlling agent has no valid pair yet, and each check that goes out on the path of a pair is answered in its round: then the
+-- agent announces a path within as many rounds as there are pairs that are due no later than this one, whatever else comes.
+abbrev pub AnsweredAnnounce : {H P : Type 0} → (H → List ℕ → List ℕ → List ℕ) → (P → CandidateRecord → ℕ → ℕ → Type 0) → Type 0
+AnsweredAnnounce {H = H} {P = P} mac answers =
+    (first last : AgentRecord H P) (rounds : List Round) (p : PairRecord) (at by : ℕ)
+    → IsSound first → first.packets ≡ [] → first.controlling ≡ true → Awaits at by first p → IsUnanswered first p
+    → ((x : Round) → Has rounds x → (by < x.now) × (x.now < MAX))
+    → (run : Rounds mac answers rounds first last)
+    → ((x : Round) (id : List ℕ) → Has rounds x → x.told.issued ≡ Some (issued_as (path_of first p) class.Request id) → IsMet x.arrivals)
+    → length (due_by by at first.timing first.pairs) ≤ length rounds
+    → AnnouncesIn mac answers rounds first last run
+
+module _ {H P : Type 0} (mac : H → List ℕ → List ℕ → List ℕ) (answers : P → CandidateRecord → ℕ → ℕ → Type 0) where
+  -- behind an accepted success a controlling agent has announced the path of an eligible pair of greatest stored priority
+  abbrev pub SuccessesAnnounce : AgentRecord H P → Stream → List (Logged P) → Type 0
+  SuccessesAnnounce first s log =
+      AtEach mac answers first s log (λ before mid x after. (at : ℕ) (by : Path) (m : Message) → Brings x.call x.entry at by m → m.class ≡ class.Success
+      → after.controlling ≡ true → IsTopPath mac answers (x ∷ before) after)
+
+  -- and behind a moment that serves no request, where a pair is valid and nominated: so a controlled agent has, too
+  abbrev pub NominationsAnnounce : AgentRecord H P → Stream → List (Logged P) → Type 0
+  NominationsAnnounce first s log =
+      AtEach mac answers first s log (λ before mid x after. (now : ℕ) → x.call ≡ HandleTimeout now → x.entry.answer ≡ Done → request_at now mid ≡ None
+      → (p : PairRecord) → Has after.pairs p → is_valid p ≡ true → is_nominated p ≡ true → IsTopPath mac answers (x ∷ before) after)
+
+  abbrev pub AnswersAnnounce : Type 0
+  AnswersAnnounce = (first : AgentRecord H P) (s : Stream) (log : List (Logged P)) → IsFresh first → SuccessesAnnounce first s log
+
+  abbrev pub MomentsAnnounce : Type 0
+  MomentsAnnounce = (first : AgentRecord H P) (s : Stream) (log : List (Logged P)) → IsFresh first → NominationsAnnounce first s log

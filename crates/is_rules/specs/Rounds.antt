@@ -1,0 +1,148 @@
+-- Rounds in a log: between two moments packets come, and polls. Where the checks of a pair are answered in their rounds, a path
+-- is announced in one of them.
+use Rattle.std.specs.Prelude.{◌≡◌, ℕ, ◌<◌, ◌≤◌, ◌⊎◌, Bool, true, false, List, [], ◌∷◌, ◌++◌, length, Some, None, is_some}
+use Rattle.rand_core.specs.Stream.{Stream}
+use Rattle.is_proto.specs.Lists.{Has, is_empty}
+use Rattle.is_proto.specs.Moments.{MAX}
+use Rattle.is_candidate.specs.Candidates.{CandidateRecord}
+use Rattle.is_pair.specs.Pairs.{PairRecord}
+use Rattle.is_pair.specs.Turns.{due_by}
+use Rattle.is_stun.specs.declared.header.Class.TheVariants as class
+use Rattle.is_stun.specs.Message.{Message}
+use Rattle.is_rules.specs.declared.told.Path.{Path}
+use Rattle.is_rules.specs.Told.{issued_as}
+use Rattle.is_rules.specs.Agent.{AgentRecord}
+use Rattle.is_rules.specs.Sending.{path_of}
+use Rattle.is_rules.specs.Steps.{Call, ReceivePacket, HandleTimeout, PollTransmit, PollTimeout, PollEvent, Done, Polled, Wake, Step}
+use Rattle.is_rules.specs.Sound.{GivesBased}
+use Rattle.is_rules.specs.Brought.{Brings}
+use Rattle.is_rules.specs.Effects.{last_of}
+use Rattle.is_rules.specs.Logs.{Logged}
+use Rattle.is_rules.specs.Runs.{IsFresh, Run, Point, IsTopPath}
+use Rattle.is_rules.specs.Progress.{IsChecking, IsOfUse, Awaits, IsUnanswered}
+
+-- ---- the entries of a round
+
+-- newest first: what came behind a moment, the moment, and the asking before it
+pub record LoggedRound (P : Type 0) : Type 0 where
+  pub behind : List (Logged P)
+  pub moment : Logged P
+  pub asked : Logged P
+  pub now : ℕ
+
+-- the entries of rounds, newest first
+abbrev pub entries_of : {P : Type 0} → List (LoggedRound P) → List (Logged P)
+entries_of [] = []
+entries_of (r ∷ older) = r.behind ++ r.moment ∷ r.asked ∷ entries_of older
+
+abbrev pub is_poll : {P : Type 0} → Call P → Bool
+is_poll PollTransmit = true
+is_poll PollTimeout = true
+is_poll PollEvent = true
+is_poll _ = false
+
+-- a poll, or a packet that comes
+abbrev pub is_between : {P : Type 0} → Call P → Bool
+is_between (ReceivePacket now way bytes) = true
+is_between call = is_poll call
+
+-- no packet was left to be polled, and nothing but polls came since
+abbrev pub AreTaken : {P : Type 0} → List (Logged P) → Type 0
+AreTaken [] = ⊥
+AreTaken (x ∷ before) =
+    ((x.call ≡ PollTransmit) × (x.entry.answer ≡ Polled None)) ⊎ ((is_poll x.call ≡ true) × AreTaken before)
+
+-- an accepted success came
+abbrev pub BringsSuccess : {P : Type 0} → Logged P → Type 0
+BringsSuccess x = (at : ℕ) × (by : Path) × (m : Message) × Brings x.call x.entry at by m × (m.class ≡ class.Success)
+
+-- a turn behind this log: the packets are taken, the wake-up is asked for, and the moment comes then or later
+pub record IsTurn {P : Type 0} (before : List (Logged P)) (asked moment : Logged P) (wake now : ℕ) : Type 0 where
+  pub taken : AreTaken before
+  pub asks : asked.call ≡ PollTimeout
+  pub woken : asked.entry.answer ≡ Wake (Some wake)
+  pub comes : moment.call ≡ HandleTimeout now
+  pub done : moment.entry.answer ≡ Done
+  pub kept : wake ≤ now
+
+-- A round: a turn, and then packets and polls. Where a check goes out on the path, an accepted success comes in the same round.
+pub record IsRound {P : Type 0} (by : ℕ) (path : Path) (before : List (Logged P)) (r : LoggedRound P) : Type 0 where
+  pub wake : ℕ
+  pub turn : IsTurn before r.asked r.moment wake r.now
+  pub late : by < r.now
+  pub early : r.now < MAX
+  pub between : (x : Logged P) → Has r.behind x → is_between x.call ≡ true
+  pub met : (id : List ℕ) → r.moment.entry.told.issued ≡ Some (issued_as path class.Request id)
+      → (x : Logged P) × Has r.behind x × BringsSuccess x
+
+abbrev pub AreRounds : {P : Type 0} → ℕ → Path → List (Logged P) → List (LoggedRound P) → Type 0
+AreRounds by path before [] = Unit {0}
+AreRounds by path before (r ∷ older) = IsRound by path (entries_of older ++ before) r × AreRounds by path before older
+
+module _ {H P : Type 0} (mac : H → List ℕ → List ℕ → List ℕ) (answers : P → CandidateRecord → ℕ → ℕ → Type 0) where
+  -- ---- parts of a log
+
+  -- further entries behind a log and its record, and the record that they leave
+  abbrev pub RunsOn : List (Logged P) → AgentRecord H P → Stream → List (Logged P) → AgentRecord H P → Stream → Type 0
+  RunsOn before start s [] last t = (last ≡ start) × (t ≡ s)
+  RunsOn before start s (x ∷ part) last t =
+      (mid : AgentRecord H P) × (u : Stream) × RunsOn before start s part mid u
+      × (x.number ≡ length (part ++ before)) × GivesBased x.call × Step mac answers mid u x.call x.entry last t
+
+  -- the part stands in the log: the log before it led to start, and the part leads on to last
+  pub record Part (first : AgentRecord H P) (s : Stream) (log before : List (Logged P)) (start : AgentRecord H P) (part : List (Logged P)) (last : AgentRecord H P) : Type 0 where
+    pub rest : List (Logged P)
+    pub split : log ≡ rest ++ (part ++ before)
+    pub at : Stream
+    pub led : Run mac answers first s before start at
+    pub behind : Stream
+    pub run : RunsOn before start at part last behind
+
+  -- controlling in each record that the part passes
+  abbrev pub IsControllingIn : (before : List (Logged P)) (start : AgentRecord H P) (s : Stream) (part : List (Logged P)) (last : AgentRecord H P) (t : Stream)
+      → RunsOn before start s part last t → Type 0
+  IsControllingIn before start s [] last t run = last.controlling ≡ true
+  IsControllingIn before start s (x ∷ part) last t run = (last.controlling ≡ true) × IsControllingIn before start s part run.0 run.1 run.2
+
+  -- an accepted success of the part announces a path, which is that of an eligible pair of greatest stored priority
+  abbrev pub AnnouncesIn : AgentRecord H P → Stream → List (Logged P) → List (Logged P) → Type 0
+  AnnouncesIn first s log part =
+      (before : List (Logged P)) × (mid after : AgentRecord H P) × (x : Logged P)
+      × Point mac answers first s log before mid x after × Has part x × BringsSuccess x
+      × (is_some (last_of x.entry.told.announced) ≡ true) × IsTopPath mac answers (x ∷ before) after
+
+  -- ---- the laws
+
+  -- each part of the log leads from a record to another
+  abbrev pub PartsStand : AgentRecord H P → Stream → List (Logged P) → Type 0
+  PartsStand first s log =
+      (rest part before : List (Logged P)) → log ≡ rest ++ (part ++ before)
+      → (start last : AgentRecord H P) × Part first s log before start part last
+
+  -- wherever a turn of an agent that has a pair to check stands in the log, its moment is of use
+  abbrev pub MomentsAreOfUse : AgentRecord H P → Stream → List (Logged P) → Type 0
+  MomentsAreOfUse first s log =
+      (before : List (Logged P)) (start last : AgentRecord H P) (asked moment : Logged P) (wake now : ℕ)
+      → Part first s log before start (moment ∷ asked ∷ []) last → IsTurn before asked moment wake now
+      → IsChecking start → is_empty start.pairs ≡ false → wake < MAX
+      → IsOfUse start moment.entry.told last
+
+  -- Wherever the log has a record with n pairs due by some moment, and then n rounds behind that moment in which the checks of one
+  -- of these pairs are answered, a path is announced in one of the rounds. Whatever else comes.
+  abbrev pub RoundsAnnounce : AgentRecord H P → Stream → List (Logged P) → Type 0
+  RoundsAnnounce first s log =
+      (before : List (Logged P)) (start last : AgentRecord H P) (rounds : List (LoggedRound P)) (p : PairRecord) (at by : ℕ)
+      → (part : Part first s log before start (entries_of rounds) last)
+      → Awaits at by start p → IsUnanswered start p → AreRounds by (path_of start p) before rounds
+      → IsControllingIn before start part.at (entries_of rounds) last part.behind part.run
+      → length (due_by by at start.timing start.pairs) ≤ length rounds
+      → AnnouncesIn first s log (entries_of rounds)
+
+  abbrev pub AnsweredRoundsAnnounce : Type 0
+  AnsweredRoundsAnnounce = (first : AgentRecord H P) (s : Stream) (log : List (Logged P)) → IsFresh first → RoundsAnnounce first s log
+
+  abbrev pub PartsAreRuns : Type 0
+  PartsAreRuns = (first last : AgentRecord H P) (s t : Stream) (log : List (Logged P)) → Run mac answers first s log last t → PartsStand first s log
+
+  abbrev pub TurnsAreOfUse : Type 0
+  TurnsAreOfUse = (first : AgentRecord H P) (s : Stream) (log : List (Logged P)) → IsFresh first → MomentsAreOfUse first s log
