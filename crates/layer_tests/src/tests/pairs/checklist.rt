@@ -144,9 +144,9 @@ fn an_id_of_two_pairs_names_both(rt: HostRuntime) -> Result<(), Fail> {
     assert!(rt; paths.check(1, 50, 1)? == id);
     assert!(rt; paths.keeps(id, 0) && paths.keeps(id, 1));
     paths.remove(0);
-    assert_eq!(rt; paths.keeper(id), Some(1));
+    assert!(rt; paths.keeper(id) == Some(1));
     paths.remove(1);
-    assert_eq!(rt; paths.keeper(id), None);
+    assert!(rt; paths.keeper(id).is_none());
     Ok(())
 }
 
@@ -154,26 +154,26 @@ fn an_id_of_two_pairs_names_both(rt: HostRuntime) -> Result<(), Fail> {
 fn an_id_that_was_cut_is_found_no_more(rt: HostRuntime) -> Result<(), Fail> {
     let mut paths = paths_of(rt.alloc(), 1, &[50, 60])?;
     let first = paths.check(0, 0, 1)?;
-    assert_eq!(rt; paths.keeper(first), Some(0));
+    assert!(rt; paths.keeper(first) == Some(0));
     let second = paths.check(0, 250, 2)?;
-    assert_eq!(rt; paths.keeper(first), None);
-    assert_eq!(rt; paths.keeper(second), Some(0));
+    assert!(rt; paths.keeper(first).is_none());
+    assert!(rt; paths.keeper(second) == Some(0));
     Ok(())
 }
 
 #[test]
 fn the_order_follows_the_priorities(rt: HostRuntime) -> Result<(), Fail> {
     let mut paths = paths_of(rt.alloc(), 9, &[50, 70, 70, 60])?;
-    assert_eq!(rt; paths.least(), Some(0));
+    assert!(rt; paths.least() == Some(0));
     let first = paths.greatest().ok_or("none is greatest")?;
     assert!(rt; first == 1 || first == 2);
     paths.remove(first);
-    assert_eq!(rt; paths.greatest(), Some(3 - first));
+    assert!(rt; paths.greatest() == Some(3 - first));
     paths.list.set_priorities(&ByNumber);
-    assert_eq!(rt; paths.greatest(), Some(3));
-    assert_eq!(rt; paths.least(), Some(0));
+    assert!(rt; paths.greatest() == Some(3));
+    assert!(rt; paths.least() == Some(0));
     paths.list.evict(1);
-    assert_eq!(rt; paths.least(), Some(3));
+    assert!(rt; paths.least() == Some(3));
     Ok(())
 }
 
@@ -183,7 +183,7 @@ fn a_refused_growth_leaves_the_pairs(rt: HostRuntime) -> Result<(), Fail> {
     let mut paths = Paths::new(rt.alloc(), 9);
     if paths.add(rt.alloc(), 50).is_err() {
         assert!(rt; paths.list.is_empty());
-        assert_eq!(rt; paths.greatest(), None);
+        assert!(rt; paths.greatest().is_none());
         paths.add(rt.alloc(), 50)?;
     }
     for seed in 0..6 {
@@ -193,6 +193,6 @@ fn a_refused_growth_leaves_the_pairs(rt: HostRuntime) -> Result<(), Fail> {
     }
     let id = TransId::new(&mut Pcg32::seed_from_u64(3));
     assert!(rt; paths.keeps(id, 0));
-    assert_eq!(rt; paths.greatest(), Some(0));
+    assert!(rt; paths.greatest() == Some(0));
     Ok(())
 }

@@ -15,18 +15,15 @@ fn took(millis: u64) -> Option<Duration> {
 #[test]
 fn round_trips_are_those_of_the_answers(rt: HostRuntime) -> Result<(), Fail> {
     let mut path = Path::new(rt.alloc());
-    assert_eq!(rt; path.pair.last_successful_rtt(), None);
+    assert!(rt; path.pair.last_successful_rtt().is_none());
     path.check_answered(0, 50)?;
-    assert_eq!(rt; path.pair.last_successful_rtt(), took(50));
+    assert!(rt; path.pair.last_successful_rtt() == took(50));
     path.check(at(100))?;
-    assert_eq!(rt; path.pair.last_successful_rtt(), took(50));
+    assert!(rt; path.pair.last_successful_rtt() == took(50));
     path.check_answered(200, 220)?;
-    assert_eq!(rt; path.pair.last_successful_rtt(), took(20));
-    assert_eq!(rt; path.pair.responses_received(), 2);
-    assert_eq!(rt;
-        path.pair.total_round_trip_time(),
-        Duration::from_millis(70)
-    );
+    assert!(rt; path.pair.last_successful_rtt() == took(20));
+    assert!(rt; path.pair.responses_received() == 2);
+    assert!(rt; path.pair.total_round_trip_time() == Duration::from_millis(70));
     Ok(())
 }
 
@@ -36,12 +33,9 @@ fn a_repeated_answer_counts_again(rt: HostRuntime) -> Result<(), Fail> {
     let id = path.check(at(0))?;
     path.answer(at(50), id)?;
     path.answer(at(80), id)?;
-    assert_eq!(rt; path.pair.last_successful_rtt(), took(80));
-    assert_eq!(rt; path.pair.responses_received(), 2);
-    assert_eq!(rt;
-        path.pair.total_round_trip_time(),
-        Duration::from_millis(130)
-    );
+    assert!(rt; path.pair.last_successful_rtt() == took(80));
+    assert!(rt; path.pair.responses_received() == 2);
+    assert!(rt; path.pair.total_round_trip_time() == Duration::from_millis(130));
     Ok(())
 }
 
@@ -56,7 +50,7 @@ fn a_check_beyond_the_limit_is_forgotten(rt: HostRuntime) -> Result<(), Fail> {
         .pair
         .binding_attempt(second)
         .map(|check| check.controlling());
-    assert_eq!(rt; role, Some(true));
+    assert!(rt; role == Some(true));
     Ok(())
 }
 
@@ -83,11 +77,11 @@ fn replacing(alloc: Global, old: &Path) -> Path {
 fn a_nomination_passes_to_the_pair_that_replaces(rt: HostRuntime) -> Result<(), Fail> {
     let old = nominating(rt.alloc())?;
     let mut new = replacing(rt.alloc(), &old);
-    assert_eq!(rt; new.pair.state(), CheckState::Succeeded);
+    assert!(rt; new.pair.state() == CheckState::Succeeded);
     assert!(rt; new.pair.is_nominated());
-    assert_eq!(rt; new.pair.remote_binding_request_time(), Some(at(60)));
-    assert_eq!(rt; new.pair.last_successful_rtt(), None);
+    assert!(rt; new.pair.remote_binding_request_time() == Some(at(60)));
+    assert!(rt; new.pair.last_successful_rtt().is_none());
     // due before all others, and 60 s are not to be had before the beginning
-    assert_eq!(rt; new.due(at(100)), at(100));
+    assert!(rt; new.due(at(100)) == at(100));
     Ok(())
 }

@@ -75,7 +75,7 @@ fn faults_of_bytes(rt: HostRuntime) -> Result<(), Fail> {
         (ParseFault::NoPriority, "STUN packet missing priority"),
     ];
     for (fault, text) in rows {
-        assert_eq!(rt; fault.to_string(rt.alloc())?.as_str(), text);
+        assert!(rt; fault.to_string(rt.alloc())?.as_str() == text);
     }
     Ok(())
 }
@@ -97,7 +97,7 @@ fn refusals_of_messages(rt: HostRuntime) -> Result<(), Fail> {
         (StunError::UnknownMethod, "STUN method unknown"),
     ];
     for (error, text) in rows {
-        assert_eq!(rt; error.to_string(rt.alloc())?.as_str(), text);
+        assert!(rt; error.to_string(rt.alloc())?.as_str() == text);
     }
     Ok(())
 }
@@ -105,9 +105,8 @@ fn refusals_of_messages(rt: HostRuntime) -> Result<(), Fail> {
 #[test]
 fn refusals_of_calls(rt: HostRuntime) -> Result<(), Fail> {
     let candidate = IceError::BadCandidate(String::from_str(rt.alloc(), "invalid ip 0.0.0.0")?);
-    assert_eq!(rt;
-        candidate.to_string(rt.alloc())?.as_str(),
-        "ICE bad candidate: invalid ip 0.0.0.0"
+    assert!(rt;
+        candidate.to_string(rt.alloc())?.as_str() == "ICE bad candidate: invalid ip 0.0.0.0"
     );
     let rows = [
         (IceError::OutOfMemory, "out of memory"),
@@ -117,7 +116,7 @@ fn refusals_of_calls(rt: HostRuntime) -> Result<(), Fail> {
         (IceError::PriorityTooHigh, "candidate priority too high"),
     ];
     for (error, text) in rows {
-        assert_eq!(rt; error.to_string(rt.alloc())?.as_str(), text);
+        assert!(rt; error.to_string(rt.alloc())?.as_str() == text);
     }
     Ok(())
 }

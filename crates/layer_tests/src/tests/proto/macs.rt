@@ -58,7 +58,7 @@ fn test_cases_of_rfc_2202(rt: HostRuntime) -> Result<(), Fail> {
         ),
     ];
     for (key, text, want) in cases {
-        assert_eq!(rt; mac(rt.alloc(), key, &[text])?.as_str(), want);
+        assert!(rt; mac(rt.alloc(), key, &[text])?.as_str() == want);
     }
     Ok(())
 }
@@ -67,14 +67,11 @@ fn test_cases_of_rfc_2202(rt: HostRuntime) -> Result<(), Fail> {
 #[test]
 fn keys_about_the_length_of_a_block(rt: HostRuntime) -> Result<(), Fail> {
     let block = mac(rt.alloc(), &[0xaa; 64], &[b"Hi There"])?;
-    assert_eq!(rt; block.as_str(), "e83ee1c362c86cc004df4f912a641c1bd844f36c");
+    assert!(rt; block.as_str() == "e83ee1c362c86cc004df4f912a641c1bd844f36c");
     let longer = mac(rt.alloc(), &[0xaa; 65], &[b"Hi There"])?;
-    assert_eq!(rt; longer.as_str(), "5c0fb63dc6aea0bed8fa2f8ea120a144e15cbd50");
+    assert!(rt; longer.as_str() == "5c0fb63dc6aea0bed8fa2f8ea120a144e15cbd50");
     let nothing = mac(rt.alloc(), b"", &[])?;
-    assert_eq!(rt;
-        nothing.as_str(),
-        "fbdb1d1b18aa6c08324b7d64b71fb76370690e1d"
-    );
+    assert!(rt; nothing.as_str() == "fbdb1d1b18aa6c08324b7d64b71fb76370690e1d");
     Ok(())
 }
 
@@ -86,6 +83,6 @@ fn payloads_are_joined(rt: HostRuntime) -> Result<(), Fail> {
         b"Jefe",
         &[b"what do ", b"ya want", b"", b" for nothing?"],
     )?;
-    assert_eq!(rt; cut.as_str(), "effcdf6ae5eb2fa2d27416d5f184df9c259a7c79");
+    assert!(rt; cut.as_str() == "effcdf6ae5eb2fa2d27416d5f184df9c259a7c79");
     Ok(())
 }

@@ -42,15 +42,12 @@ fn fault_with(typ: [u8; 2], attributes: &[u8]) -> Option<ParseFault>
 
 #[test]
 fn headers(rt: HostRuntime) {
-    assert_eq!(rt; fault_of(&[]), Some(ParseFault::TooShort));
-    assert_eq!(rt; fault_of(&[1, 0x11, 0]), Some(ParseFault::TooShort));
-    assert_eq!(rt; fault_of(&[1, 0x11, 0, 1]), Some(ParseFault::LengthUneven));
-    assert_eq!(rt;
-        fault_of(&[1, 0x11, 0, 0]),
-        Some(ParseFault::LengthMismatch)
-    );
-    assert_eq!(rt; fault_of(&[0; 20]), Some(ParseFault::Magic));
-    assert_eq!(rt; fault_with(FAILURE, &[]), None);
+    assert!(rt; fault_of(&[]) == Some(ParseFault::TooShort));
+    assert!(rt; fault_of(&[1, 0x11, 0]) == Some(ParseFault::TooShort));
+    assert!(rt; fault_of(&[1, 0x11, 0, 1]) == Some(ParseFault::LengthUneven));
+    assert!(rt; fault_of(&[1, 0x11, 0, 0]) == Some(ParseFault::LengthMismatch));
+    assert!(rt; fault_of(&[0; 20]) == Some(ParseFault::Magic));
+    assert!(rt; fault_with(FAILURE, &[]).is_none());
 }
 
 #[test]
@@ -69,13 +66,10 @@ fn lengths_of_values(rt: HostRuntime) {
         ([0x80, 0x29, 0, 0], ParseFault::ControlledLength),
         ([0x80, 0x2a, 0, 0], ParseFault::ControllingLength),
     ] {
-        assert_eq!(rt; fault_with(FAILURE, &attribute), Some(fault));
+        assert!(rt; fault_with(FAILURE, &attribute) == Some(fault));
     }
     let use_candidate = [0x00, 0x25, 0, 1, 0, 0, 0, 0];
-    assert_eq!(rt;
-        fault_with(FAILURE, &use_candidate),
-        Some(ParseFault::UseCandidateLength)
-    );
+    assert!(rt; fault_with(FAILURE, &use_candidate) == Some(ParseFault::UseCandidateLength));
 }
 
 #[test]
@@ -89,14 +83,11 @@ fn values(rt: HostRuntime) {
         ),
         ([0x00, 0x06, 0, 1, 0xff, 0, 0, 0], ParseFault::TextNotUtf8),
     ] {
-        assert_eq!(rt; fault_with(FAILURE, &attribute), Some(fault));
+        assert!(rt; fault_with(FAILURE, &attribute) == Some(fault));
     }
     let mut username = [b'a'; 520];
     username[..4].copy_from_slice(&[0x00, 0x06, 0x02, 0x02]);
-    assert_eq!(rt;
-        fault_with(FAILURE, &username),
-        Some(ParseFault::TextTooLong)
-    );
+    assert!(rt; fault_with(FAILURE, &username) == Some(ParseFault::TextTooLong));
 }
 
 /// An address is read within its attribute: what follows a short one is not taken for its end.
@@ -105,39 +96,21 @@ fn addresses(rt: HostRuntime) {
     let before_another = [
         0x00, 0x20, 0, 4, 0x00, 0x01, 0xa1, 0x47, 0x00, 0x0d, 0, 4, 0, 0, 0, 1,
     ];
-    assert_eq!(rt;
-        fault_with(FAILURE, &before_another),
-        Some(ParseFault::XorAddress)
-    );
+    assert!(rt; fault_with(FAILURE, &before_another) == Some(ParseFault::XorAddress));
     let family_of_3 = [
         0x00, 0x20, 0, 8, 0x00, 0x03, 0x11, 0x22, 0xaa, 0xbb, 0xcc, 0xdd,
     ];
-    assert_eq!(rt;
-        fault_with(FAILURE, &family_of_3),
-        Some(ParseFault::XorAddress)
-    );
+    assert!(rt; fault_with(FAILURE, &family_of_3) == Some(ParseFault::XorAddress));
 }
 
 #[test]
 fn demands(rt: HostRuntime) {
-    assert_eq!(rt;
-        fault_with(SUCCESS, &[]),
-        Some(ParseFault::NoIntegrityReply)
-    );
-    assert_eq!(rt;
-        fault_with(SUCCESS, &INTEGRITY),
-        Some(ParseFault::NoMappedAddress)
-    );
-    assert_eq!(rt;
-        fault_with(REQUEST, &[]),
-        Some(ParseFault::NoIntegrityRequest)
-    );
-    assert_eq!(rt;
-        fault_with(REQUEST, &INTEGRITY),
-        Some(ParseFault::NoUsername)
-    );
+    assert!(rt; fault_with(SUCCESS, &[]) == Some(ParseFault::NoIntegrityReply));
+    assert!(rt; fault_with(SUCCESS, &INTEGRITY) == Some(ParseFault::NoMappedAddress));
+    assert!(rt; fault_with(REQUEST, &[]) == Some(ParseFault::NoIntegrityRequest));
+    assert!(rt; fault_with(REQUEST, &INTEGRITY) == Some(ParseFault::NoUsername));
     let mut request = [0; 32];
     request[..8].copy_from_slice(&[0x00, 0x06, 0, 2, b':', b'a', 0, 0]);
     request[8..].copy_from_slice(&INTEGRITY);
-    assert_eq!(rt; fault_with(REQUEST, &request), Some(ParseFault::NoPriority));
+    assert!(rt; fault_with(REQUEST, &request) == Some(ParseFault::NoPriority));
 }

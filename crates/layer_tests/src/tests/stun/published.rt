@@ -60,16 +60,16 @@ const RFC_ID: [u8; 12] = [
 fn reads_the_request_of_a_browser(rt: HostRuntime) -> Result<(), Fail> {
     let request = StunMessage::parse(&BROWSER_REQUEST)?;
     assert!(rt; request.is_binding_request());
-    assert_eq!(rt; request.method(), Method::Binding);
-    assert_eq!(rt; request.class(), Class::Request);
-    assert_eq!(rt; request.trans_id(), TransId(*b"juc15uxUngGc"));
-    assert_eq!(rt; request.username(), Some("p9KA:SQAt"));
-    assert_eq!(rt; request.split_username(), Some(("p9KA", "SQAt")));
-    assert_eq!(rt; request.network_cost(), Some((1, 10)));
-    assert_eq!(rt; request.ice_controlling(), Some(0x6eeec6e97d18395c));
-    assert_eq!(rt; request.ice_controlled(), None);
+    assert!(rt; request.method() == Method::Binding);
+    assert!(rt; request.class() == Class::Request);
+    assert!(rt; request.trans_id() == TransId(*b"juc15uxUngGc"));
+    assert!(rt; request.username() == Some("p9KA:SQAt"));
+    assert!(rt; request.split_username() == Some(("p9KA", "SQAt")));
+    assert!(rt; request.network_cost() == Some((1, 10)));
+    assert!(rt; request.ice_controlling() == Some(0x6eeec6e97d18395c));
+    assert!(rt; request.ice_controlled().is_none());
     assert!(rt; request.use_candidate());
-    assert_eq!(rt; request.prio(), Some(1853824767));
+    assert!(rt; request.prio() == Some(1853824767));
     assert!(rt; request.verify(BROWSER_PASSWORD, &DefaultSha1HmacProvider));
     assert!(rt; !request.verify(b"xJcE9AQAR7kczUDVOXRUCL", &DefaultSha1HmacProvider));
     Ok(())
@@ -79,11 +79,11 @@ fn reads_the_request_of_a_browser(rt: HostRuntime) -> Result<(), Fail> {
 fn reads_the_sample_request(rt: HostRuntime) -> Result<(), Fail> {
     let request = StunMessage::parse(&RFC_REQUEST)?;
     assert!(rt; request.is_binding_request());
-    assert_eq!(rt; request.trans_id(), TransId(RFC_ID));
-    assert_eq!(rt; request.username(), Some("evtj:h6vY"));
-    assert_eq!(rt; request.prio(), Some(0x6e0001ff));
-    assert_eq!(rt; request.ice_controlled(), Some(0x932ff9b151263b36));
-    assert_eq!(rt; request.software(), None);
+    assert!(rt; request.trans_id() == TransId(RFC_ID));
+    assert!(rt; request.username() == Some("evtj:h6vY"));
+    assert!(rt; request.prio() == Some(0x6e0001ff));
+    assert!(rt; request.ice_controlled() == Some(0x932ff9b151263b36));
+    assert!(rt; request.software().is_none());
     assert!(rt; request.verify(RFC_PASSWORD, &DefaultSha1HmacProvider));
     Ok(())
 }
@@ -92,15 +92,15 @@ fn reads_the_sample_request(rt: HostRuntime) -> Result<(), Fail> {
 fn reads_the_sample_responses(rt: HostRuntime) -> Result<(), Fail> {
     let ipv4 = StunMessage::parse(&RFC_IPV4_RESPONSE)?;
     assert!(rt; ipv4.is_successful_binding_response());
-    assert_eq!(rt; ipv4.trans_id(), TransId(RFC_ID));
+    assert!(rt; ipv4.trans_id() == TransId(RFC_ID));
     let address = SocketAddr::V4(SocketAddrV4::new(Ipv4Addr::new(192, 0, 2, 1), 32853));
-    assert_eq!(rt; ipv4.mapped_address(), Some(address));
+    assert!(rt; ipv4.mapped_address() == Some(address));
     assert!(rt; ipv4.verify(RFC_PASSWORD, &DefaultSha1HmacProvider));
     let ipv6 = StunMessage::parse(&RFC_IPV6_RESPONSE)?;
     assert!(rt; ipv6.is_successful_binding_response());
     let ip = Ipv6Addr::new(0x2001, 0xdb8, 0x1234, 0x5678, 0x11, 0x2233, 0x4455, 0x6677);
     let address = SocketAddr::V6(SocketAddrV6::new(ip, 32853, 0, 0));
-    assert_eq!(rt; ipv6.mapped_address(), Some(address));
+    assert!(rt; ipv6.mapped_address() == Some(address));
     assert!(rt; ipv6.verify(RFC_PASSWORD, &DefaultSha1HmacProvider));
     Ok(())
 }
