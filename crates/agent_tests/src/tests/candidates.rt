@@ -43,7 +43,7 @@ fn a_boxed_object_prefers(rt: HostRuntime) -> Result<(), Fail> {
 
 /// An agent without a peer.
 fn unnamed(alloc: Global) -> Result<Player, Fail> {
-    Player::new(alloc, "aaaa", "p", 1)
+    Ok(Player::new(alloc, "aaaa", "p", 1)?)
 }
 
 /// A candidate of the greatest priority.
