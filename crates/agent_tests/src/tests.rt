@@ -1,4 +1,4 @@
-//! An agent as its user meets it: each test is a short story of calls and of what is seen.
+//! An agent as its user meets it: short stories of calls and of what is seen. One test tells those of one subject.
 
 mod answers;
 mod calls;

@@ -2,6 +2,7 @@
 //! call. These functions have no contract, so that what the agent promises stays out of the stories' proofs.
 
 use super::*;
+use is::Duration;
 use rand_core::SeedableRng;
 use rand_pcg::Pcg32;
 
@@ -112,6 +113,18 @@ impl Player {
     /// Has so many pairs at most from now on.
     pub(super) fn is_limited(&mut self, pairs: usize) -> bool {
         self.agent.set_max_candidate_pairs(pairs);
+        true
+    }
+
+    /// Waits so many milliseconds for the first answer.
+    pub(super) fn waits_at_first(&mut self, ms: u64) -> bool {
+        self.agent.set_initial_stun_rto(Duration::from_millis(ms));
+        true
+    }
+
+    /// Waits so many milliseconds at most for an answer.
+    pub(super) fn waits_at_most(&mut self, ms: u64) -> bool {
+        self.agent.set_max_stun_rto(Duration::from_millis(ms));
         true
     }
 

@@ -26,7 +26,7 @@ impl Subject for Pairs {
 }
 
 #[test]
-fn pairs(rt: HostRuntime) -> Result<(), Fail> {
+fn pairs_stand_or_go(rt: HostRuntime) -> Result<(), Fail> {
     tell(rt.alloc(), &Pairs)
 }
 
