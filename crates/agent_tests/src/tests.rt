@@ -1,4 +1,4 @@
-//! An agent as its user meets it: each test is a short story of calls and of what is seen.
+//! An agent as its user meets it: short stories of calls and of what is seen. One test tells those of one subject.
 
 mod answers;
 mod calls;
@@ -14,6 +14,7 @@ mod restarts;
 mod roles;
 mod seen;
 mod settings;
+mod story;
 mod words;
 mod zeros;
 
@@ -26,6 +27,7 @@ use is::{
 use std::alloc::{AllocError, Global};
 use std::net::{Ipv4Addr, SocketAddr, SocketAddrV4};
 use std::test::Fail;
+use story::{Story, Subject, Told, tell};
 
 /// A Binding request of 100 bytes: user name `p9KA:SQAt`, network cost (1, 10), controlling, USE-CANDIDATE, priority
 /// 1853824767, signed with `xJcE9AQAR7kczUDVOXRUCl`.
@@ -54,31 +56,3 @@ const REPLY: [u8; 36] = [
 const PEER: &str = "candidate:1 1 udp 2130706175 10.0.0.2 2000 typ host";
 
 type Agent = IceAgent<DefaultSha1HmacProvider>;
-
-/// The agent that the request is for: at 10.0.0.1:1000.
-fn addressed(alloc: Global) -> Result<Player, Fail> {
-    let mut player = Player::new(alloc, "p9KA", PASSWORD, 1)?;
-    if !player.knows("SQAt", "x") || !player.host(at(1, 1000)) {
-        return Err("not made".into());
-    }
-    Ok(player)
-}
-
-/// A controlling agent at 10.0.0.1:1000 that knows the peer's credentials.
-fn alone(alloc: Global) -> Result<Player, Fail> {
-    let mut player = Player::new(alloc, "near", "nearpass", 7)?;
-    player.agent.set_controlling(true);
-    if !player.knows("farr", "farpass") || !player.host(at(1, 1000)) {
-        return Err("not made".into());
-    }
-    Ok(player)
-}
-
-/// The same agent, which has got one candidate of the peer's.
-fn paired(alloc: Global) -> Result<Player, Fail> {
-    let mut player = alone(alloc)?;
-    if !player.hears(PEER) {
-        return Err("not paired".into());
-    }
-    Ok(player)
-}

@@ -5,6 +5,30 @@ use super::*;
 use is::CandidateKind;
 use is::stun::Builder;
 
+/// What comes of an answer.
+struct Answers;
+
+impl Subject for Answers {
+    fn play(&self, player: &mut Player) -> Told {
+        off_its_path_nothing_comes_of_an_answer(player)?;
+        an_answer_on_its_path_announces_it(player)?;
+        figures_are_those_of_the_announced_pair(player)?;
+        an_answer_of_another_key_or_id_is_none(player)?;
+        a_failure_of_another_code_is_taken_and_does_nothing(player)?;
+        of_equal_ids_the_one_on_the_path_is_answered(player)?;
+        of_two_checks_of_one_id_that_of_the_pair_left_is_answered(player)?;
+        of_two_checks_of_one_id_that_of_the_pair_gone_is_not(player)?;
+        an_unknown_mapped_address_is_a_candidate(player)?;
+        a_discarded_candidate_keeps_its_address_from_being_learnt(player)?;
+        a_learnt_candidate_pairs_with_later_ones(player)
+    }
+}
+
+#[test]
+fn answers_count_on_their_path(rt: HostRuntime) -> Result<(), Fail> {
+    tell(rt.alloc(), &Answers)
+}
+
 /// What comes is accepted as a message, and from there to there it is not, and does nothing.
 fn is_off_path(player: &mut Player, from: SocketAddr, to: SocketAddr) -> bool {
     player.accepts()
@@ -14,17 +38,17 @@ fn is_off_path(player: &mut Player, from: SocketAddr, to: SocketAddr) -> bool {
         && player.has_no_figures()
 }
 
-#[test]
-fn off_its_path_nothing_comes_of_an_answer(rt: HostRuntime) -> Result<(), Fail> {
-    let mut player = paired(rt.alloc())?;
-    assert!(rt; player.checks(0) && player.tells(b"Rc"));
-    assert!(rt; player.expects_answer(at(1, 1000)));
-    assert!(rt; is_off_path(&mut player, at(3, 2000), at(1, 1000)));
-    assert!(rt; is_off_path(&mut player, at(2, 2001), at(1, 1000)));
-    assert!(rt; is_off_path(&mut player, at(2, 2000), at(1, 1001)));
-    assert!(rt; player.accepts_from(at(2, 2000), at(1, 1000)));
-    assert!(rt; player.hears_peer(50) && player.tells(b"NCD"));
-    Ok(())
+fn off_its_path_nothing_comes_of_an_answer(player: &mut Player) -> Told {
+    Story("off_its_path_nothing_comes_of_an_answer").holds(&[
+        player.is_paired(),
+        player.checks(0) && player.tells(b"Rc"),
+        player.expects_answer(at(1, 1000)),
+        is_off_path(player, at(3, 2000), at(1, 1000)),
+        is_off_path(player, at(2, 2001), at(1, 1000)),
+        is_off_path(player, at(2, 2000), at(1, 1001)),
+        player.accepts_from(at(2, 2000), at(1, 1000)),
+        player.hears_peer(50) && player.tells(b"NCD"),
+    ])
 }
 
 /// The next event announces the path from there to there.
@@ -41,26 +65,26 @@ fn announces(player: &mut Player, from: SocketAddr, to: SocketAddr) -> bool {
     }
 }
 
-#[test]
-fn an_answer_on_its_path_announces_it(rt: HostRuntime) -> Result<(), Fail> {
-    let mut player = paired(rt.alloc())?;
-    assert!(rt; player.checks(0) && player.tells(b"Rc"));
-    assert!(rt; player.expects_answer(at(1, 1000)) && player.hears_peer(50));
-    assert!(rt; announces(&mut player, at(1, 1000), at(2, 2000)));
-    assert!(rt; player.tells(b"CD") && player.wakes_at(50));
-    assert!(rt; player.is_at(&[at(1, 1000)]));
-    Ok(())
+fn an_answer_on_its_path_announces_it(player: &mut Player) -> Told {
+    Story("an_answer_on_its_path_announces_it").holds(&[
+        player.is_paired(),
+        player.checks(0) && player.tells(b"Rc"),
+        player.expects_answer(at(1, 1000)) && player.hears_peer(50),
+        announces(player, at(1, 1000), at(2, 2000)),
+        player.tells(b"CD") && player.wakes_at(50),
+        player.is_at(&[at(1, 1000)]),
+    ])
 }
 
-#[test]
-fn figures_are_those_of_the_announced_pair(rt: HostRuntime) -> Result<(), Fail> {
-    let mut player = paired(rt.alloc())?;
-    assert!(rt; player.has_no_figures() && player.is_answered(at(1, 1000)));
-    assert!(rt; player.has_figures(50, 50, 1));
-    // an answer that comes again counts again
-    assert!(rt; player.hears_peer(70) && player.has_figures(70, 120, 2));
-    assert_eq!(rt; player.agent.stats().bind_success_recv, 2);
-    Ok(())
+fn figures_are_those_of_the_announced_pair(player: &mut Player) -> Told {
+    Story("figures_are_those_of_the_announced_pair").holds(&[
+        player.is_paired(),
+        player.has_no_figures() && player.is_answered(at(1, 1000)),
+        player.has_figures(50, 50, 1),
+        // an answer that comes again counts again
+        player.hears_peer(70) && player.has_figures(70, 120, 2),
+        player.agent.stats().bind_success_recv == 2,
+    ])
 }
 
 /// What comes is accepted in no way.
@@ -82,14 +106,14 @@ fn expects_forged(player: &mut Player) -> bool {
     }
 }
 
-#[test]
-fn an_answer_of_another_key_or_id_is_none(rt: HostRuntime) -> Result<(), Fail> {
-    let mut player = paired(rt.alloc())?;
-    assert!(rt; player.checks(0) && player.tells(b"Rc"));
-    assert!(rt; expects_forged(&mut player) && is_refused(&mut player));
-    assert!(rt; expects_stray(&mut player) && is_refused(&mut player));
-    assert!(rt; player.is_still());
-    Ok(())
+fn an_answer_of_another_key_or_id_is_none(player: &mut Player) -> Told {
+    Story("an_answer_of_another_key_or_id_is_none").holds(&[
+        player.is_paired(),
+        player.checks(0) && player.tells(b"Rc"),
+        expects_forged(player) && is_refused(player),
+        expects_stray(player) && is_refused(player),
+        player.is_still(),
+    ])
 }
 
 /// The next bytes are a failure of another code than 487.
@@ -105,13 +129,13 @@ fn expects_failure(player: &mut Player) -> bool {
     player.expects(message, "farpass")
 }
 
-#[test]
-fn a_failure_of_another_code_is_taken_and_does_nothing(rt: HostRuntime) -> Result<(), Fail> {
-    let mut player = paired(rt.alloc())?;
-    assert!(rt; player.checks(0) && expects_failure(&mut player));
-    assert!(rt; player.hears_peer(50) && player.tells(b"RcD"));
-    assert!(rt; player.agent.controlling() && player.has_no_figures());
-    Ok(())
+fn a_failure_of_another_code_is_taken_and_does_nothing(player: &mut Player) -> Told {
+    Story("a_failure_of_another_code_is_taken_and_does_nothing").holds(&[
+        player.is_paired(),
+        player.checks(0) && expects_failure(player),
+        player.hears_peer(50) && player.tells(b"RcD"),
+        player.agent.controlling() && player.has_no_figures(),
+    ])
 }
 
 /// The next check of the peer's pair has the id of the one before.
@@ -125,15 +149,15 @@ fn checks_under_one_id(player: &mut Player, ms: u64) -> bool {
 
 const OTHER: &str = "candidate:1 1 udp 2130706175 10.0.0.3 3000 typ host";
 
-#[test]
-fn of_equal_ids_the_one_on_the_path_is_answered(rt: HostRuntime) -> Result<(), Fail> {
-    let mut player = paired(rt.alloc())?;
-    assert!(rt; checks_under_one_id(&mut player, 0) && player.hears(OTHER));
-    assert!(rt; checks_under_one_id(&mut player, 10) && player.expects_answer(at(1, 1000)));
-    assert!(rt; player.tells(b"Rc") && player.takes(50, at(3, 3000), at(1, 1000)));
-    assert!(rt; announces(&mut player, at(1, 1000), at(3, 3000)));
-    assert!(rt; player.has_figures(40, 40, 1));
-    Ok(())
+fn of_equal_ids_the_one_on_the_path_is_answered(player: &mut Player) -> Told {
+    Story("of_equal_ids_the_one_on_the_path_is_answered").holds(&[
+        player.is_paired(),
+        checks_under_one_id(player, 0) && player.hears(OTHER),
+        checks_under_one_id(player, 10) && player.expects_answer(at(1, 1000)),
+        player.tells(b"Rc") && player.takes(50, at(3, 3000), at(1, 1000)),
+        announces(player, at(1, 1000), at(3, 3000)),
+        player.has_figures(40, 40, 1),
+    ])
 }
 
 /// The peer's second host candidate.
@@ -148,31 +172,29 @@ fn checks_under_zeros(player: &mut Player, ms: u64, destination: SocketAddr) -> 
 }
 
 /// The agent has checked both addresses of the peer under one id, and an answer of that id is to come.
-fn checking_twice(alloc: Global) -> Result<Player, Fail> {
-    let mut player = paired(alloc)?;
-    let has_checked = player.hears(SECOND)
-        && checks_under_zeros(&mut player, 0, at(2, 2000))
-        && checks_under_zeros(&mut player, 50, at(3, 2000));
-    if !has_checked || !player.tells(b"Rc") || !player.expects_answer(at(1, 1000)) {
-        return Err("not checked twice".into());
-    }
-    Ok(player)
+fn has_checked_twice(player: &mut Player) -> bool {
+    player.is_paired()
+        && player.hears(SECOND)
+        && checks_under_zeros(player, 0, at(2, 2000))
+        && checks_under_zeros(player, 50, at(3, 2000))
+        && player.tells(b"Rc")
+        && player.expects_answer(at(1, 1000))
 }
 
-#[test]
-fn of_two_checks_of_one_id_that_of_the_pair_left_is_answered(rt: HostRuntime) -> Result<(), Fail> {
-    let mut player = checking_twice(rt.alloc())?;
-    assert!(rt; player.loses(PEER) && player.takes(60, at(3, 2000), at(1, 1000)));
-    assert!(rt; announces(&mut player, at(1, 1000), at(3, 2000)));
-    Ok(())
+fn of_two_checks_of_one_id_that_of_the_pair_left_is_answered(player: &mut Player) -> Told {
+    Story("of_two_checks_of_one_id_that_of_the_pair_left_is_answered").holds(&[
+        has_checked_twice(player),
+        player.loses(PEER) && player.takes(60, at(3, 2000), at(1, 1000)),
+        announces(player, at(1, 1000), at(3, 2000)),
+    ])
 }
 
-#[test]
-fn of_two_checks_of_one_id_that_of_the_pair_gone_is_not(rt: HostRuntime) -> Result<(), Fail> {
-    let mut player = checking_twice(rt.alloc())?;
-    assert!(rt; player.loses(SECOND) && !player.takes(60, at(3, 2000), at(1, 1000)));
-    assert!(rt; player.is_still() && player.has_no_figures());
-    Ok(())
+fn of_two_checks_of_one_id_that_of_the_pair_gone_is_not(player: &mut Player) -> Told {
+    Story("of_two_checks_of_one_id_that_of_the_pair_gone_is_not").holds(&[
+        has_checked_twice(player),
+        player.loses(SECOND) && !player.takes(60, at(3, 2000), at(1, 1000)),
+        player.is_still() && player.has_no_figures(),
+    ])
 }
 
 // ---- mapped addresses
@@ -188,31 +210,31 @@ fn has_learnt(player: &Player, base: SocketAddr, prio: u32) -> bool {
     is_learnt
 }
 
-#[test]
-fn an_unknown_mapped_address_is_a_candidate(rt: HostRuntime) -> Result<(), Fail> {
-    let mut player = paired(rt.alloc())?;
-    assert!(rt; player.is_answered(at(9, 9000)));
-    assert!(rt; player.is_at(&[at(1, 1000), at(9, 9000)]));
-    assert!(rt; has_learnt(&player, at(1, 1000), 1862270719));
-    assert!(rt; player.tells(b"RcNCD"));
-    Ok(())
+fn an_unknown_mapped_address_is_a_candidate(player: &mut Player) -> Told {
+    Story("an_unknown_mapped_address_is_a_candidate").holds(&[
+        player.is_paired(),
+        player.is_answered(at(9, 9000)),
+        player.is_at(&[at(1, 1000), at(9, 9000)]),
+        has_learnt(player, at(1, 1000), 1862270719),
+        player.tells(b"RcNCD"),
+    ])
 }
 
-#[test]
-fn a_discarded_candidate_keeps_its_address_from_being_learnt(rt: HostRuntime) -> Result<(), Fail> {
-    let mut player = paired(rt.alloc())?;
-    assert!(rt; player.host(at(9, 9000)));
-    assert!(rt; player.loses("candidate:1 1 udp 1 10.0.0.9 9000 typ host"));
-    assert!(rt; player.is_answered(at(9, 9000)) && player.is_at(&[at(1, 1000)]));
-    Ok(())
+fn a_discarded_candidate_keeps_its_address_from_being_learnt(player: &mut Player) -> Told {
+    Story("a_discarded_candidate_keeps_its_address_from_being_learnt").holds(&[
+        player.is_paired(),
+        player.host(at(9, 9000)),
+        player.loses("candidate:1 1 udp 1 10.0.0.9 9000 typ host"),
+        player.is_answered(at(9, 9000)) && player.is_at(&[at(1, 1000)]),
+    ])
 }
 
-#[test]
-fn a_learnt_candidate_pairs_with_later_ones(rt: HostRuntime) -> Result<(), Fail> {
-    let mut player = paired(rt.alloc())?;
-    assert!(rt; player.is_answered(at(9, 9000)));
-    // it alone is left
-    assert!(rt; player.loses("candidate:1 1 udp 1 10.0.0.1 1000 typ host"));
-    assert!(rt; player.hears(OTHER) && player.places_with(OTHER) == Some((1, 1)));
-    Ok(())
+fn a_learnt_candidate_pairs_with_later_ones(player: &mut Player) -> Told {
+    Story("a_learnt_candidate_pairs_with_later_ones").holds(&[
+        player.is_paired(),
+        player.is_answered(at(9, 9000)),
+        // it alone is left
+        player.loses("candidate:1 1 udp 1 10.0.0.1 1000 typ host"),
+        player.hears(OTHER) && player.places_with(OTHER) == Some((1, 1)),
+    ])
 }

@@ -2,6 +2,23 @@
 
 use super::*;
 
+/// What numbers pairs get.
+struct Numbers;
+
+impl Subject for Numbers {
+    fn play(&self, player: &mut Player) -> Told {
+        numbers_end(player)?;
+        without_a_number_no_candidate_is_stored(player)?;
+        the_last_number_forms_one_pair(player)?;
+        without_a_number_no_request_is_served(player)
+    }
+}
+
+#[test]
+fn numbers_of_pairs_end(rt: HostRuntime) -> Result<(), Fail> {
+    tell(rt.alloc(), &Numbers)
+}
+
 /// No number is left.
 const NONE_LEFT: u64 = 18446744073709551615;
 
@@ -20,50 +37,44 @@ fn is_exhausted(player: &mut Player) -> bool {
     )
 }
 
-#[test]
-fn numbers_end(rt: HostRuntime) -> Result<(), Fail> {
-    let mut player = paired(rt.alloc())?;
-    assert_eq!(rt; player.number_with(PEER), Some(0));
-    assert!(rt; recreates(&mut player) && player.tells(b"c"));
-    // none is given again
-    assert_eq!(rt; player.number_with(PEER), Some(1));
-    player.agent.skip_pair_ids(LAST);
-    assert!(rt; recreates(&mut player) && is_exhausted(&mut player));
-    assert!(rt; player.number_with(PEER) == Some(LAST) && player.is_still());
-    Ok(())
+fn numbers_end(player: &mut Player) -> Told {
+    Story("numbers_end").holds(&[
+        player.is_paired(),
+        player.number_with(PEER) == Some(0),
+        recreates(player) && player.tells(b"c"),
+        // none is given again
+        player.number_with(PEER) == Some(1),
+        player.skips_to(LAST) && recreates(player) && is_exhausted(player),
+        player.number_with(PEER) == Some(LAST) && player.is_still(),
+    ])
 }
 
-#[test]
-fn without_a_number_no_candidate_is_stored(rt: HostRuntime) -> Result<(), Fail> {
-    let mut player = alone(rt.alloc())?;
-    player.agent.skip_pair_ids(NONE_LEFT);
-    assert!(rt; !player.hears(PEER) && player.has_heard_of(&[]));
-    // no local candidate goes over TCP: no pair is wanted
-    assert!(rt; player.hears("candidate:1 1 tcp 2130706175 10.0.0.2 2000 typ host"));
-    assert!(rt; player.has_heard_of(&[at(2, 2000)]));
-    Ok(())
+fn without_a_number_no_candidate_is_stored(player: &mut Player) -> Told {
+    Story("without_a_number_no_candidate_is_stored").holds(&[
+        player.is_alone() && player.skips_to(NONE_LEFT),
+        !player.hears(PEER) && player.has_heard_of(&[]),
+        // no local candidate goes over TCP: no pair is wanted
+        player.hears("candidate:1 1 tcp 2130706175 10.0.0.2 2000 typ host"),
+        player.has_heard_of(&[at(2, 2000)]),
+    ])
 }
 
-#[test]
-fn the_last_number_forms_one_pair(rt: HostRuntime) -> Result<(), Fail> {
-    let mut player = alone(rt.alloc())?;
-    player.agent.skip_pair_ids(LAST);
-    // a smaller number changes nothing
-    player.agent.skip_pair_ids(3);
-    assert!(rt; player.hears(PEER) && player.number_with(PEER) == Some(LAST));
-    assert!(rt; !player.hears("candidate:1 1 udp 2130706175 10.0.0.3 3000 typ host"));
-    assert!(rt; player.has_heard_of(&[at(2, 2000)]));
-    Ok(())
+fn the_last_number_forms_one_pair(player: &mut Player) -> Told {
+    Story("the_last_number_forms_one_pair").holds(&[
+        player.is_alone() && player.skips_to(LAST),
+        // a smaller number changes nothing
+        player.skips_to(3) && player.hears(PEER) && player.number_with(PEER) == Some(LAST),
+        !player.hears("candidate:1 1 udp 2130706175 10.0.0.3 3000 typ host"),
+        player.has_heard_of(&[at(2, 2000)]),
+    ])
 }
 
-#[test]
-fn without_a_number_no_request_is_served(rt: HostRuntime) -> Result<(), Fail> {
-    let mut player = addressed(rt.alloc())?;
-    player.agent.set_controlling(true);
-    player.agent.skip_pair_ids(NONE_LEFT);
-    // neither the role, nor the sender, nor its source is changed
-    assert!(rt; !player.is_asked(0, at(1, 1000)) && player.is_still());
-    assert!(rt; player.agent.controlling() && player.has_heard_of(&[]));
-    assert_eq!(rt; player.agent.stats().bind_request_recv, 0);
-    Ok(())
+fn without_a_number_no_request_is_served(player: &mut Player) -> Told {
+    Story("without_a_number_no_request_is_served").holds(&[
+        player.is_addressed() && player.takes_role(true) && player.skips_to(NONE_LEFT),
+        // neither the role, nor the sender, nor its source is changed
+        !player.is_asked(0, at(1, 1000)) && player.is_still(),
+        player.agent.controlling() && player.has_heard_of(&[]),
+        player.agent.stats().bind_request_recv == 0,
+    ])
 }

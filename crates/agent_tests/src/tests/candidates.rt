@@ -3,6 +3,29 @@
 use super::*;
 use is::{CandidateKind, LocalPreference};
 
+/// Which candidates stand.
+struct Candidates;
+
+impl Subject for Candidates {
+    fn play(&self, player: &mut Player) -> Told {
+        a_boxed_object_prefers(player)?;
+        the_greatest_priority_is_refused(player)?;
+        equal_candidates_supersede_unless_they_are_less(player)?;
+        a_candidate_that_comes_again_is_as_it_was(player)?;
+        discarded_candidates_count_for_preference(player)?;
+        the_first_equal_candidate_decides_though_discarded(player)?;
+        a_lite_agent_has_hosts_alone(player)?;
+        some_remote_candidates_are_ignored(player)?;
+        a_candidate_without_a_pair_is_stored_again(player)?;
+        lists_skip_what_was_taken_back(player)
+    }
+}
+
+#[test]
+fn candidates_stand_or_not(rt: HostRuntime) -> Result<(), Fail> {
+    tell(rt.alloc(), &Candidates)
+}
+
 /// 65535, less one for each candidate of the kind that came before.
 #[derive(Drop)]
 struct Falling;
@@ -28,26 +51,34 @@ fn stands_at(player: &mut Player, address: SocketAddr, prio: u32) -> bool {
     }
 }
 
-#[test]
-fn a_boxed_object_prefers(rt: HostRuntime) -> Result<(), Fail> {
-    let mut player = unnamed(rt.alloc())?;
-    player
-        .agent
-        .set_local_preference(Box::new(rt.alloc(), Falling)?);
-    assert!(rt; stands_at(&mut player, at(1, 1000), 2130706431));
-    assert!(rt; stands_at(&mut player, at(1, 1001), 2130706175));
-    // the third one would be less than the second
-    assert!(rt; !player.host(at(1, 1001)));
-    Ok(())
+/// Candidates get falling preferences from now on.
+fn prefers_falling(player: &mut Player) -> bool {
+    match Box::new(player.alloc, Falling) {
+        Ok(falling) => {
+            player.agent.set_local_preference(falling);
+            true
+        }
+        Err(_) => false,
+    }
+}
+
+fn a_boxed_object_prefers(player: &mut Player) -> Told {
+    Story("a_boxed_object_prefers").holds(&[
+        is_unnamed(player) && prefers_falling(player),
+        stands_at(player, at(1, 1000), 2130706431),
+        stands_at(player, at(1, 1001), 2130706175),
+        // the third one would be less than the second
+        !player.host(at(1, 1001)),
+    ])
 }
 
 /// An agent without a peer.
-fn unnamed(alloc: Global) -> Result<Player, Fail> {
-    Player::new(alloc, "aaaa", "p", 1)
+fn is_unnamed(player: &mut Player) -> bool {
+    player.begins("aaaa", "p", 1)
 }
 
 /// A candidate of the greatest priority.
-fn greatest(alloc: Global) -> Result<Candidate, Fail> {
+fn greatest(alloc: Global) -> Result<Candidate, AllocError> {
     Ok(Candidate::from_parts(
         Text::from_str(alloc, "1")?,
         1,
@@ -61,39 +92,36 @@ fn greatest(alloc: Global) -> Result<Candidate, Fail> {
     ))
 }
 
-fn is_too_high(player: &mut Player, candidate: Candidate) -> bool {
-    matches!(
-        player.agent.add_local_candidate(candidate),
-        Err(IceError::PriorityTooHigh)
-    )
-}
-
-#[test]
-fn the_greatest_priority_is_refused(rt: HostRuntime) -> Result<(), Fail> {
-    let mut player = unnamed(rt.alloc())?;
-    assert!(rt; is_too_high(&mut player, greatest(rt.alloc())?) && player.is_at(&[]));
-    Ok(())
-}
-
-/// Lines of local candidates, and whether they stand then.
-const STORIES: [(&str, bool); 6] = [
-    ("candidate:1 1 udp 100 10.0.0.1 1000 typ host", true),
-    ("candidate:1 1 udp 99 10.0.0.1 1000 typ host", false),
-    ("candidate:1 1 udp 100 10.0.0.1 1000 typ host", true),
-    ("candidate:1 1 udp 101 10.0.0.1 1000 typ host", true),
-    ("candidate:1 1 udp 99 10.0.0.1 1001 typ host", true),
-    ("candidate:1 1 tcp 99 10.0.0.1 1000 typ host", true),
-];
-
-#[test]
-fn equal_candidates_supersede_unless_they_are_less(rt: HostRuntime) -> Result<(), Fail> {
-    let mut player = unnamed(rt.alloc())?;
-    for (line, stands) in STORIES {
-        assert!(&rt; player.own(line) == stands, "{line}");
+/// Such a candidate is refused.
+fn refuses_greatest(player: &mut Player) -> bool {
+    match greatest(player.alloc) {
+        Ok(candidate) => matches!(
+            player.agent.add_local_candidate(candidate),
+            Err(IceError::PriorityTooHigh)
+        ),
+        Err(_) => false,
     }
-    // the fourth line enabled the first candidate again, which stands beside the third
-    assert!(rt; player.is_at(&[at(1, 1000), at(1, 1000), at(1, 1001), at(1, 1000)]));
-    Ok(())
+}
+
+fn the_greatest_priority_is_refused(player: &mut Player) -> Told {
+    Story("the_greatest_priority_is_refused").holds(&[
+        is_unnamed(player),
+        refuses_greatest(player) && player.is_at(&[]),
+    ])
+}
+
+fn equal_candidates_supersede_unless_they_are_less(player: &mut Player) -> Told {
+    Story("equal_candidates_supersede_unless_they_are_less").holds(&[
+        is_unnamed(player),
+        player.own("candidate:1 1 udp 100 10.0.0.1 1000 typ host"),
+        !player.own("candidate:1 1 udp 99 10.0.0.1 1000 typ host"),
+        player.own("candidate:1 1 udp 100 10.0.0.1 1000 typ host"),
+        player.own("candidate:1 1 udp 101 10.0.0.1 1000 typ host"),
+        player.own("candidate:1 1 udp 99 10.0.0.1 1001 typ host"),
+        player.own("candidate:1 1 tcp 99 10.0.0.1 1000 typ host"),
+        // the fourth line enabled the first candidate again, which stands beside the third
+        player.is_at(&[at(1, 1000), at(1, 1000), at(1, 1001), at(1, 1000)]),
+    ])
 }
 
 /// Ufrag and priority of the first local candidate.
@@ -106,66 +134,68 @@ fn is_first(player: &Player, ufrag: &str, prio: u32) -> bool {
 
 const OWN: &str = "candidate:1 1 udp 1 10.0.0.1 1000 typ host";
 
-#[test]
-fn a_candidate_that_comes_again_is_as_it_was(rt: HostRuntime) -> Result<(), Fail> {
-    let mut player = paired(rt.alloc())?;
-    assert!(rt; player.loses(OWN) && !player.loses(OWN));
-    assert!(rt; player.is_at(&[]) && player.pair_with(PEER).is_none());
-    assert!(rt; player.is_renamed("new1", "pass") && player.host(at(1, 1000)));
-    // it would get the second preference of its kind, were it new
-    assert!(rt; player.is_at(&[at(1, 1000)]) && is_first(&player, "near", 2130706175));
-    assert!(rt; player.pair_with(PEER).is_some());
-    Ok(())
+fn a_candidate_that_comes_again_is_as_it_was(player: &mut Player) -> Told {
+    Story("a_candidate_that_comes_again_is_as_it_was").holds(&[
+        player.is_paired(),
+        player.loses(OWN) && !player.loses(OWN),
+        player.is_at(&[]) && player.pair_with(PEER).is_none(),
+        player.is_renamed("new1", "pass") && player.host(at(1, 1000)),
+        // it would get the second preference of its kind, were it new
+        player.is_at(&[at(1, 1000)]) && is_first(player, "near", 2130706175),
+        player.pair_with(PEER).is_some(),
+    ])
 }
 
-#[test]
-fn discarded_candidates_count_for_preference(rt: HostRuntime) -> Result<(), Fail> {
-    let mut player = alone(rt.alloc())?;
-    assert!(rt; player.loses(OWN) && stands_at(&mut player, at(1, 1001), 2130705663));
-    Ok(())
+fn discarded_candidates_count_for_preference(player: &mut Player) -> Told {
+    Story("discarded_candidates_count_for_preference").holds(&[
+        player.is_alone(),
+        player.loses(OWN) && stands_at(player, at(1, 1001), 2130705663),
+    ])
 }
 
-#[test]
-fn the_first_equal_candidate_decides_though_discarded(rt: HostRuntime) -> Result<(), Fail> {
-    let mut player = unnamed(rt.alloc())?;
-    assert!(rt; player.own("candidate:1 1 udp 200 10.0.0.1 1000 typ host"));
-    assert!(rt; player.loses(OWN));
-    // of another kind, and less
-    assert!(rt; !player.own("candidate:1 1 udp 199 10.0.0.1 1000 typ srflx"));
-    assert!(rt; player.own("candidate:1 1 udp 200 10.0.0.1 1000 typ srflx"));
-    assert!(rt; player.is_at(&[at(1, 1000)]));
-    Ok(())
+fn the_first_equal_candidate_decides_though_discarded(player: &mut Player) -> Told {
+    Story("the_first_equal_candidate_decides_though_discarded").holds(&[
+        is_unnamed(player),
+        player.own("candidate:1 1 udp 200 10.0.0.1 1000 typ host"),
+        player.loses(OWN),
+        // of another kind, and less
+        !player.own("candidate:1 1 udp 199 10.0.0.1 1000 typ srflx"),
+        player.own("candidate:1 1 udp 200 10.0.0.1 1000 typ srflx"),
+        player.is_at(&[at(1, 1000)]),
+    ])
 }
 
-#[test]
-fn a_lite_agent_has_hosts_alone(rt: HostRuntime) -> Result<(), Fail> {
-    let mut player = unnamed(rt.alloc())?;
-    player.agent.set_ice_lite(true);
-    assert!(rt; !player.own("candidate:1 1 udp 100 10.0.0.1 1000 typ srflx"));
-    assert!(rt; player.host(at(1, 1001)) && player.is_at(&[at(1, 1001)]));
-    Ok(())
+fn a_lite_agent_has_hosts_alone(player: &mut Player) -> Told {
+    Story("a_lite_agent_has_hosts_alone").holds(&[
+        is_unnamed(player) && player.becomes_lite(),
+        !player.own("candidate:1 1 udp 100 10.0.0.1 1000 typ srflx"),
+        player.host(at(1, 1001)) && player.is_at(&[at(1, 1001)]),
+    ])
 }
 
 // ---- remote candidates
 
-/// Lines that store nothing on an agent that has heard of the peer's host, whose ufrag is `farr`.
-const IGNORED: [&str; 3] = [
-    "candidate:1 2 udp 2130706174 10.0.0.2 2001 typ host",
-    "candidate:1 1 udp 2130706175 10.0.0.2 2001 typ host ufrag near",
-    PEER,
-];
+/// The line stores nothing on an agent that has heard of the peer's host, whose ufrag is `farr`.
+fn ignores(player: &mut Player, line: &str) -> bool {
+    player.hears(line) && player.has_heard_of(&[at(2, 2000)])
+}
 
-#[test]
-fn some_remote_candidates_are_ignored(rt: HostRuntime) -> Result<(), Fail> {
-    let mut player = paired(rt.alloc())?;
-    for line in IGNORED {
-        assert!(&rt; player.hears(line), "{line}");
-        assert!(&rt; player.has_heard_of(&[at(2, 2000)]), "{line}");
-    }
-    let of_peer = "candidate:1 1 udp 2130706175 10.0.0.2 2001 typ host ufrag farr";
-    assert!(rt; player.hears(of_peer) && are_unnamed(&player));
-    assert!(rt; player.has_heard_of(&[at(2, 2000), at(2, 2001)]));
-    Ok(())
+fn some_remote_candidates_are_ignored(player: &mut Player) -> Told {
+    Story("some_remote_candidates_are_ignored").holds(&[
+        player.is_paired(),
+        ignores(
+            player,
+            "candidate:1 2 udp 2130706174 10.0.0.2 2001 typ host",
+        ),
+        ignores(
+            player,
+            "candidate:1 1 udp 2130706175 10.0.0.2 2001 typ host ufrag near",
+        ),
+        ignores(player, PEER),
+        player.hears("candidate:1 1 udp 2130706175 10.0.0.2 2001 typ host ufrag farr"),
+        are_unnamed(player),
+        player.has_heard_of(&[at(2, 2000), at(2, 2001)]),
+    ])
 }
 
 /// No remote candidate has a user fragment.
@@ -178,23 +208,22 @@ fn are_unnamed(player: &Player) -> bool {
     true
 }
 
-#[test]
-fn a_candidate_without_a_pair_is_stored_again(rt: HostRuntime) -> Result<(), Fail> {
-    let mut player = alone(rt.alloc())?;
-    player.agent.set_max_candidate_pairs(0);
-    assert!(rt; player.hears(PEER) && player.hears(PEER));
-    assert!(rt; player.has_heard_of(&[at(2, 2000), at(2, 2000)]));
-    Ok(())
+fn a_candidate_without_a_pair_is_stored_again(player: &mut Player) -> Told {
+    Story("a_candidate_without_a_pair_is_stored_again").holds(&[
+        player.is_alone() && player.is_limited(0),
+        player.hears(PEER) && player.hears(PEER),
+        player.has_heard_of(&[at(2, 2000), at(2, 2000)]),
+    ])
 }
 
-#[test]
-fn lists_skip_what_was_taken_back(rt: HostRuntime) -> Result<(), Fail> {
-    let mut player = paired(rt.alloc())?;
-    assert!(rt; player.hears("candidate:1 1 udp 7 10.0.0.3 3000 typ host"));
-    assert!(rt; player.host(at(1, 1001)));
-    assert!(rt; player.loses(PEER) && player.has_heard_of(&[at(3, 3000)]));
-    assert!(rt; player.loses(OWN) && player.is_at(&[at(1, 1001)]));
-    // one of each kind is left, and none else
-    assert!(rt; !player.loses("candidate:1 1 udp 7 10.0.0.3 3000 typ srflx"));
-    Ok(())
+fn lists_skip_what_was_taken_back(player: &mut Player) -> Told {
+    Story("lists_skip_what_was_taken_back").holds(&[
+        player.is_paired(),
+        player.hears("candidate:1 1 udp 7 10.0.0.3 3000 typ host"),
+        player.host(at(1, 1001)),
+        player.loses(PEER) && player.has_heard_of(&[at(3, 3000)]),
+        player.loses(OWN) && player.is_at(&[at(1, 1001)]),
+        // one of each kind is left, and none else
+        !player.loses("candidate:1 1 udp 7 10.0.0.3 3000 typ srflx"),
+    ])
 }

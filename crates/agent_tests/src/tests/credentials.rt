@@ -2,92 +2,116 @@
 
 use super::*;
 
-/// So many letters.
-fn letters(alloc: Global, len: usize) -> Result<Text, Fail> {
-    Ok(Text::new(String::from_utf8(vec![in alloc; b'u'; len]?)?))
-}
+/// What credentials do.
+struct Credentials;
 
-/// Credentials whose user fragment has so many letters.
-fn long(alloc: Global, len: usize) -> Result<IceCreds, Fail> {
-    let ufrag = letters(alloc, len)?;
-    let pass = Text::from_str(alloc, "farpass")?;
-    Ok(IceCreds { ufrag, pass })
-}
-
-/// What becomes of credentials whose user fragment has so many letters.
-fn fits(alloc: Global, len: usize, call: Setting, agent: &mut Agent) -> Result<bool, Fail> {
-    let creds = long(alloc, len)?;
-    let told = match call {
-        Setting::Local => agent.set_local_credentials(creds),
-        Setting::Remote => agent.set_remote_credentials(creds),
-        Setting::Restart => agent.ice_restart(creds, true),
-    };
-    match told {
-        Ok(()) => Ok(true),
-        Err(IceError::CredentialsTooLong) => Ok(false),
-        Err(_) => Err("no memory".into()),
+impl Subject for Credentials {
+    fn play(&self, player: &mut Player) -> Told {
+        user_fragments_leave_room_for_a_check(player)?;
+        an_agent_is_made_under_507_letters(player)?;
+        the_longest_check_reads_again(player)?;
+        candidates_keep_their_fragment_until_a_restart(player)?;
+        requests_are_taken_under_the_present_credentials(player)
     }
 }
 
+#[test]
+fn credentials_fit_and_are_used(rt: HostRuntime) -> Result<(), Fail> {
+    tell(rt.alloc(), &Credentials)
+}
+
+/// So many letters.
+fn letters(alloc: Global, len: usize) -> Option<Text> {
+    let bytes = vec![in alloc; b'u'; len].ok()?;
+    Some(Text::new(String::from_utf8(bytes).ok()?))
+}
+
+/// Credentials whose user fragment has so many letters.
+fn long(alloc: Global, len: usize) -> Option<IceCreds> {
+    let ufrag = letters(alloc, len)?;
+    let pass = Text::from_str(alloc, "farpass").ok()?;
+    Some(IceCreds { ufrag, pass })
+}
+
+/// What becomes of credentials whose user fragment has so many letters; nothing where memory is refused.
+fn fits(player: &mut Player, call: Setting, len: usize) -> Option<bool> {
+    let creds = long(player.alloc, len)?;
+    let told = match call {
+        Setting::Local => player.agent.set_local_credentials(creds),
+        Setting::Remote => player.agent.set_remote_credentials(creds),
+        Setting::Restart => player.agent.ice_restart(creds, true),
+    };
+    match told {
+        Ok(()) => Some(true),
+        Err(IceError::CredentialsTooLong) => Some(false),
+        Err(_) => None,
+    }
+}
+
+/// They are taken.
+fn takes(player: &mut Player, call: Setting, len: usize) -> bool {
+    fits(player, call, len) == Some(true)
+}
+
+/// They are refused, since they leave no room.
+fn refuses(player: &mut Player, call: Setting, len: usize) -> bool {
+    fits(player, call, len) == Some(false)
+}
+
 /// A call that takes credentials.
-#[derive(Clone, Copy, Debug, PartialEq, Eq)]
+#[derive(Clone, Copy)]
 enum Setting {
     Local,
     Remote,
     Restart,
 }
 
-/// Calls in turn, each with the length of the user fragment that it sets, and whether it is taken. Both fragments and
-/// the colon between them have 508 bytes at most.
-const CALLS: [(Setting, usize, bool); 9] = [
-    (Setting::Local, 508, false),
-    (Setting::Local, 507, true),
-    (Setting::Remote, 1, false),
-    (Setting::Local, 254, true),
-    (Setting::Remote, 254, false),
-    (Setting::Remote, 253, true),
-    (Setting::Local, 255, false),
-    (Setting::Restart, 508, false),
-    // a restart forgets the other fragment
-    (Setting::Restart, 507, true),
-];
-
-#[test]
-fn user_fragments_leave_room_for_a_check(rt: HostRuntime) -> Result<(), Fail> {
-    let mut player = Player::new(rt.alloc(), "near", "nearpass", 1)?;
-    for (call, len, is_taken) in CALLS {
-        let fits = fits(rt.alloc(), len, call, &mut player.agent)?;
-        assert!(&rt; fits == is_taken, "{call:?} {len}");
-    }
-    assert!(rt; player.agent.local_credentials().ufrag.as_str().len() == 507);
-    assert!(rt; player.agent.remote_credentials().is_none() && player.tells(b"Rc"));
-    Ok(())
+/// Both fragments and the colon between them have 508 bytes at most.
+fn user_fragments_leave_room_for_a_check(player: &mut Player) -> Told {
+    Story("user_fragments_leave_room_for_a_check").holds(&[
+        player.begins("near", "nearpass", 1),
+        refuses(player, Setting::Local, 508),
+        takes(player, Setting::Local, 507),
+        refuses(player, Setting::Remote, 1),
+        takes(player, Setting::Local, 254),
+        refuses(player, Setting::Remote, 254),
+        takes(player, Setting::Remote, 253),
+        refuses(player, Setting::Local, 255),
+        refuses(player, Setting::Restart, 508),
+        // a restart forgets the other fragment
+        takes(player, Setting::Restart, 507),
+        player.agent.local_credentials().ufrag.as_str().len() == 507,
+        player.agent.remote_credentials().is_none() && player.tells(b"Rc"),
+    ])
 }
 
-#[test]
-fn an_agent_is_made_under_507_letters(rt: HostRuntime) -> Result<(), Fail> {
-    let none = Agent::new(rt.alloc(), long(rt.alloc(), 508)?, 1);
-    assert!(rt; matches!(none, Err(IceError::CredentialsTooLong)));
-    Ok(())
+/// No agent is made under credentials whose user fragment has so many letters.
+fn is_made_under_none(player: &Player, len: usize) -> bool {
+    match long(player.alloc, len) {
+        Some(creds) => matches!(
+            Agent::new(player.alloc, creds, 1),
+            Err(IceError::CredentialsTooLong)
+        ),
+        None => false,
+    }
+}
+
+fn an_agent_is_made_under_507_letters(player: &mut Player) -> Told {
+    Story("an_agent_is_made_under_507_letters").holds(&[is_made_under_none(player, 508)])
 }
 
 /// A controlling agent under the longest user fragments, which has got one candidate of the peer's.
-fn longest(alloc: Global) -> Result<Player, Fail> {
-    let mut player = paired(alloc)?;
-    let is_taken = fits(alloc, 254, Setting::Local, &mut player.agent)?;
-    if !is_taken || !fits(alloc, 253, Setting::Remote, &mut player.agent)? {
-        return Err("too long".into());
-    }
-    Ok(player)
+fn is_longest(player: &mut Player) -> bool {
+    player.is_paired() && takes(player, Setting::Local, 254) && takes(player, Setting::Remote, 253)
 }
 
-#[test]
-fn the_longest_check_reads_again(rt: HostRuntime) -> Result<(), Fail> {
-    let mut player = longest(rt.alloc())?;
-    assert!(rt; player.is_answered(at(1, 1000)) && player.checks(50));
-    // it reads as a check of this length with USE-CANDIDATE
-    assert!(rt; player.has_checked(588, true) && player.has_signed("farpass"));
-    Ok(())
+fn the_longest_check_reads_again(player: &mut Player) -> Told {
+    Story("the_longest_check_reads_again").holds(&[
+        is_longest(player),
+        player.is_answered(at(1, 1000)) && player.checks(50),
+        // it reads as a check of this length with USE-CANDIDATE
+        player.has_checked(588, true) && player.has_signed("farpass"),
+    ])
 }
 
 // ---- which are in use
@@ -100,21 +124,21 @@ fn goes_by(player: &Player, ufrag: &str) -> bool {
     }
 }
 
-#[test]
-fn candidates_keep_their_fragment_until_a_restart(rt: HostRuntime) -> Result<(), Fail> {
-    let mut player = paired(rt.alloc())?;
-    assert!(rt; goes_by(&player, "near") && player.is_renamed("new1", "pass"));
-    assert!(rt; player.agent.local_credentials().ufrag.as_str() == "new1");
-    assert!(rt; goes_by(&player, "near"));
-    assert!(rt; player.restarts("new2", "pass", true) && goes_by(&player, "new2"));
-    Ok(())
+fn candidates_keep_their_fragment_until_a_restart(player: &mut Player) -> Told {
+    Story("candidates_keep_their_fragment_until_a_restart").holds(&[
+        player.is_paired(),
+        goes_by(player, "near") && player.is_renamed("new1", "pass"),
+        player.agent.local_credentials().ufrag.as_str() == "new1",
+        goes_by(player, "near"),
+        player.restarts("new2", "pass", true) && goes_by(player, "new2"),
+    ])
 }
 
-#[test]
-fn requests_are_taken_under_the_present_credentials(rt: HostRuntime) -> Result<(), Fail> {
-    let mut player = alone(rt.alloc())?;
-    assert!(rt; player.knows("SQAt", "x") && !player.is_asked(0, at(1, 1000)));
-    assert!(rt; player.is_renamed("p9KA", PASSWORD) && player.is_asked(0, at(1, 1000)));
-    assert!(rt; player.sends() && player.has_replied(PASSWORD));
-    Ok(())
+fn requests_are_taken_under_the_present_credentials(player: &mut Player) -> Told {
+    Story("requests_are_taken_under_the_present_credentials").holds(&[
+        player.is_alone(),
+        player.knows("SQAt", "x") && !player.is_asked(0, at(1, 1000)),
+        player.is_renamed("p9KA", PASSWORD) && player.is_asked(0, at(1, 1000)),
+        player.sends() && player.has_replied(PASSWORD),
+    ])
 }

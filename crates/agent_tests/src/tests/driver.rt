@@ -2,6 +2,7 @@
 //! call. These functions have no contract, so that what the agent promises stays out of the stories' proofs.
 
 use super::*;
+use is::Duration;
 use rand_core::SeedableRng;
 use rand_pcg::Pcg32;
 
@@ -44,7 +45,7 @@ impl Player {
         ufrag: &str,
         pass: &str,
         tie_breaker: u64,
-    ) -> Result<Player, Fail> {
+    ) -> Result<Player, IceError> {
         Ok(Player {
             agent: Agent::new(alloc, creds(alloc, ufrag, pass)?, tie_breaker)?,
             rng: Pcg32::seed_from_u64(tie_breaker),
@@ -55,9 +56,78 @@ impl Player {
     }
 }
 
+// ---- how it begins: whether each was made
+
+impl Player {
+    /// Is a new agent, as `new` makes it.
+    pub(super) fn begins(&mut self, ufrag: &str, pass: &str, tie_breaker: u64) -> bool {
+        match Player::new(self.alloc, ufrag, pass, tie_breaker) {
+            Ok(player) => {
+                *self = player;
+                true
+            }
+            Err(_) => false,
+        }
+    }
+
+    /// Is the agent that the request of 100 bytes is for: at 10.0.0.1:1000.
+    pub(super) fn is_addressed(&mut self) -> bool {
+        self.begins("p9KA", PASSWORD, 1) && self.knows("SQAt", "x") && self.host(at(1, 1000))
+    }
+
+    /// Is a controlling agent at 10.0.0.1:1000 that knows the peer's credentials.
+    pub(super) fn is_alone(&mut self) -> bool {
+        self.begins("near", "nearpass", 7)
+            && self.takes_role(true)
+            && self.knows("farr", "farpass")
+            && self.host(at(1, 1000))
+    }
+
+    /// Is the same agent, which has got one candidate of the peer's.
+    pub(super) fn is_paired(&mut self) -> bool {
+        self.is_alone() && self.hears(PEER)
+    }
+}
+
 // ---- what it is told: whether each call was done
 
 impl Player {
+    /// Becomes the controlling agent or the controlled one, by hand.
+    pub(super) fn takes_role(&mut self, controlling: bool) -> bool {
+        self.agent.set_controlling(controlling);
+        true
+    }
+
+    /// Becomes ice-lite.
+    pub(super) fn becomes_lite(&mut self) -> bool {
+        self.agent.set_ice_lite(true);
+        true
+    }
+
+    /// Gives no pair a number before this one.
+    pub(super) fn skips_to(&mut self, number: u64) -> bool {
+        self.agent.skip_pair_ids(number);
+        true
+    }
+
+    /// Has so many pairs at most from now on.
+    pub(super) fn is_limited(&mut self, pairs: usize) -> bool {
+        self.agent.set_max_candidate_pairs(pairs);
+        true
+    }
+
+    /// Waits so many milliseconds for the first answer.
+    pub(super) fn waits_at_first(&mut self, ms: u64) -> bool {
+        self.agent.set_initial_stun_rto(Duration::from_millis(ms));
+        true
+    }
+
+    /// Waits so many milliseconds at most for an answer.
+    pub(super) fn waits_at_most(&mut self, ms: u64) -> bool {
+        self.agent.set_max_stun_rto(Duration::from_millis(ms));
+        true
+    }
+
     /// Tells the credentials of the peer.
     pub(super) fn knows(&mut self, ufrag: &str, pass: &str) -> bool {
         match creds(self.alloc, ufrag, pass) {

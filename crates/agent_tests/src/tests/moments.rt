@@ -3,18 +3,39 @@
 use super::*;
 use is::Duration;
 
+/// What comes at which moment.
+struct Moments;
+
+impl Subject for Moments {
+    fn play(&self, player: &mut Player) -> Told {
+        a_path_is_announced_and_nominated(player)?;
+        a_pair_without_answers_is_given_up(player)?;
+        a_waiting_packet_leaves_due_moments_open(player)?;
+        an_earlier_moment_makes_no_check(player)?;
+        a_nomination_leaves_a_due_moment_that_was_asked_for(player)?;
+        a_nominated_pair_that_was_not_asked_is_due(player)?;
+        another_delay_asks_for_due_moments_anew(player)?;
+        fewer_checks_give_up_sooner(player)
+    }
+}
+
 #[test]
-fn a_path_is_announced_and_nominated(rt: HostRuntime) -> Result<(), Fail> {
-    let mut player = paired(rt.alloc())?;
-    assert!(rt; player.checks(0) && player.has_checked(88, false));
-    assert!(rt; player.tells(b"Rc") && player.wakes_at(250));
-    assert!(rt; player.expects_answer(at(1, 1000)) && player.hears_peer(50));
-    assert!(rt; player.tells(b"NCD") && player.wakes_at(50));
-    assert!(rt; player.checks(50) && player.has_checked(92, true));
-    // the announced pair stands at the greatest priority: it is not announced again
-    assert!(rt; player.is_still());
-    assert_eq!(rt; player.agent.stats().nomination_send_count, 1);
-    Ok(())
+fn moments_pass(rt: HostRuntime) -> Result<(), Fail> {
+    tell(rt.alloc(), &Moments)
+}
+
+fn a_path_is_announced_and_nominated(player: &mut Player) -> Told {
+    Story("a_path_is_announced_and_nominated").holds(&[
+        player.is_paired(),
+        player.checks(0) && player.has_checked(88, false),
+        player.tells(b"Rc") && player.wakes_at(250),
+        player.expects_answer(at(1, 1000)) && player.hears_peer(50),
+        player.tells(b"NCD") && player.wakes_at(50),
+        player.checks(50) && player.has_checked(92, true),
+        // the announced pair stands at the greatest priority: it is not announced again
+        player.is_still(),
+        player.agent.stats().nomination_send_count == 1,
+    ])
 }
 
 /// When a check goes out that no answer comes to, and when the pair is given up.
@@ -30,33 +51,33 @@ fn follows_schedule(player: &mut Player) -> bool {
     true
 }
 
-#[test]
-fn a_pair_without_answers_is_given_up(rt: HostRuntime) -> Result<(), Fail> {
-    let mut player = paired(rt.alloc())?;
-    assert!(rt; follows_schedule(&mut player) && player.tells(b"Rc"));
-    assert!(rt; player.timeout(18750) && player.tells(b"x") && player.is_silent());
-    assert!(rt; player.pair_with(PEER).is_none() && player.wakes_at(21750));
-    assert!(rt; player.agent.state().is_disconnected());
-    assert_eq!(rt; player.agent.stats().bind_request_sent, 9);
-    Ok(())
+fn a_pair_without_answers_is_given_up(player: &mut Player) -> Told {
+    Story("a_pair_without_answers_is_given_up").holds(&[
+        player.is_paired(),
+        follows_schedule(player) && player.tells(b"Rc"),
+        player.timeout(18750) && player.tells(b"x") && player.is_silent(),
+        player.pair_with(PEER).is_none() && player.wakes_at(21750),
+        player.agent.state().is_disconnected(),
+        player.agent.stats().bind_request_sent == 9,
+    ])
 }
 
-#[test]
-fn a_waiting_packet_leaves_due_moments_open(rt: HostRuntime) -> Result<(), Fail> {
-    let mut player = paired(rt.alloc())?;
-    assert!(rt; player.agent.poll_timeout().is_none());
-    assert!(rt; player.timeout(0) && player.wakes_at(50));
-    // due moments are asked at the last moment, and fixed then
-    assert!(rt; player.sends() && player.wakes_at(250));
-    Ok(())
+fn a_waiting_packet_leaves_due_moments_open(player: &mut Player) -> Told {
+    Story("a_waiting_packet_leaves_due_moments_open").holds(&[
+        player.is_paired(),
+        player.agent.poll_timeout().is_none(),
+        player.timeout(0) && player.wakes_at(50),
+        // due moments are asked at the last moment, and fixed then
+        player.sends() && player.wakes_at(250),
+    ])
 }
 
-#[test]
-fn an_earlier_moment_makes_no_check(rt: HostRuntime) -> Result<(), Fail> {
-    let mut player = paired(rt.alloc())?;
-    assert!(rt; player.checks(1000));
-    assert!(rt; player.timeout(0) && player.is_silent() && player.wakes_at(1250));
-    Ok(())
+fn an_earlier_moment_makes_no_check(player: &mut Player) -> Told {
+    Story("an_earlier_moment_makes_no_check").holds(&[
+        player.is_paired(),
+        player.checks(1000),
+        player.timeout(0) && player.is_silent() && player.wakes_at(1250),
+    ])
 }
 
 /// A controlled agent, asked to nominate behind its check, wakes then.
@@ -67,45 +88,51 @@ fn nominates_and_wakes_at(player: &mut Player, ms: u64) -> bool {
         && player.wakes_at(ms)
 }
 
-#[test]
-fn a_nomination_leaves_a_due_moment_that_was_asked_for(rt: HostRuntime) -> Result<(), Fail> {
-    let mut player = addressed(rt.alloc())?;
-    assert!(rt; player.hears(PEER) && player.checks(0) && player.wakes_at(250));
-    assert!(rt; nominates_and_wakes_at(&mut player, 250));
-    Ok(())
+fn a_nomination_leaves_a_due_moment_that_was_asked_for(player: &mut Player) -> Told {
+    Story("a_nomination_leaves_a_due_moment_that_was_asked_for").holds(&[
+        player.is_addressed(),
+        player.hears(PEER) && player.checks(0) && player.wakes_at(250),
+        nominates_and_wakes_at(player, 250),
+    ])
 }
 
-#[test]
-fn a_nominated_pair_that_was_not_asked_is_due(rt: HostRuntime) -> Result<(), Fail> {
-    let mut player = addressed(rt.alloc())?;
-    assert!(rt; player.hears(PEER) && player.checks(0));
-    assert!(rt; nominates_and_wakes_at(&mut player, 50));
-    Ok(())
+fn a_nominated_pair_that_was_not_asked_is_due(player: &mut Player) -> Told {
+    Story("a_nominated_pair_that_was_not_asked_is_due").holds(&[
+        player.is_addressed(),
+        player.hears(PEER) && player.checks(0),
+        nominates_and_wakes_at(player, 50),
+    ])
 }
 
-#[test]
-fn another_delay_asks_for_due_moments_anew(rt: HostRuntime) -> Result<(), Fail> {
-    let mut player = paired(rt.alloc())?;
-    assert!(rt; player.checks(0) && player.wakes_at(250));
-    player
-        .agent
-        .set_initial_stun_rto(Duration::from_millis(100));
-    assert!(rt; player.wakes_at(100));
-    player.agent.set_max_stun_rto(Duration::from_millis(80));
-    assert!(rt; player.wakes_at(80));
-    // the pace of what is sent bounds it from below
-    player.agent.set_timing_advance(Duration::from_millis(90));
-    assert!(rt; player.wakes_at(90));
-    Ok(())
+/// Sends a packet each so many milliseconds at most.
+fn is_paced(player: &mut Player, ms: u64) -> bool {
+    player.agent.set_timing_advance(Duration::from_millis(ms));
+    true
 }
 
-#[test]
-fn fewer_checks_give_up_sooner(rt: HostRuntime) -> Result<(), Fail> {
-    let mut player = paired(rt.alloc())?;
+fn another_delay_asks_for_due_moments_anew(player: &mut Player) -> Told {
+    Story("another_delay_asks_for_due_moments_anew").holds(&[
+        player.is_paired(),
+        player.checks(0) && player.wakes_at(250),
+        player.waits_at_first(100) && player.wakes_at(100),
+        player.waits_at_most(80) && player.wakes_at(80),
+        // the pace of what is sent bounds it from below
+        is_paced(player, 90) && player.wakes_at(90),
+    ])
+}
+
+/// Checks each pair once at most.
+fn tries_once(player: &mut Player) -> bool {
     player.agent.set_max_stun_retransmits(1);
-    assert!(rt; player.checks(0));
-    assert!(rt; player.timeout(249) && player.pair_with(PEER).is_some());
-    assert!(rt; player.timeout(250) && player.pair_with(PEER).is_none());
-    assert!(rt; player.tells(b"Rcx"));
-    Ok(())
+    true
+}
+
+fn fewer_checks_give_up_sooner(player: &mut Player) -> Told {
+    Story("fewer_checks_give_up_sooner").holds(&[
+        player.is_paired() && tries_once(player),
+        player.checks(0),
+        player.timeout(249) && player.pair_with(PEER).is_some(),
+        player.timeout(250) && player.pair_with(PEER).is_none(),
+        player.tells(b"Rcx"),
+    ])
 }
