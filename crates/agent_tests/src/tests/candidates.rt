@@ -8,7 +8,6 @@ struct Candidates;
 
 impl Subject for Candidates {
     fn play(&self, player: &mut Player) -> Told {
-        a_boxed_object_prefers(player)?;
         the_greatest_priority_is_refused(player)?;
         equal_candidates_supersede_unless_they_are_less(player)?;
         a_candidate_that_comes_again_is_as_it_was(player)?;
@@ -62,14 +61,17 @@ fn prefers_falling(player: &mut Player) -> bool {
     }
 }
 
-fn a_boxed_object_prefers(player: &mut Player) -> Told {
-    Story("a_boxed_object_prefers").holds(&[
-        is_unnamed(player) && prefers_falling(player),
-        stands_at(player, at(1, 1000), 2130706431),
-        stands_at(player, at(1, 1001), 2130706175),
-        // the third one would be less than the second
-        !player.host(at(1, 1001)),
-    ])
+// A test of its own: the player may hold such an object, so a subject can't make it.
+#[test]
+fn a_boxed_object_prefers(rt: HostRuntime) -> Result<(), Fail> {
+    let alloc = rt.alloc();
+    let mut player = Box::new(alloc, Player::new(alloc, "aaaa", "p", 1)?)?;
+    assert!(rt; prefers_falling(&mut player));
+    assert!(rt; stands_at(&mut player, at(1, 1000), 2130706431));
+    assert!(rt; stands_at(&mut player, at(1, 1001), 2130706175));
+    // the third one would be less than the second
+    assert!(rt; !player.host(at(1, 1001)));
+    Ok(())
 }
 
 /// An agent without a peer.
