@@ -56,31 +56,3 @@ const REPLY: [u8; 36] = [
 const PEER: &str = "candidate:1 1 udp 2130706175 10.0.0.2 2000 typ host";
 
 type Agent = IceAgent<DefaultSha1HmacProvider>;
-
-/// The agent that the request is for: at 10.0.0.1:1000.
-fn addressed(alloc: Global) -> Result<Player, Fail> {
-    let mut player = Player::new(alloc, "p9KA", PASSWORD, 1)?;
-    if !player.knows("SQAt", "x") || !player.host(at(1, 1000)) {
-        return Err("not made".into());
-    }
-    Ok(player)
-}
-
-/// A controlling agent at 10.0.0.1:1000 that knows the peer's credentials.
-fn alone(alloc: Global) -> Result<Player, Fail> {
-    let mut player = Player::new(alloc, "near", "nearpass", 7)?;
-    player.agent.set_controlling(true);
-    if !player.knows("farr", "farpass") || !player.host(at(1, 1000)) {
-        return Err("not made".into());
-    }
-    Ok(player)
-}
-
-/// The same agent, which has got one candidate of the peer's.
-fn paired(alloc: Global) -> Result<Player, Fail> {
-    let mut player = alone(alloc)?;
-    if !player.hears(PEER) {
-        return Err("not paired".into());
-    }
-    Ok(player)
-}

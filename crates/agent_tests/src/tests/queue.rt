@@ -1,15 +1,30 @@
 //! Requests that come before the peer's credentials are known: 100 wait, and each moment serves one.
 
 use super::*;
-use is::Duration;
 
-/// The agent of the request of 100 bytes, before it knows of its peer.
-fn waiting(alloc: Global) -> Result<Player, Fail> {
-    let mut player = Player::new(alloc, "p9KA", PASSWORD, 1)?;
-    if !player.host(at(1, 1000)) {
-        return Err("not made".into());
+/// Which requests wait, and how long.
+struct Queue;
+
+impl Subject for Queue {
+    fn play(&self, player: &mut Player) -> Told {
+        the_last_100_requests_wait(player)?;
+        a_request_waits_as_long_as_a_pair_is_checked(player)?;
+        an_old_request_is_dropped(player)?;
+        without_delays_no_request_waits(player)?;
+        a_refused_moment_changes_nothing(player)?;
+        a_waiting_request_wants_to_be_served_soon(player)?;
+        a_waiting_request_outlives_a_restart(player)
     }
-    Ok(player)
+}
+
+#[test]
+fn requests_wait(rt: HostRuntime) -> Result<(), Fail> {
+    tell(rt.alloc(), &Queue)
+}
+
+/// Is the agent of the request of 100 bytes, before it knows of its peer.
+fn is_waiting(player: &mut Player) -> bool {
+    player.begins("p9KA", PASSWORD, 1) && player.host(at(1, 1000))
 }
 
 /// The id that has the number in front.
@@ -47,74 +62,71 @@ fn replies_in_order(player: &mut Player) -> bool {
     true
 }
 
-#[test]
-fn the_last_100_requests_wait(rt: HostRuntime) -> Result<(), Fail> {
-    let mut player = waiting(rt.alloc())?;
-    assert!(rt; takes_many(&mut player) && player.tells(b"D") && player.is_silent());
-    assert!(rt; player.knows("SQAt", "x") && replies_in_order(&mut player));
-    assert_eq!(rt; player.agent.stats().bind_request_recv, 100);
-    // a moment that served a request is no last moment
-    assert!(rt; player.agent.poll_timeout().is_none());
-    assert!(rt; player.checks(0) && player.has_sent(Class::Request, 88));
-    Ok(())
+fn the_last_100_requests_wait(player: &mut Player) -> Told {
+    Story("the_last_100_requests_wait").holds(&[
+        is_waiting(player),
+        takes_many(player) && player.tells(b"D") && player.is_silent(),
+        player.knows("SQAt", "x") && replies_in_order(player),
+        player.agent.stats().bind_request_recv == 100,
+        // a moment that served a request is no last moment
+        player.agent.poll_timeout().is_none(),
+        player.checks(0) && player.has_sent(Class::Request, 88),
+    ])
 }
 
-/// The agent has taken the request at 0, and knows its peer now.
-fn told_late(alloc: Global) -> Result<Player, Fail> {
-    let mut player = waiting(alloc)?;
-    if !player.is_asked(0, at(1, 1000)) || !player.tells(b"D") || !player.knows("SQAt", "x") {
-        return Err("not asked".into());
-    }
-    Ok(player)
+/// Is the same agent, which has taken the request at 0, and knows its peer now.
+fn is_told_late(player: &mut Player) -> bool {
+    is_waiting(player)
+        && player.is_asked(0, at(1, 1000))
+        && player.tells(b"D")
+        && player.knows("SQAt", "x")
 }
 
-#[test]
-fn a_request_waits_as_long_as_a_pair_is_checked(rt: HostRuntime) -> Result<(), Fail> {
-    let mut player = told_late(rt.alloc())?;
-    assert!(rt; player.checks(21499) && player.has_replied(PASSWORD));
-    Ok(())
+fn a_request_waits_as_long_as_a_pair_is_checked(player: &mut Player) -> Told {
+    Story("a_request_waits_as_long_as_a_pair_is_checked").holds(&[
+        is_told_late(player),
+        player.checks(21499) && player.has_replied(PASSWORD),
+    ])
 }
 
-#[test]
-fn an_old_request_is_dropped(rt: HostRuntime) -> Result<(), Fail> {
-    let mut player = told_late(rt.alloc())?;
-    assert!(rt; player.timeout(21500) && player.is_silent() && player.wakes_at(24500));
-    Ok(())
+fn an_old_request_is_dropped(player: &mut Player) -> Told {
+    Story("an_old_request_is_dropped").holds(&[
+        is_told_late(player),
+        player.timeout(21500) && player.is_silent() && player.wakes_at(24500),
+    ])
 }
 
-#[test]
-fn without_delays_no_request_waits(rt: HostRuntime) -> Result<(), Fail> {
-    let mut player = told_late(rt.alloc())?;
-    player.agent.set_max_stun_rto(Duration(0));
-    assert!(rt; player.timeout(0) && player.is_silent());
-    Ok(())
+fn without_delays_no_request_waits(player: &mut Player) -> Told {
+    Story("without_delays_no_request_waits").holds(&[
+        is_told_late(player) && player.waits_at_most(0),
+        player.timeout(0) && player.is_silent(),
+    ])
 }
 
-#[test]
-fn a_refused_moment_changes_nothing(rt: HostRuntime) -> Result<(), Fail> {
-    let mut player = told_late(rt.alloc())?;
-    // the request wants a pair, and no number is left
-    player.agent.skip_pair_ids(18446744073709551615);
-    assert!(rt; !player.timeout(0) && player.is_still());
-    assert!(rt; player.agent.state() == IceConnectionState::New);
-    // it still waits, until it is too old
-    assert!(rt; !player.timeout(21499) && player.timeout(21500) && player.tells(b"Rc"));
-    Ok(())
+fn a_refused_moment_changes_nothing(player: &mut Player) -> Told {
+    Story("a_refused_moment_changes_nothing").holds(&[
+        // the request wants a pair, and no number is left
+        is_told_late(player) && player.skips_to(18446744073709551615),
+        !player.timeout(0) && player.is_still(),
+        player.agent.state() == IceConnectionState::New,
+        // it still waits, until it is too old
+        !player.timeout(21499) && player.timeout(21500) && player.tells(b"Rc"),
+    ])
 }
 
-#[test]
-fn a_waiting_request_wants_to_be_served_soon(rt: HostRuntime) -> Result<(), Fail> {
-    let mut player = waiting(rt.alloc())?;
-    assert!(rt; player.timeout(10) && player.wakes_at(3010));
-    assert!(rt; player.is_asked(20, at(1, 1000)) && player.wakes_at(60));
-    Ok(())
+fn a_waiting_request_wants_to_be_served_soon(player: &mut Player) -> Told {
+    Story("a_waiting_request_wants_to_be_served_soon").holds(&[
+        is_waiting(player),
+        player.timeout(10) && player.wakes_at(3010),
+        player.is_asked(20, at(1, 1000)) && player.wakes_at(60),
+    ])
 }
 
-#[test]
-fn a_waiting_request_outlives_a_restart(rt: HostRuntime) -> Result<(), Fail> {
-    let mut player = waiting(rt.alloc())?;
-    assert!(rt; player.is_asked(0, at(1, 1000)) && player.restarts("new1", "newpass", true));
-    // the request was signed with the old password; its reply goes by the new one
-    assert!(rt; player.knows("SQAt", "x") && player.checks(10) && player.has_replied("newpass"));
-    Ok(())
+fn a_waiting_request_outlives_a_restart(player: &mut Player) -> Told {
+    Story("a_waiting_request_outlives_a_restart").holds(&[
+        is_waiting(player),
+        player.is_asked(0, at(1, 1000)) && player.restarts("new1", "newpass", true),
+        // the request was signed with the old password; its reply goes by the new one
+        player.knows("SQAt", "x") && player.checks(10) && player.has_replied("newpass"),
+    ])
 }

@@ -4,6 +4,29 @@ use super::*;
 use is::stun::{Builder, HasClass};
 use is_agent::told::{last_announced, last_issued};
 
+/// Which requests are answered.
+struct Requests;
+
+impl Subject for Requests {
+    fn play(&self, player: &mut Player) -> Told {
+        the_request_is_answered(player)?;
+        its_source_is_told_of_once(player)?;
+        its_source_is_told_of_once_over_each_protocol(player)?;
+        a_request_for_others_changes_nothing(player)?;
+        a_request_to_no_local_candidate_is_dropped(player)?;
+        a_request_to_a_discarded_candidate_forms_no_pair(player)?;
+        a_request_of_a_discarded_sender_is_dropped(player)?;
+        a_controlling_agent_is_not_asked_to_nominate(player)?;
+        a_request_of_no_role_is_served(player)?;
+        of_two_roles_the_own_one_counts_once(player)
+    }
+}
+
+#[test]
+fn requests_are_served_or_not(rt: HostRuntime) -> Result<(), Fail> {
+    tell(rt.alloc(), &Requests)
+}
+
 /// The next event tells of a packet from 10.0.0.2:2000 over this protocol.
 fn discovers_over(player: &mut Player, wanted: Protocol) -> bool {
     match player.agent.poll_event() {
@@ -28,23 +51,28 @@ fn has_issued(player: &Player) -> bool {
     issued && last_announced(&player.agent) == [None, None]
 }
 
-#[test]
-fn the_request_is_answered(rt: HostRuntime) -> Result<(), Fail> {
-    let mut player = addressed(rt.alloc())?;
-    assert!(rt; player.is_asked(0, at(1, 1000)) && has_issued(&player));
-    assert!(rt; player.sends() && player.has_replied(PASSWORD));
-    assert!(rt; player.has_sent_from(at(1, 1000), at(2, 2000)));
-    Ok(())
+/// So many requests were served.
+fn has_served(player: &Player, count: u64) -> bool {
+    player.agent.stats().bind_request_recv == count
 }
 
-#[test]
-fn its_source_is_told_of_once(rt: HostRuntime) -> Result<(), Fail> {
-    let mut player = addressed(rt.alloc())?;
-    assert!(rt; player.is_asked(0, at(1, 1000)) && discovers(&mut player));
-    assert!(rt; player.is_asked(1, at(1, 1000)) && player.tells(b""));
-    assert!(rt; player.agent.poll_timeout().is_none());
-    assert_eq!(rt; player.agent.stats().discovered_recv_count, 1);
-    Ok(())
+fn the_request_is_answered(player: &mut Player) -> Told {
+    Story("the_request_is_answered").holds(&[
+        player.is_addressed(),
+        player.is_asked(0, at(1, 1000)) && has_issued(player),
+        player.sends() && player.has_replied(PASSWORD),
+        player.has_sent_from(at(1, 1000), at(2, 2000)),
+    ])
+}
+
+fn its_source_is_told_of_once(player: &mut Player) -> Told {
+    Story("its_source_is_told_of_once").holds(&[
+        player.is_addressed(),
+        player.is_asked(0, at(1, 1000)) && discovers(player),
+        player.is_asked(1, at(1, 1000)) && player.tells(b""),
+        player.agent.poll_timeout().is_none(),
+        player.agent.stats().discovered_recv_count == 1,
+    ])
 }
 
 /// The request comes over this protocol, from 10.0.0.2:2000 to 10.0.0.1:1000; whether the agent takes it.
@@ -66,71 +94,69 @@ fn discovers_by(player: &mut Player, proto: Protocol) -> bool {
     is_asked_over(player, proto) && discovers_over(player, proto) && player.tells(b"")
 }
 
-#[test]
-fn its_source_is_told_of_once_over_each_protocol(rt: HostRuntime) -> Result<(), Fail> {
-    let mut player = addressed(rt.alloc())?;
-    assert!(rt; discovers_by(&mut player, Protocol::Udp));
-    assert!(rt; discovers_by(&mut player, Protocol::Tcp));
-    assert!(rt; is_asked_over(&mut player, Protocol::Tcp) && player.tells(b""));
-    assert!(rt; is_asked_over(&mut player, Protocol::Udp) && player.tells(b""));
-    assert_eq!(rt; player.agent.stats().discovered_recv_count, 2);
-    Ok(())
+fn its_source_is_told_of_once_over_each_protocol(player: &mut Player) -> Told {
+    Story("its_source_is_told_of_once_over_each_protocol").holds(&[
+        player.is_addressed(),
+        discovers_by(player, Protocol::Udp),
+        discovers_by(player, Protocol::Tcp),
+        is_asked_over(player, Protocol::Tcp) && player.tells(b""),
+        is_asked_over(player, Protocol::Udp) && player.tells(b""),
+        player.agent.stats().discovered_recv_count == 2,
+    ])
 }
 
-/// User fragment, password and peer of an agent, and whether the request is for it.
-const AGENTS: [(&str, &str, &str, bool); 4] = [
-    ("p9KA", PASSWORD, "SQAt", true),
-    ("p9KA", "xJcE9AQAR7kczUDVOXRUCm", "SQAt", false),
-    ("p9KB", PASSWORD, "SQAt", false),
-    ("p9KA", PASSWORD, "SQAu", false),
-];
+/// Is an agent at 10.0.0.1:1000 of this user fragment, password and peer.
+fn is_named(player: &mut Player, ufrag: &str, pass: &str, peer: &str) -> bool {
+    player.begins(ufrag, pass, 1) && player.knows(peer, "x") && player.host(at(1, 1000))
+}
 
 /// The agent takes the request, or it is not still behind it.
 fn is_taken(player: &mut Player) -> bool {
     player.is_asked(0, at(1, 1000)) || !player.is_still()
 }
 
-#[test]
-fn a_request_for_others_changes_nothing(rt: HostRuntime) -> Result<(), Fail> {
-    for (ufrag, pass, peer, is_own) in AGENTS {
-        let mut player = Player::new(rt.alloc(), ufrag, pass, 1)?;
-        assert!(&rt; player.knows(peer, "x") && player.host(at(1, 1000)));
-        assert!(&rt; is_taken(&mut player) == is_own, "{ufrag} {pass} {peer}");
-    }
-    Ok(())
+/// The request is for the one agent, and for none of the others.
+fn a_request_for_others_changes_nothing(player: &mut Player) -> Told {
+    let other = "xJcE9AQAR7kczUDVOXRUCm";
+    Story("a_request_for_others_changes_nothing").holds(&[
+        is_named(player, "p9KA", PASSWORD, "SQAt") && is_taken(player),
+        is_named(player, "p9KA", other, "SQAt") && !is_taken(player),
+        is_named(player, "p9KB", PASSWORD, "SQAt") && !is_taken(player),
+        is_named(player, "p9KA", PASSWORD, "SQAu") && !is_taken(player),
+    ])
 }
 
-#[test]
-fn a_request_to_no_local_candidate_is_dropped(rt: HostRuntime) -> Result<(), Fail> {
-    let mut player = addressed(rt.alloc())?;
-    assert!(rt; player.is_asked(0, at(1, 1001)) && player.is_silent());
-    assert!(rt; discovers(&mut player));
-    assert_eq!(rt; player.agent.stats().bind_request_recv, 0);
-    Ok(())
+fn a_request_to_no_local_candidate_is_dropped(player: &mut Player) -> Told {
+    Story("a_request_to_no_local_candidate_is_dropped").holds(&[
+        player.is_addressed(),
+        player.is_asked(0, at(1, 1001)) && player.is_silent(),
+        discovers(player),
+        has_served(player, 0),
+    ])
 }
 
-#[test]
-fn a_request_to_a_discarded_candidate_forms_no_pair(rt: HostRuntime) -> Result<(), Fail> {
-    let mut player = addressed(rt.alloc())?;
-    assert!(rt; player.loses("candidate:1 1 udp 1 10.0.0.1 1000 typ host"));
-    assert!(rt; player.is_asked(0, at(1, 1000)) && player.tells(b"D") && player.is_silent());
-    // it counts, and its sender is stored
-    assert_eq!(rt; player.agent.stats().bind_request_recv, 1);
-    assert!(rt; player.has_heard_of(&[at(2, 2000)]));
-    Ok(())
+fn a_request_to_a_discarded_candidate_forms_no_pair(player: &mut Player) -> Told {
+    Story("a_request_to_a_discarded_candidate_forms_no_pair").holds(&[
+        player.is_addressed(),
+        player.loses("candidate:1 1 udp 1 10.0.0.1 1000 typ host"),
+        player.is_asked(0, at(1, 1000)) && player.tells(b"D") && player.is_silent(),
+        // it counts, and its sender is stored
+        has_served(player, 1),
+        player.has_heard_of(&[at(2, 2000)]),
+    ])
 }
 
-#[test]
-fn a_request_of_a_discarded_sender_is_dropped(rt: HostRuntime) -> Result<(), Fail> {
-    let mut player = addressed(rt.alloc())?;
-    assert!(rt; player.hears(PEER) && player.loses(PEER));
-    assert!(rt; player.is_asked(0, at(1, 1000)) && player.tells(b"D") && player.is_silent());
-    assert_eq!(rt; player.agent.stats().bind_request_recv, 1);
-    assert!(rt; player.has_heard_of(&[]));
-    Ok(())
+fn a_request_of_a_discarded_sender_is_dropped(player: &mut Player) -> Told {
+    Story("a_request_of_a_discarded_sender_is_dropped").holds(&[
+        player.is_addressed(),
+        player.hears(PEER) && player.loses(PEER),
+        player.is_asked(0, at(1, 1000)) && player.tells(b"D") && player.is_silent(),
+        has_served(player, 1),
+        player.has_heard_of(&[]),
+    ])
 }
 
-// ---- requests of other parts, to the agent of `alone`
+// ---- requests of other parts, to a controlling agent
 
 /// What each request of the peer's to that agent begins with.
 fn named() -> Builder<'static, HasClass> {
@@ -141,33 +167,33 @@ fn named() -> Builder<'static, HasClass> {
         .prio(100)
 }
 
-#[test]
-fn a_controlling_agent_is_not_asked_to_nominate(rt: HostRuntime) -> Result<(), Fail> {
-    let mut player = alone(rt.alloc())?;
+fn a_controlling_agent_is_not_asked_to_nominate(player: &mut Player) -> Told {
     let message = named().ice_controlled(3).use_candidate();
-    assert!(rt; player.expects(message.build(TransId([1; 12])), "nearpass"));
-    assert!(rt; player.hears_peer(0) && player.tells(b"D") && player.is_silent());
-    assert_eq!(rt; player.agent.stats().bind_request_recv, 0);
-    assert!(rt; player.agent.controlling() && player.has_heard_of(&[]));
-    Ok(())
+    Story("a_controlling_agent_is_not_asked_to_nominate").holds(&[
+        player.is_alone(),
+        player.expects(message.build(TransId([1; 12])), "nearpass"),
+        player.hears_peer(0) && player.tells(b"D") && player.is_silent(),
+        has_served(player, 0),
+        player.agent.controlling() && player.has_heard_of(&[]),
+    ])
 }
 
-#[test]
-fn a_request_of_no_role_is_served(rt: HostRuntime) -> Result<(), Fail> {
-    let mut player = alone(rt.alloc())?;
-    assert!(rt; player.expects(named().build(TransId([1; 12])), "nearpass"));
-    assert!(rt; player.hears_peer(0) && player.sends() && player.has_sent(Class::Success, 64));
-    assert!(rt; player.agent.controlling() && player.has_heard_of(&[at(2, 2000)]));
-    Ok(())
+fn a_request_of_no_role_is_served(player: &mut Player) -> Told {
+    Story("a_request_of_no_role_is_served").holds(&[
+        player.is_alone(),
+        player.expects(named().build(TransId([1; 12])), "nearpass"),
+        player.hears_peer(0) && player.sends() && player.has_sent(Class::Success, 64),
+        player.agent.controlling() && player.has_heard_of(&[at(2, 2000)]),
+    ])
 }
 
-#[test]
-fn of_two_roles_the_own_one_counts_once(rt: HostRuntime) -> Result<(), Fail> {
-    let mut player = alone(rt.alloc())?;
+fn of_two_roles_the_own_one_counts_once(player: &mut Player) -> Told {
     // greater than the own tie-breaker in the own role, less in the other
     let message = named().ice_controlling(9).ice_controlled(1);
-    assert!(rt; player.expects(message.build(TransId([1; 12])), "nearpass"));
-    assert!(rt; player.hears_peer(0) && !player.agent.controlling());
-    assert!(rt; player.sends() && player.has_sent(Class::Success, 64));
-    Ok(())
+    Story("of_two_roles_the_own_one_counts_once").holds(&[
+        player.is_alone(),
+        player.expects(message.build(TransId([1; 12])), "nearpass"),
+        player.hears_peer(0) && !player.agent.controlling(),
+        player.sends() && player.has_sent(Class::Success, 64),
+    ])
 }

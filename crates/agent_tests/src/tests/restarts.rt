@@ -4,17 +4,43 @@ use super::*;
 use is::IceAgentStats;
 use is::pair::CheckState;
 
+/// What a restart keeps, and how an agent begins.
+struct Restarts;
+
+impl Subject for Restarts {
+    fn play(&self, player: &mut Player) -> Told {
+        a_restart_forgets_what_it_told(player)?;
+        a_restart_keeps_own_candidates_or_not(player)?;
+        a_restart_keeps_discard_marks_and_numbers(player)?;
+        a_beginning_is_told_of_once(player)?;
+        a_check_that_succeeded_is_seen(player)?;
+        a_lite_agent_has_its_path_at_once(player)?;
+        a_lite_agent_waits_15_seconds_for_its_peer(player)?;
+        a_lite_pair_that_replaces_lives_on_the_requests_of_the_other(player)
+    }
+}
+
 #[test]
-fn a_restart_forgets_what_it_told(rt: HostRuntime) -> Result<(), Fail> {
-    let mut player = paired(rt.alloc())?;
-    assert!(rt; player.is_answered(at(1, 1000)));
-    assert!(rt; player.agent.stats() != IceAgentStats::default());
-    assert!(rt; player.restarts("new1", "newpass", true));
-    // of the five events of before none is left
-    assert!(rt; player.tells(b"Rc") && player.has_no_figures() && player.agent.controlling());
-    assert!(rt; player.agent.stats() == IceAgentStats::default());
-    assert!(rt; !player.accepts() && !player.hears_peer(60));
-    Ok(())
+fn agents_begin_and_restart(rt: HostRuntime) -> Result<(), Fail> {
+    tell(rt.alloc(), &Restarts)
+}
+
+/// Its statistics are those of an agent that did nothing.
+fn has_done_nothing(player: &Player) -> bool {
+    player.agent.stats() == IceAgentStats::default()
+}
+
+fn a_restart_forgets_what_it_told(player: &mut Player) -> Told {
+    Story("a_restart_forgets_what_it_told").holds(&[
+        player.is_paired(),
+        player.is_answered(at(1, 1000)),
+        !has_done_nothing(player),
+        player.restarts("new1", "newpass", true),
+        // of the five events of before none is left
+        player.tells(b"Rc") && player.has_no_figures() && player.agent.controlling(),
+        has_done_nothing(player),
+        !player.accepts() && !player.hears_peer(60),
+    ])
 }
 
 /// The next event tells of a restart under this user fragment.
@@ -25,96 +51,94 @@ fn tells_of(player: &mut Player, ufrag: &str) -> bool {
     }
 }
 
-#[test]
-fn a_restart_keeps_own_candidates_or_not(rt: HostRuntime) -> Result<(), Fail> {
-    let mut player = paired(rt.alloc())?;
-    assert!(rt; player.restarts("new1", "pass", true) && tells_of(&mut player, "new1"));
-    assert!(rt; player.is_at(&[at(1, 1000)]) && player.has_heard_of(&[]));
-    assert!(rt; player.pair_with(PEER).is_none());
-    assert!(rt; player.agent.remote_credentials().is_none());
-    assert!(rt; player.restarts("new2", "pass", false) && tells_of(&mut player, "new2"));
-    assert!(rt; player.is_at(&[]));
-    Ok(())
+fn a_restart_keeps_own_candidates_or_not(player: &mut Player) -> Told {
+    Story("a_restart_keeps_own_candidates_or_not").holds(&[
+        player.is_paired(),
+        player.restarts("new1", "pass", true) && tells_of(player, "new1"),
+        player.is_at(&[at(1, 1000)]) && player.has_heard_of(&[]),
+        player.pair_with(PEER).is_none(),
+        player.agent.remote_credentials().is_none(),
+        player.restarts("new2", "pass", false) && tells_of(player, "new2"),
+        player.is_at(&[]),
+    ])
 }
 
-#[test]
-fn a_restart_keeps_discard_marks_and_numbers(rt: HostRuntime) -> Result<(), Fail> {
-    let mut player = paired(rt.alloc())?;
-    assert!(rt; player.host(at(1, 1001)));
-    assert!(rt; player.loses("candidate:1 1 udp 1 10.0.0.1 1000 typ host"));
-    assert!(rt; player.restarts("new1", "pass", true) && player.is_at(&[at(1, 1001)]));
-    assert!(rt; player.hears(PEER) && player.number_with(PEER) == Some(2));
-    Ok(())
+fn a_restart_keeps_discard_marks_and_numbers(player: &mut Player) -> Told {
+    Story("a_restart_keeps_discard_marks_and_numbers").holds(&[
+        player.is_paired(),
+        player.host(at(1, 1001)),
+        player.loses("candidate:1 1 udp 1 10.0.0.1 1000 typ host"),
+        player.restarts("new1", "pass", true) && player.is_at(&[at(1, 1001)]),
+        player.hears(PEER) && player.number_with(PEER) == Some(2),
+    ])
 }
 
-#[test]
-fn a_beginning_is_told_of_once(rt: HostRuntime) -> Result<(), Fail> {
-    let mut player = paired(rt.alloc())?;
-    assert!(rt; player.restarts("new1", "pass", true) && player.tells(b"Rc"));
-    assert!(rt; player.timeout(0) && player.tells(b""));
-    Ok(())
+fn a_beginning_is_told_of_once(player: &mut Player) -> Told {
+    Story("a_beginning_is_told_of_once").holds(&[
+        player.is_paired(),
+        player.restarts("new1", "pass", true) && player.tells(b"Rc"),
+        player.timeout(0) && player.tells(b""),
+    ])
 }
 
 // ---- what is viable
 
-#[test]
-fn a_check_that_succeeded_is_seen(rt: HostRuntime) -> Result<(), Fail> {
-    let mut player = paired(rt.alloc())?;
-    assert!(rt; player.state_with(PEER) == Some(CheckState::Waiting));
-    assert!(rt; player.checks(0) && player.state_with(PEER) == Some(CheckState::InProgress));
-    assert!(rt; !player.agent.has_viable_remote_candidate(at(2, 2000)));
-    assert!(rt; player.expects_answer(at(1, 1000)) && player.hears_peer(50));
-    assert!(rt; player.state_with(PEER) == Some(CheckState::Succeeded));
-    assert!(rt; player.agent.has_viable_remote_candidate(at(2, 2000)));
-    Ok(())
+/// The peer's address is that of a path that holds.
+fn is_viable(player: &Player) -> bool {
+    player.agent.has_viable_remote_candidate(at(2, 2000))
 }
 
-/// A lite agent that has taken the request at 0.
-fn lite(alloc: Global) -> Result<Player, Fail> {
-    let mut player = addressed(alloc)?;
-    player.agent.set_ice_lite(true);
-    if !player.is_asked(0, at(1, 1000)) {
-        return Err("not asked".into());
-    }
-    Ok(player)
+fn a_check_that_succeeded_is_seen(player: &mut Player) -> Told {
+    Story("a_check_that_succeeded_is_seen").holds(&[
+        player.is_paired(),
+        player.state_with(PEER) == Some(CheckState::Waiting),
+        player.checks(0) && player.state_with(PEER) == Some(CheckState::InProgress),
+        !is_viable(player),
+        player.expects_answer(at(1, 1000)) && player.hears_peer(50),
+        player.state_with(PEER) == Some(CheckState::Succeeded),
+        is_viable(player),
+    ])
 }
 
-#[test]
-fn a_lite_agent_has_its_path_at_once(rt: HostRuntime) -> Result<(), Fail> {
-    let mut player = lite(rt.alloc())?;
-    assert!(rt; player.agent.has_viable_remote_candidate(at(2, 2000)));
-    assert!(rt; !player.agent.has_viable_remote_candidate(at(2, 2001)));
-    assert!(rt; player.timeout(0) && player.tells(b"DRcN"));
-    assert!(rt; player.sends() && player.wakes_at(3000));
-    assert!(rt; player.agent.state() == IceConnectionState::Checking);
-    assert!(rt; player.timeout(50) && player.tells(b"C") && player.is_silent());
-    assert!(rt; player.agent.state().is_connected());
-    Ok(())
+/// Is a lite agent that has taken the request at 0.
+fn is_lite(player: &mut Player) -> bool {
+    player.is_addressed() && player.becomes_lite() && player.is_asked(0, at(1, 1000))
 }
 
-#[test]
-fn a_lite_agent_waits_15_seconds_for_its_peer(rt: HostRuntime) -> Result<(), Fail> {
-    let mut player = lite(rt.alloc())?;
-    assert!(rt; player.checks(0) && player.timeout(50) && player.tells(b"DRcNC"));
-    assert!(rt; player.timeout(14999) && player.is_still());
-    assert!(rt; player.agent.has_viable_remote_candidate(at(2, 2000)));
-    assert!(rt; player.timeout(15000) && player.tells(b"x") && player.is_silent());
-    assert!(rt; !player.agent.has_viable_remote_candidate(at(2, 2000)));
-    assert!(rt; player.agent.state().is_disconnected());
-    Ok(())
+fn a_lite_agent_has_its_path_at_once(player: &mut Player) -> Told {
+    Story("a_lite_agent_has_its_path_at_once").holds(&[
+        is_lite(player),
+        is_viable(player),
+        !player.agent.has_viable_remote_candidate(at(2, 2001)),
+        player.timeout(0) && player.tells(b"DRcN"),
+        player.sends() && player.wakes_at(3000),
+        player.agent.state() == IceConnectionState::Checking,
+        player.timeout(50) && player.tells(b"C") && player.is_silent(),
+        player.agent.state().is_connected(),
+    ])
 }
 
-#[test]
-fn a_lite_pair_that_replaces_lives_on_the_requests_of_the_other(
-    rt: HostRuntime,
-) -> Result<(), Fail> {
-    let mut player = lite(rt.alloc())?;
-    // of a greater priority than the sender of the request
-    assert!(rt; player.hears(PEER) && player.number_with(PEER) == Some(1));
-    // not as if it had been heard of at the first moment
-    assert!(rt; player.timeout(10000) && player.timeout(14999));
-    assert!(rt; player.agent.has_viable_remote_candidate(at(2, 2000)));
-    assert!(rt; player.timeout(15000) && player.pair_with(PEER).is_none());
-    assert!(rt; player.agent.state().is_disconnected());
-    Ok(())
+fn a_lite_agent_waits_15_seconds_for_its_peer(player: &mut Player) -> Told {
+    Story("a_lite_agent_waits_15_seconds_for_its_peer").holds(&[
+        is_lite(player),
+        player.checks(0) && player.timeout(50) && player.tells(b"DRcNC"),
+        player.timeout(14999) && player.is_still(),
+        is_viable(player),
+        player.timeout(15000) && player.tells(b"x") && player.is_silent(),
+        !is_viable(player),
+        player.agent.state().is_disconnected(),
+    ])
+}
+
+fn a_lite_pair_that_replaces_lives_on_the_requests_of_the_other(player: &mut Player) -> Told {
+    Story("a_lite_pair_that_replaces_lives_on_the_requests_of_the_other").holds(&[
+        is_lite(player),
+        // of a greater priority than the sender of the request
+        player.hears(PEER) && player.number_with(PEER) == Some(1),
+        // not as if it had been heard of at the first moment
+        player.timeout(10000) && player.timeout(14999),
+        is_viable(player),
+        player.timeout(15000) && player.pair_with(PEER).is_none(),
+        player.agent.state().is_disconnected(),
+    ])
 }

@@ -8,114 +8,130 @@ const ONE: &str = "candidate:1 1 udp 100 10.0.0.1 1000 typ host";
 
 const TWO: &str = "candidate:1 1 udp 100 10.0.0.2 2000 typ host";
 
-/// Two agents that claim one role, each with a check on its way.
-#[derive(Drop)]
-struct Clash {
-    one: Player,
-    two: Player,
+/// Who takes which role.
+struct Roles;
+
+impl Subject for Roles {
+    fn play(&self, player: &mut Player) -> Told {
+        match other(player.alloc) {
+            Some(mut two) => play_both(player, &mut two),
+            None => Story("another agent is made").holds(&[false]),
+        }
+    }
 }
 
-/// The agent at 10.0.0.1:1000, in that role, which has sent a check at 0.
-fn first(alloc: Global, tie_breaker: u64, controlling: bool) -> Result<Player, Fail> {
-    let mut player = Player::new(alloc, "AAAA", "passA", tie_breaker)?;
-    player.agent.set_controlling(controlling);
-    let is_told = player.knows("BBBB", "passB") && player.host(at(1, 1000)) && player.hears(TWO);
-    if !is_told || !player.checks(0) || !player.tells(b"Rc") {
-        return Err("not made".into());
-    }
-    Ok(player)
+#[test]
+fn roles_are_settled(rt: HostRuntime) -> Result<(), Fail> {
+    tell(rt.alloc(), &Roles)
 }
 
-/// The agent at 10.0.0.2:2000, likewise.
-fn second(alloc: Global, tie_breaker: u64, controlling: bool) -> Result<Player, Fail> {
-    let mut player = Player::new(alloc, "BBBB", "passB", tie_breaker)?;
-    player.agent.set_controlling(controlling);
-    let is_told = player.knows("AAAA", "passA") && player.host(at(2, 2000)) && player.hears(ONE);
-    if !is_told || !player.checks(0) || !player.tells(b"Rc") {
-        return Err("not made".into());
-    }
-    Ok(player)
+/// A second agent.
+fn other(alloc: Global) -> Option<Box<Player>> {
+    Box::new(alloc, Player::new(alloc, "BBBB", "passB", 5).ok()?).ok()
 }
 
-/// Agents of these tie-breakers that claim one role.
-fn claiming(alloc: Global, ties: (u64, u64), controlling: bool) -> Result<Clash, Fail> {
-    let one = first(alloc, ties.0, controlling)?;
-    let two = second(alloc, ties.1, controlling)?;
-    Ok(Clash { one, two })
+fn play_both(one: &mut Player, two: &mut Player) -> Told {
+    the_lesser_tie_breaker_yields(one, two)?;
+    a_487_switches_the_role_of_its_check_once(one, two)?;
+    equal_tie_breakers_both_switch(one, two)?;
+    a_switch_computes_priorities_anew(one, two)?;
+    a_487_off_its_path_does_nothing(two)
 }
 
-impl Clash {
-    /// Each gets the check of the other, and answers it.
-    fn meet(&mut self) -> bool {
-        self.one.gets(10, &self.two)
-            && self.two.gets(10, &self.one)
-            && self.one.sends()
-            && self.two.sends()
-    }
+/// Is the agent at 10.0.0.1:1000, in that role, which has sent a check at 0.
+fn is_first(player: &mut Player, tie_breaker: u64, controlling: bool) -> bool {
+    player.begins("AAAA", "passA", tie_breaker)
+        && player.takes_role(controlling)
+        && player.knows("BBBB", "passB")
+        && player.host(at(1, 1000))
+        && player.hears(TWO)
+        && player.checks(0)
+        && player.tells(b"Rc")
+}
 
-    /// The first gets the check of the second, and answers by a 487, the way back.
-    fn is_told(&mut self) -> bool {
-        self.one.gets(10, &self.two)
-            && self.one.sends()
-            && self.one.has_sent(Class::Failure, 76)
-            && self.one.has_sent_from(at(1, 1000), at(2, 2000))
-            && self.one.has_signed("passA")
-    }
+/// Is the agent at 10.0.0.2:2000, likewise.
+fn is_second(player: &mut Player, tie_breaker: u64, controlling: bool) -> bool {
+    player.begins("BBBB", "passB", tie_breaker)
+        && player.takes_role(controlling)
+        && player.knows("AAAA", "passA")
+        && player.host(at(2, 2000))
+        && player.hears(ONE)
+        && player.checks(0)
+        && player.tells(b"Rc")
+}
 
-    /// Whether each is controlling.
-    fn roles(&self) -> (bool, bool) {
-        (self.one.agent.controlling(), self.two.agent.controlling())
-    }
+/// Are agents of these tie-breakers that claim one role, each with a check on its way.
+fn claim(one: &mut Player, two: &mut Player, ties: (u64, u64), controlling: bool) -> bool {
+    is_first(one, ties.0, controlling) && is_second(two, ties.1, controlling)
+}
+
+/// Each gets the check of the other, and answers it.
+fn meet(one: &mut Player, two: &mut Player) -> bool {
+    one.gets(10, two) && two.gets(10, one) && one.sends() && two.sends()
+}
+
+/// The first gets the check of the second, and answers by a 487, the way back.
+fn is_told(one: &mut Player, two: &Player) -> bool {
+    one.gets(10, two)
+        && one.sends()
+        && one.has_sent(Class::Failure, 76)
+        && one.has_sent_from(at(1, 1000), at(2, 2000))
+        && one.has_signed("passA")
+}
+
+/// Whether each is controlling.
+fn roles_of(one: &Player, two: &Player) -> (bool, bool) {
+    (one.agent.controlling(), two.agent.controlling())
 }
 
 /// The greater tie-breaker keeps its role, whichever it is, and the lesser yields.
-fn lesser_yields(pair: &mut Clash, controlling: bool) -> bool {
-    pair.meet()
-        && pair.one.has_sent(Class::Failure, 76)
-        && pair.two.has_sent(Class::Success, 64)
-        && pair.roles() == (controlling, !controlling)
+fn lesser_yields(one: &mut Player, two: &mut Player, controlling: bool) -> bool {
+    meet(one, two)
+        && one.has_sent(Class::Failure, 76)
+        && two.has_sent(Class::Success, 64)
+        && roles_of(one, two) == (controlling, !controlling)
         // the check was sent under the role of before: the 487 does nothing now, once and again
-        && pair.two.gets(20, &pair.one)
-        && pair.two.gets(30, &pair.one)
-        && pair.roles() == (controlling, !controlling)
+        && two.gets(20, one)
+        && two.gets(30, one)
+        && roles_of(one, two) == (controlling, !controlling)
 }
 
-#[test]
-fn the_lesser_tie_breaker_yields(rt: HostRuntime) -> Result<(), Fail> {
-    for controlling in [true, false] {
-        let mut pair = claiming(rt.alloc(), (10, 5), controlling)?;
-        assert!(&rt; lesser_yields(&mut pair, controlling), "{controlling}");
-    }
-    Ok(())
+fn the_lesser_tie_breaker_yields(one: &mut Player, two: &mut Player) -> Told {
+    Story("the_lesser_tie_breaker_yields").holds(&[
+        claim(one, two, (10, 5), true),
+        lesser_yields(one, two, true),
+        claim(one, two, (10, 5), false),
+        lesser_yields(one, two, false),
+    ])
 }
 
 /// The second switches when the 487 comes, and does nothing when it comes again.
-fn switches_once(pair: &mut Clash, controlling: bool) -> bool {
-    pair.is_told()
-        && pair.roles() == (controlling, controlling)
-        && pair.two.gets(20, &pair.one)
-        && pair.roles() == (controlling, !controlling)
-        && pair.two.gets(30, &pair.one)
-        && pair.roles() == (controlling, !controlling)
+fn switches_once(one: &mut Player, two: &mut Player, controlling: bool) -> bool {
+    is_told(one, two)
+        && roles_of(one, two) == (controlling, controlling)
+        && two.gets(20, one)
+        && roles_of(one, two) == (controlling, !controlling)
+        && two.gets(30, one)
+        && roles_of(one, two) == (controlling, !controlling)
 }
 
-#[test]
-fn a_487_switches_the_role_of_its_check_once(rt: HostRuntime) -> Result<(), Fail> {
-    for controlling in [true, false] {
-        let mut pair = claiming(rt.alloc(), (10, 5), controlling)?;
-        assert!(&rt; switches_once(&mut pair, controlling), "{controlling}");
-    }
-    Ok(())
+fn a_487_switches_the_role_of_its_check_once(one: &mut Player, two: &mut Player) -> Told {
+    Story("a_487_switches_the_role_of_its_check_once").holds(&[
+        claim(one, two, (10, 5), true),
+        switches_once(one, two, true),
+        claim(one, two, (10, 5), false),
+        switches_once(one, two, false),
+    ])
 }
 
-#[test]
-fn equal_tie_breakers_both_switch(rt: HostRuntime) -> Result<(), Fail> {
-    let mut pair = claiming(rt.alloc(), (7, 7), true)?;
-    assert!(rt; pair.meet() && pair.roles() == (true, true));
-    assert!(rt; pair.one.has_sent(Class::Failure, 76) && pair.two.has_sent(Class::Failure, 76));
-    assert!(rt; pair.one.gets(20, &pair.two) && pair.two.gets(20, &pair.one));
-    assert!(rt; pair.roles() == (false, false));
-    Ok(())
+fn equal_tie_breakers_both_switch(one: &mut Player, two: &mut Player) -> Told {
+    Story("equal_tie_breakers_both_switch").holds(&[
+        claim(one, two, (7, 7), true),
+        meet(one, two) && roles_of(one, two) == (true, true),
+        one.has_sent(Class::Failure, 76) && two.has_sent(Class::Failure, 76),
+        one.gets(20, two) && two.gets(20, one),
+        roles_of(one, two) == (false, false),
+    ])
 }
 
 /// What a 487 leaves of the second's pair: an unanswered check, under the priority of the role now.
@@ -123,15 +139,15 @@ fn is_unanswered(player: &Player, prio: u64) -> bool {
     player.prio_with(ONE) == Some(prio) && player.state_with(ONE) == Some(CheckState::InProgress)
 }
 
-#[test]
-fn a_switch_computes_priorities_anew(rt: HostRuntime) -> Result<(), Fail> {
-    let mut pair = claiming(rt.alloc(), (10, 5), true)?;
-    assert!(rt; pair.is_told() && is_unanswered(&pair.two, 433758141951));
-    assert!(rt; pair.two.gets(20, &pair.one) && is_unanswered(&pair.two, 433758141950));
-    // no answer counts, and the next check is due as before
-    assert_eq!(rt; pair.two.agent.stats().bind_success_recv, 0);
-    assert!(rt; pair.two.tells(b"D") && pair.two.wakes_at(250));
-    Ok(())
+fn a_switch_computes_priorities_anew(one: &mut Player, two: &mut Player) -> Told {
+    Story("a_switch_computes_priorities_anew").holds(&[
+        claim(one, two, (10, 5), true),
+        is_told(one, two) && is_unanswered(two, 433758141951),
+        two.gets(20, one) && is_unanswered(two, 433758141950),
+        // no answer counts, and the next check is due as before
+        two.agent.stats().bind_success_recv == 0,
+        two.tells(b"D") && two.wakes_at(250),
+    ])
 }
 
 /// The next bytes that come to the agent are a 487 to its check.
@@ -142,13 +158,13 @@ fn expects_487(player: &mut Player) -> bool {
     }
 }
 
-#[test]
-fn a_487_off_its_path_does_nothing(rt: HostRuntime) -> Result<(), Fail> {
-    let mut player = second(rt.alloc(), 5, true)?;
-    assert!(rt; expects_487(&mut player) && player.accepts());
-    assert!(rt; !player.accepts_from(at(3, 1000), at(2, 2000)));
-    assert!(rt; !player.takes(20, at(3, 1000), at(2, 2000)) && player.is_still());
-    assert!(rt; player.agent.controlling() && player.takes(20, at(1, 1000), at(2, 2000)));
-    assert!(rt; !player.agent.controlling());
-    Ok(())
+fn a_487_off_its_path_does_nothing(player: &mut Player) -> Told {
+    Story("a_487_off_its_path_does_nothing").holds(&[
+        is_second(player, 5, true),
+        expects_487(player) && player.accepts(),
+        !player.accepts_from(at(3, 1000), at(2, 2000)),
+        !player.takes(20, at(3, 1000), at(2, 2000)) && player.is_still(),
+        player.agent.controlling() && player.takes(20, at(1, 1000), at(2, 2000)),
+        !player.agent.controlling(),
+    ])
 }

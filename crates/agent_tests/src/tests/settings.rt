@@ -3,78 +3,118 @@
 use super::*;
 use is::Duration;
 
-/// The lengths are refused, and those of before stand.
+/// What is set, and what a setting does.
+struct Settings;
+
+impl Subject for Settings {
+    fn play(&self, player: &mut Player) -> Told {
+        a_packet_may_be_as_long_as_the_longest_check(player)?;
+        what_is_not_set_has_a_default(player)?;
+        a_check_claims_the_role_by_the_tie_breaker(player)?;
+        connected_and_completed_are_connected()?;
+        how_long_a_pair_is_checked_follows_the_delays(player)
+    }
+}
+
+#[test]
+fn settings_are_kept(rt: HostRuntime) -> Result<(), Fail> {
+    tell(rt.alloc(), &Settings)
+}
+
+/// The lengths are refused.
 fn are_too_small(agent: &mut Agent) -> bool {
-    let refused = matches!(agent.set_mtu(587..=9000), Err(IceError::MtuTooSmall));
-    refused && agent.mtu() == 1150 && agent.mtu_warn() == 1280
+    matches!(agent.set_mtu(587..=9000), Err(IceError::MtuTooSmall))
 }
 
-#[test]
-fn a_packet_may_be_as_long_as_the_longest_check(rt: HostRuntime) -> Result<(), Fail> {
-    let mut player = alone(rt.alloc())?;
-    assert!(rt; player.agent.mtu() == 1150 && player.agent.mtu_warn() == 1280);
-    assert!(rt; are_too_small(&mut player.agent));
-    player.agent.set_mtu(588..=600)?;
-    assert!(rt; player.agent.mtu() == 588 && player.agent.mtu_warn() == 600);
-    Ok(())
+/// The lengths of a packet, greatest and warned of.
+fn has_lengths(agent: &Agent, mtu: usize, mtu_warn: usize) -> bool {
+    agent.mtu() == mtu && agent.mtu_warn() == mtu_warn
 }
 
-/// An agent whose digests are made by a provider that is handed in.
-fn provided(alloc: Global) -> Result<Agent, Fail> {
-    let creds = creds(alloc, "aaaa", "p")?;
-    Ok(IceAgent::with_hmac(alloc, creds, DefaultSha1HmacProvider, 1)?)
+fn a_packet_may_be_as_long_as_the_longest_check(player: &mut Player) -> Told {
+    Story("a_packet_may_be_as_long_as_the_longest_check").holds(&[
+        player.is_alone(),
+        has_lengths(&player.agent, 1150, 1280),
+        are_too_small(&mut player.agent),
+        has_lengths(&player.agent, 1150, 1280),
+        player.agent.set_mtu(588..=600).is_ok(),
+        has_lengths(&player.agent, 588, 600),
+    ])
 }
 
-#[test]
-fn what_is_not_set_has_a_default(rt: HostRuntime) -> Result<(), Fail> {
-    let agent = provided(rt.alloc())?;
-    assert!(rt; !agent.controlling() && !agent.ice_lite());
-    assert!(rt; agent.state() == IceConnectionState::New);
-    assert!(rt; agent.ice_timeout() == Duration::from_millis(21500));
-    assert!(rt; agent.remote_credentials().is_none());
-    assert!(rt; agent.local_credentials().ufrag.as_str() == "aaaa");
-    Ok(())
+/// Is an agent whose digests are made by a provider that is handed in.
+fn is_provided(player: &mut Player) -> bool {
+    let Ok(creds) = creds(player.alloc, "aaaa", "p") else {
+        return false;
+    };
+    match IceAgent::with_hmac(player.alloc, creds, DefaultSha1HmacProvider, 1) {
+        Ok(agent) => {
+            player.agent = agent;
+            true
+        }
+        Err(_) => false,
+    }
+}
+
+fn what_is_not_set_has_a_default(player: &mut Player) -> Told {
+    Story("what_is_not_set_has_a_default").holds(&[
+        is_provided(player),
+        !player.agent.controlling() && !player.agent.ice_lite(),
+        player.agent.state() == IceConnectionState::New,
+        player.agent.ice_timeout() == Duration::from_millis(21500),
+        player.agent.remote_credentials().is_none(),
+        player.agent.local_credentials().ufrag.as_str() == "aaaa",
+    ])
 }
 
 /// An agent of that tie-breaker claims the controlling role by it.
 const TIE_BREAKER: u64 = 0x0102_0304_0506_0708;
 
-#[test]
-fn a_check_claims_the_role_by_the_tie_breaker(rt: HostRuntime) -> Result<(), Fail> {
-    let mut player = paired(rt.alloc())?;
-    player.agent.set_control_tie_breaker(TIE_BREAKER);
-    assert!(rt; player.checks(0) && player.has_claimed(TIE_BREAKER, "farr:near"));
-    Ok(())
+/// Has another tie-breaker from now on.
+fn breaks_ties_by(player: &mut Player, tie_breaker: u64) -> bool {
+    player.agent.set_control_tie_breaker(tie_breaker);
+    true
 }
 
-/// A state, and whether it is a connected or a disconnected one.
-const STATES: [(IceConnectionState, bool, bool); 5] = [
-    (IceConnectionState::New, false, false),
-    (IceConnectionState::Checking, false, false),
-    (IceConnectionState::Connected, true, false),
-    (IceConnectionState::Completed, true, false),
-    (IceConnectionState::Disconnected, false, true),
-];
-
-#[test]
-fn connected_and_completed_are_connected(rt: HostRuntime) {
-    for (state, connected, disconnected) in STATES {
-        assert_eq!(&rt; state.is_connected(), connected, "{state:?}");
-        assert_eq!(&rt; state.is_disconnected(), disconnected, "{state:?}");
-    }
+fn a_check_claims_the_role_by_the_tie_breaker(player: &mut Player) -> Told {
+    Story("a_check_claims_the_role_by_the_tie_breaker").holds(&[
+        player.is_paired() && breaks_ties_by(player, TIE_BREAKER),
+        player.checks(0) && player.has_claimed(TIE_BREAKER, "farr:near"),
+    ])
 }
 
-#[test]
-fn how_long_a_pair_is_checked_follows_the_delays(rt: HostRuntime) -> Result<(), Fail> {
-    let mut player = alone(rt.alloc())?;
-    // 500, and 500 behind the last check
+/// Whether the state is a connected one, and whether a disconnected one.
+fn is_of(state: IceConnectionState, connected: bool, disconnected: bool) -> bool {
+    state.is_connected() == connected && state.is_disconnected() == disconnected
+}
+
+fn connected_and_completed_are_connected() -> Told {
+    Story("connected_and_completed_are_connected").holds(&[
+        is_of(IceConnectionState::New, false, false),
+        is_of(IceConnectionState::Checking, false, false),
+        is_of(IceConnectionState::Connected, true, false),
+        is_of(IceConnectionState::Completed, true, false),
+        is_of(IceConnectionState::Disconnected, false, true),
+    ])
+}
+
+/// A pair without answers is given up behind so many milliseconds.
+fn gives_up_behind(player: &Player, ms: u64) -> bool {
+    player.agent.ice_timeout() == Duration::from_millis(ms)
+}
+
+/// Checks a pair twice from now on.
+fn checks_twice(player: &mut Player) -> bool {
     player.agent.set_max_stun_retransmits(2);
-    assert!(rt; player.agent.ice_timeout() == Duration::from_millis(1000));
-    player.agent.set_max_stun_rto(Duration::from_millis(400));
-    assert!(rt; player.agent.ice_timeout() == Duration::from_millis(800));
-    player
-        .agent
-        .set_initial_stun_rto(Duration::from_millis(100));
-    assert!(rt; player.agent.ice_timeout() == Duration::from_millis(400));
-    Ok(())
+    true
+}
+
+fn how_long_a_pair_is_checked_follows_the_delays(player: &mut Player) -> Told {
+    Story("how_long_a_pair_is_checked_follows_the_delays").holds(&[
+        player.is_alone(),
+        // 500, and 500 behind the last check
+        checks_twice(player) && gives_up_behind(player, 1000),
+        player.waits_at_most(400) && gives_up_behind(player, 800),
+        player.waits_at_first(100) && gives_up_behind(player, 400),
+    ])
 }

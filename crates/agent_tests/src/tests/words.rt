@@ -4,15 +4,35 @@ use super::driver::generator;
 use super::*;
 use rand_core::Rng;
 
+/// What is drawn.
+struct Words;
+
+impl Subject for Words {
+    fn play(&self, player: &mut Player) -> Told {
+        credentials_are_the_low_six_bits_of_the_bytes(player.alloc)?;
+        a_check_draws_its_id_and_nothing_else_draws(player)
+    }
+}
+
 #[test]
-fn credentials_are_the_low_six_bits_of_the_bytes(rt: HostRuntime) -> Result<(), Fail> {
+fn words_are_drawn(rt: HostRuntime) -> Result<(), Fail> {
+    tell(rt.alloc(), &Words)
+}
+
+/// They are this user fragment and password.
+fn are(creds: &IceCreds, ufrag: &str, pass: &str) -> bool {
+    creds.ufrag.as_str() == ufrag && creds.pass.as_str() == pass
+}
+
+fn credentials_are_the_low_six_bits_of_the_bytes(alloc: Global) -> Told {
     let mut rng = generator();
-    let creds = IceCreds::new(rt.alloc(), &mut rng)?;
-    assert_eq!(rt; creds.ufrag.as_str(), "3CchJ0H7wzd6TySD");
-    assert_eq!(rt; creds.pass.as_str(), "L4k/ugtLtjG/t/vBawfmQL");
+    let drawn = match IceCreds::new(alloc, &mut rng) {
+        Ok(creds) => are(&creds, "3CchJ0H7wzd6TySD", "L4k/ugtLtjG/t/vBawfmQL"),
+        Err(_) => false,
+    };
     // four words and six: 16 bytes and 22
-    assert_eq!(rt; rng.next_u32(), 0x32db86fe);
-    Ok(())
+    let sentences = [drawn, rng.next_u32() == 0x32db86fe];
+    Story("credentials_are_the_low_six_bits_of_the_bytes").holds(&sentences)
 }
 
 /// The bytes b7025ca109f4477b30331dba: the first three words, each least byte first.
@@ -20,12 +40,17 @@ const ID: TransId = TransId([
     0xb7, 0x02, 0x5c, 0xa1, 0x09, 0xf4, 0x47, 0x7b, 0x30, 0x33, 0x1d, 0xba,
 ]);
 
-#[test]
-fn a_check_draws_its_id_and_nothing_else_draws(rt: HostRuntime) -> Result<(), Fail> {
-    let mut player = paired(rt.alloc())?;
+/// Draws from the generator of the published example from now on.
+fn draws(player: &mut Player) -> bool {
     player.rng = generator();
-    assert!(rt; player.checks(0) && player.sent_id() == Some(ID));
-    assert!(rt; player.timeout(249) && player.is_silent());
-    assert_eq!(rt; player.rng.next_u32(), 0x83d2f293);
-    Ok(())
+    true
+}
+
+fn a_check_draws_its_id_and_nothing_else_draws(player: &mut Player) -> Told {
+    Story("a_check_draws_its_id_and_nothing_else_draws").holds(&[
+        player.is_paired() && draws(player),
+        player.checks(0) && player.sent_id() == Some(ID),
+        player.timeout(249) && player.is_silent(),
+        player.rng.next_u32() == 0x83d2f293,
+    ])
 }
