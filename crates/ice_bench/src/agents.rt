@@ -55,7 +55,7 @@ pub fn case_of(name: &str) -> Option<(Turn, u16)> {
     Some((turn, pairs))
 }
 
-/// Makes an agent with so many pairs, and then takes that many turns.
+/// Makes an agent with so many pairs, and then takes that many turns. Only this function owns an agent; the others borrow it.
 pub fn turns(
     alloc: Global,
     turn: Turn,
@@ -63,94 +63,106 @@ pub fn turns(
     rounds: u64,
     sum: &mut Checksum,
 ) -> Result<(), IceError> {
+    let mut agent = make(alloc)?;
+    set_up(&mut agent, alloc, pairs)?;
+    take_turns(&mut agent, turn, pairs, rounds, sum)
+}
+
+fn make(alloc: Global) -> Result<Box<Agent>, IceError> {
+    let agent = Agent::new(alloc, creds(alloc, "p9KA", PASSWORD)?, 1)?;
+    Ok(Box::new(alloc, agent)?)
+}
+
+/// The agent is the one that the request is for, at 10.0.0.1:1000, and is met by so many pairs.
+fn set_up(agent: &mut Agent, alloc: Global, pairs: u16) -> Result<(), IceError> {
+    agent.set_remote_credentials(creds(alloc, "SQAt", PEER_PASSWORD)?)?;
+    let _ = agent.add_local_candidate(Candidate::host(alloc, at(1, 1000), Protocol::Udp)?)?;
+    meet(agent, pairs)
+}
+
+/// A request comes from each of so many ports of 10.0.0.2, and so the agent has a pair for each.
+fn meet(agent: &mut Agent, pairs: u16) -> Result<(), IceError> {
+    let mut unused = Checksum(0);
+    for pair in 0..pairs {
+        take(agent, FIRST_PORT.saturating_add(pair), &BROWSER_REQUEST)?;
+        poll(agent, &mut unused);
+    }
+    Ok(())
+}
+
+fn take_turns(
+    agent: &mut Agent,
+    turn: Turn,
+    pairs: u16,
+    rounds: u64,
+    sum: &mut Checksum,
+) -> Result<(), IceError> {
     match turn {
-        Turn::Request => requests(alloc, pairs, rounds, sum),
-        Turn::Answer => answers(alloc, pairs, rounds, sum),
-        Turn::Check => checks(alloc, pairs, rounds, sum),
-        Turn::Idle => idle_moments(alloc, pairs, rounds, sum),
+        Turn::Request => requests(agent, pairs, rounds, sum),
+        Turn::Answer => answers(agent, pairs, rounds, sum),
+        Turn::Check => checks(agent, rounds, sum),
+        Turn::Idle => idle_moments(agent, pairs, rounds, sum),
     }
 }
 
-fn requests(alloc: Global, pairs: u16, rounds: u64, sum: &mut Checksum) -> Result<(), IceError> {
-    let mut agent = met(alloc, pairs)?;
+fn requests(
+    agent: &mut Agent,
+    pairs: u16,
+    rounds: u64,
+    sum: &mut Checksum,
+) -> Result<(), IceError> {
     for _ in 0..rounds {
-        take(&mut agent, port_of(pairs), &BROWSER_REQUEST)?;
-        poll(&mut agent, sum);
+        take(agent, port_of(pairs), &BROWSER_REQUEST)?;
+        poll(agent, sum);
     }
     Ok(())
 }
 
-fn answers(alloc: Global, pairs: u16, rounds: u64, sum: &mut Checksum) -> Result<(), IceError> {
-    let (mut agent, last) = checking(alloc, pairs)?;
+fn answers(agent: &mut Agent, pairs: u16, rounds: u64, sum: &mut Checksum) -> Result<(), IceError> {
     let mut buf = [0; 128];
-    let answer = answer_to(&last, &mut buf);
+    let answer = answer_to(&check_each(agent, pairs)?, &mut buf);
     for _ in 0..rounds {
-        sum.add(u64::from(take(&mut agent, port_of(pairs), answer)?));
-        poll(&mut agent, sum);
+        sum.add(u64::from(take(agent, port_of(pairs), answer)?));
+        poll(agent, sum);
     }
     Ok(())
 }
 
-fn checks(alloc: Global, pairs: u16, rounds: u64, sum: &mut Checksum) -> Result<(), IceError> {
-    let mut agent = met(alloc, pairs)?;
+fn checks(agent: &mut Agent, rounds: u64, sum: &mut Checksum) -> Result<(), IceError> {
     // a pair that was checked is due again at once, and the peer was heard of too lately for it to be given up
     agent.set_initial_stun_rto(Duration(0));
     let mut rng = Pcg32::seed_from_u64(1);
     for round in 0..rounds {
-        tell(&mut agent, Instant(START.0.saturating_add(round)), &mut rng)?;
-        poll(&mut agent, sum);
+        tell(agent, Instant(START.0.saturating_add(round)), &mut rng)?;
+        poll(agent, sum);
     }
     Ok(())
 }
 
 fn idle_moments(
-    alloc: Global,
+    agent: &mut Agent,
     pairs: u16,
     rounds: u64,
     sum: &mut Checksum,
 ) -> Result<(), IceError> {
-    let (mut agent, _) = checking(alloc, pairs)?;
+    let _ = check_each(agent, pairs)?;
     let mut rng = Pcg32::seed_from_u64(1);
     for _ in 0..rounds {
-        tell(&mut agent, START, &mut rng)?;
-        sum.add(wake(&mut agent));
+        tell(agent, START, &mut rng)?;
+        sum.add(wake(agent));
     }
     Ok(())
 }
 
-/// The agent that the request is for, at 10.0.0.1:1000.
-fn alone(alloc: Global) -> Result<Agent, IceError> {
-    let mut agent = Agent::new(alloc, creds(alloc, "p9KA", PASSWORD)?, 1)?;
-    agent.set_remote_credentials(creds(alloc, "SQAt", PEER_PASSWORD)?)?;
-    let _ = agent.add_local_candidate(Candidate::host(alloc, at(1, 1000), Protocol::Udp)?)?;
-    Ok(agent)
-}
-
-/// The agent behind a request from each of so many ports of 10.0.0.2, and so with a pair for each.
-fn met(alloc: Global, pairs: u16) -> Result<Agent, IceError> {
-    let mut agent = alone(alloc)?;
-    let mut unused = Checksum(0);
-    for pair in 0..pairs {
-        take(
-            &mut agent,
-            FIRST_PORT.saturating_add(pair),
-            &BROWSER_REQUEST,
-        )?;
-        poll(&mut agent, &mut unused);
-    }
-    Ok(agent)
-}
-
-/// The same agent, each of whose pairs was checked once, and the last check.
-fn checking(alloc: Global, pairs: u16) -> Result<(Agent, Option<Transmit>), IceError> {
-    let mut agent = met(alloc, pairs)?;
+/// Each of so many pairs is checked once. The last check.
+fn check_each(agent: &mut Agent, pairs: u16) -> Result<Option<Transmit>, IceError> {
     let mut rng = Pcg32::seed_from_u64(1);
     let mut last = None;
     for _ in 0..pairs {
-        tell(&mut agent, START, &mut rng)?;
-        last = packet_of(&mut agent);
+        tell(agent, START, &mut rng)?;
+        last = packet_of(agent);
     }
-    Ok((agent, last))
+    Ok(last)
 }
 
 /// The signed answer to the check, and nothing where there is none.

@@ -27,8 +27,9 @@ pub fn creds(alloc: Global, ufrag: &str, pass: &str) -> Result<IceCreds, IceErro
     })
 }
 
-pub fn make_agent(alloc: Global, ufrag: &str, pass: &str) -> Result<Agent, IceError> {
-    Agent::new(alloc, creds(alloc, ufrag, pass)?, 1)
+pub fn make_agent(alloc: Global, ufrag: &str, pass: &str) -> Result<Box<Agent>, IceError> {
+    let agent = Agent::new(alloc, creds(alloc, ufrag, pass)?, 1)?;
+    Ok(Box::new(alloc, agent)?)
 }
 
 pub fn name_peer(agent: &mut Agent, alloc: Global, ufrag: &str, pass: &str) -> Outcome {

@@ -55,7 +55,6 @@ fn play_line<W: Write>(alloc: Global, line: &str, output: &mut W) -> io::Result<
     let known = match name {
         "values" => play_values(alloc, output),
         "run" => play_run(alloc, output),
-        "flood" => play_flood(alloc, output),
         _ => play_list(alloc, name, output),
     }?;
     end_list(alloc, output)?;
@@ -77,10 +76,19 @@ fn take_memory(alloc: Global, pieces: u64) {
     }
 }
 
+/// Only this function owns a stage, and so an agent; the others borrow it.
 fn play_list<W: Write>(alloc: Global, name: &str, output: &mut W) -> io::Result<bool> {
+    let mut stage = Stage::new(alloc);
+    play_on(&mut stage, name, output)
+}
+
+fn play_on<W: Write>(stage: &mut Stage, name: &str, output: &mut W) -> io::Result<bool> {
+    if name == "flood" {
+        return play_flood(stage, output);
+    }
     for list in &LISTS {
         if list.name == name {
-            play_steps(&mut Stage::new(alloc), list.steps, output)?;
+            play_steps(stage, list.steps, output)?;
             return Ok(true);
         }
     }
@@ -95,12 +103,11 @@ fn play_steps<W: Write>(stage: &mut Stage, steps: &[Step], output: &mut W) -> io
 }
 
 /// 101 requests come before the peer is known, of which the agent keeps the last 100.
-fn play_flood<W: Write>(alloc: Global, output: &mut W) -> io::Result<bool> {
-    let mut stage = Stage::new(alloc);
-    play_steps(&mut stage, &FLOOD_BEFORE, output)?;
+fn play_flood<W: Write>(stage: &mut Stage, output: &mut W) -> io::Result<bool> {
+    play_steps(stage, &FLOOD_BEFORE, output)?;
     for number in 1..102 {
-        take(&mut stage, Step::Numbered(number), output)?;
+        take(stage, Step::Numbered(number), output)?;
     }
-    play_steps(&mut stage, &FLOOD_BEHIND, output)?;
+    play_steps(stage, &FLOOD_BEHIND, output)?;
     Ok(true)
 }

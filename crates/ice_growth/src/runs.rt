@@ -57,27 +57,15 @@ fn one_call(alloc: Global, number: usize) -> Result<Vec<Call>, IceError> {
     Ok(calls)
 }
 
-/// The agent of the run: it knows its peer and one pair.
-fn paired(alloc: Global) -> Result<Agent, IceError> {
-    let mut agent = make_agent(alloc, "AAAA", "PPPP")?;
-    name_peer(&mut agent, alloc, "BBBB", "QQQQ")?;
-    add_host(&mut agent, alloc)?;
-    add_remote(&mut agent, alloc, LINE)?;
-    Ok(agent)
+/// The agent of the run knows its peer and one pair then.
+fn pair_up(agent: &mut Agent, alloc: Global) -> Result<(), IceError> {
+    name_peer(agent, alloc, "BBBB", "QQQQ")?;
+    add_host(agent, alloc)?;
+    add_remote(agent, alloc, LINE)?;
+    Ok(())
 }
 
 /// What was made, where memory was refused at most once.
-fn paired_twice<W: Write>(alloc: Global, output: &mut W) -> io::Result<Option<Agent>> {
-    if let Ok(agent) = paired(alloc) {
-        return Ok(Some(agent));
-    }
-    writeln!(output, "refused agent")?;
-    match paired(alloc) {
-        Ok(agent) => Ok(Some(agent)),
-        Err(_) => Ok(None),
-    }
-}
-
 fn calls_twice<W: Write>(alloc: Global, output: &mut W) -> io::Result<Option<Vec<Call>>> {
     if let Ok(calls) = calls_of(alloc) {
         return Ok(Some(calls));
@@ -114,17 +102,47 @@ fn run_twice<W: Write>(
     }
 }
 
-/// Makes a run of calls, and each refused call once more, alone. Prints each call's answer and what it issued.
+/// Makes a run of calls, with another agent where memory for the first was refused.
 pub fn play_run<W: Write>(alloc: Global, output: &mut W) -> io::Result<bool> {
-    let Some(mut agent) = paired_twice(alloc, output)? else {
+    if play_agent(alloc, output)? {
+        return Ok(true);
+    }
+    writeln!(output, "refused agent")?;
+    if !play_agent(alloc, output)? {
         writeln!(output, "no agent")?;
-        return Ok(true);
-    };
+    }
+    Ok(true)
+}
+
+/// Makes the run with an agent of its own; whether there was memory for the agent.
+fn play_agent<W: Write>(alloc: Global, output: &mut W) -> io::Result<bool> {
+    match make_agent(alloc, "AAAA", "PPPP") {
+        Ok(mut agent) => play_calls(&mut agent, alloc, output),
+        Err(_) => Ok(false),
+    }
+}
+
+/// Makes the run, and each refused call once more, alone. Prints each call's answer and what it issued. False where there was no
+/// memory to pair the agent.
+fn play_calls<W: Write>(agent: &mut Agent, alloc: Global, output: &mut W) -> io::Result<bool> {
+    if pair_up(agent, alloc).is_err() {
+        return Ok(false);
+    }
     let mut random = Pcg32::new(0, 0);
-    let Some(log) = run_twice(&mut agent, &mut random, alloc, output)? else {
-        writeln!(output, "no run")?;
-        return Ok(true);
-    };
+    match run_twice(agent, &mut random, alloc, output)? {
+        Some(log) => print_log(agent, &mut random, alloc, &log, output)?,
+        None => writeln!(output, "no run")?,
+    }
+    Ok(true)
+}
+
+fn print_log<W: Write>(
+    agent: &mut Agent,
+    random: &mut Pcg32,
+    alloc: Global,
+    log: &RunLog,
+    output: &mut W,
+) -> io::Result<()> {
     writeln!(
         output,
         "run {} entries, stopped {}",
@@ -133,13 +151,12 @@ pub fn play_run<W: Write>(alloc: Global, output: &mut W) -> io::Result<bool> {
     )?;
     for entry in &log.entries {
         if entry.answer == Answer::Refused(IceError::OutOfMemory) {
-            make_alone(&mut agent, &mut random, alloc, entry.number, output)?;
+            make_alone(agent, random, alloc, entry.number, output)?;
         } else {
             print_entry(entry.number, entry, output)?;
         }
     }
-    print_end(&mut agent, output)?;
-    Ok(true)
+    print_end(agent, output)
 }
 
 /// Makes the call of this number, whose entry says that memory was refused.

@@ -15,7 +15,7 @@ use std::io::Write;
 #[derive(Drop)]
 pub struct Stage {
     alloc: Global,
-    agent: Option<Agent>,
+    agent: Option<Box<Agent>>,
     random: Pcg32,
     /// The transaction id of the first check.
     first: Option<TransId>,
@@ -75,10 +75,7 @@ fn print_outcome<W: Write>(word: &str, outcome: Outcome, output: &mut W) -> io::
 /// Makes the call of the step.
 fn make(stage: &mut Stage, step: Step) -> Outcome {
     match step {
-        Step::Agent(ufrag, pass) => {
-            stage.agent = Some(calls::make_agent(stage.alloc, ufrag, pass)?);
-            Ok("ok")
-        }
+        Step::Agent(ufrag, pass) => make_agent(stage, ufrag, pass),
         Step::Keep(line) => {
             stage.kept = Some(Candidate::from_sdp_string(stage.alloc, line)?);
             Ok("ok")
@@ -86,6 +83,11 @@ fn make(stage: &mut Stage, step: Step) -> Outcome {
         Step::Messages => Ok(use_messages(stage.first)),
         _ => make_on(stage, step),
     }
+}
+
+fn make_agent(stage: &mut Stage, ufrag: &str, pass: &str) -> Outcome {
+    stage.agent = Some(calls::make_agent(stage.alloc, ufrag, pass)?);
+    Ok("ok")
 }
 
 /// Makes the call of the step on the agent.
