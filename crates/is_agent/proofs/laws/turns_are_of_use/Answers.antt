@@ -1,4 +1,4 @@
-use Rattle.is_agent.proofs.LoggedRounds.{turns-are-of-use}
+use Rattle.is_agent.proofs.LogParts.{turns-are-of-use}
 use Rattle.is_agent.proofs.laws.turns_are_of_use.Goals as goal
 
 pub returns : goal.returns
