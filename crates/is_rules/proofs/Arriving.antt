@@ -1,6 +1,6 @@
 -- A packet that is no accepted success leaves a controlling agent's pairs due as they were, and adds none that is due early.
-use Rattle.std.proofs.Common.{◌≡◌, ◌≢◌, ℕ, ◌+◌, ◌<◌, ◌≤◌, ◌&&◌, ◌||◌, Bool, true, false, not, List, [], ◌∷◌, ◌++◌, length, map, filter, min, nat_le, Option, Some, None, is_some, Result, Ok, Err, inl, inr, ◌⊎◌, refl, ap, sym, ◌∙◌, subst, arith, if◌then◌else◌}
-use Rattle.std.specs.Prelude.{MatchBool, MatchOption}
+use Rattle.std.proofs.Common.{◌≡◌, ℕ, ◌+◌, ◌<◌, ◌≤◌, ◌&&◌, ◌||◌, Bool, true, false, not, List, [], ◌∷◌, ◌++◌, length, map, filter, min, nat_le, Option, Some, None, is_some, Ok, Err, inl, inr, ◌⊎◌, refl, ap, sym, ◌∙◌, subst, arith, if◌then◌else◌}
+use Rattle.std.specs.Prelude.{MatchOption}
 use Rattle.std.specs.List.{list_any}
 use Rattle.is_proto.specs.Lists.{Has, same}
 use Rattle.is_proto.specs.Moments.{MAX, later}
@@ -26,11 +26,11 @@ use Rattle.is_rules.specs.Sending.{path_between}
 use Rattle.is_rules.specs.Forming.{formed, with_pair, priority_between}
 use Rattle.is_rules.specs.Nominating.{NominatesWhere}
 use Rattle.is_rules.specs.Roles.{conflict_of, switched}
-use Rattle.is_rules.specs.Serving.{served, is_misled, names_another, pair_served, request_counted, with_sender, sender_candidate, replied, role_insisted, Drops, Queues, ServesPair, TakesAt, JoinsAt, Admits, SettlesBy, Settles, ServesHere, Serves, TakesRequest}
+use Rattle.is_rules.specs.Serving.{served, is_misled, names_another, pair_served, request_counted, with_sender, sender_candidate, replied, Drops, Queues, ServesPair, TakesAt, JoinsAt, Admits, SettlesBy, Settles, Serves}
 use Rattle.is_rules.specs.Answers.{is_role_conflict, GivesUpRole, TakesFailure}
 use Rattle.rand_core.specs.Stream.{Stream}
 use Rattle.is_rules.specs.Steps.{Entry, Flag, ReceivePacket, Step}
-use Rattle.is_rules.specs.Accepting.{Takes, HandlesPacket, source_told}
+use Rattle.is_rules.specs.Accepting.{Takes, HandlesPacket}
 use Rattle.is_rules.proofs.Frames.{either, Frame, admits}
 use Rattle.is_rules.proofs.Moves.{Has-map}
 use Rattle.is_rules.proofs.Onward.{Has-push}

@@ -43,4 +43,6 @@ pub mod Starving
 pub mod Announcing
 pub mod Arriving
 pub mod Rounding
+pub mod LogParts
+pub mod Announced
 pub mod LoggedRounds

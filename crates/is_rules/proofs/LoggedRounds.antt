@@ -1,50 +1,41 @@
 -- Rounds in a log: a pair whose checks are answered makes a path be announced within as many rounds as pairs are due no later.
-use Rattle.std.proofs.Common.{◌≡◌, ℕ, zero, suc, ◌+◌, ◌<◌, ◌≤◌, ◌==◌, Bool, true, false, List, [], ◌∷◌, ◌++◌, length, map, nat_le, nat_lt, Option, Some, None, is_some, Result, Ok, Err, inl, inr, ◌⊎◌, refl, ap, sym, ◌∙◌, subst, arith, append_assoc}
-use Rattle.std.specs.Prelude.{MatchBool, IsSomeAnd, find, cond}
-use Rattle.std.specs.Option.{option_map_or}
-use Rattle.std.proofs.lemmas.Bool.{eqb-true}
+use Rattle.std.proofs.Common.{◌≡◌, ℕ, ◌+◌, ◌<◌, ◌≤◌, true, List, [], ◌∷◌, ◌++◌, length, map, nat_le, nat_lt, Option, Some, None, inl, inr, ◌⊎◌, refl, ap, sym, ◌∙◌, subst, arith, append_assoc}
+use Rattle.std.specs.Prelude.{IsSomeAnd}
 use Rattle.std.proofs.lemmas.Bool.Decides.{nat_tests}
 use Rattle.rand_core.specs.Stream.{Stream}
 use Rattle.is_proto.specs.Lists.{Has}
 use Rattle.is_proto.specs.Moments.{MAX}
 use Rattle.is_proto.specs.Packets.{Packet}
-use Rattle.is_proto.specs.declared.error.IceError.{IceError}
 use Rattle.is_candidate.specs.Candidates.{CandidateRecord}
-use Rattle.is_pair.specs.Pairs.{PairRecord, is_valid}
+use Rattle.is_pair.specs.Pairs.{PairRecord}
 use Rattle.is_pair.specs.Due.{asked, due_moment}
-use Rattle.is_pair.specs.Bag.{is_numbered, pair_numbered}
 use Rattle.is_pair.specs.Turns.{IsPaced, is_due_by, due_by}
 use Rattle.is_pair.proofs.Fewer.{some-pass}
 use Rattle.is_stun.specs.declared.header.Class.TheVariants as class
 use Rattle.is_stun.specs.declared.timing.StunTiming.{StunTiming}
 use Rattle.is_stun.specs.Message.{Message}
 use Rattle.is_rules.specs.declared.told.Path.{Path}
-use Rattle.is_rules.specs.declared.told.Told.{Told}
 use Rattle.is_rules.specs.Told.{issued_as}
 use Rattle.is_rules.specs.Agent.{AgentRecord}
 use Rattle.is_rules.specs.Sending.{path_of}
-use Rattle.is_rules.specs.Nominating.{announced_pair, is_eligible, stands_at}
-use Rattle.is_rules.specs.Polls.{IsPolled, PollsTimeout, WakesFrom, Wakes, is_waiting, is_idle}
-use Rattle.is_rules.specs.Timeouts.{TimesOut}
-use Rattle.is_rules.specs.Steps.{Call, Entry, Answer, ReceivePacket, HandleTimeout, PollTransmit, PollTimeout, PollEvent, Done, Polled, Wake, quiet, answer_by, done, Step}
+use Rattle.is_rules.specs.Polls.{PollsTimeout, WakesFrom, Wakes, is_waiting, is_idle}
+use Rattle.is_rules.specs.Steps.{Call, Entry, ReceivePacket, HandleTimeout, PollTransmit, PollTimeout, PollEvent, done, Step}
 use Rattle.is_rules.specs.Sound.{IsSound}
 use Rattle.is_rules.specs.Brought.{Brings}
-use Rattle.is_rules.specs.Points.{IsTopAnnounced}
-use Rattle.is_rules.specs.Effects.{last_of, PathEffect}
 use Rattle.is_rules.specs.Logs.{Logged}
-use Rattle.is_rules.specs.Runs.{IsFresh, Run, Point}
-use Rattle.is_rules.specs.Progress.{Turn, Awaits, IsUnanswered, IsOfUse}
-use Rattle.is_rules.specs.Rounds.{LoggedRound, entries_of, is_poll, is_between, AreTaken, BringsSuccess, IsRound, AreRounds, RunsOn, Part, IsControllingIn, AnnouncesIn, PartsStand, RoundsAnnounce, AnsweredRoundsAnnounce, PartsAreRuns, TurnsAreOfUse}
+use Rattle.is_rules.specs.Runs.{IsFresh, Run}
+use Rattle.is_rules.specs.Progress.{Turn}
+use Rattle.is_rules.specs.Rounds.{LoggedRound, entries_of, is_between, BringsSuccess, IsRound, AreRounds, RunsOn, IsControllingIn, AnnouncesIn, AnsweredRoundsAnnounce}
 use Rattle.is_rules.proofs.Frames.{either}
 use Rattle.is_rules.proofs.Rising.{below-each}
-use Rattle.is_rules.proofs.PathLaws.{below_is}
 use Rattle.is_rules.proofs.EffectLaws.{path_law}
-use Rattle.is_rules.proofs.LogLaws.{none_pass, runs_sound}
+use Rattle.is_rules.proofs.LogLaws.{runs_sound}
 use Rattle.is_rules.proofs.Moving.{same-path}
-use Rattle.is_rules.proofs.Starving.{wakes-are-of-use, turn-fits, turn-moves, turn-keeps, distinct-sound}
-use Rattle.is_rules.proofs.Arriving.{NoneValid, Arrived, arrived-same, receives, spares-same, spares-map}
-use Rattle.is_rules.proofs.Announcing.{eligible, point-of, answers-announce}
+use Rattle.is_rules.proofs.Starving.{turn-fits, turn-moves, turn-keeps, distinct-sound}
+use Rattle.is_rules.proofs.Arriving.{Arrived, arrived-same, receives, spares-same, spares-map}
 use Rattle.is_rules.proofs.Rounding.{Ready, ready-on, one, turn-ready, drained-sound}
+use Rattle.is_rules.proofs.LogParts.{no-case, run-on, starts-controlling, Halves, halves, all-taken, asked-for, passed}
+use Rattle.is_rules.proofs.Announced.{announces-at}
 
 lt-is : (n m : ℕ) → n < m → nat_lt n m ≡ true
 lt-is n m h = grind (arith, nat_tests, h)
@@ -52,153 +43,12 @@ lt-is n m h = grind (arith, nat_tests, h)
 le-is : (n m : ℕ) → n ≤ m → nat_le n m ≡ true
 le-is n m h = grind (arith, nat_tests, h)
 
-no-case : {A : Type 0} → false ≡ true → A
-no-case h = absurd (cc)
-
-wake-is : (a b : Option ℕ) → Wake a ≡ Wake b → a ≡ b
-wake-is a b h = cc
-
-polled-is : (a b : Option Packet) → Polled a ≡ Polled b → a ≡ b
-polled-is a b h = cc
-
--- a moment that is done is one that was not refused
-none-refused : (r : Result (Unit {0}) IceError) → answer_by done r ≡ Done → r ≡ Ok tt
-none-refused (Ok u) is = refl
-none-refused (Err error) is = absurd (cc)
-
-none-left : (given : Option Packet) (old new : List Packet) → IsPolled old given new → given ≡ None → new ≡ []
-none-left None old new h is = h.1
-none-left (Some packet) old new h is = absurd (cc)
-
-none-still : (given : Option Packet) (old new : List Packet) → IsPolled old given new → old ≡ [] → new ≡ []
-none-still None old new h is = h.1
-none-still (Some packet) old new h is = let no : packet ∷ new ≡ [] = sym h ∙ is in absurd (cc)
-
--- ---- the pair that the announced number names
-
-found-by : (test : PairRecord → Bool) (x p : PairRecord) (xs : List PairRecord) (b : Bool) → test x ≡ b → (find test xs ≡ Some p → Has xs p × (test p ≡ true))
-    → cond b (Some x) (find test xs) ≡ Some p → Has (x ∷ xs) p × (test p ≡ true)
-found-by test x p xs true passes rest is = let same : x ≡ p = cc in (inl same, subst (λ (y : PairRecord). test y ≡ true) same passes)
-found-by test x p xs false passes rest is = let k = rest is in (inr k.0, k.1)
-
-found-in : (test : PairRecord → Bool) (ps : List PairRecord) (p : PairRecord) → find test ps ≡ Some p → Has ps p × (test p ≡ true)
-found-in test [] p is = let no : None ≡ Some p = is in absurd (cc)
-found-in test (x ∷ xs) p is = found-by test x p xs (test x) refl (λ k. found-in test xs p k) is
-
-named-at : (announced : Option ℕ) (priority : ℕ) (pairs : List PairRecord) → stands_at announced priority pairs ≡ true
-    → (p : PairRecord) × Has pairs p × (announced ≡ Some p.number)
-named-at None priority pairs h = no-case h
-named-at (Some n) priority pairs h = by (pair_numbered n pairs) refl h where
-  by : (o : Option PairRecord) → pair_numbered n pairs ≡ o → option_map_or (λ (p : PairRecord). p.priority == priority) o false ≡ true
-      → (p : PairRecord) × Has pairs p × (Some n ≡ Some p.number)
-  by None is k = no-case k
-  by (Some p) is k = let f = found-in (is_numbered n) pairs p is in (p, f.0, ap Some (sym (eqb-true p.number n f.1)))
-
 module _ {H P : Type 0} where
   -- without its packets
   abbrev drained : AgentRecord H P → AgentRecord H P
   drained a = record a { packets = [] }
 
-  wakes-keep : (o wake : Option ℕ) (old new : AgentRecord H P) → WakesFrom o old wake new → new.packets ≡ old.packets
-  wakes-keep None wake old new h = ap (λ (a : AgentRecord H P). a.packets) h.1
-  wakes-keep (Some last) None old new h = absurd h
-  wakes-keep (Some last) (Some at) old new h = either (is_waiting old) h
-      (λ _ k. ap (λ (a : AgentRecord H P). a.packets) k.1)
-      (λ _ k. either (is_idle old) k
-      (λ _ l. ap (λ (a : AgentRecord H P). a.packets) l.1)
-      (λ _ l. ap (λ (a : AgentRecord H P). a.packets) l.1))
-
   module _ (mac : H → List ℕ → List ℕ → List ℕ) (answers : P → CandidateRecord → ℕ → ℕ → Type 0) where
-    -- ---- parts of a log
-
-    run-on : (first start last : AgentRecord H P) (s u t : Stream) (before part : List (Logged P)) → Run mac answers first s before start u
-        → RunsOn mac answers before start u part last t → Run mac answers first s (part ++ before) last t
-    run-on first start last s u t before [] led (is, same) =
-        subst (λ (a : AgentRecord H P). Run mac answers first s before a t) (sym is) (subst (λ v. Run mac answers first s before start v) (sym same) led)
-    run-on first start last s u t before (x ∷ part) led (mid, v, run, number, based, step) =
-        (mid, v, run-on first start mid s u v before part led run, number, based, step)
-
-    cut : (first last : AgentRecord H P) (s t : Stream) (part before : List (Logged P)) → Run mac answers first s (part ++ before) last t
-        → (start : AgentRecord H P) × (u : Stream) × Run mac answers first s before start u × RunsOn mac answers before start u part last t
-    cut first last s t [] before run = (last, t, run, (refl, refl))
-    cut first last s t (x ∷ part) before (mid, v, run, number, based, step) =
-        let k = cut first mid s v part before run in
-        (k.0, k.1, k.2, (mid, v, k.3, number, based, step))
-
-    pub parts-are-runs : PartsAreRuns {H = H} {P = P} mac answers
-    parts-are-runs first last s t log run rest part before split =
-        let whole = cut first last s t rest (part ++ before) (subst (λ (l : List (Logged P)). Run mac answers first s l last t) split run) in
-        let k = cut first whole.0 s whole.1 part before whole.2 in
-        (k.0, whole.0, record { rest = rest; split = split; at = k.1; led = k.2; behind = whole.1; run = k.3 })
-
-    now-controlling : (before : List (Logged P)) (start last : AgentRecord H P) (u t : Stream) (part : List (Logged P)) (run : RunsOn mac answers before start u part last t)
-        → IsControllingIn mac answers before start u part last t run → last.controlling ≡ true
-    now-controlling before start last u t [] run role = role
-    now-controlling before start last u t (x ∷ part) run role = role.0
-
-    starts-controlling : (before : List (Logged P)) (start last : AgentRecord H P) (u t : Stream) (part : List (Logged P)) (run : RunsOn mac answers before start u part last t)
-        → IsControllingIn mac answers before start u part last t run → start.controlling ≡ true
-    starts-controlling before start last u t [] run role = ap (λ (a : AgentRecord H P). a.controlling) (sym run.0) ∙ role
-    starts-controlling before start last u t (x ∷ part) (mid, v, run, number, based, step) role = starts-controlling before start mid u v part run role.1
-
-    -- a part of two parts
-    abbrev Halves : List (Logged P) → AgentRecord H P → Stream → List (Logged P) → List (Logged P) → AgentRecord H P → Stream → Type 0
-    Halves before start u xs older last t =
-        (mid : AgentRecord H P) × (v : Stream)
-        × (front : RunsOn mac answers before start u older mid v) × IsControllingIn mac answers before start u older mid v front
-        × (back : RunsOn mac answers (older ++ before) mid v xs last t) × IsControllingIn mac answers (older ++ before) mid v xs last t back
-
-    halves : (before : List (Logged P)) (start last : AgentRecord H P) (u t : Stream) (xs older : List (Logged P)) (run : RunsOn mac answers before start u (xs ++ older) last t)
-        → IsControllingIn mac answers before start u (xs ++ older) last t run → Halves before start u xs older last t
-    halves before start last u t [] older run role = (last, t, run, role, (refl, refl), now-controlling before start last u t older run role)
-    halves before start last u t (x ∷ xs) older (m, v, run, number, based, step) role =
-        let k = halves before start m u v xs older run role.1 in
-        (k.0, k.1, k.2, k.3, (m, v, k.4, number ∙ ap length (append_assoc xs older before), based, step), (role.0, k.5))
-
-    -- ---- packets that were taken
-
-    poll-keeps : (call : Call P) (e : Entry) (old new : AgentRecord H P) (s t : Stream) → is_poll call ≡ true → Step mac answers old s call e new t → old.packets ≡ [] → new.packets ≡ []
-    poll-keeps PollTransmit e old new s t is (given, told, (polled, made), drawn) none = none-still given old.packets new.packets polled none
-    poll-keeps PollTimeout e old new s t is (wake, told, woken, drawn) none = wakes-keep old.last_moment wake old new woken ∙ none
-    poll-keeps PollEvent e old new s t is (given, told, (polled, made), drawn) none = ap (λ (a : AgentRecord H P). a.packets) made ∙ none
-    poll-keeps _ e old new s t is step none = no-case is
-
-    all-taken : (first last : AgentRecord H P) (s t : Stream) (log : List (Logged P)) → Run mac answers first s log last t → AreTaken log → last.packets ≡ []
-    all-taken first last s t [] run taken = absurd taken
-    all-taken first last s t (x ∷ before) (mid, u, run, number, based, step) (inl (call, answer)) =
-        gone (subst (λ (c : Call P). Step mac answers mid u c x.entry last t) call step) where
-          gone : Step mac answers mid u PollTransmit x.entry last t → last.packets ≡ []
-          gone (given, told, (polled, made), drawn) =
-              none-left given mid.packets last.packets polled (polled-is given None (sym (ap (λ (e : Entry). e.answer) told) ∙ answer))
-    all-taken first last s t (x ∷ before) (mid, u, run, number, based, step) (inr (poll, taken)) =
-        poll-keeps x.call x.entry mid last u t poll step (all-taken first mid s u before run taken)
-
-    -- ---- turns
-
-    asked-for : (old new : AgentRecord H P) (s t : Stream) (e : Entry) (wake : ℕ) → e.answer ≡ Wake (Some wake) → Step mac answers old s PollTimeout e new t → PollsTimeout old (Some wake) new
-    asked-for old new s t e wake woken (told, shown, polls, drawn) =
-        subst (λ (o : Option ℕ). PollsTimeout old o new) (wake-is told (Some wake) (sym (ap (λ (x : Entry). x.answer) shown) ∙ woken)) polls
-
-    passed : (old new : AgentRecord H P) (s t : Stream) (now : ℕ) (e : Entry) → e.answer ≡ Done → Step mac answers old s (HandleTimeout now) e new t → TimesOut mac now old s (Ok tt) e.told new t
-    passed old new s t now e is_done (res, told, is, times) =
-        let good : res ≡ Ok tt = none-refused res (sym (ap (λ (x : Entry). x.answer) is) ∙ is_done) in
-        subst (λ (x : Told). TimesOut mac now old s (Ok tt) x new t) (sym (ap (λ (x : Entry). x.told) is))
-        (subst (λ (o : Result (Unit {0}) IceError). TimesOut mac now old s o told new t) good times)
-
-    pub turns-are-of-use : TurnsAreOfUse {H = H} {P = P} mac answers
-    turns-are-of-use first s log fresh before start last asked moment wake now part turn checking some early =
-        of_use part.run where
-          of_use : RunsOn mac answers before start part.at (moment ∷ asked ∷ []) last part.behind → IsOfUse start moment.entry.told last
-          of_use (mid, u, (old, v, (same, drawn), number_asked, based_asked, step_asked), number, based, step) =
-              let asking : Step mac answers old v PollTimeout asked.entry mid u = subst (λ (c : Call P). Step mac answers old v c asked.entry mid u) turn.asks step_asked in
-              let polls : PollsTimeout old (Some wake) mid = asked-for old mid v u asked.entry wake turn.woken asking in
-              let moves : Step mac answers mid u (HandleTimeout now) moment.entry last part.behind = subst (λ (c : Call P). Step mac answers mid u c moment.entry last part.behind) turn.comes step in
-              wakes-are-of-use mac start mid last u part.behind wake now moment.entry.told
-              (runs_sound mac answers (path_law mac answers) first start s part.at before fresh part.led) checking
-              (all-taken first start s part.at before part.led turn.taken) some early
-              (subst (λ (a : AgentRecord H P). PollsTimeout a (Some wake) mid) same polls) turn.kept
-              (passed mid last u part.behind now moment.entry turn.done moves)
-
     -- ---- between two moments
 
     module _ (by at : ℕ) (behind : by < at) (early : at < MAX) where
@@ -266,71 +116,6 @@ module _ {H P : Type 0} where
         }
 
     module _ (first : AgentRecord H P) (s : Stream) (log : List (Logged P)) (fresh : IsFresh first) where
-      -- ---- an accepted success announces
-
-      named-on : (mid last : AgentRecord H P) (x : Logged P) → PathEffect mac mid x.call x.entry last → IsSound mid
-          → ((p : PairRecord) → Has mid.pairs p → mid.announced ≡ Some p.number → is_valid p ≡ true)
-          → (o : Option Path) → last_of x.entry.told.announced ≡ o → (p : PairRecord) → Has last.pairs p → last.announced ≡ Some p.number → is_valid p ≡ true
-      named-on mid last x f sound were (Some path) is p has named = (f.number_names path is p has named).1
-      named-on mid last x f sound were None is p has named =
-          let was : mid.announced ≡ Some p.number = sym (f.number_stays is) ∙ named in
-          elim (f.numbers p has) [
-            | inl (q, there, number, path, valid, nominated) ↦ valid (were q there (was ∙ ap Some (sym number)))
-            | inr n ↦
-                (let lt : p.number < mid.next_number = below_is mid.next_number p.number mid.announced sound.announced was in
-                let le : mid.next_number ≤ p.number = n.0 in
-                absurd (let no : ⊥ = omega (arith, lt, le) in no))
-          ]
-
-      -- the announced number names no pair that is not valid
-      named-valid : (before : List (Logged P)) (last : AgentRecord H P) (t : Stream) → Run mac answers first s before last t
-          → (p : PairRecord) → Has last.pairs p → last.announced ≡ Some p.number → is_valid p ≡ true
-      named-valid [] last t run p has named = absurd (subst (λ (a : AgentRecord H P). Has a.pairs p) (run.0 ∙ fresh.2) has)
-      named-valid (x ∷ before) last t (mid, u, run, number, based, step) p has named =
-          let sound = runs_sound mac answers (path_law mac answers) first mid s u before fresh run in
-          let f = (path_law mac answers mid last u t x.call x.entry sound based step).0 in
-          named-on mid last x f sound (named-valid before mid u run) (last_of x.entry.told.announced) refl p has named
-
-      -- where no pair was valid, a pair that is named was announced now
-      named-now : (mid after : AgentRecord H P) (x : Logged P) → PathEffect mac mid x.call x.entry after → IsSound mid → NoneValid mid.pairs
-          → ((p : PairRecord) → Has mid.pairs p → mid.announced ≡ Some p.number → is_valid p ≡ true)
-          → (o : Option Path) → last_of x.entry.told.announced ≡ o → (p : PairRecord) → Has after.pairs p → after.announced ≡ Some p.number → is_some o ≡ true
-      named-now mid after x f sound none were (Some path) is p has named = refl
-      named-now mid after x f sound none were None is p has named =
-          let was : mid.announced ≡ Some p.number = sym (f.number_stays is) ∙ named in
-          elim (f.numbers p has) [
-            | inl (q, there, number, path, valid, nominated) ↦
-                (let no : false ≡ true = sym (none q there) ∙ were q there (was ∙ ap Some (sym number)) in no)
-            | inr n ↦
-                (let lt : p.number < mid.next_number = below_is mid.next_number p.number mid.announced sound.announced was in
-                let le : mid.next_number ≤ p.number = n.0 in
-                absurd (let no : ⊥ = omega (arith, lt, le) in no))
-          ]
-
-      -- where a pair is eligible, the announced number names one
-      one-named : (a : AgentRecord H P) (q : PairRecord) → Has a.pairs q → is_eligible a.controlling q ≡ true → IsTopAnnounced a
-          → (p : PairRecord) × Has a.pairs p × (a.announced ≡ Some p.number)
-      one-named a q has able (None, none, stands) = absurd (none_pass (is_eligible a.controlling) a.pairs q none has able)
-      one-named a q has able (Some best, greatest, stands) = named-at a.announced best.priority a.pairs stands
-
-      announces-at : (before part : List (Logged P)) (mid after : AgentRecord H P) (x : Logged P) → Point mac answers first s log before mid x after
-          → NoneValid mid.pairs → after.controlling ≡ true → BringsSuccess x → Has part x → AnnouncesIn mac answers first s log part
-      announces-at before part mid after x point none role (at, by, m, brings, success) within =
-          let sound = runs_sound mac answers (path_law mac answers) first mid s point.at before fresh point.led in
-          let f = (path_law mac answers mid after point.at point.behind x.call x.entry sound point.given point.step).0 in
-          let taken = f.taken at by m brings success in
-          let named = one-named after taken.0 taken.1 (eligible after.controlling taken.0 role taken.3) (f.points (point-of mid x.call x.entry at by m brings success)) in (
-            before,
-            mid,
-            after,
-            x,
-            point,
-            within,
-            (at, by, m, brings, success),
-            named-now mid after x f sound none (named-valid before mid point.at point.led) (last_of x.entry.told.announced) refl named.0 named.1 named.2,
-            answers-announce mac answers first s log fresh before mid after x point at by m brings success role,
-          )
-
       -- ---- from entry to entry
 
       module _ (by at : ℕ) (behind : by < at) (early : at < MAX) (part : List (Logged P)) (Keeps : AgentRecord H P → Type 0)
@@ -346,10 +131,10 @@ module _ {H P : Type 0} where
             (λ y has. within y (inr has)) (λ y has. fits y (inr has)) led run role.1 keeps) [
               | inl announced ↦ inl announced
               | inr k ↦
-                  (let here = run-on first start mid s u v before xs led run in
+                  (let here = run-on mac answers first start mid s u v before xs led run in
                   elim (between-by by at behind early x.call x.entry mid last v t (ready_of mid k) (fits x (inl refl)) role.0 step) [
                     | inl success ↦
-                        inl (announces-at (xs ++ before) part mid last x
+                        inl (announces-at mac answers first s log fresh (xs ++ before) part mid last x
                         (record { rest = over; split = split; at = v; led = here; number = number; given = based; behind = t; step = step })
                         (ready_of mid k).invalid role.0 success (within x (inl refl)))
                     | inr came ↦
@@ -367,8 +152,8 @@ module _ {H P : Type 0} where
             (λ z has. within z (inr has)) (λ z has. fits z (inr has)) led run role.1 keeps) [
               | inl announced ↦ announced
               | inr k ↦
-                  announces-at (xs ++ before) part mid last x
-                  (record { rest = over; split = split; at = v; led = run-on first start mid s u v before xs led run; number = number; given = based; behind = t; step = step })
+                  announces-at mac answers first s log fresh (xs ++ before) part mid last x
+                  (record { rest = over; split = split; at = v; led = run-on mac answers first start mid s u v before xs led run; number = number; given = based; behind = t; step = step })
                   (ready_of mid k).invalid role.0 (subst (λ (z : Logged P). BringsSuccess z) (sym is) success) (within x (inl refl))
             ]
         meet before start last u t over (x ∷ xs) split within fits led (mid, v, run, number, based, step) role keeps y (inr has) success =
@@ -417,12 +202,12 @@ module _ {H P : Type 0} where
               wake = round.wake;
               asked = asked_old;
               polled = subst (λ (ps : List Packet). PollsTimeout (record old { packets = ps }) (Some round.wake) asked_old) none
-                  (asked-for old asked_old z w r.asked.entry round.wake round.turn.woken asking);
+                  (asked-for mac answers old asked_old z w r.asked.entry round.wake round.turn.woken asking);
               kept = round.turn.kept;
               before = w;
               behind = v;
               after = mid;
-              moment = passed asked_old mid w v r.now r.moment.entry round.turn.done moment;
+              moment = passed mac answers asked_old mid w v r.now r.moment.entry round.turn.done moment;
               left = mid.events;
               taken = refl;
             }
@@ -433,7 +218,7 @@ module _ {H P : Type 0} where
             → Waits by n path at 0 start → AnnouncesIn mac answers first s log part ⊎ ((now : ℕ) × Waits by n path now (length rounds) last)
         rounds-go [] last t over at split within rounds (is, same) role waits = inr (at, subst (λ (a : AgentRecord H P). Waits by n path at 0 a) (sym is) waits)
         rounds-go (r ∷ older) last t over at split within (round, rounds) run role waits =
-            let h = halves before start last u t r.behind (r.moment ∷ r.asked ∷ entries_of older) run role in
+            let h = halves mac answers before start last u t r.behind (r.moment ∷ r.asked ∷ entries_of older) run role in
             on-halves h (rounds-go older h.2.2.0 h.2.2.1 ((over ++ r.behind) ++ r.moment ∷ r.asked ∷ []) at line-older in-older rounds h.2.2.2 h.3.1.1 waits) where
               line : log ≡ (over ++ r.behind) ++ ((r.moment ∷ r.asked ∷ entries_of older) ++ before)
               line = split ∙ (ap (λ xs. over ++ xs) (append_assoc r.behind (r.moment ∷ r.asked ∷ entries_of older) before) ∙ sym (append_assoc over r.behind ((r.moment ∷ r.asked ∷ entries_of older) ++ before)))
@@ -457,20 +242,20 @@ module _ {H P : Type 0} where
                 has-behind [] ys x h = h
                 has-behind (y ∷ xs) ys x h = inr (has-behind xs ys x h)
 
-              on-halves : (h : Halves before start u r.behind (r.moment ∷ r.asked ∷ entries_of older) last t)
+              on-halves : (h : Halves mac answers before start u r.behind (r.moment ∷ r.asked ∷ entries_of older) last t)
                   → AnnouncesIn mac answers first s log part ⊎ ((now : ℕ) × Waits by n path now (length older) h.2.2.0)
                   → AnnouncesIn mac answers first s log part ⊎ ((now : ℕ) × Waits by n path now (length (r ∷ older)) last)
               on-halves (mid, v, (asked_old, w, (old, z, run_older, number_asked, based_asked, step_asked), number, based, step), role_front, back, role_back) so_far =
                   elim so_far [
                     | inl announced ↦ inl announced
                     | inr (now, k) ↦
-                        (let to_old = run-on first start old s u z before (entries_of older) led run_older in
-                        let none = all-taken first old s z (entries_of older ++ before) to_old round.turn.taken in
+                        (let to_old = run-on mac answers first start old s u z before (entries_of older) led run_older in
+                        let none = all-taken mac answers first old s z (entries_of older ++ before) to_old round.turn.taken in
                         let turn = turn-of older r old asked_old mid z w v round none
                         (subst (λ (c : Call P). Step mac answers old z c r.asked.entry asked_old w) round.turn.asks step_asked)
                         (subst (λ (c : Call P). Step mac answers asked_old w c r.moment.entry mid v) round.turn.comes step) in
                         let ready = turn-ready mac answers (drained old) (drained mid) now r.now r.moment.entry.told k.ready turn in
-                        let to_mid = run-on first start mid s u v before (r.moment ∷ r.asked ∷ entries_of older) led
+                        let to_mid = run-on mac answers first start mid s u v before (r.moment ∷ r.asked ∷ entries_of older) led
                         (asked_old, w, (old, z, run_older, number_asked, based_asked, step_asked), number, based, step) in
                         elim (turns older r now old mid round k turn) [
                           | inl (id, out) ↦
@@ -502,7 +287,7 @@ module _ {H P : Type 0} where
             };
             below = below-each start.next_number start.pairs sound.below;
             invalid = unanswered.invalid;
-            role = starts-controlling before start last part.at part.behind (entries_of rounds) part.run role;
+            role = starts-controlling mac answers before start last part.at part.behind (entries_of rounds) part.run role;
           };
           paced = waiting.paced;
           pair = p;

@@ -1,11 +1,11 @@
 -- Round after round: a pair whose checks are answered makes an answer be accepted within as many rounds as pairs are due no later.
-use Rattle.std.proofs.Common.{◌≡◌, ◌≢◌, ℕ, ◌+◌, ◌<◌, ◌≤◌, Bool, true, false, List, [], ◌∷◌, ◌++◌, length, nat_le, nat_lt, Option, Some, None, is_some, Result, Ok, Err, inl, inr, ◌⊎◌, refl, ap, sym, ◌∙◌, subst, arith}
+use Rattle.std.proofs.Common.{◌≡◌, ℕ, ◌+◌, ◌<◌, ◌≤◌, true, List, [], ◌∷◌, ◌++◌, length, nat_le, nat_lt, Some, is_some, Ok, inl, inr, ◌⊎◌, refl, ap, sym, ◌∙◌, subst, arith}
 use Rattle.std.proofs.lemmas.Bool.Decides.{nat_tests}
 use Rattle.std.proofs.lemmas.List.{get_or_append_left, length-append}
 use Rattle.is_proto.specs.Lists.{Has}
 use Rattle.is_proto.specs.Moments.{MAX}
 use Rattle.is_candidate.specs.Candidates.{CandidateRecord, base_of, candidate_at, nowhere}
-use Rattle.is_pair.specs.Pairs.{PairRecord, is_valid}
+use Rattle.is_pair.specs.Pairs.{PairRecord}
 use Rattle.is_pair.specs.Due.{due_moment}
 use Rattle.is_stun.specs.declared.header.Class.TheVariants as class
 use Rattle.is_stun.specs.declared.timing.StunTiming.{StunTiming}
@@ -22,10 +22,10 @@ use Rattle.rand_core.specs.Stream.{Stream}
 use Rattle.is_rules.proofs.Rising.{AllBelow, below-each}
 use Rattle.is_pair.specs.Turns.{IsPaced, is_due_by, due_by}
 use Rattle.is_pair.proofs.Fewer.{some-pass}
-use Rattle.is_rules.specs.Progress.{IsGone, IsChecking, ChecksOn, Turn, IsIdle, Arrival, IsMet, Round, IsSuccess, HasAnnounced, Arrives, Rounds, AnnouncesBehind, AnnouncesIn, AnsweredAnnounce}
+use Rattle.is_rules.specs.Progress.{Turn, Arrival, IsMet, Round, IsSuccess, HasAnnounced, Arrives, Rounds, AnnouncesBehind, AnnouncesIn, AnsweredAnnounce}
 use Rattle.is_rules.proofs.Moving.{Matches, matches-on, same-path}
 use Rattle.is_rules.proofs.Starving.{Fits, turn-fits, turn-moves, turn-keeps, distinct-sound}
-use Rattle.is_rules.proofs.Arriving.{NoneValid, DueAlike, Core, core_of, Grown, Arrived, receives}
+use Rattle.is_rules.proofs.Arriving.{NoneValid, Core, Grown, Arrived, receives}
 use Rattle.is_rules.proofs.Announcing.{eligible}
 
 le-is : (n m : ℕ) → n ≤ m → nat_le n m ≡ true

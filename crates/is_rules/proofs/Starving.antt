@@ -1,6 +1,6 @@
 -- Turn after turn: a pair that is due is checked within as many turns as there are pairs that are due no later.
-use Rattle.std.proofs.Common.{◌≡◌, ◌≢◌, ℕ, suc, ◌<◌, ◌≤◌, Bool, true, false, not, List, [], ◌∷◌, length, map, filter, drop, take_while, max, nat_le, nat_lt, Option, Some, None, is_some, unwrap_or, Result, Ok, Err, inl, inr, ◌⊎◌, refl, ap, sym, ◌∙◌, subst, arith, if◌then◌else◌}
-use Rattle.std.specs.Prelude.{MatchBool, MatchOption}
+use Rattle.std.proofs.Common.{◌≡◌, ℕ, suc, ◌<◌, ◌≤◌, Bool, true, false, List, [], ◌∷◌, length, map, filter, drop, take_while, max, nat_le, nat_lt, Option, Some, None, is_some, Ok, inl, inr, ◌⊎◌, refl, ap, sym, ◌∙◌, subst, arith}
+use Rattle.std.specs.Prelude.{MatchOption}
 use Rattle.std.proofs.lemmas.Bool.Decides.{nat_tests}
 use Rattle.std.proofs.lemmas.List.{length-drop}
 use Rattle.rand_core.specs.Stream.{Stream}
@@ -12,13 +12,12 @@ use Rattle.is_stun.specs.declared.header.Class.TheVariants as class
 use Rattle.is_stun.specs.declared.timing.StunTiming.{StunTiming}
 use Rattle.is_rules.specs.declared.credentials.IceCreds.{IceCreds}
 use Rattle.is_rules.specs.declared.told.Told.{Told}
-use Rattle.is_rules.specs.declared.event.IceAgentEvent.{IceAgentEvent}
 use Rattle.is_rules.specs.Told.{issued_as}
 use Rattle.is_rules.specs.Request.{RequestRecord}
 use Rattle.is_rules.specs.Agent.{AgentRecord}
 use Rattle.is_rules.specs.Sending.{path_of}
 use Rattle.is_rules.specs.Queue.{is_outdated, queue_left, next_request, first_taken, request_at}
-use Rattle.is_rules.specs.Polls.{PollsTimeout, WakesFrom, Wakes, WakesIdle, is_waiting, is_idle, soon, earliest_due}
+use Rattle.is_rules.specs.Polls.{PollsTimeout, WakesFrom, is_waiting, is_idle, soon, earliest_due}
 use Rattle.is_rules.specs.Timeouts.{awake, Proceeds, ServesQueued, TimesOut}
 use Rattle.is_rules.specs.Sound.{IsSound}
 use Rattle.is_rules.proofs.Frames.{either, Frame, Turns as Yields, serves}

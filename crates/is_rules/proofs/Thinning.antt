@@ -1,12 +1,12 @@
 -- What nomination and pairs given up leave of a list of pairs: fewer of them, each due as it was.
-use Rattle.std.proofs.Common.{◌≡◌, ◌≢◌, ℕ, ◌<◌, ◌≤◌, ◌&&◌, ◌||◌, Bool, true, false, not, List, [], ◌∷◌, length, map, filter, nat_le, nat_lt, Option, Some, None, unwrap_or, inl, inr, ◌⊎◌, refl, ap, sym, ◌∙◌, subst, arith, if◌then◌else◌}
+use Rattle.std.proofs.Common.{◌≡◌, ℕ, ◌≤◌, ◌&&◌, ◌||◌, Bool, true, false, not, List, [], ◌∷◌, length, map, filter, nat_le, nat_lt, Option, Some, None, unwrap_or, inl, inr, ◌⊎◌, refl, ap, sym, ◌∙◌, subst, arith, if◌then◌else◌}
 use Rattle.std.specs.List.{list_any}
 use Rattle.is_proto.specs.Lists.{Has}
 use Rattle.is_candidate.specs.Candidates.{CandidateRecord}
 use Rattle.is_pair.specs.Pairs.{PairRecord, is_nominated, is_valid, nominated}
 use Rattle.is_pair.specs.Checks.{unanswered_count}
 use Rattle.is_pair.specs.Due as due
-use Rattle.is_pair.specs.Bag.{is_numbered, change_at, without}
+use Rattle.is_pair.specs.Bag.{is_numbered, change_at}
 use Rattle.is_stun.specs.declared.timing.StunTiming.{StunTiming}
 use Rattle.is_rules.specs.declared.credentials.IceCreds.{IceCreds}
 use Rattle.is_rules.specs.declared.told.Path.{Path}
@@ -18,7 +18,7 @@ use Rattle.is_rules.proofs.Frames.{either}
 use Rattle.is_rules.proofs.Moves.{Has-map}
 use Rattle.is_rules.proofs.Onward.{Has-filter}
 use Rattle.is_rules.proofs.Serves.{Has-mapped}
-use Rattle.is_rules.proofs.Nominations.{announced, Announces, announces}
+use Rattle.is_rules.proofs.Nominations.{Announces, announces}
 use Rattle.is_pair.proofs.Fewer.{no-more, thinner}
 use Rattle.is_rules.specs.Progress.{IsGone}
 

@@ -1,7 +1,7 @@
 -- The wake-up that an agent asks for: behind the last moment, and behind no pair's due moment but for the pacing.
-use Rattle.std.proofs.Common.{◌≡◌, ℕ, ◌+◌, ◌*◌, ◌<◌, ◌≤◌, ◌||◌, Bool, true, false, not, List, [], ◌∷◌, map, fold, min, max, nat_le, Option, Some, None, inl, inr, refl, ap, sym, ◌∙◌, subst, arith}
+use Rattle.std.proofs.Common.{◌≡◌, ℕ, ◌*◌, ◌<◌, ◌≤◌, ◌||◌, Bool, true, false, not, List, [], ◌∷◌, map, fold, min, max, nat_le, Some, None, inl, inr, refl, ap, sym, ◌∙◌, subst, arith}
 use Rattle.std.proofs.lemmas.Bool.Decides.{nat_tests}
-use Rattle.std.specs.Prelude.{MatchBool, IsSomeAnd}
+use Rattle.std.specs.Prelude.{MatchBool}
 use Rattle.is_proto.specs.Lists.{Has, is_empty}
 use Rattle.is_proto.specs.Moments.{MAX, SECOND, later}
 use Rattle.is_pair.specs.Pairs.{PairRecord}

@@ -138,8 +138,8 @@ pub fn answered_rounds_announce<H: Sha1HmacProvider, P: LocalPreference>()
     ensures { AnsweredRoundsAnnounce H.mac P.answers }
 {}
 
-/// From a fresh agent, wherever a wake-up is asked for that is of use, and kept: a check goes out, a pair is given up, or fewer
-/// requests wait.
+/// From a fresh agent, wherever a wake-up is asked for while no packet waits, a moment then or later is of use: a check goes out, a
+/// pair is given up, or fewer requests wait.
 pub fn turns_are_of_use<H: Sha1HmacProvider, P: LocalPreference>()
     ensures { TurnsAreOfUse H.mac P.answers }
 {}

@@ -1,4 +1,4 @@
-use Rattle.is_rules.proofs.LoggedRounds.{parts-are-runs}
+use Rattle.is_rules.proofs.LogParts.{parts-are-runs}
 use Rattle.is_rules.proofs.laws.parts_are_runs.Goals as goal
 
 pub returns : goal.returns

@@ -1,4 +1,4 @@
-use Rattle.is_rules.proofs.LoggedRounds.{turns-are-of-use}
+use Rattle.is_rules.proofs.LogParts.{turns-are-of-use}
 use Rattle.is_rules.proofs.laws.turns_are_of_use.Goals as goal
 
 pub returns : goal.returns

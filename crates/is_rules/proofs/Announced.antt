@@ -1,0 +1,113 @@
+-- An accepted success announces a path, where no pair was valid before.
+use Rattle.std.proofs.Common.{◌≡◌, ℕ, ◌<◌, ◌≤◌, ◌==◌, Bool, true, false, List, [], ◌∷◌, Option, Some, None, is_some, inl, inr, refl, ap, sym, ◌∙◌, subst, arith}
+use Rattle.std.specs.Prelude.{find, cond}
+use Rattle.std.specs.Option.{option_map_or}
+use Rattle.std.proofs.lemmas.Bool.{eqb-true}
+use Rattle.rand_core.specs.Stream.{Stream}
+use Rattle.is_proto.specs.Lists.{Has}
+use Rattle.is_candidate.specs.Candidates.{CandidateRecord}
+use Rattle.is_pair.specs.Pairs.{PairRecord, is_valid}
+use Rattle.is_pair.specs.Bag.{is_numbered, pair_numbered}
+use Rattle.is_rules.specs.declared.told.Path.{Path}
+use Rattle.is_rules.specs.Agent.{AgentRecord}
+use Rattle.is_rules.specs.Nominating.{is_eligible, stands_at}
+use Rattle.is_rules.specs.Sound.{IsSound}
+use Rattle.is_rules.specs.Points.{IsTopAnnounced}
+use Rattle.is_rules.specs.Effects.{last_of, PathEffect}
+use Rattle.is_rules.specs.Logs.{Logged}
+use Rattle.is_rules.specs.Runs.{IsFresh, Run, Point}
+use Rattle.is_rules.specs.Rounds.{BringsSuccess, AnnouncesIn}
+use Rattle.is_rules.proofs.PathLaws.{below_is}
+use Rattle.is_rules.proofs.EffectLaws.{path_law}
+use Rattle.is_rules.proofs.LogLaws.{none_pass, runs_sound}
+use Rattle.is_rules.proofs.Arriving.{NoneValid}
+use Rattle.is_rules.proofs.Announcing.{eligible, point-of, answers-announce}
+use Rattle.is_rules.proofs.LogParts.{no-case}
+
+-- ---- the pair that the announced number names
+
+found-by : (test : PairRecord → Bool) (x p : PairRecord) (xs : List PairRecord) (b : Bool) → test x ≡ b → (find test xs ≡ Some p → Has xs p × (test p ≡ true))
+    → cond b (Some x) (find test xs) ≡ Some p → Has (x ∷ xs) p × (test p ≡ true)
+found-by test x p xs true passes rest is = let same : x ≡ p = cc in (inl same, subst (λ (y : PairRecord). test y ≡ true) same passes)
+found-by test x p xs false passes rest is = let k = rest is in (inr k.0, k.1)
+
+found-in : (test : PairRecord → Bool) (ps : List PairRecord) (p : PairRecord) → find test ps ≡ Some p → Has ps p × (test p ≡ true)
+found-in test [] p is = let no : None ≡ Some p = is in absurd (cc)
+found-in test (x ∷ xs) p is = found-by test x p xs (test x) refl (λ k. found-in test xs p k) is
+
+named-at : (announced : Option ℕ) (priority : ℕ) (pairs : List PairRecord) → stands_at announced priority pairs ≡ true
+    → (p : PairRecord) × Has pairs p × (announced ≡ Some p.number)
+named-at None priority pairs h = no-case h
+named-at (Some n) priority pairs h = by (pair_numbered n pairs) refl h where
+  by : (o : Option PairRecord) → pair_numbered n pairs ≡ o → option_map_or (λ (p : PairRecord). p.priority == priority) o false ≡ true
+      → (p : PairRecord) × Has pairs p × (Some n ≡ Some p.number)
+  by None is k = no-case k
+  by (Some p) is k = let f = found-in (is_numbered n) pairs p is in (p, f.0, ap Some (sym (eqb-true p.number n f.1)))
+
+module _ {H P : Type 0} where
+  module _ (mac : H → List ℕ → List ℕ → List ℕ) (answers : P → CandidateRecord → ℕ → ℕ → Type 0) where
+    module _ (first : AgentRecord H P) (s : Stream) (log : List (Logged P)) (fresh : IsFresh first) where
+      -- ---- an accepted success announces
+
+      named-on : (mid last : AgentRecord H P) (x : Logged P) → PathEffect mac mid x.call x.entry last → IsSound mid
+          → ((p : PairRecord) → Has mid.pairs p → mid.announced ≡ Some p.number → is_valid p ≡ true)
+          → (o : Option Path) → last_of x.entry.told.announced ≡ o → (p : PairRecord) → Has last.pairs p → last.announced ≡ Some p.number → is_valid p ≡ true
+      named-on mid last x f sound were (Some path) is p has named = (f.number_names path is p has named).1
+      named-on mid last x f sound were None is p has named =
+          let was : mid.announced ≡ Some p.number = sym (f.number_stays is) ∙ named in
+          elim (f.numbers p has) [
+            | inl (q, there, number, path, valid, nominated) ↦ valid (were q there (was ∙ ap Some (sym number)))
+            | inr n ↦
+                (let lt : p.number < mid.next_number = below_is mid.next_number p.number mid.announced sound.announced was in
+                let le : mid.next_number ≤ p.number = n.0 in
+                absurd (let no : ⊥ = omega (arith, lt, le) in no))
+          ]
+
+      -- the announced number names no pair that is not valid
+      named-valid : (before : List (Logged P)) (last : AgentRecord H P) (t : Stream) → Run mac answers first s before last t
+          → (p : PairRecord) → Has last.pairs p → last.announced ≡ Some p.number → is_valid p ≡ true
+      named-valid [] last t run p has named = absurd (subst (λ (a : AgentRecord H P). Has a.pairs p) (run.0 ∙ fresh.2) has)
+      named-valid (x ∷ before) last t (mid, u, run, number, based, step) p has named =
+          let sound = runs_sound mac answers (path_law mac answers) first mid s u before fresh run in
+          let f = (path_law mac answers mid last u t x.call x.entry sound based step).0 in
+          named-on mid last x f sound (named-valid before mid u run) (last_of x.entry.told.announced) refl p has named
+
+      -- where no pair was valid, a pair that is named was announced now
+      named-now : (mid after : AgentRecord H P) (x : Logged P) → PathEffect mac mid x.call x.entry after → IsSound mid → NoneValid mid.pairs
+          → ((p : PairRecord) → Has mid.pairs p → mid.announced ≡ Some p.number → is_valid p ≡ true)
+          → (o : Option Path) → last_of x.entry.told.announced ≡ o → (p : PairRecord) → Has after.pairs p → after.announced ≡ Some p.number → is_some o ≡ true
+      named-now mid after x f sound none were (Some path) is p has named = refl
+      named-now mid after x f sound none were None is p has named =
+          let was : mid.announced ≡ Some p.number = sym (f.number_stays is) ∙ named in
+          elim (f.numbers p has) [
+            | inl (q, there, number, path, valid, nominated) ↦
+                (let no : false ≡ true = sym (none q there) ∙ were q there (was ∙ ap Some (sym number)) in no)
+            | inr n ↦
+                (let lt : p.number < mid.next_number = below_is mid.next_number p.number mid.announced sound.announced was in
+                let le : mid.next_number ≤ p.number = n.0 in
+                absurd (let no : ⊥ = omega (arith, lt, le) in no))
+          ]
+
+      -- where a pair is eligible, the announced number names one
+      one-named : (a : AgentRecord H P) (q : PairRecord) → Has a.pairs q → is_eligible a.controlling q ≡ true → IsTopAnnounced a
+          → (p : PairRecord) × Has a.pairs p × (a.announced ≡ Some p.number)
+      one-named a q has able (None, none, stands) = absurd (none_pass (is_eligible a.controlling) a.pairs q none has able)
+      one-named a q has able (Some best, greatest, stands) = named-at a.announced best.priority a.pairs stands
+
+      pub announces-at : (before part : List (Logged P)) (mid after : AgentRecord H P) (x : Logged P) → Point mac answers first s log before mid x after
+          → NoneValid mid.pairs → after.controlling ≡ true → BringsSuccess x → Has part x → AnnouncesIn mac answers first s log part
+      announces-at before part mid after x point none role (at, by, m, brings, success) within =
+          let sound = runs_sound mac answers (path_law mac answers) first mid s point.at before fresh point.led in
+          let f = (path_law mac answers mid after point.at point.behind x.call x.entry sound point.given point.step).0 in
+          let taken = f.taken at by m brings success in
+          let named = one-named after taken.0 taken.1 (eligible after.controlling taken.0 role taken.3) (f.points (point-of mid x.call x.entry at by m brings success)) in (
+            before,
+            mid,
+            after,
+            x,
+            point,
+            within,
+            (at, by, m, brings, success),
+            named-now mid after x f sound none (named-valid before mid point.at point.led) (last_of x.entry.told.announced) refl named.0 named.1 named.2,
+            answers-announce mac answers first s log fresh before mid after x point at by m brings success role,
+          )
