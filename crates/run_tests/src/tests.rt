@@ -6,18 +6,22 @@ mod nomination;
 mod order;
 mod replies;
 mod scripts;
+mod stage;
+mod story;
 mod world;
 
 use is::stun::{Class, StunMessage, TransId};
 use is::{
     AgentCall, Answer, Call, Candidate, DefaultSha1HmacProvider, IceAgent, IceCreds, Instant,
-    Issued, Path, Protocol, RunLog, Side, Text, run,
+    Issued, Path, Protocol, RunLog, Side, Text,
 };
 use rand_core::SeedableRng;
 use rand_pcg::Pcg32;
+use stage::Stage;
 use std::alloc::{AllocError, Global};
 use std::net::{Ipv4Addr, SocketAddr, SocketAddrV4};
 use std::test::Fail;
+use story::{Story, Subject, Told, tell};
 
 type Agent = IceAgent<DefaultSha1HmacProvider>;
 
@@ -146,15 +150,17 @@ fn key(said: Said) -> &'static str {
     }
 }
 
-fn bytes(alloc: Global, said: Said) -> Result<Vec<u8>, Fail> {
-    let mut bytes = vec![in alloc; 0; 128]?;
+fn bytes(alloc: Global, said: Said) -> Option<Vec<u8>> {
+    let mut bytes = vec![in alloc; 0; 128].ok()?;
     let key = key(said).as_bytes();
-    let len = message(said).to_bytes(Some(key), &mut bytes, &DefaultSha1HmacProvider)?;
+    let len = message(said)
+        .to_bytes(Some(key), &mut bytes, &DefaultSha1HmacProvider)
+        .ok()?;
     match said {
         Said::Nothing => bytes.truncate(3),
         _ => bytes.truncate(len),
     }
-    Ok(bytes)
+    Some(bytes)
 }
 
 /// A call of an agent, by what differs.
@@ -183,42 +189,37 @@ enum Step {
     Recreate,
 }
 
-fn remote(alloc: Global, side: Side) -> Result<Call, Fail> {
-    Ok(AgentCall::SetRemoteCredentials(creds(alloc, other(side))?))
+fn remote(alloc: Global, side: Side) -> Option<Call> {
+    let creds = creds(alloc, other(side)).ok()?;
+    Some(AgentCall::SetRemoteCredentials(creds))
 }
 
-fn host(alloc: Global, address: SocketAddr) -> Result<Call, Fail> {
-    let candidate = Candidate::host(alloc, address, Protocol::Udp)?;
-    Ok(AgentCall::AddLocalCandidate(candidate))
+fn host(alloc: Global, address: SocketAddr) -> Option<Call> {
+    let candidate = Candidate::host(alloc, address, Protocol::Udp).ok()?;
+    Some(AgentCall::AddLocalCandidate(candidate))
 }
 
-fn peer(alloc: Global, address: SocketAddr) -> Result<Call, Fail> {
-    let candidate = Candidate::host(alloc, address, Protocol::Udp)?;
-    Ok(AgentCall::AddRemoteCandidate(candidate))
+fn peer(alloc: Global, address: SocketAddr) -> Option<Call> {
+    let candidate = Candidate::host(alloc, address, Protocol::Udp).ok()?;
+    Some(AgentCall::AddRemoteCandidate(candidate))
 }
 
-fn peer_line(alloc: Global, line: &str) -> Result<Call, Fail> {
-    let candidate = Candidate::from_sdp_string(alloc, line)?;
-    Ok(AgentCall::AddRemoteCandidate(candidate))
+fn peer_line(alloc: Global, line: &str) -> Option<Call> {
+    let candidate = Candidate::from_sdp_string(alloc, line).ok()?;
+    Some(AgentCall::AddRemoteCandidate(candidate))
 }
 
-fn restart(alloc: Global, side: Side) -> Result<Call, Fail> {
-    let creds = creds(alloc, side)?;
-    Ok(AgentCall::RestartIce { creds, keep: true })
+fn restart(alloc: Global, side: Side) -> Option<Call> {
+    let creds = creds(alloc, side).ok()?;
+    Some(AgentCall::RestartIce { creds, keep: true })
 }
 
 fn moment(ms: u64) -> Instant {
     Instant(ms.saturating_mul(MS))
 }
 
-fn packet(
-    alloc: Global,
-    ms: u64,
-    from: SocketAddr,
-    to: SocketAddr,
-    said: Said,
-) -> Result<Call, Fail> {
-    Ok(AgentCall::Packet {
+fn packet(alloc: Global, ms: u64, from: SocketAddr, to: SocketAddr, said: Said) -> Option<Call> {
+    Some(AgentCall::Packet {
         now: moment(ms),
         proto: Protocol::Udp,
         source: from,
@@ -227,51 +228,34 @@ fn packet(
     })
 }
 
-/// The call that the side makes.
-fn call(alloc: Global, side: Side, step: Step) -> Result<Call, Fail> {
+/// The call that the side makes, if memory allows.
+fn call(alloc: Global, side: Side, step: Step) -> Option<Call> {
     match step {
-        Step::Controlling(controlling) => Ok(AgentCall::SetControlling(controlling)),
-        Step::TieBreaker(number) => Ok(AgentCall::SetControlTieBreaker(number)),
-        Step::Lite => Ok(AgentCall::SetIceLite(true)),
+        Step::Controlling(controlling) => Some(AgentCall::SetControlling(controlling)),
+        Step::TieBreaker(number) => Some(AgentCall::SetControlTieBreaker(number)),
+        Step::Lite => Some(AgentCall::SetIceLite(true)),
         Step::Remote => remote(alloc, side),
         Step::Host(address) => host(alloc, address),
         Step::Peer(address) => peer(alloc, address),
         Step::PeerLine(line) => peer_line(alloc, line),
-        Step::Moment(ms) => Ok(AgentCall::HandleTimeout(moment(ms))),
+        Step::Moment(ms) => Some(AgentCall::HandleTimeout(moment(ms))),
         Step::Packet { ms, from, to, said } => packet(alloc, ms, from, to, said),
-        Step::PollPacket => Ok(AgentCall::PollTransmit),
-        Step::PollEvent => Ok(AgentCall::PollEvent),
+        Step::PollPacket => Some(AgentCall::PollTransmit),
+        Step::PollEvent => Some(AgentCall::PollEvent),
         Step::Restart => restart(alloc, side),
-        Step::Recreate => Ok(AgentCall::RecreateCandidatePairs),
+        Step::Recreate => Some(AgentCall::RecreateCandidatePairs),
     }
 }
 
-/// The calls that the steps make of A.
-fn calls_of(alloc: Global, steps: &[Step]) -> Result<Vec<Call>, Fail> {
+/// The calls that the steps make of A, part by part.
+fn calls_of(alloc: Global, parts: &[&[Step]]) -> Option<Vec<Call>> {
     let mut calls = Vec::new(alloc);
-    for step in steps {
-        calls.push(call(alloc, Side::A, *step)?)?;
+    for part in parts {
+        for step in *part {
+            calls.push(call(alloc, Side::A, *step)?).ok()?;
+        }
     }
-    Ok(calls)
-}
-
-/// An agent behind its run, and the log.
-#[derive(Drop)]
-struct Played {
-    agent: Agent,
-    log: RunLog,
-}
-
-fn make(alloc: Global, agent: &mut Agent, steps: &[Step]) -> Result<RunLog, Fail> {
-    let calls = calls_of(alloc, steps)?;
-    Ok(run(agent, calls, &mut Pcg32::seed_from_u64(SEED)))
-}
-
-/// The steps on an agent as it is made.
-fn play(alloc: Global, steps: &[Step]) -> Result<Played, Fail> {
-    let mut agent = Agent::new(alloc, creds(alloc, Side::A)?, TIE_BREAKER)?;
-    let log = make(alloc, &mut agent, steps)?;
-    Ok(Played { agent, log })
+    Some(calls)
 }
 
 // ---- what a log says

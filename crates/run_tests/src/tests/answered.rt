@@ -26,35 +26,48 @@ fn says(said: Said) -> Step {
     }
 }
 
-/// The steps behind the check.
-fn behind_check(alloc: Global, last: &[Step]) -> Result<Played, Fail> {
-    let mut steps = Vec::from_array(
-        alloc,
-        [
-            Step::Controlling(true),
-            Step::Remote,
-            Step::Host(at(1, 1000)),
-            Step::Peer(at(2, 2000)),
-            Step::Moment(0),
-        ],
-    )?;
-    steps.extend_from_slice(last)?;
-    play(alloc, &steps)
+/// Announced paths, and packets that are not accepted.
+struct Answered;
+
+impl Subject for Answered {
+    fn play(&self, stage: &mut Stage) -> Told {
+        an_announced_path_was_answered(stage)?;
+        an_answer_that_comes_twice_announces_once(stage)?;
+        packets_that_are_not_accepted_change_nothing(stage)
+    }
 }
 
 #[test]
-fn an_announced_path_was_answered(rt: HostRuntime) -> Result<(), Fail> {
+fn stories(rt: HostRuntime) -> Result<(), Fail> {
+    tell(rt.alloc(), &Answered)
+}
+
+/// The steps behind the check.
+fn plays_behind_check(stage: &mut Stage, last: &[Step]) -> bool {
+    let first = [
+        Step::Controlling(true),
+        Step::Remote,
+        Step::Host(at(1, 1000)),
+        Step::Peer(at(2, 2000)),
+        Step::Moment(0),
+    ];
+    stage.plays(&[&first, last])
+}
+
+fn an_announced_path_was_answered(stage: &mut Stage) -> Told {
     let answers = [
         answer(50, at(3, 2000), at(1, 1000)),
         answer(50, at(2, 2000), at(1, 1001)),
         answer(50, at(2, 2000), at(1, 1000)),
     ];
-    let played = behind_check(rt.alloc(), &answers)?;
-    assert!(rt; issues(&played.log, &[(CHECK, check(0, at(2, 2000)))]));
-    assert!(rt; takes(&played.log, 5, false) && takes(&played.log, 6, false));
-    assert!(rt; takes(&played.log, 7, true));
-    assert!(rt; announces(&played.log, &[(7, path_to(at(2, 2000)))]));
-    Ok(())
+    Story("an_announced_path_was_answered").holds(&[
+        plays_behind_check(stage, &answers),
+        issues(&stage.log, &[(CHECK, check(0, at(2, 2000)))]),
+        takes(&stage.log, 5, false),
+        takes(&stage.log, 6, false),
+        takes(&stage.log, 7, true),
+        announces(&stage.log, &[(7, path_to(at(2, 2000)))]),
+    ])
 }
 
 /// How long the answers of the announced pair took, last and in all, and how many there were.
@@ -64,30 +77,22 @@ fn has_figures(agent: &Agent, last: u64, total: u64, count: u64) -> bool {
         && agent.nominated_pair_responses_received() == Some(count)
 }
 
-#[test]
-fn an_answer_that_comes_twice_announces_once(rt: HostRuntime) -> Result<(), Fail> {
+fn an_answer_that_comes_twice_announces_once(stage: &mut Stage) -> Told {
     let answers = [
         answer(50, at(2, 2000), at(1, 1000)),
         answer(60, at(2, 2000), at(1, 1000)),
     ];
-    let played = behind_check(rt.alloc(), &answers)?;
-    assert!(rt; takes(&played.log, 5, true) && takes(&played.log, 6, true));
-    assert!(rt; announces(&played.log, &[(5, path_to(at(2, 2000)))]));
-    assert!(rt; issues(&played.log, &[(CHECK, check(0, at(2, 2000)))]));
-    assert!(rt; has_figures(&played.agent, 60, 110, 2));
-    Ok(())
+    Story("an_answer_that_comes_twice_announces_once").holds(&[
+        plays_behind_check(stage, &answers),
+        takes(&stage.log, 5, true),
+        takes(&stage.log, 6, true),
+        announces(&stage.log, &[(5, path_to(at(2, 2000)))]),
+        issues(&stage.log, &[(CHECK, check(0, at(2, 2000)))]),
+        has_figures(&stage.agent, 60, 110, 2),
+    ])
 }
 
-/// What A does not accept.
-const UNACCEPTED: [Said; 5] = [
-    Said::Nothing,
-    Said::ForgedRequest(1),
-    Said::Misaddressed(1),
-    Said::ForgedSuccess(0),
-    Said::Success(1),
-];
-
-/// Each is refused at its entry, behind the check.
+/// The five packets behind the check are refused at their entries.
 fn are_refused(log: &RunLog) -> bool {
     let mut refused = answers(log, 5, &Answer::Unparsed(ParseFault::TooShort));
     for number in 6..10 {
@@ -96,17 +101,20 @@ fn are_refused(log: &RunLog) -> bool {
     refused
 }
 
-#[test]
-fn packets_that_are_not_accepted_change_nothing(rt: HostRuntime) -> Result<(), Fail> {
-    let mut steps = Vec::new(rt.alloc());
-    for said in UNACCEPTED {
-        steps.push(says(said))?;
-    }
-    steps.push(says(Said::Success(0)))?;
-    let played = behind_check(rt.alloc(), &steps)?;
-    assert!(rt; are_refused(&played.log));
-    assert!(rt; takes(&played.log, 10, true));
-    assert!(rt; issues(&played.log, &[(CHECK, check(0, at(2, 2000)))]));
-    assert!(rt; announces(&played.log, &[(10, path_to(at(2, 2000)))]));
-    Ok(())
+fn packets_that_are_not_accepted_change_nothing(stage: &mut Stage) -> Told {
+    let packets = [
+        says(Said::Nothing),
+        says(Said::ForgedRequest(1)),
+        says(Said::Misaddressed(1)),
+        says(Said::ForgedSuccess(0)),
+        says(Said::Success(1)),
+        says(Said::Success(0)),
+    ];
+    Story("packets_that_are_not_accepted_change_nothing").holds(&[
+        plays_behind_check(stage, &packets),
+        are_refused(&stage.log),
+        takes(&stage.log, 10, true),
+        issues(&stage.log, &[(CHECK, check(0, at(2, 2000)))]),
+        announces(&stage.log, &[(10, path_to(at(2, 2000)))]),
+    ])
 }

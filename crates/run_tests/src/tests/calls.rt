@@ -1,7 +1,21 @@
 //! Each call has its entry, in order.
 
 use super::*;
-use is::{Duration, IceError, LocalPreference};
+use is::{Duration, IceError, LocalPreference, run};
+
+/// The entries of calls.
+struct Calls;
+
+impl Subject for Calls {
+    fn play(&self, stage: &mut Stage) -> Told {
+        each_setting_has_its_entry(stage)
+    }
+}
+
+#[test]
+fn stories(rt: HostRuntime) -> Result<(), Fail> {
+    tell(rt.alloc(), &Calls)
+}
 
 /// One entry for each call, in order.
 fn are_in_number(log: &RunLog, count: usize) -> bool {
@@ -16,8 +30,8 @@ fn are_in_number(log: &RunLog, count: usize) -> bool {
 }
 
 /// Calls that take no memory.
-fn settings(alloc: Global) -> Result<Vec<Call>, Fail> {
-    Ok(Vec::from_array(
+fn settings(alloc: Global) -> Option<Vec<Call>> {
+    Vec::from_array(
         alloc,
         [
             AgentCall::SetMtu(588..=1280),
@@ -34,7 +48,8 @@ fn settings(alloc: Global) -> Result<Vec<Call>, Fail> {
             AgentCall::SkipPairIds(7),
             AgentCall::PollTimeout,
         ],
-    )?)
+    )
+    .ok()
 }
 
 /// A refused call has its entry as any other, and the run goes on.
@@ -64,18 +79,18 @@ fn have_answers(log: &RunLog, answers: &[Answer]) -> bool {
     true
 }
 
+fn each_setting_has_its_entry(stage: &mut Stage) -> Told {
+    let calls = settings(stage.alloc);
+    Story("each_setting_has_its_entry").holds(&[
+        stage.makes(calls),
+        are_in_number(&stage.log, SETTINGS_ANSWERS.len()),
+        have_answers(&stage.log, &SETTINGS_ANSWERS),
+    ])
+}
+
 fn run_on_fresh(alloc: Global, calls: Vec<Call>) -> Result<RunLog, Fail> {
     let mut agent = Agent::new(alloc, creds(alloc, Side::A)?, TIE_BREAKER)?;
     Ok(run(&mut agent, calls, &mut Pcg32::seed_from_u64(SEED)))
-}
-
-#[test]
-fn each_setting_has_its_entry(rt: HostRuntime) -> Result<(), Fail> {
-    let calls = settings(rt.alloc())?;
-    let log = run_on_fresh(rt.alloc(), calls)?;
-    assert!(rt; are_in_number(&log, SETTINGS_ANSWERS.len()));
-    assert!(rt; have_answers(&log, &SETTINGS_ANSWERS));
-    Ok(())
 }
 
 /// 65535, less one for each candidate of the kind that came before.
@@ -93,18 +108,18 @@ impl LocalPreference for Falling {
 }
 
 /// Random credentials of the agent's own.
-fn rename(alloc: Global) -> Result<Call, Fail> {
-    let creds = IceCreds::new(alloc, &mut Pcg32::seed_from_u64(SEED))?;
-    Ok(AgentCall::SetLocalCredentials(creds))
+fn rename(alloc: Global) -> Option<Call> {
+    let creds = IceCreds::new(alloc, &mut Pcg32::seed_from_u64(SEED)).ok()?;
+    Some(AgentCall::SetLocalCredentials(creds))
 }
 
-fn invalidate(alloc: Global) -> Result<Call, Fail> {
-    let candidate = Candidate::host(alloc, at(1, 1000), Protocol::Udp)?;
-    Ok(AgentCall::InvalidateCandidate(candidate))
+fn invalidate(alloc: Global) -> Option<Call> {
+    let candidate = Candidate::host(alloc, at(1, 1000), Protocol::Udp).ok()?;
+    Some(AgentCall::InvalidateCandidate(candidate))
 }
 
-/// The calls of candidates; behind a restart that keeps it the host goes.
-fn candidates(alloc: Global) -> Result<Vec<Call>, Fail> {
+/// The calls of candidates, preference and names; behind a restart that keeps it the host goes.
+fn calls_with_memory(alloc: Global, preference: Box<dyn LocalPreference>) -> Option<Vec<Call>> {
     let steps = [
         Step::Remote,
         Step::Host(at(1, 1000)),
@@ -113,9 +128,11 @@ fn candidates(alloc: Global) -> Result<Vec<Call>, Fail> {
         Step::Recreate,
         Step::Restart,
     ];
-    let mut all = calls_of(alloc, &steps)?;
-    all.push(invalidate(alloc)?)?;
-    Ok(all)
+    let mut all = calls_of(alloc, &[&steps])?;
+    all.push(invalidate(alloc)?).ok()?;
+    all.push(AgentCall::SetLocalPreference(preference)).ok()?;
+    all.push(rename(alloc)?).ok()?;
+    Some(all)
 }
 
 /// The host comes a second time with less priority, since one of its kind came before.
@@ -133,10 +150,9 @@ const CANDIDATE_ANSWERS: [Answer; 9] = [
 
 #[test]
 fn each_call_with_memory_has_its_entry(rt: HostRuntime) -> Result<(), Fail> {
-    let mut all = candidates(rt.alloc())?;
-    all.push(AgentCall::SetLocalPreference(Box::new(rt.alloc(), Falling)?))?;
-    all.push(rename(rt.alloc())?)?;
-    let log = run_on_fresh(rt.alloc(), all)?;
+    let preference = Box::new(rt.alloc(), Falling)?;
+    let calls = calls_with_memory(rt.alloc(), preference).ok_or("no memory")?;
+    let log = run_on_fresh(rt.alloc(), calls)?;
     assert!(rt; are_in_number(&log, CANDIDATE_ANSWERS.len()));
     assert!(rt; have_answers(&log, &CANDIDATE_ANSWERS));
     Ok(())

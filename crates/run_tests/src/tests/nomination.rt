@@ -17,9 +17,28 @@ fn says(ms: u64, from: SocketAddr, said: Said) -> Step {
     Step::Packet { ms, from, to, said }
 }
 
+/// Which path is announced.
+struct Nomination;
+
+impl Subject for Nomination {
+    fn play(&self, stage: &mut Stage) -> Told {
+        the_greater_of_two_eligible_pairs_is_announced(stage)?;
+        a_lesser_pair_is_not_announced_behind_it(stage)?;
+        a_replaced_pair_is_announced_at_the_next_moment(stage)?;
+        a_controlled_agent_announces_what_was_asked_for(stage)?;
+        a_pair_that_was_asked_for_is_announced_once_it_is_valid(stage)?;
+        a_controlled_agent_announces_nothing_unasked(stage)
+    }
+}
+
+#[test]
+fn stories(rt: HostRuntime) -> Result<(), Fail> {
+    tell(rt.alloc(), &Nomination)
+}
+
 /// A, which is controlling, checks both candidates of B, the greater first; both answer.
-fn with_two_answers(alloc: Global, first: Step, second: Step) -> Result<Played, Fail> {
-    let steps = [
+fn has_two_answers(stage: &mut Stage, first: Step, second: Step) -> bool {
+    stage.plays(&[&[
         Step::Controlling(true),
         Step::Remote,
         Step::Host(at(1, 1000)),
@@ -30,44 +49,39 @@ fn with_two_answers(alloc: Global, first: Step, second: Step) -> Result<Played, 
         first,
         second,
         Step::Moment(100),
-    ];
-    play(alloc, &steps)
+    ]])
 }
 
-#[test]
-fn the_greater_of_two_eligible_pairs_is_announced(rt: HostRuntime) -> Result<(), Fail> {
+fn the_greater_of_two_eligible_pairs_is_announced(stage: &mut Stage) -> Told {
     let lesser = says(60, at(3, 3000), Said::Success(1));
     let greater = says(70, at(2, 2000), Said::Success(0));
-    let played = with_two_answers(rt.alloc(), lesser, greater)?;
-    assert!(rt;
-        announces(
-            &played.log,
-            &[(7, path_to(at(3, 3000))), (8, path_to(at(2, 2000)))]
-        )
-    );
+    let paths = [(7, path_to(at(3, 3000))), (8, path_to(at(2, 2000)))];
     let checks = [
         (5, check(0, at(2, 2000))),
         (6, check(1, at(3, 3000))),
         (9, check(2, at(2, 2000))),
     ];
-    assert!(rt; issues(&played.log, &checks));
-    Ok(())
+    Story("the_greater_of_two_eligible_pairs_is_announced").holds(&[
+        has_two_answers(stage, lesser, greater),
+        announces(&stage.log, &paths),
+        issues(&stage.log, &checks),
+    ])
 }
 
-#[test]
-fn a_lesser_pair_is_not_announced_behind_it(rt: HostRuntime) -> Result<(), Fail> {
+fn a_lesser_pair_is_not_announced_behind_it(stage: &mut Stage) -> Told {
     let greater = says(60, at(2, 2000), Said::Success(0));
     let lesser = says(70, at(3, 3000), Said::Success(1));
-    let played = with_two_answers(rt.alloc(), greater, lesser)?;
-    assert!(rt; takes(&played.log, 7, true) && takes(&played.log, 8, true));
-    assert!(rt; announces(&played.log, &[(7, path_to(at(2, 2000)))]));
-    // it is valid all the same
-    assert!(rt; played.agent.has_viable_remote_candidate(at(3, 3000)));
-    Ok(())
+    Story("a_lesser_pair_is_not_announced_behind_it").holds(&[
+        has_two_answers(stage, greater, lesser),
+        takes(&stage.log, 7, true),
+        takes(&stage.log, 8, true),
+        announces(&stage.log, &[(7, path_to(at(2, 2000)))]),
+        // it is valid all the same
+        stage.agent.has_viable_remote_candidate(at(3, 3000)),
+    ])
 }
 
-#[test]
-fn a_replaced_pair_is_announced_at_the_next_moment(rt: HostRuntime) -> Result<(), Fail> {
+fn a_replaced_pair_is_announced_at_the_next_moment(stage: &mut Stage) -> Told {
     let steps = [
         Step::Controlling(true),
         Step::Remote,
@@ -79,23 +93,20 @@ fn a_replaced_pair_is_announced_at_the_next_moment(rt: HostRuntime) -> Result<()
         Step::Moment(100),
         says(110, at(2, 2000), Said::Success(0)),
     ];
-    let played = play(rt.alloc(), &steps)?;
     let path = path_to(at(2, 2000));
-    assert!(rt; announces(&played.log, &[(5, path), (7, path)]));
-    assert!(rt;
-        issues(
-            &played.log,
-            &[(4, check(0, at(2, 2000))), (7, check(1, at(2, 2000)))]
-        )
-    );
-    // the pair of the first check is gone
-    assert!(rt; takes(&played.log, 8, false));
-    Ok(())
+    let checks = [(4, check(0, at(2, 2000))), (7, check(1, at(2, 2000)))];
+    Story("a_replaced_pair_is_announced_at_the_next_moment").holds(&[
+        stage.plays(&[&steps]),
+        announces(&stage.log, &[(5, path), (7, path)]),
+        issues(&stage.log, &checks),
+        // the pair of the first check is gone
+        takes(&stage.log, 8, false),
+    ])
 }
 
 /// A, which is controlled, has sent a check in entry 3. Behind what comes then, a moment passes in entry 6.
-fn controlled(alloc: Global, first: Step, second: Step) -> Result<RunLog, Fail> {
-    let steps = [
+fn is_controlled(stage: &mut Stage, first: Step, second: Step) -> bool {
+    stage.plays(&[&[
         Step::Remote,
         Step::Host(at(1, 1000)),
         GREATER,
@@ -103,8 +114,7 @@ fn controlled(alloc: Global, first: Step, second: Step) -> Result<RunLog, Fail> 
         first,
         second,
         Step::Moment(100),
-    ];
-    Ok(play(alloc, &steps)?.log)
+    ]])
 }
 
 fn success() -> Step {
@@ -115,47 +125,48 @@ fn nominating() -> Step {
     says(50, at(2, 2000), Said::Nominating { number: 1 })
 }
 
-/// Both packets were accepted.
-fn takes_both(log: &RunLog) -> bool {
-    takes(log, 4, true) && takes(log, 5, true)
-}
-
-#[test]
-fn a_controlled_agent_announces_what_was_asked_for(rt: HostRuntime) -> Result<(), Fail> {
-    let log = controlled(rt.alloc(), success(), nominating())?;
+fn a_controlled_agent_announces_what_was_asked_for(stage: &mut Stage) -> Told {
     let packets = [
         (3, check(0, at(2, 2000))),
         (5, reply(1, Class::Success)),
         (6, check(1, at(2, 2000))),
     ];
-    assert!(rt; takes_both(&log) && issues(&log, &packets));
-    // the request nominates, and the next moment announces
-    assert!(rt; announces(&log, &[(6, path_to(at(2, 2000)))]));
-    Ok(())
+    Story("a_controlled_agent_announces_what_was_asked_for").holds(&[
+        is_controlled(stage, success(), nominating()),
+        takes(&stage.log, 4, true),
+        takes(&stage.log, 5, true),
+        issues(&stage.log, &packets),
+        // the request nominates, and the next moment announces
+        announces(&stage.log, &[(6, path_to(at(2, 2000)))]),
+    ])
 }
 
-#[test]
-fn a_pair_that_was_asked_for_is_announced_once_it_is_valid(rt: HostRuntime) -> Result<(), Fail> {
-    let log = controlled(rt.alloc(), nominating(), success())?;
+fn a_pair_that_was_asked_for_is_announced_once_it_is_valid(stage: &mut Stage) -> Told {
     let packets = [
         (3, check(0, at(2, 2000))),
         (4, reply(1, Class::Success)),
         (6, check(1, at(2, 2000))),
     ];
-    assert!(rt; takes_both(&log) && issues(&log, &packets));
-    assert!(rt; announces(&log, &[(5, path_to(at(2, 2000)))]));
-    Ok(())
+    Story("a_pair_that_was_asked_for_is_announced_once_it_is_valid").holds(&[
+        is_controlled(stage, nominating(), success()),
+        takes(&stage.log, 4, true),
+        takes(&stage.log, 5, true),
+        issues(&stage.log, &packets),
+        announces(&stage.log, &[(5, path_to(at(2, 2000)))]),
+    ])
 }
 
-#[test]
-fn a_controlled_agent_announces_nothing_unasked(rt: HostRuntime) -> Result<(), Fail> {
+fn a_controlled_agent_announces_nothing_unasked(stage: &mut Stage) -> Told {
     let unasked = Said::Request {
         number: 1,
         controlling: true,
     };
-    let log = controlled(rt.alloc(), success(), says(60, at(2, 2000), unasked))?;
     let packets = [(3, check(0, at(2, 2000))), (5, reply(1, Class::Success))];
-    assert!(rt; takes_both(&log) && issues(&log, &packets));
-    assert!(rt; announces(&log, &[]));
-    Ok(())
+    Story("a_controlled_agent_announces_nothing_unasked").holds(&[
+        is_controlled(stage, success(), says(60, at(2, 2000), unasked)),
+        takes(&stage.log, 4, true),
+        takes(&stage.log, 5, true),
+        issues(&stage.log, &packets),
+        announces(&stage.log, &[]),
+    ])
 }

@@ -3,28 +3,41 @@
 use super::*;
 use is::{IceAgentEvent, IceConnectionState};
 
+/// What is polled, in order.
+struct Order;
+
+impl Subject for Order {
+    fn play(&self, stage: &mut Stage) -> Told {
+        packets_are_polled_in_order(stage)?;
+        events_are_polled_in_order(stage)?;
+        a_restart_empties_both_queues(stage)
+    }
+}
+
+#[test]
+fn stories(rt: HostRuntime) -> Result<(), Fail> {
+    tell(rt.alloc(), &Order)
+}
+
 /// A check in entry 3, a reply in entry 4, and these steps behind them.
-fn with_two_packets(alloc: Global, last: &[Step]) -> Result<RunLog, Fail> {
-    let mut steps = Vec::from_array(
-        alloc,
-        [
-            Step::Remote,
-            Step::Host(at(1, 1000)),
-            Step::Peer(at(2, 2000)),
-            Step::Moment(0),
-            Step::Packet {
-                ms: 10,
-                from: at(2, 2000),
-                to: at(1, 1000),
-                said: Said::Request {
-                    number: 1,
-                    controlling: true,
-                },
-            },
-        ],
-    )?;
-    steps.extend_from_slice(last)?;
-    Ok(play(alloc, &steps)?.log)
+fn has_two_packets(stage: &mut Stage, last: &[Step]) -> bool {
+    let request = Step::Packet {
+        ms: 10,
+        from: at(2, 2000),
+        to: at(1, 1000),
+        said: Said::Request {
+            number: 1,
+            controlling: true,
+        },
+    };
+    let first = [
+        Step::Remote,
+        Step::Host(at(1, 1000)),
+        Step::Peer(at(2, 2000)),
+        Step::Moment(0),
+        request,
+    ];
+    stage.plays(&[&first, last])
 }
 
 /// The bytes read as a message of this class and id.
@@ -46,19 +59,15 @@ fn polls(log: &RunLog, number: usize, class: Class, id: TransId) -> bool {
     }
 }
 
-#[test]
-fn packets_are_polled_in_order(rt: HostRuntime) -> Result<(), Fail> {
-    let log = with_two_packets(rt.alloc(), &[Step::PollPacket; 3])?;
-    assert!(rt;
-        issues(
-            &log,
-            &[(3, check(0, at(2, 2000))), (4, reply(1, Class::Success))]
-        )
-    );
-    assert!(rt; polls(&log, 5, Class::Request, check_id(0)));
-    assert!(rt; polls(&log, 6, Class::Success, request_id(1)));
-    assert!(rt; answers(&log, 7, &Answer::Transmit(None)));
-    Ok(())
+fn packets_are_polled_in_order(stage: &mut Stage) -> Told {
+    let packets = [(3, check(0, at(2, 2000))), (4, reply(1, Class::Success))];
+    Story("packets_are_polled_in_order").holds(&[
+        has_two_packets(stage, &[Step::PollPacket; 3]),
+        issues(&stage.log, &packets),
+        polls(&stage.log, 5, Class::Request, check_id(0)),
+        polls(&stage.log, 6, Class::Success, request_id(1)),
+        answers(&stage.log, 7, &Answer::Transmit(None)),
+    ])
 }
 
 /// A letter for each event of a poll: `-` where there is none.
@@ -88,24 +97,24 @@ fn tells(log: &RunLog, first: usize, letters: &[u8]) -> bool {
     true
 }
 
-#[test]
-fn events_are_polled_in_order(rt: HostRuntime) -> Result<(), Fail> {
-    let log = with_two_packets(rt.alloc(), &[Step::PollEvent; 4])?;
-    assert!(rt; tells(&log, 5, b"RcD-"));
-    Ok(())
+fn events_are_polled_in_order(stage: &mut Stage) -> Told {
+    Story("events_are_polled_in_order").holds(&[
+        has_two_packets(stage, &[Step::PollEvent; 4]),
+        tells(&stage.log, 5, b"RcD-"),
+    ])
 }
 
-#[test]
-fn a_restart_empties_both_queues(rt: HostRuntime) -> Result<(), Fail> {
+fn a_restart_empties_both_queues(stage: &mut Stage) -> Told {
     let steps = [
         Step::Restart,
         Step::PollPacket,
         Step::PollEvent,
         Step::PollEvent,
     ];
-    let log = with_two_packets(rt.alloc(), &steps)?;
-    assert!(rt; answers(&log, 5, &Answer::Done));
-    assert!(rt; answers(&log, 6, &Answer::Transmit(None)));
-    assert!(rt; tells(&log, 7, b"R-"));
-    Ok(())
+    Story("a_restart_empties_both_queues").holds(&[
+        has_two_packets(stage, &steps),
+        answers(&stage.log, 5, &Answer::Done),
+        answers(&stage.log, 6, &Answer::Transmit(None)),
+        tells(&stage.log, 7, b"R-"),
+    ])
 }

@@ -16,8 +16,23 @@ fn asks(ms: u64, number: u8, to: SocketAddr) -> Step {
     }
 }
 
+/// What requests are answered.
+struct Replies;
+
+impl Subject for Replies {
+    fn play(&self, stage: &mut Stage) -> Told {
+        each_request_has_its_reply(stage)?;
+        a_waiting_request_is_answered_once(stage)?;
+        the_greater_tie_breaker_answers_a_conflict(stage)
+    }
+}
+
 #[test]
-fn each_request_has_its_reply(rt: HostRuntime) -> Result<(), Fail> {
+fn stories(rt: HostRuntime) -> Result<(), Fail> {
+    tell(rt.alloc(), &Replies)
+}
+
+fn each_request_has_its_reply(stage: &mut Stage) -> Told {
     let steps = [
         Step::Remote,
         Step::Host(at(1, 1000)),
@@ -26,24 +41,25 @@ fn each_request_has_its_reply(rt: HostRuntime) -> Result<(), Fail> {
         asks(30, 1, at(1, 1000)),
         asks(40, 3, at(1, 1001)),
     ];
-    let log = play(rt.alloc(), &steps)?.log;
     let replies = [
         (2, reply(1, Class::Success)),
         (3, reply(2, Class::Success)),
         (4, reply(1, Class::Success)),
     ];
-    assert!(rt; issues(&log, &replies));
-    // no candidate has the address, so nobody answers
-    assert!(rt; takes(&log, 4, true) && takes(&log, 5, true));
-    assert!(rt; announces(&log, &[]));
-    Ok(())
+    Story("each_request_has_its_reply").holds(&[
+        stage.plays(&[&steps]),
+        issues(&stage.log, &replies),
+        takes(&stage.log, 4, true),
+        // no candidate has the address, so nobody answers
+        takes(&stage.log, 5, true),
+        announces(&stage.log, &[]),
+    ])
 }
 
 /// Requests that came before the credentials, and three moments behind them.
 const LATE: usize = 4;
 
-#[test]
-fn a_waiting_request_is_answered_once(rt: HostRuntime) -> Result<(), Fail> {
+fn a_waiting_request_is_answered_once(stage: &mut Stage) -> Told {
     let steps = [
         Step::Host(at(1, 1000)),
         asks(0, 1, at(1, 1000)),
@@ -53,15 +69,17 @@ fn a_waiting_request_is_answered_once(rt: HostRuntime) -> Result<(), Fail> {
         Step::Moment(1),
         Step::Moment(2),
     ];
-    let log = play(rt.alloc(), &steps)?.log;
     let packets = [
         (LATE, reply(1, Class::Success)),
         (LATE + 1, reply(2, Class::Success)),
         (LATE + 2, check(0, at(2, 2000))),
     ];
-    assert!(rt; takes(&log, 1, true) && takes(&log, 2, true));
-    assert!(rt; issues(&log, &packets));
-    Ok(())
+    Story("a_waiting_request_is_answered_once").holds(&[
+        stage.plays(&[&steps]),
+        takes(&stage.log, 1, true),
+        takes(&stage.log, 2, true),
+        issues(&stage.log, &packets),
+    ])
 }
 
 /// A packet of this length from A to B.
@@ -81,8 +99,15 @@ fn is_between(answer: &Answer, len: usize) -> bool {
     }
 }
 
-#[test]
-fn the_greater_tie_breaker_answers_a_conflict(rt: HostRuntime) -> Result<(), Fail> {
+/// The entry polls a packet of this length from A to B.
+fn sends(log: &RunLog, number: usize, len: usize) -> bool {
+    match log.entries.get(number) {
+        Some(entry) => is_between(&entry.answer, len),
+        None => false,
+    }
+}
+
+fn the_greater_tie_breaker_answers_a_conflict(stage: &mut Stage) -> Told {
     let steps = [
         Step::Controlling(true),
         Step::Remote,
@@ -91,11 +116,11 @@ fn the_greater_tie_breaker_answers_a_conflict(rt: HostRuntime) -> Result<(), Fai
         Step::PollPacket,
         Step::PollPacket,
     ];
-    let played = play(rt.alloc(), &steps)?;
-    assert!(rt; issues(&played.log, &[(3, reply(1, Class::Failure))]));
-    assert!(rt; played.agent.controlling());
-    let sent = played.log.entries.get(4).ok_or("no poll")?;
-    assert!(rt; is_between(&sent.answer, 76));
-    assert!(rt; answers(&played.log, 5, &Answer::Transmit(None)));
-    Ok(())
+    Story("the_greater_tie_breaker_answers_a_conflict").holds(&[
+        stage.plays(&[&steps]),
+        issues(&stage.log, &[(3, reply(1, Class::Failure))]),
+        stage.agent.controlling(),
+        sends(&stage.log, 4, 76),
+        answers(&stage.log, 5, &Answer::Transmit(None)),
+    ])
 }

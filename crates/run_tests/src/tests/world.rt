@@ -48,16 +48,16 @@ fn opening() -> [Event; 8] {
     ]
 }
 
-fn event_of(alloc: Global, event: Event) -> Result<WorldEvent<Box<dyn LocalPreference>>, Fail> {
+fn event_of(alloc: Global, event: Event) -> Option<WorldEvent<Box<dyn LocalPreference>>> {
     match event {
-        Event::Do(side, step) => Ok(WorldEvent::Call(side, call(alloc, side, step)?)),
-        Event::Poll(side) => Ok(WorldEvent::Poll(side)),
+        Event::Do(side, step) => Some(WorldEvent::Call(side, call(alloc, side, step)?)),
+        Event::Poll(side) => Some(WorldEvent::Poll(side)),
         Event::Deliver {
             packet,
             ms,
             to,
             from,
-        } => Ok(WorldEvent::Deliver {
+        } => Some(WorldEvent::Deliver {
             packet,
             now: moment(ms),
             proto: Protocol::Udp,
@@ -67,14 +67,28 @@ fn event_of(alloc: Global, event: Event) -> Result<WorldEvent<Box<dyn LocalPrefe
     }
 }
 
+/// The events, part by part.
+fn events_of(
+    alloc: Global,
+    parts: &[&[Event]],
+) -> Option<Vec<WorldEvent<Box<dyn LocalPreference>>>> {
+    let mut all = Vec::new(alloc);
+    for part in parts {
+        for next in *part {
+            all.push(event_of(alloc, *next)?).ok()?;
+        }
+    }
+    Some(all)
+}
+
 fn spec(
     alloc: Global,
     side: Side,
     tie_breaker: u64,
     controlling: bool,
-) -> Result<AgentSpec<DefaultSha1HmacProvider>, Fail> {
-    Ok(AgentSpec {
-        creds: creds(alloc, side)?,
+) -> Option<AgentSpec<DefaultSha1HmacProvider>> {
+    Some(AgentSpec {
+        creds: creds(alloc, side).ok()?,
         provider: DefaultSha1HmacProvider,
         tie_breaker,
         controlling,
@@ -88,29 +102,37 @@ struct Start {
     controlling: [bool; 2],
 }
 
-fn world(alloc: Global, start: Start) -> Result<Two, Fail> {
+fn world(alloc: Global, start: Start) -> Option<Two> {
     let [a_number, b_number] = start.tie_breakers;
     let [a_role, b_role] = start.controlling;
     let a = spec(alloc, Side::A, a_number, a_role)?;
     let b = spec(alloc, Side::B, b_number, b_role)?;
-    Ok(World::new(alloc, a, b)?)
+    World::new(alloc, a, b).ok()
 }
 
 /// What becomes of the events between two agents as they are made.
-fn happen(alloc: Global, start: Start, events: &[Event]) -> Result<WorldLog, Fail> {
-    let mut all = Vec::new(alloc);
-    for next in events {
-        all.push(event_of(alloc, *next)?)?;
-    }
+fn world_log(alloc: Global, start: Start, parts: &[&[Event]]) -> Option<WorldLog> {
+    let events = events_of(alloc, parts)?;
     let mut world = world(alloc, start)?;
-    Ok(world.run(all, &mut Pcg32::seed_from_u64(SEED)))
+    Some(world.run(events, &mut Pcg32::seed_from_u64(SEED)))
 }
 
-/// Behind the opening.
-fn happen_behind(alloc: Global, start: Start, last: &[Event]) -> Result<WorldLog, Fail> {
-    let mut events = Vec::from_array(alloc, opening())?;
-    events.extend_from_slice(last)?;
-    happen(alloc, start, &events)
+impl Stage {
+    /// The events happen between two new agents, part by part.
+    fn happens(&mut self, start: Start, parts: &[&[Event]]) -> bool {
+        match world_log(self.alloc, start, parts) {
+            Some(log) => {
+                self.world = log;
+                true
+            }
+            None => false,
+        }
+    }
+
+    /// Behind the opening.
+    fn happens_behind(&mut self, start: Start, last: &[Event]) -> bool {
+        self.happens(start, &[&opening(), last])
+    }
 }
 
 // ---- what a log says
@@ -206,8 +228,21 @@ const BOTH_CONTROLLED: Start = Start {
     controlling: [false, false],
 };
 
+/// What is no event of a world.
+struct Strangers;
+
+impl Subject for Strangers {
+    fn play(&self, stage: &mut Stage) -> Told {
+        some_calls_are_no_events_of_a_world(stage)
+    }
+}
+
 #[test]
-fn some_calls_are_no_events_of_a_world(rt: HostRuntime) -> Result<(), Fail> {
+fn stories(rt: HostRuntime) -> Result<(), Fail> {
+    tell(rt.alloc(), &Strangers)
+}
+
+fn some_calls_are_no_events_of_a_world(stage: &mut Stage) -> Told {
     let request = Step::Packet {
         ms: 0,
         from: home(Side::B),
@@ -221,7 +256,6 @@ fn some_calls_are_no_events_of_a_world(rt: HostRuntime) -> Result<(), Fail> {
         deliver(0, 0, Side::A),
         Event::Poll(Side::A),
     ];
-    let log = happen(rt.alloc(), BOTH_CONTROLLED, &events)?;
     let answers = [
         (Answer::NotInWorld, Some(Side::A)),
         (Answer::NotInWorld, Some(Side::B)),
@@ -229,7 +263,11 @@ fn some_calls_are_no_events_of_a_world(rt: HostRuntime) -> Result<(), Fail> {
         (Answer::NoSuchPacket, None),
         (Answer::Flag(false), Some(Side::A)),
     ];
-    assert!(rt; begins_with(&log, &answers) && has_roles(&log, &[]));
-    assert!(rt; world_issues(&log, &[]) && log.entries.len() == 5);
-    Ok(())
+    Story("some_calls_are_no_events_of_a_world").holds(&[
+        stage.happens(BOTH_CONTROLLED, &[&events]),
+        begins_with(&stage.world, &answers),
+        has_roles(&stage.world, &[]),
+        world_issues(&stage.world, &[]),
+        stage.world.entries.len() == 5,
+    ])
 }

@@ -2,8 +2,24 @@
 
 use super::*;
 
+/// What changes no role again.
+struct Repeats;
+
+impl Subject for Repeats {
+    fn play(&self, stage: &mut Stage) -> Told {
+        packets_that_come_three_times_change_no_role_again(stage)?;
+        a_late_refusal_changes_no_role_again(stage)?;
+        a_late_refusal_changes_the_role_once(stage)
+    }
+}
+
+#[test]
+fn stories(rt: HostRuntime) -> Result<(), Fail> {
+    tell(rt.alloc(), &Repeats)
+}
+
 /// The packet arrives three times.
-fn thrice(events: &mut Vec<Event>, packet: usize, ms: u64, to: Side) -> Result<(), Fail> {
+fn thrice(events: &mut Vec<Event>, packet: usize, ms: u64, to: Side) -> Result<(), AllocError> {
     for _ in 0..3 {
         events.push(deliver(packet, ms, to))?;
     }
@@ -12,7 +28,7 @@ fn thrice(events: &mut Vec<Event>, packet: usize, ms: u64, to: Side) -> Result<(
 
 /// The next packet of the side is sent off under this number, and then three of the other's: where the first is a check that
 /// nothing waits before, they are its answers.
-fn exchange(events: &mut Vec<Event>, first: usize, ms: u64, side: Side) -> Result<(), Fail> {
+fn exchange(events: &mut Vec<Event>, first: usize, ms: u64, side: Side) -> Result<(), AllocError> {
     events.push(Event::Poll(side))?;
     thrice(events, first, ms, other(side))?;
     for answer in 1..4 {
@@ -23,13 +39,13 @@ fn exchange(events: &mut Vec<Event>, first: usize, ms: u64, side: Side) -> Resul
 }
 
 /// A moment comes to the side, and the check that it makes goes there and back.
-fn round(events: &mut Vec<Event>, first: usize, ms: u64, side: Side) -> Result<(), Fail> {
+fn round(events: &mut Vec<Event>, first: usize, ms: u64, side: Side) -> Result<(), AllocError> {
     events.push(Event::Do(side, Step::Moment(ms)))?;
     exchange(events, first, ms, side)
 }
 
 /// Rounds every two seconds, of each side in turn; an exchange has four packets.
-fn rounds(events: &mut Vec<Event>, first: usize, count: usize) -> Result<(), Fail> {
+fn rounds(events: &mut Vec<Event>, first: usize, count: usize) -> Result<(), AllocError> {
     let mut packet = first;
     let mut ms = 0u64;
     let mut side = Side::A;
@@ -43,7 +59,7 @@ fn rounds(events: &mut Vec<Event>, first: usize, count: usize) -> Result<(), Fai
 }
 
 /// Events are polled until there are so many.
-fn fill(events: &mut Vec<Event>, count: usize) -> Result<(), Fail> {
+fn fill(events: &mut Vec<Event>, count: usize) -> Result<(), AllocError> {
     for _ in events.len()..count {
         events.push(Event::Do(Side::B, Step::PollEvent))?;
     }
@@ -51,7 +67,7 @@ fn fill(events: &mut Vec<Event>, count: usize) -> Result<(), Fail> {
 }
 
 /// 200 events: the packets of the opening, which are eight in all, and nine rounds.
-fn repeated(alloc: Global) -> Result<Vec<Event>, Fail> {
+fn repeated(alloc: Global) -> Result<Vec<Event>, AllocError> {
     let mut events = Vec::from_array(alloc, opening())?;
     exchange(&mut events, 0, 10, Side::A)?;
     exchange(&mut events, 4, 20, Side::B)?;
@@ -92,22 +108,31 @@ fn are_traced(log: &WorldLog) -> bool {
     true
 }
 
-#[test]
-fn packets_that_come_three_times_change_no_role_again(rt: HostRuntime) -> Result<(), Fail> {
-    let events = repeated(rt.alloc())?;
-    let log = happen(rt.alloc(), BOTH_CONTROLLING, &events)?;
-    assert_eq!(rt; log.entries.len(), 200);
-    assert_eq!(rt; polled_and_delivered(&log), (44, 132));
-    // A's check comes to B in entry 9
-    assert!(rt; has_roles(&log, &[(0, [true, true]), (9, [true, false])]));
+/// These events happen, if memory allows, where both are controlling.
+fn happens_if(stage: &mut Stage, events: Result<Vec<Event>, AllocError>) -> bool {
+    match events {
+        Ok(events) => stage.happens(BOTH_CONTROLLING, &[&events]),
+        Err(_) => false,
+    }
+}
+
+fn packets_that_come_three_times_change_no_role_again(stage: &mut Stage) -> Told {
+    let events = repeated(stage.alloc);
     // A announces at the first answer to its check; B, whom A's second check asked, at the first to its own second
     let paths = [(17, path_of(Side::A)), (63, path_of(Side::B))];
-    assert!(rt; world_announces(&log, &paths) && are_traced(&log));
-    Ok(())
+    Story("packets_that_come_three_times_change_no_role_again").holds(&[
+        happens_if(stage, events),
+        stage.world.entries.len() == 200,
+        polled_and_delivered(&stage.world) == (44, 132),
+        // A's check comes to B in entry 9
+        has_roles(&stage.world, &[(0, [true, true]), (9, [true, false])]),
+        world_announces(&stage.world, &paths),
+        are_traced(&stage.world),
+    ])
 }
 
 /// B's check comes to A, whose refusal is packet 2, behind its own check.
-fn refused(alloc: Global) -> Result<Vec<Event>, Fail> {
+fn refused(alloc: Global) -> Result<Vec<Event>, AllocError> {
     let mut events = Vec::from_array(alloc, opening())?;
     let polls = [
         Event::Poll(Side::B),
@@ -120,7 +145,7 @@ fn refused(alloc: Global) -> Result<Vec<Event>, Fail> {
 }
 
 /// A's check is answered, and two rounds follow: 50 events.
-fn in_between(events: &mut Vec<Event>) -> Result<(), Fail> {
+fn in_between(events: &mut Vec<Event>) -> Result<(), AllocError> {
     let answered = [
         deliver(1, 20, Side::B),
         Event::Poll(Side::B),
@@ -131,20 +156,26 @@ fn in_between(events: &mut Vec<Event>) -> Result<(), Fail> {
     fill(events, 62)
 }
 
-#[test]
-fn a_late_refusal_changes_no_role_again(rt: HostRuntime) -> Result<(), Fail> {
-    let mut events = refused(rt.alloc())?;
+/// The refusal comes to B three times, behind two rounds.
+fn refused_behind_rounds(alloc: Global) -> Result<Vec<Event>, AllocError> {
+    let mut events = refused(alloc)?;
     in_between(&mut events)?;
     thrice(&mut events, 2, 6000, Side::B)?;
-    let log = happen(rt.alloc(), BOTH_CONTROLLING, &events)?;
-    assert_eq!(rt; log.entries.len(), 65);
-    assert!(rt; takes_all(&log, 62, 3, Side::B, true));
-    assert!(rt; has_roles(&log, &[(0, [true, true]), (12, [true, false])]));
-    Ok(())
+    Ok(events)
+}
+
+fn a_late_refusal_changes_no_role_again(stage: &mut Stage) -> Told {
+    let events = refused_behind_rounds(stage.alloc);
+    Story("a_late_refusal_changes_no_role_again").holds(&[
+        happens_if(stage, events),
+        stage.world.entries.len() == 65,
+        takes_all(&stage.world, 62, 3, Side::B, true),
+        has_roles(&stage.world, &[(0, [true, true]), (12, [true, false])]),
+    ])
 }
 
 /// Moments come to both, every 20 ms: 50 events.
-fn moments(events: &mut Vec<Event>) -> Result<(), Fail> {
+fn moments(events: &mut Vec<Event>) -> Result<(), AllocError> {
     let mut ms = 0u64;
     for _ in 0..25 {
         ms = ms.saturating_add(20);
@@ -154,14 +185,20 @@ fn moments(events: &mut Vec<Event>) -> Result<(), Fail> {
     Ok(())
 }
 
-#[test]
-fn a_late_refusal_changes_the_role_once(rt: HostRuntime) -> Result<(), Fail> {
-    let mut events = refused(rt.alloc())?;
+/// The refusal comes to B three times, behind moments alone.
+fn refused_behind_moments(alloc: Global) -> Result<Vec<Event>, AllocError> {
+    let mut events = refused(alloc)?;
     moments(&mut events)?;
     thrice(&mut events, 2, 510, Side::B)?;
-    let log = happen(rt.alloc(), BOTH_CONTROLLING, &events)?;
-    assert_eq!(rt; log.entries.len(), 65);
-    assert!(rt; takes_all(&log, 62, 3, Side::B, true));
-    assert!(rt; has_roles(&log, &[(0, [true, true]), (62, [true, false])]));
-    Ok(())
+    Ok(events)
+}
+
+fn a_late_refusal_changes_the_role_once(stage: &mut Stage) -> Told {
+    let events = refused_behind_moments(stage.alloc);
+    Story("a_late_refusal_changes_the_role_once").holds(&[
+        happens_if(stage, events),
+        stage.world.entries.len() == 65,
+        takes_all(&stage.world, 62, 3, Side::B, true),
+        has_roles(&stage.world, &[(0, [true, true]), (62, [true, false])]),
+    ])
 }

@@ -49,58 +49,76 @@ fn settled(served: usize) -> [(usize, Issued); 4] {
     ]
 }
 
-#[test]
-fn the_lesser_yields_to_a_check(rt: HostRuntime) -> Result<(), Fail> {
-    let log = happen_behind(rt.alloc(), BOTH_CONTROLLING, &check_first())?;
-    assert!(rt; world_issues(&log, &settled(12)));
-    assert!(rt; takes_all(&log, 13, 1, Side::B, false));
-    assert!(rt; takes_all(&log, 14, 2, Side::B, true));
-    assert!(rt; has_roles(&log, &[(0, [true, true]), (12, [true, false])]));
-    Ok(())
+/// Who keeps its role.
+struct Roles;
+
+impl Subject for Roles {
+    fn play(&self, stage: &mut Stage) -> Told {
+        the_lesser_yields_to_a_check(stage)?;
+        the_lesser_yields_to_a_refusal(stage)?;
+        of_two_controlled_agents_the_lesser_takes_control(stage)?;
+        agents_of_one_tie_breaker_both_switch(stage)
+    }
 }
 
 #[test]
-fn the_lesser_yields_to_a_refusal(rt: HostRuntime) -> Result<(), Fail> {
-    let log = happen_behind(rt.alloc(), BOTH_CONTROLLING, &answer_first())?;
-    assert!(rt; world_issues(&log, &settled(15)));
-    assert!(rt; takes_all(&log, 12, 1, Side::B, false));
-    assert!(rt; takes_all(&log, 13, 3, Side::B, true));
-    assert!(rt; has_roles(&log, &[(0, [true, true]), (13, [true, false])]));
-    Ok(())
+fn stories(rt: HostRuntime) -> Result<(), Fail> {
+    tell(rt.alloc(), &Roles)
 }
 
-#[test]
-fn of_two_controlled_agents_the_lesser_takes_control(rt: HostRuntime) -> Result<(), Fail> {
-    let log = happen_behind(rt.alloc(), BOTH_CONTROLLED, &check_first())?;
-    assert!(rt; world_issues(&log, &settled(12)));
-    assert!(rt; has_roles(&log, &[(12, [false, true])]));
-    let log = happen_behind(rt.alloc(), BOTH_CONTROLLED, &answer_first())?;
-    assert!(rt; world_issues(&log, &settled(15)));
-    assert!(rt; has_roles(&log, &[(13, [false, true])]));
-    Ok(())
+fn the_lesser_yields_to_a_check(stage: &mut Stage) -> Told {
+    Story("the_lesser_yields_to_a_check").holds(&[
+        stage.happens_behind(BOTH_CONTROLLING, &check_first()),
+        world_issues(&stage.world, &settled(12)),
+        takes_all(&stage.world, 13, 1, Side::B, false),
+        takes_all(&stage.world, 14, 2, Side::B, true),
+        has_roles(&stage.world, &[(0, [true, true]), (12, [true, false])]),
+    ])
 }
 
-#[test]
-fn agents_of_one_tie_breaker_both_switch(rt: HostRuntime) -> Result<(), Fail> {
-    let start = Start {
-        tie_breakers: [7, 7],
-        controlling: [true, true],
-    };
+fn the_lesser_yields_to_a_refusal(stage: &mut Stage) -> Told {
+    Story("the_lesser_yields_to_a_refusal").holds(&[
+        stage.happens_behind(BOTH_CONTROLLING, &answer_first()),
+        world_issues(&stage.world, &settled(15)),
+        takes_all(&stage.world, 12, 1, Side::B, false),
+        takes_all(&stage.world, 13, 3, Side::B, true),
+        has_roles(&stage.world, &[(0, [true, true]), (13, [true, false])]),
+    ])
+}
+
+fn of_two_controlled_agents_the_lesser_takes_control(stage: &mut Stage) -> Told {
+    Story("of_two_controlled_agents_the_lesser_takes_control").holds(&[
+        stage.happens_behind(BOTH_CONTROLLED, &check_first()),
+        world_issues(&stage.world, &settled(12)),
+        has_roles(&stage.world, &[(12, [false, true])]),
+        stage.happens_behind(BOTH_CONTROLLED, &answer_first()),
+        world_issues(&stage.world, &settled(15)),
+        has_roles(&stage.world, &[(13, [false, true])]),
+    ])
+}
+
+const EQUALS: Start = Start {
+    tie_breakers: [7, 7],
+    controlling: [true, true],
+};
+
+fn agents_of_one_tie_breaker_both_switch(stage: &mut Stage) -> Told {
     let last = [
         deliver(0, 10, Side::B),
         Event::Poll(Side::B),
         deliver(2, 20, Side::B),
         deliver(3, 20, Side::A),
     ];
-    let log = happen_behind(rt.alloc(), start, &with_answer_of_a(last))?;
     let packets = [
         (3, sent(Side::A, Class::Request, 0)),
         (7, sent(Side::B, Class::Request, 1)),
         (10, sent(Side::A, Class::Failure, 1)),
         (12, sent(Side::B, Class::Failure, 0)),
     ];
-    assert!(rt; world_issues(&log, &packets));
     let roles = [(0, [true, true]), (14, [true, false]), (15, [false, false])];
-    assert!(rt; has_roles(&log, &roles));
-    Ok(())
+    Story("agents_of_one_tie_breaker_both_switch").holds(&[
+        stage.happens_behind(EQUALS, &with_answer_of_a(last)),
+        world_issues(&stage.world, &packets),
+        has_roles(&stage.world, &roles),
+    ])
 }

@@ -8,6 +8,23 @@ const A_CONTROLS: Start = Start {
     controlling: [true, false],
 };
 
+/// Which announced paths have a trace.
+struct Traces;
+
+impl Subject for Traces {
+    fn play(&self, stage: &mut Stage) -> Told {
+        an_announced_path_is_traced(stage)?;
+        a_lost_check_is_not_traced(stage)?;
+        a_trace_begins_behind_the_last_clear(stage)?;
+        a_lite_agent_has_no_trace(stage)
+    }
+}
+
+#[test]
+fn stories(rt: HostRuntime) -> Result<(), Fail> {
+    tell(rt.alloc(), &Traces)
+}
+
 fn trace(checked: usize, delivered: usize, replied: usize, answered: usize) -> Option<Trace> {
     Some(Trace {
         checked,
@@ -38,22 +55,22 @@ fn moved(log: &WorldLog, number: usize, side: Side, class: Class) -> bool {
     }
 }
 
-#[test]
-fn an_announced_path_is_traced(rt: HostRuntime) -> Result<(), Fail> {
-    let log = happen_behind(rt.alloc(), A_CONTROLS, &answered())?;
-    assert!(rt; world_announces(&log, &[(12, path_of(Side::A))]));
-    assert!(rt;
-        moved(&log, 9, Side::B, Class::Request) && moved(&log, 12, Side::A, Class::Success)
-    );
-    assert_eq!(rt; log.trace(12, 0), trace(3, 9, 9, 12));
-    // nothing was announced there
-    assert!(rt; log.trace(12, 1).is_none() && log.trace(11, 0).is_none());
-    assert!(rt; log.trace(13, 0).is_none() && log.trace(12, 2).is_none());
-    Ok(())
+fn an_announced_path_is_traced(stage: &mut Stage) -> Told {
+    Story("an_announced_path_is_traced").holds(&[
+        stage.happens_behind(A_CONTROLS, &answered()),
+        world_announces(&stage.world, &[(12, path_of(Side::A))]),
+        moved(&stage.world, 9, Side::B, Class::Request),
+        moved(&stage.world, 12, Side::A, Class::Success),
+        stage.world.trace(12, 0) == trace(3, 9, 9, 12),
+        // nothing was announced there
+        stage.world.trace(12, 1).is_none(),
+        stage.world.trace(11, 0).is_none(),
+        stage.world.trace(13, 0).is_none(),
+        stage.world.trace(12, 2).is_none(),
+    ])
 }
 
-#[test]
-fn a_lost_check_is_not_traced(rt: HostRuntime) -> Result<(), Fail> {
+fn a_lost_check_is_not_traced(stage: &mut Stage) -> Told {
     let events = [
         Event::Poll(Side::A),
         Event::Do(Side::A, Step::Moment(250)),
@@ -63,10 +80,11 @@ fn a_lost_check_is_not_traced(rt: HostRuntime) -> Result<(), Fail> {
         Event::Poll(Side::B),
         deliver(3, 270, Side::A),
     ];
-    let log = happen_behind(rt.alloc(), A_CONTROLS, &events)?;
-    assert!(rt; world_announces(&log, &[(14, path_of(Side::A))]));
-    assert_eq!(rt; log.trace(14, 0), trace(9, 11, 11, 14));
-    Ok(())
+    Story("a_lost_check_is_not_traced").holds(&[
+        stage.happens_behind(A_CONTROLS, &events),
+        world_announces(&stage.world, &[(14, path_of(Side::A))]),
+        stage.world.trace(14, 0) == trace(9, 11, 11, 14),
+    ])
 }
 
 /// A clears its pairs, and checks the path anew.
@@ -88,17 +106,15 @@ fn is_clear(log: &WorldLog, number: usize) -> bool {
     }
 }
 
-#[test]
-fn a_trace_begins_behind_the_last_clear(rt: HostRuntime) -> Result<(), Fail> {
-    let mut events = Vec::from_array(rt.alloc(), answered())?;
-    events.extend_from_slice(&cleared())?;
-    let log = happen_behind(rt.alloc(), A_CONTROLS, &events)?;
+fn a_trace_begins_behind_the_last_clear(stage: &mut Stage) -> Told {
     let path = path_of(Side::A);
-    assert!(rt; is_clear(&log, 13));
-    assert!(rt; world_announces(&log, &[(12, path), (18, path)]));
-    assert_eq!(rt; log.trace(12, 0), trace(3, 9, 9, 12));
-    assert_eq!(rt; log.trace(18, 0), trace(14, 16, 16, 18));
-    Ok(())
+    Story("a_trace_begins_behind_the_last_clear").holds(&[
+        stage.happens(A_CONTROLS, &[&opening(), &answered(), &cleared()]),
+        is_clear(&stage.world, 13),
+        world_announces(&stage.world, &[(12, path), (18, path)]),
+        stage.world.trace(12, 0) == trace(3, 9, 9, 12),
+        stage.world.trace(18, 0) == trace(14, 16, 16, 18),
+    ])
 }
 
 /// B, which is controlling, checks and asks A, which is lite and sends no checks.
@@ -115,18 +131,18 @@ fn lite() -> [Event; 8] {
     ]
 }
 
-#[test]
-fn a_lite_agent_has_no_trace(rt: HostRuntime) -> Result<(), Fail> {
-    let start = Start {
-        tie_breakers: [10, 5],
-        controlling: [false, true],
-    };
-    let mut events = vec![in rt.alloc(); Event::Do(Side::A, Step::Lite)]?;
-    events.extend_from_slice(&opening())?;
-    events.extend_from_slice(&lite())?;
-    let log = happen(rt.alloc(), start, &events)?;
-    assert!(rt; world_announces(&log, &[(12, path_of(Side::B)), (16, path_of(Side::A))]));
-    assert_eq!(rt; log.trace(12, 0), trace(8, 10, 10, 12));
-    assert!(rt; log.trace(16, 0).is_none());
-    Ok(())
+const B_CONTROLS: Start = Start {
+    tie_breakers: [10, 5],
+    controlling: [false, true],
+};
+
+fn a_lite_agent_has_no_trace(stage: &mut Stage) -> Told {
+    let lite_a = [Event::Do(Side::A, Step::Lite)];
+    let paths = [(12, path_of(Side::B)), (16, path_of(Side::A))];
+    Story("a_lite_agent_has_no_trace").holds(&[
+        stage.happens(B_CONTROLS, &[&lite_a, &opening(), &lite()]),
+        world_announces(&stage.world, &paths),
+        stage.world.trace(12, 0) == trace(8, 10, 10, 12),
+        stage.world.trace(16, 0).is_none(),
+    ])
 }
