@@ -16,7 +16,10 @@ mod world;
 mod world_laws;
 
 pub use calls::{AgentCall, Answer, Call, Entry};
-pub use is_agent::{IceAgent, IceAgentEvent, IceAgentStats, IceConnectionState, IceCreds};
+pub use is_agent::{
+    IceAgent, IceAgentEvent, IceAgentStats, IceConnectionState, IceCreds, LocalCandidates,
+    RemoteCandidates,
+};
 pub use is_candidate::{
     Candidate, CandidateBuilder, CandidateKind, FnPreference, LocalPreference, PreferenceFunction,
     default_local_preference,
