@@ -1,5 +1,5 @@
 -- Counting the pairs that are due by a moment.
-use Rattle.std.proofs.Common.{◌≡◌, ℕ, ◌+◌, ◌<◌, ◌≤◌, Bool, true, false, List, [], ◌∷◌, length, map, filter, nat_le, inl, inr, refl, ap, sym, ◌∙◌, subst, arith, if◌then◌else◌}
+use Rattle.std.proofs.Common.{◌≡◌, ℕ, ◌+◌, ◌<◌, ◌≤◌, Bool, true, false, List, [], ◌∷◌, length, map, filter, min, nat_le, inl, inr, refl, ap, sym, ◌∙◌, subst, arith, if◌then◌else◌}
 use Rattle.std.proofs.lemmas.Bool.{eq-eqb}
 use Rattle.std.proofs.lemmas.Bool.Decides.{nat_tests}
 use Rattle.is_proto.specs.Lists.{Has}
@@ -47,6 +47,11 @@ fewer t u f (y ∷ ys) x h (inl e) passed fails =
 fewer t u f (y ∷ ys) x h (inr has) passed fails =
     tail-fewer (u (f y)) (t y) (f y) y (filter u (map f ys)) (filter t ys) (h y (inl refl)) (fewer t u f ys x (λ z k. h z (inr k)) has passed fails)
 
+-- where each that passes the one test passes the other
+pub no-more-pass : {X : Type 0} (t u : X → Bool) (xs : List X) → ((x : X) → Has xs x → u x ≡ true → t x ≡ true) → length (filter u xs) ≤ length (filter t xs)
+no-more-pass t u [] h = omega arith
+no-more-pass t u (x ∷ xs) h = head-count (u x) (t x) x x (filter u xs) (filter t xs) (h x (inl refl)) (no-more-pass t u xs (λ y has. h y (inr has)))
+
 pub thinner : {X : Type 0} (t keep : X → Bool) (xs : List X) → length (filter t (filter keep xs)) ≤ length (filter t xs)
 thinner t keep [] = omega arith
 thinner t keep (x ∷ xs) = kept (keep x) (thinner t keep xs) where
@@ -77,7 +82,7 @@ not-by at by h = grind (arith, nat_tests, h)
 module _ (now by : ℕ) (t : StunTiming) (controlling : Bool) (id : List ℕ) (paced : IsPaced t) (early : now < MAX) (from : by ≤ now) where
   later-now : (p : PairRecord) → is_due_by by now t (checked now t controlling id p) ≡ false
   later-now p =
-      let behind : now < due_moment now t (checked now t controlling id p) = checked-later now t controlling id p paced early in
+      let behind : min now now < due_moment now t (checked now t controlling id p) = checked-later now now t controlling id p paced early in
       not-by (due_moment now t (checked now t controlling id p)) by (omega (arith, behind, from))
 
   by-number : (b : Bool) (q : PairRecord) → is_due_by by now t (if b then checked now t controlling id q else q) ≡ true → is_due_by by now t q ≡ true

@@ -1,4 +1,4 @@
--- A pair that was just checked is due behind the moment of the check.
+-- A pair that was checked is due behind the moment of the check, whenever it is asked from then on.
 use Rattle.std.proofs.Common.{◌≡◌, ℕ, zero, suc, ◌+◌, ◌-◌, ◌*◌, ◌/◌, ◌^◌, ◌==◌, ◌<◌, ◌≤◌, Bool, true, false, List, [], ◌∷◌, ◌++◌, length, drop, reverse, position, get_or, min, Option, Some, None, unwrap_or, cond, if◌then◌else◌, refl, ap, sym, ◌∙◌, subst, arith}
 use Rattle.std.specs.Prelude.{slice_get, nat_lt}
 use Rattle.std.specs.Option.{option_map_or}
@@ -96,30 +96,30 @@ delaying now t front c open_still =
     by-silence (is_silent now t (front ++ c ∷ [])) (unanswered_count (front ++ c ∷ [])) (length (front ++ c ∷ [])) (unanswered front c open_still) (omega (arith, long))
 
 -- so the next one comes later
-next-later : (now : ℕ) (t : StunTiming) (cs : List Check) (c : Check) (front : List Check) → IsPaced t → now < MAX → c.sent ≡ now → is_answered c ≡ false → cs ≡ front ++ c ∷ []
-    → now < next_moment now t cs
-next-later now t cs c front paced early sent open_still is =
-    let some : 0 < resend_delay t (delaying_count now t (front ++ c ∷ [])) = delay-positive t (delaying_count now t (front ++ c ∷ [])) paced (delaying now t front c open_still) in
-    let here : next_moment now t (front ++ c ∷ []) ≡ later c.sent (resend_delay t (delaying_count now t (front ++ c ∷ []))) =
-    ap (λ (o : Option Check). option_map_or (λ (d : Check). later d.sent (resend_delay t (delaying_count now t (front ++ c ∷ [])))) o now) (last-is front c) in
-    subst (λ (xs : List Check). now < next_moment now t xs) (sym is)
-    (subst (λ n. now < n) (sym here) (behind c.sent (resend_delay t (delaying_count now t (front ++ c ∷ []))) sent some)) where
-      behind : (at by : ℕ) → at ≡ now → 0 < by → now < later at by
-      behind at by same some = omega (arith, same, some, early)
+next-later : (now at : ℕ) (t : StunTiming) (cs : List Check) (c : Check) (front : List Check) → IsPaced t → now < MAX → c.sent ≡ now → is_answered c ≡ false → cs ≡ front ++ c ∷ []
+    → now < next_moment at t cs
+next-later now at t cs c front paced early sent open_still is =
+    let some : 0 < resend_delay t (delaying_count at t (front ++ c ∷ [])) = delay-positive t (delaying_count at t (front ++ c ∷ [])) paced (delaying at t front c open_still) in
+    let here : next_moment at t (front ++ c ∷ []) ≡ later c.sent (resend_delay t (delaying_count at t (front ++ c ∷ []))) =
+    ap (λ (o : Option Check). option_map_or (λ (d : Check). later d.sent (resend_delay t (delaying_count at t (front ++ c ∷ [])))) o at) (last-is front c) in
+    subst (λ (xs : List Check). now < next_moment at t xs) (sym is)
+    (subst (λ n. now < n) (sym here) (behind c.sent (resend_delay t (delaying_count at t (front ++ c ∷ []))) sent some)) where
+      behind : (from by : ℕ) → from ≡ now → 0 < by → now < later from by
+      behind from by same some = omega (arith, same, some, early)
 
-wanted : (now : ℕ) (t : StunTiming) (n : NominationState) (cs : List Check) → wanted_moment (nomination_once_sent n) now t cs ≡ next_moment now t cs
-wanted now t Unnominated cs = refl
-wanted now t Nominated cs = refl
-wanted now t Attempt cs = refl
-wanted now t Success cs = refl
+wanted : (at : ℕ) (t : StunTiming) (n : NominationState) (cs : List Check) → wanted_moment (nomination_once_sent n) at t cs ≡ next_moment at t cs
+wanted at t Unnominated cs = refl
+wanted at t Nominated cs = refl
+wanted at t Attempt cs = refl
+wanted at t Success cs = refl
 
 pub checked-later : CheckedIsLater
-checked-later now t controlling id p paced early =
+checked-later now at t controlling id p paced early =
     let k = kept-last t.max_retransmits p.checks (check_of now controlling id p) paced.retransmits in
     let kept = last_checks t.max_retransmits (p.checks ++ check_of now controlling id p ∷ []) in
-    let next : now < next_moment now t kept = next-later now t kept (check_of now controlling id p) k.0 paced early refl refl k.1 in
-    let is : wanted_moment (nomination_once_sent p.nomination) now t kept ≡ next_moment now t kept = wanted now t p.nomination kept in
+    let next : now < next_moment at t kept = next-later now at t kept (check_of now controlling id p) k.0 paced early refl refl k.1 in
+    let is : wanted_moment (nomination_once_sent p.nomination) at t kept ≡ next_moment at t kept = wanted at t p.nomination kept in
     let some : 0 < t.max_rto.0 = let m = paced.greatest in omega (arith, m) in
-    both (wanted_moment (nomination_once_sent p.nomination) now t kept) t.max_rto.0 (subst (λ n. now < n) (sym is) next) some where
-      both : (w by : ℕ) → now < w → 0 < by → now < min w (later now by)
+    both (wanted_moment (nomination_once_sent p.nomination) at t kept) t.max_rto.0 (subst (λ n. now < n) (sym is) next) some where
+      both : (w by : ℕ) → now < w → 0 < by → min now at < min w (later at by)
       both w by h k = omega (arith, h, k, early)

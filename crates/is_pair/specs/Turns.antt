@@ -1,5 +1,5 @@
 -- Pairs that are checked in their turn.
-use Rattle.std.specs.Prelude.{◌≡◌, ℕ, ◌<◌, ◌≤◌, Bool, true, nat_le, List, filter, length}
+use Rattle.std.specs.Prelude.{◌≡◌, ℕ, ◌<◌, ◌≤◌, min, Bool, true, nat_le, List, filter, length}
 use Rattle.is_proto.specs.Lists.{Has}
 use Rattle.is_proto.specs.Moments.{MAX, MILLISECOND}
 use Rattle.is_stun.specs.declared.timing.StunTiming.{StunTiming}
@@ -21,10 +21,11 @@ is_due_by by now t p = nat_le (due_moment now t p) by
 abbrev pub due_by : ℕ → ℕ → StunTiming → List PairRecord → List PairRecord
 due_by by now t pairs = filter (is_due_by by now t) pairs
 
+-- asked at any moment from its check on, a pair is due behind the check, and asked before that behind the asking
 abbrev pub CheckedIsLater : Type 0
 CheckedIsLater =
-    (now : ℕ) (t : StunTiming) (controlling : Bool) (id : List ℕ) (p : PairRecord) → IsPaced t → now < MAX
-    → now < due_moment now t (checked now t controlling id p)
+    (now at : ℕ) (t : StunTiming) (controlling : Bool) (id : List ℕ) (p : PairRecord) → IsPaced t → now < MAX
+    → min now at < due_moment at t (checked now t controlling id p)
 
 abbrev pub FewerAreAhead : Type 0
 FewerAreAhead =

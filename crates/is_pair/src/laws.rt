@@ -41,7 +41,7 @@ pub fn states_are_compared()
     ensures of_nomination { (a b : NominationState) → IsTrue (⟦<NominationState as PartialEq>⟧.eq a b) ↔ (a ≡ b) }
 {}
 
-/// Where the timing paces checks, a pair that was just checked is due behind the moment of its check.
+/// Where the timing paces checks, a pair that was checked is due behind the moment of its check, whenever it is asked from then on.
 pub fn checked_is_later()
     ensures { CheckedIsLater }
 {}
