@@ -99,8 +99,9 @@ pub fn run<H: Sha1HmacProvider + Drop, P: LocalPreference, R: Rng>(
     ensures of_use { IsFresh (record_of agent.old)
         → MomentsAreOfUse H.mac P.answers (record_of agent.old) (R.stream rng.old) (log_of calls.items result) }
 
-    // Progress: where n pairs are due by some moment, and in each of the n rounds behind it in which a check goes out on the path of
-    // one of them an accepted success comes, a controlling agent announces a path in one of the rounds. Whatever else comes.
+    // Progress: where n pairs, asked at a moment, are due by an earlier one, and in each of the n rounds from this moment on in which a
+    // check goes out on the path of one of them an accepted success comes, a controlling agent announces a path in one of the rounds.
+    // Whatever else comes, and whether or not the wake-up is asked for.
     ensures rounds { IsFresh (record_of agent.old)
         → RoundsAnnounce H.mac P.answers (record_of agent.old) (R.stream rng.old) (log_of calls.items result) }
 

@@ -45,17 +45,36 @@ use Rattle.is_rules.proofs.Moving.{Matches, matches-on, follows-map}
 abbrev pub NoneValid : List PairRecord → Type 0
 NoneValid ps = (p : PairRecord) → Has ps p → is_valid p ≡ false
 
--- the pair is due as it was
+-- the pair is due as it was, and asked at another moment as then, or as at this one
 pub record DueAlike (at : ℕ) (t : StunTiming) (p q : PairRecord) : Type 0 where
   pub matches : Matches p q
   pub checks : q.checks ≡ p.checks
   pub due : due_moment at t q ≡ due_moment at t p
+  pub whenever : (m : ℕ) → (due_moment m t q ≡ due_moment m t p) ⊎ (due_moment m t q ≡ due_moment at t p)
 
 due-same : (at : ℕ) (t : StunTiming) (p : PairRecord) → DueAlike at t p p
-due-same at t p = record { matches = record { number = refl; local = refl; remote = refl; valid = refl }; checks = refl; due = refl }
+due-same at t p = record { matches = record { number = refl; local = refl; remote = refl; valid = refl }; checks = refl; due = refl; whenever = λ m. inl refl }
 
 pub due-on : (at : ℕ) (t : StunTiming) (p q r : PairRecord) → DueAlike at t p q → DueAlike at t q r → DueAlike at t p r
-due-on at t p q r a b = record { matches = matches-on p q r a.matches b.matches; checks = b.checks ∙ a.checks; due = b.due ∙ a.due }
+due-on at t p q r a b = record {
+  matches = matches-on p q r a.matches b.matches;
+  checks = b.checks ∙ a.checks;
+  due = b.due ∙ a.due;
+  whenever = λ m. elim (b.whenever m) [
+    | inl e ↦ elim (a.whenever m) [ inl k ↦ inl (e ∙ k) | inr k ↦ inr (e ∙ k) ]
+    | inr e ↦ inr (e ∙ a.due)
+  ];
+}
+
+-- due by a moment, whenever it is asked behind it, a pair is due by it when asked at this one
+abbrev pub Held : ℕ → ℕ → StunTiming → List PairRecord → Type 0
+Held by at t ps = (p : PairRecord) → Has ps p → (m : ℕ) → by < m → due_moment m t p ≤ by → due_moment at t p ≤ by
+
+held-alike : (by at m : ℕ) (t : StunTiming) (p q : PairRecord) → DueAlike at t p q → (due_moment m t p ≤ by → due_moment at t p ≤ by) → due_moment m t q ≤ by → due_moment at t q ≤ by
+held-alike by at m t p q a held le = subst (λ n. n ≤ by) (sym a.due) (elim (a.whenever m) [
+  | inl e ↦ held (subst (λ n. n ≤ by) e le)
+  | inr e ↦ subst (λ n. n ≤ by) e le
+])
 
 -- what a packet makes of pairs and of the counter
 pub record Spares (by at : ℕ) (t : StunTiming) (n : ℕ) (xs : List PairRecord) (m : ℕ) (ys : List PairRecord) : Type 0 where
@@ -63,6 +82,7 @@ pub record Spares (by at : ℕ) (t : StunTiming) (n : ℕ) (xs : List PairRecord
   pub below : AllBelow n xs → AllBelow m ys
   pub invalid : NoneValid xs → NoneValid ys
   pub forth : (p : PairRecord) → Has xs p → (q : PairRecord) × Has ys q × DueAlike at t p q
+  pub held : Held by at t xs → Held by at t ys
   pub count : length (due_by by at t ys) ≤ length (due_by by at t xs)
 
 pub spares-same : (by at : ℕ) (t : StunTiming) (n : ℕ) (xs : List PairRecord) → Spares by at t n xs n xs
@@ -71,6 +91,7 @@ spares-same by at t n xs = record {
   below = λ b. b;
   invalid = λ v. v;
   forth = λ p has. (p, has, due-same at t p);
+  held = λ h. h;
   count = omega arith;
 }
 
@@ -80,6 +101,7 @@ spares-on by at t k m n xs ys zs a b = record {
   below = λ low. b.below (a.below low);
   invalid = λ v. b.invalid (a.invalid v);
   forth = λ p has. (let x = a.forth p has in let y = b.forth x.0 x.1 in (y.0, y.1, due-on at t p x.0 y.0 x.2 y.2));
+  held = λ h. b.held (a.held h);
   count = (let c = a.count in let d = b.count in omega (arith, c, d));
 }
 
@@ -92,6 +114,10 @@ spares-map by at t n f xs alike = record {
       omega (arith, was, same));
   invalid = λ v q has. (let o = Has-map f xs q has in ap (λ (x : PairRecord). is_valid x) (sym o.2) ∙ ((alike o.0).matches.valid ∙ v o.0 o.1));
   forth = λ p has. (f p, Has-mapped f xs p has, alike p);
+  held = λ h q has m above le.
+      (let o = Has-map f xs q has in
+      subst (λ (x : PairRecord). due_moment at t x ≤ by) o.2
+      (held-alike by at m t o.0 (f o.0) (alike o.0) (h o.0 o.1 m above) (subst (λ (x : PairRecord). due_moment m t x ≤ by) (sym o.2) le)));
   count = no-more (is_due_by by at t) (is_due_by by at t) f xs (λ p has is. ap (λ n. nat_le n by) (sym (alike p).due) ∙ is);
 }
 
@@ -112,9 +138,12 @@ pushed test x fails (y ∷ ys) = ahead (test y) (pushed test x fails ys) where
   ahead true k = omega (arith, k)
   ahead false k = k
 
--- a pair that is new is due now, which is behind
-new-due : (by at by_rto : ℕ) → by < at → at < MAX → by < min at (later at by_rto)
+-- a pair that is new is due when it is asked, which is behind
+new-due : (by at by_rto : ℕ) → by < at → by < MAX → by < min at (later at by_rto)
 new-due by at by_rto h early = omega (arith, h, early)
+
+never-due : (by m by_rto : ℕ) → by < m → by < MAX → min m (later m by_rto) ≤ by → ⊥
+never-due by m by_rto h early le = omega (arith, h, early, le)
 
 spares-push : (by at : ℕ) (t : StunTiming) (n l r priority : ℕ) (xs : List PairRecord) → by < at → at < MAX
     → Spares by at t n xs (n + 1) (xs ++ new_pair n l r priority ∷ [])
@@ -129,7 +158,11 @@ spares-push by at t n l r priority xs behind early = record {
     | inr e ↦ ap (λ (x : PairRecord). is_valid x) (sym e)
   ];
   forth = λ p has. (p, has-front xs (new_pair n l r priority) p has, due-same at t p);
-  count = pushed (is_due_by by at t) (new_pair n l r priority) (not-by (due_moment at t (new_pair n l r priority)) by (new-due by at t.max_rto.0 behind early)) xs;
+  held = λ h q has m above le. elim (Has-push xs (new_pair n l r priority) q has) [
+    | inl k ↦ h q k m above le
+    | inr e ↦ absurd (never-due by m t.max_rto.0 above (omega (arith, behind, early)) (subst (λ (x : PairRecord). due_moment m t x ≤ by) (sym e) le))
+  ];
+  count = pushed (is_due_by by at t) (new_pair n l r priority) (not-by (due_moment at t (new_pair n l r priority)) by (new-due by at t.max_rto.0 behind (omega (arith, behind, early)))) xs;
 } where
   differ : AllBelow n xs → (x y : PairRecord) → Has xs x → new_pair n l r priority ≡ y → x.number ≡ y.number → ⊥
   differ low x y has e same =
@@ -147,7 +180,7 @@ spares-push by at t n l r priority xs behind early = record {
 served-alike : (at : ℕ) (t : StunTiming) (n : ℕ) (c l : Bool) (q : RequestRecord) (p : PairRecord) → c ≡ true → l ≡ false → DueAlike at t p (change_at n (served c l q) p)
 served-alike at t n true false q p is full = numbered (is_numbered n p) where
   numbered : (b : Bool) → DueAlike at t p (if b then served true false q p else p)
-  numbered true = record { matches = record { number = refl; local = refl; remote = refl; valid = refl }; checks = refl; due = refl }
+  numbered true = record { matches = record { number = refl; local = refl; remote = refl; valid = refl }; checks = refl; due = refl; whenever = λ m. inl refl }
   numbered false = due-same at t p
 served-alike at t n true true q p is full = absurd (cc)
 served-alike at t n false l q p is full = absurd (cc)

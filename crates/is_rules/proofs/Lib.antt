@@ -42,6 +42,7 @@ pub mod Moving
 pub mod Starving
 pub mod Announcing
 pub mod Arriving
+pub mod Passing
 pub mod Rounding
 pub mod LogParts
 pub mod Announced

@@ -18,7 +18,6 @@ use Rattle.is_rules.proofs.Frames.{either}
 use Rattle.is_rules.proofs.EffectLaws.{path_law}
 use Rattle.is_rules.proofs.LogLaws.{runs_sound}
 use Rattle.is_rules.proofs.Starving.{wakes-are-of-use}
-use Rattle.is_rules.proofs.Rounding.{one}
 
 pub no-case : {A : Type 0} → false ≡ true → A
 no-case h = absurd (cc)

@@ -155,41 +155,32 @@ module _ {H P : Type 0} where
         once p true = record { number = refl; local = refl; remote = refl; valid = sent-valid p.state }
         once p false = record { number = refl; local = refl; remote = refl; valid = refl }
 
-    -- a pair waits on, due as it was, and one fewer goes before it
-    abbrev pub WaitsOn : ℕ → ℕ → AgentRecord H P → AgentRecord H P → PairRecord → Type 0
-    WaitsOn now by old new p =
-        (q : PairRecord) × Has new.pairs q × Matches p q × (q.checks ≡ p.checks) × (due_moment now old.timing q ≤ by)
-        × (IsPaced old.timing → now < MAX → length (due_by by now old.timing new.pairs) < length (filter (is_fixed_by by) old.pairs))
+    -- a pair waits on, due as it was, and fewer than n go before it
+    abbrev pub WaitsOn : ℕ → ℕ → ℕ → AgentRecord H P → AgentRecord H P → PairRecord → Type 0
+    WaitsOn now by n old new p =
+        (q : PairRecord) × Has new.pairs q × Matches p q × (q.checks ≡ p.checks) × ((at : ℕ) → due_moment at old.timing q ≤ by)
+        × (IsPaced old.timing → now < MAX → length (due_by by now old.timing new.pairs) < n)
 
     -- the pair that is due first is checked: this one, or one that goes before it
-    abbrev pub Checked : ℕ → ℕ → AgentRecord H P → Option Issued → AgentRecord H P → PairRecord → Type 0
-    Checked now by old issued new p =
+    abbrev pub Checked : ℕ → ℕ → ℕ → AgentRecord H P → Option Issued → AgentRecord H P → PairRecord → Type 0
+    Checked now by n old issued new p =
         (o : PairRecord) × Has old.pairs o × ((id : List ℕ) × (issued ≡ Some (issued_as (path_of old o) class.Request id)))
-        × ((o ≡ p) ⊎ WaitsOn now by old new p)
+        × ((o ≡ p) ⊎ WaitsOn now by n old new p)
 
-    module _ (now by : ℕ) (old : AgentRecord H P) (distinct : Distinct old.pairs) (all : AllAsked old.pairs) (from : by ≤ now)
-        (p : PairRecord) (has : Has old.pairs p) (due : unwrap_or p.due 0 ≤ by) where
-      stands : (q : PairRecord) → Has old.pairs q → due_moment now old.timing q ≡ unwrap_or q.due 0
-      stands q there = fixed-is q.due _ (all q there)
-
-      own-due : due_moment now old.timing p ≤ by
-      own-due = subst (λ n. n ≤ by) (sym (stands p has)) due
-
+    module _ (now by n : ℕ) (old : AgentRecord H P) (distinct : Distinct old.pairs) (from : by ≤ now)
+        (p : PairRecord) (has : Has old.pairs p) (own-due : due_moment now old.timing p ≤ by)
+        (count-asked : length (due_by by now old.timing (map (asked now old.timing) old.pairs)) ≤ n) where
       first-due : (x y : ℕ) (q : PairRecord) → (x < y) ⊎ ((x ≡ y) × (p.priority ≤ q.priority)) → y ≤ by → x ≤ by
       first-due x y q (inl less) le = omega (arith, less, le)
       first-due x y q (inr same) le = let e = same.0 in omega (arith, e, le)
-
-      count-asked : length (due_by by now old.timing (map (asked now old.timing) old.pairs)) ≤ length (filter (is_fixed_by by) old.pairs)
-      count-asked = no-more (is_fixed_by by) (is_due_by by now old.timing) (asked now old.timing) old.pairs
-          (λ q there is. ap (λ n. nat_le n by) (sym (stands q there)) ∙ is)
 
       -- the pair itself is checked, or it stays as it is
       by-number : (new : AgentRecord H P) (s t : Stream) (issued : Option Issued) (peer : IceCreds) (q : PairRecord) (id : List ℕ)
           → new ≡ check_sent mac now peer q id (all_asked now old) → (o : PairRecord) → Has old.pairs o → o.number ≡ q.number
           → (b : Bool) → is_numbered q.number (asked now old.timing p) ≡ b
           → (IsPaced old.timing → now < MAX
-          → length (due_by by now old.timing (change_pair q.number (checked now old.timing old.controlling id) (map (asked now old.timing) old.pairs))) < length (filter (is_fixed_by by) old.pairs))
-          → (o ≡ p) ⊎ WaitsOn now by old new p
+          → length (due_by by now old.timing (change_pair q.number (checked now old.timing old.controlling id) (map (asked now old.timing) old.pairs))) < n)
+          → (o ≡ p) ⊎ WaitsOn now by n old new p
       by-number new s t issued peer q id made o there same true is fewer =
           inl (distinct o p there has (same ∙ sym (eqb-true p.number q.number is)))
       by-number new s t issued peer q id made o there same false is fewer =
@@ -202,12 +193,12 @@ module _ {H P : Type 0} where
             subst (λ b. Has new.pairs (if b then checked now old.timing old.controlling id (asked now old.timing p) else asked now old.timing p)) is in_new,
             record { number = refl; local = refl; remote = refl; valid = refl },
             refl,
-            own-due,
-            (λ paced early. subst (λ ps. length (due_by by now old.timing ps) < length (filter (is_fixed_by by) old.pairs)) (sym (ap (λ (a : AgentRecord H P). a.pairs) made)) (fewer paced early)),
+            (λ at. own-due),
+            (λ paced early. subst (λ ps. length (due_by by now old.timing ps) < n) (sym (ap (λ (a : AgentRecord H P). a.pairs) made)) (fewer paced early)),
           )
 
       by-next : (new : AgentRecord H P) (s t : Stream) (issued : Option Issued) (peer : IceCreds) (next : Option PairRecord)
-          → IsNextDue now old.timing (all_asked now old).pairs next → ChecksTop mac now peer next (all_asked now old) s issued new t → Checked now by old issued new p
+          → IsNextDue now old.timing (all_asked now old).pairs next → ChecksTop mac now peer next (all_asked now old) s issued new t → Checked now by n old issued new p
       by-next new s t issued peer None none h =
           let it : is_due now old.timing (asked now old.timing p) ≡ true = le-is (due_moment now old.timing p) now (let d = own-due in omega (arith, d, from)) in
           absurd (none_pass (is_due now old.timing) (map (asked now old.timing) old.pairs) (asked now old.timing p) none (Has-mapped (asked now old.timing) old.pairs p has) it)
@@ -217,7 +208,7 @@ module _ {H P : Type 0} where
           let q_due : due_moment now old.timing q ≤ by = first-due (due_moment now old.timing q) (due_moment now old.timing p) q before own-due in
           let counted = count-asked in
           let fewer : IsPaced old.timing → now < MAX
-          → length (due_by by now old.timing (change_pair q.number (checked now old.timing old.controlling id) (map (asked now old.timing) old.pairs))) < length (filter (is_fixed_by by) old.pairs) =
+          → length (due_by by now old.timing (change_pair q.number (checked now old.timing old.controlling id) (map (asked now old.timing) old.pairs))) < n =
           λ paced early.
           (let drop = fewer-due now by old.timing old.controlling id paced early from (map (asked now old.timing) old.pairs) q there (le-is (due_moment now old.timing q) by q_due) in
           omega (arith, drop, counted)) in (
@@ -228,7 +219,7 @@ module _ {H P : Type 0} where
           )
 
       pub check-moves : (new : AgentRecord H P) (s t : Stream) (issued : Option Issued) (remote : Option IceCreds) → is_some remote ≡ true → old.lite ≡ false
-          → MayCheck mac now remote old s issued new t → Checked now by old issued new p
+          → MayCheck mac now remote old s issued new t → Checked now by n old issued new p
       check-moves new s t issued remote known full h = let k = next-check now remote old new s t issued known full h in by-next new s t issued k.0 k.1 k.2 k.3
 
     -- ---- the moment
@@ -237,7 +228,7 @@ module _ {H P : Type 0} where
     pub record Moved (now by : ℕ) (old : AgentRecord H P) (told : Told) (new : AgentRecord H P) (p : PairRecord) : Type 0 where
       pub base : agent_base new ≡ record (agent_base old) { last_moment = Some now }
       pub follows : Follows old.pairs new.pairs
-      pub does : IsGone p.number new.pairs ⊎ ((o : PairRecord) × Has old.pairs o × ChecksOn old told o × ((o ≡ p) ⊎ WaitsOn now by old new p))
+      pub does : IsGone p.number new.pairs ⊎ ((o : PairRecord) × Has old.pairs o × ChecksOn old told o × ((o ≡ p) ⊎ WaitsOn now by (length (filter (is_fixed_by by) old.pairs)) old new p))
 
     -- what it leaves, whichever pair is looked at
     pub moment-follows : (now : ℕ) (old new : AgentRecord H P) (s t : Stream) (told : Told) → is_some old.remote_creds ≡ true → old.lite ≡ false
@@ -250,6 +241,13 @@ module _ {H P : Type 0} where
         let full_kept : kept.lite ≡ false = ap (λ (x : Base). x.lite) c.0 ∙ full in
         let d = check-follows now kept.remote_creds kept new s t issued known_kept full_kept checking in
         (d.0 ∙ c.0, follows-on old.pairs kept.pairs new.pairs (thinned-follows 0 old.pairs kept.pairs c.1) d.1)
+
+    fixed-due : (now by : ℕ) (a : AgentRecord H P) (p : PairRecord) → is_some p.due ≡ true → unwrap_or p.due 0 ≤ by → due_moment now a.timing p ≤ by
+    fixed-due now by a p fixed due = subst (λ n. n ≤ by) (sym (fixed-is p.due _ fixed)) due
+
+    fixed-count : (now by : ℕ) (a : AgentRecord H P) → AllAsked a.pairs → length (due_by by now a.timing (map (asked now a.timing) a.pairs)) ≤ length (filter (is_fixed_by by) a.pairs)
+    fixed-count now by a all = no-more (is_fixed_by by) (is_due_by by now a.timing) (asked now a.timing) a.pairs
+        (λ q there is. ap (λ n. nat_le n by) (sym (fixed-is q.due _ (all q there))) ∙ is)
 
     pub moment-moves : (now by : ℕ) (old new : AgentRecord H P) (s t : Stream) (told : Told) → is_some old.remote_creds ≡ true → old.lite ≡ false
         → Distinct old.pairs → AllAsked old.pairs → by ≤ now → (p : PairRecord) → Has old.pairs p → unwrap_or p.due 0 ≤ by
@@ -269,14 +267,15 @@ module _ {H P : Type 0} where
             | inr gone ↦ inl (gone-follows kept.pairs new.pairs p.number d.1 gone)
             | inl k ↦
                 inr (on-kept now by old kept new s t told issued c timing distinct p has k
-                (check-moves now by kept (c.1.distinct distinct) (asked-on by old.pairs kept.pairs c.1 all) from
-                k.0 k.1 (subst (λ o. unwrap_or o 0 ≤ by) (sym k.2.due) due) new s t issued kept.remote_creds known_kept full_kept checking)
+                (check-moves now by (length (filter (is_fixed_by by) kept.pairs)) kept (c.1.distinct distinct) from k.0 k.1
+                (fixed-due now by kept k.0 (asked-on by old.pairs kept.pairs c.1 all k.0 k.1) (subst (λ o. unwrap_or o 0 ≤ by) (sym k.2.due) due))
+                (fixed-count now by kept (asked-on by old.pairs kept.pairs c.1 all)) new s t issued kept.remote_creds known_kept full_kept checking)
                 (ap (λ (x : Told). x.issued) is))
           ];
         } where
           on-kept : (now by : ℕ) (old kept new : AgentRecord H P) (s t : Stream) (told : Told) (issued : Option Issued) → Thins by (at_moment now old) kept → kept.timing ≡ old.timing
-              → Distinct old.pairs → (p : PairRecord) → Has old.pairs p → (k : (q : PairRecord) × Has kept.pairs q × Alike p q) → Checked now by kept issued new k.0 → told.issued ≡ issued
-              → (o : PairRecord) × Has old.pairs o × ChecksOn old told o × ((o ≡ p) ⊎ WaitsOn now by old new p)
+              → Distinct old.pairs → (p : PairRecord) → Has old.pairs p → (k : (q : PairRecord) × Has kept.pairs q × Alike p q) → Checked now by (length (filter (is_fixed_by by) kept.pairs)) kept issued new k.0 → told.issued ≡ issued
+              → (o : PairRecord) × Has old.pairs o × ChecksOn old told o × ((o ≡ p) ⊎ WaitsOn now by (length (filter (is_fixed_by by) old.pairs)) old new p)
           on-kept now by old kept new s t told issued c timing distinct p has (q, there, alike) (n, n_there, (id, out), which) issues =
               let o = c.1.back n n_there in (
                 o.0,
@@ -297,7 +296,7 @@ module _ {H P : Type 0} where
                         r_there,
                         matches-on p q r (alike-matches p q alike) matches,
                         checks ∙ alike.checks,
-                        subst (λ (x : StunTiming). due_moment now x r ≤ by) timing r_due,
+                        (λ at. subst (λ (x : StunTiming). due_moment at x r ≤ by) timing (r_due at)),
                         subst (λ (x : StunTiming). IsPaced x → now < MAX → length (due_by by now x new.pairs) < length (filter (is_fixed_by by) old.pairs)) timing fewer_old,
                       ))
                 ],

@@ -47,7 +47,7 @@ none-waits now t remote queue none = subst (λ q. next_request remote (queue_lef
   by None = refl
   by (Some peer) = refl
 
-none-left : (now : ℕ) (t : StunTiming) (remote : Option IceCreds) (queue : List RequestRecord) → queue ≡ [] → queue_left now t remote queue ≡ []
+pub none-left : (now : ℕ) (t : StunTiming) (remote : Option IceCreds) (queue : List RequestRecord) → queue ≡ [] → queue_left now t remote queue ≡ []
 none-left now t remote queue none = subst (λ q. queue_left now t remote q ≡ []) (sym none) (by remote) where
   by : (remote : Option IceCreds) → queue_left now t remote [] ≡ []
   by None = refl
@@ -103,7 +103,7 @@ module _ {H P : Type 0} where
                 (follows-map (asked at old.timing) old.pairs (λ p. record { number = refl; local = refl; remote = refl; valid = refl })),
           )
 
-    proceeds-from : (now : ℕ) (a : AgentRecord H P) (s t : Stream) (told : Told) (new : AgentRecord H P) → a.queue ≡ [] → TimesOut mac now a s (Ok tt) told new t
+    pub proceeds-from : (now : ℕ) (a : AgentRecord H P) (s t : Stream) (told : Told) (new : AgentRecord H P) → a.queue ≡ [] → TimesOut mac now a s (Ok tt) told new t
         → Proceeds mac now (awake now a) s told new t
     proceeds-from now a s t told new none h =
         subst (λ o. MatchOption o (Proceeds mac now (awake now a) s told new t) (λ q. ServesQueued mac q (awake now a) s told new t))
@@ -190,7 +190,7 @@ module _ {H P : Type 0} where
                           q_there,
                           record { number = matches.number; local = matches.local; remote = matches.remote; valid = matches.valid },
                           checks,
-                          subst (λ (y : StunTiming). due_moment now y q ≤ by) (sym timing) q_due,
+                          subst (λ (y : StunTiming). due_moment now y q ≤ by) (sym timing) (q_due now),
                           subst (λ (y : StunTiming). IsPaced old.timing → now < MAX → length (due_by by now y new.pairs) < length (due_by by at old.timing old.pairs)) (sym timing) fewer_old,
                         ))
                   ],
@@ -306,12 +306,12 @@ module _ {H P : Type 0} where
               use_of p has (inr (o, there, out, which)) = inl (o, there, inl out)
 
     pub no-pair-starves : NoPairStarves P mac
-    no-pair-starves first last turns p at by sound packets waits moments turning enough =
+    no-pair-starves first last turns p at by sound packets last_is waits moments turning enough =
         starves-not turns first last p at by
         (record {
           distinct = distinct-sound first sound;
           checking = waits.checking;
           idle = record { packets = packets; queue = waits.queue };
-          last = waits.last;
+          last = last_is;
         })
         waits.paced waits.there waits.due moments turning enough

@@ -3,6 +3,7 @@ use Rattle.std.specs.Prelude.{◌≡◌, ◌≢◌, ℕ, ◌<◌, ◌≤◌, max
 use Rattle.rand_core.specs.Stream.{Stream}
 use Rattle.is_proto.specs.Lists.{Has, is_empty}
 use Rattle.is_proto.specs.Moments.{MAX}
+use Rattle.is_proto.specs.Packets.{Packet}
 use Rattle.is_candidate.specs.Candidates.{CandidateRecord}
 use Rattle.is_pair.specs.Pairs.{PairRecord, is_valid, is_nominated}
 use Rattle.is_pair.specs.Due.{due_moment}
@@ -45,7 +46,7 @@ IsSuccess x = (m : Message) × Reads x.bytes m × (x.entry.answer ≡ Flag true)
 abbrev pub IsMet : List Arrival → Type 0
 IsMet arrivals = (x : Arrival) × Has arrivals x × IsSuccess x
 
--- a turn, and what came behind it
+-- a moment, and what came behind it
 pub record Round : Type 0 where
   pub now : ℕ
   pub told : Told
@@ -77,12 +78,11 @@ module _ {H P : Type 0} where
     pub packets : a.packets ≡ []
     pub queue : a.queue ≡ []
 
-  -- a pair waits for its check: asked at its last moment, it is due by the given one
+  -- a pair waits for its check: asked at the first moment, it is due by the other one
   pub record Awaits (at by : ℕ) (a : AgentRecord H P) (p : PairRecord) : Type 0 where
     pub checking : IsChecking a
     pub paced : IsPaced a.timing
     pub queue : a.queue ≡ []
-    pub last : a.last_moment ≡ Some at
     pub there : Has a.pairs p
     pub due : due_moment at a.timing p ≤ by
 
@@ -91,13 +91,16 @@ module _ {H P : Type 0} where
     pub invalid : (q : PairRecord) → Has a.pairs q → is_valid q ≡ false
     pub young : length p.checks < a.timing.max_retransmits
 
+  -- it is asked for its wake-up, or is not
+  abbrev pub MayBeAsked : AgentRecord H P → AgentRecord H P → Type 0
+  MayBeAsked old new = (new ≡ old) ⊎ ((wake : Option ℕ) × PollsTimeout old wake new)
+
   module _ (mac : H → List ℕ → List ℕ → List ℕ) where
-    -- asked for its wake-up, the agent is given a moment, then or later, and what it has to send and to tell is taken
+    -- asked for its wake-up, the agent is given a moment, and what it has to send and to tell is taken
     pub record Turn (old : AgentRecord H P) (now : ℕ) (told : Told) (new : AgentRecord H P) : Type 0 where
       pub wake : ℕ
       pub asked : AgentRecord H P
       pub polled : PollsTimeout old (Some wake) asked
-      pub kept : wake ≤ now
       pub before : Stream
       pub behind : Stream
       pub after : AgentRecord H P
@@ -112,28 +115,39 @@ module _ {H P : Type 0} where
 
     -- ---- rounds
 
+    -- the agent is given a moment, and some of what it has to send and to tell is taken
+    pub record Passes (old : AgentRecord H P) (now : ℕ) (told : Told) (new : AgentRecord H P) : Type 0 where
+      pub before : Stream
+      pub behind : Stream
+      pub after : AgentRecord H P
+      pub moment : TimesOut mac now old before (Ok tt) told after behind
+      pub waiting : List Packet
+      pub left : List IceAgentEvent
+      pub taken : new ≡ record after { packets = waiting; events = left }
+
     module _ (answers : P → CandidateRecord → ℕ → ℕ → Type 0) where
-      -- packets come one after another; what the agent has to send and to tell is taken, and it is controlling behind each
+      -- packets come one after another; some of what the agent has to send and to tell is taken, and it is controlling behind each
       abbrev pub Arrives : List Arrival → AgentRecord H P → AgentRecord H P → Type 0
       Arrives [] old new = new ≡ old
       Arrives (x ∷ rest) old new =
-          (after mid : AgentRecord H P) × (left : List IceAgentEvent) × (s t : Stream)
+          (after mid asked : AgentRecord H P) × (waiting : List Packet) × (left : List IceAgentEvent) × (s t : Stream)
           × Step mac answers old s (ReceivePacket x.at x.way x.bytes) x.entry after t × (after.controlling ≡ true)
-          × (mid ≡ record after { packets = []; events = left }) × Arrives rest mid new
+          × (mid ≡ record after { packets = waiting; events = left }) × MayBeAsked mid asked × Arrives rest asked new
 
       abbrev pub Rounds : List Round → AgentRecord H P → AgentRecord H P → Type 0
       Rounds [] old new = new ≡ old
-      Rounds (x ∷ rest) old new = (mid next : AgentRecord H P) × Turn old x.now x.told mid × Arrives x.arrivals mid next × Rounds rest next new
+      Rounds (x ∷ rest) old new =
+          (mid asked next : AgentRecord H P) × Passes old x.now x.told mid × MayBeAsked mid asked × Arrives x.arrivals asked next × Rounds rest next new
 
       -- behind one of the packets, which is an accepted success, a path is announced
       abbrev pub AnnouncesBehind : (arrivals : List Arrival) (old new : AgentRecord H P) → Arrives arrivals old new → Type 0
       AnnouncesBehind [] old new came = ⊥
-      AnnouncesBehind (x ∷ rest) old new came = (IsSuccess x × HasAnnounced came.0) ⊎ AnnouncesBehind rest came.1 new came.8
+      AnnouncesBehind (x ∷ rest) old new came = (IsSuccess x × HasAnnounced came.0) ⊎ AnnouncesBehind rest came.2 new came.11
 
       -- so in one of the rounds
       abbrev pub AnnouncesIn : (rounds : List Round) (old new : AgentRecord H P) → Rounds rounds old new → Type 0
       AnnouncesIn [] old new run = ⊥
-      AnnouncesIn (x ∷ rest) old new run = AnnouncesBehind x.arrivals run.0 run.1 run.3 ⊎ AnnouncesIn rest run.1 new run.4
+      AnnouncesIn (x ∷ rest) old new run = AnnouncesBehind x.arrivals run.1 run.2 run.5 ⊎ AnnouncesIn rest run.2 new run.6
 
 -- ---- the laws of wake-ups
 
@@ -162,11 +176,12 @@ WakesAreOfUse {H = H} P mac =
     → IsOfUse old told new
 
 -- A pair is checked, or given up, within as many turns as there are pairs that are due no later than it. The turns come at the
--- moment at which it is due, or later.
+-- moment at which it is due, or later. A pair that is nominated goes before all others, unless it was asked before: so the agent is
+-- asked before each moment.
 abbrev pub NoPairStarves : {H : Type 0} (P : Type 0) → (H → List ℕ → List ℕ → List ℕ) → Type 0
 NoPairStarves {H = H} P mac =
     (first last : AgentRecord H P) (turns : List (ℕ × Told)) (p : PairRecord) (at by : ℕ)
-    → IsSound first → first.packets ≡ [] → Awaits at by first p
+    → IsSound first → first.packets ≡ [] → first.last_moment ≡ Some at → Awaits at by first p
     → ((x : ℕ × Told) → Has turns x → (by ≤ x.0) × (x.0 < MAX))
     → Turns mac turns first last
     → length (due_by by at first.timing first.pairs) ≤ length turns
@@ -175,16 +190,17 @@ NoPairStarves {H = H} P mac =
 -- ---- answers
 
 -- A controlling agent has no valid pair yet, and each check that goes out on the path of a pair is answered in its round: then the
--- agent announces a path within as many rounds as there are pairs that are due no later than this one, whatever else comes.
+-- agent announces a path within as many rounds as there are pairs that are due no later than this one, asked at the first moment.
+-- Whatever else comes, and whether or not it is asked for wake-ups.
 abbrev pub AnsweredAnnounce : {H P : Type 0} → (H → List ℕ → List ℕ → List ℕ) → (P → CandidateRecord → ℕ → ℕ → Type 0) → Type 0
 AnsweredAnnounce {H = H} {P = P} mac answers =
-    (first last : AgentRecord H P) (rounds : List Round) (p : PairRecord) (at by : ℕ)
-    → IsSound first → first.packets ≡ [] → first.controlling ≡ true → Awaits at by first p → IsUnanswered first p
-    → ((x : Round) → Has rounds x → (by < x.now) × (x.now < MAX))
-    → (run : Rounds mac answers rounds first last)
-    → ((x : Round) (id : List ℕ) → Has rounds x → x.told.issued ≡ Some (issued_as (path_of first p) class.Request id) → IsMet x.arrivals)
-    → length (due_by by at first.timing first.pairs) ≤ length rounds
-    → AnnouncesIn mac answers rounds first last run
+    (first last : AgentRecord H P) (r : Round) (rounds : List Round) (p : PairRecord) (by : ℕ)
+    → IsSound first → first.controlling ≡ true → Awaits r.now by first p → IsUnanswered first p
+    → ((x : Round) → Has (r ∷ rounds) x → (by < x.now) × (x.now < MAX))
+    → (run : Rounds mac answers (r ∷ rounds) first last)
+    → ((x : Round) (id : List ℕ) → Has (r ∷ rounds) x → x.told.issued ≡ Some (issued_as (path_of first p) class.Request id) → IsMet x.arrivals)
+    → length (due_by by r.now first.timing first.pairs) ≤ length (r ∷ rounds)
+    → AnnouncesIn mac answers (r ∷ rounds) first last run
 
 module _ {H P : Type 0} (mac : H → List ℕ → List ℕ → List ℕ) (answers : P → CandidateRecord → ℕ → ℕ → Type 0) where
   -- behind an accepted success a controlling agent has announced the path of an eligible pair of greatest stored priority

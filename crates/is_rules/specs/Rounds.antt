@@ -1,6 +1,6 @@
--- Rounds in a log: between two moments packets come, and polls. Where the checks of a pair are answered in their rounds, a path
--- is announced in one of them.
-use Rattle.std.specs.Prelude.{◌≡◌, ℕ, ◌<◌, ◌≤◌, ◌⊎◌, Bool, true, false, List, [], ◌∷◌, ◌++◌, length, Some, None, is_some}
+-- Parts of a log: turns, at which a wake-up is asked for and kept, and rounds, in which packets come behind a moment, and polls. Where
+-- the checks of a pair are answered in their rounds, a path is announced in one of them.
+use Rattle.std.specs.Prelude.{◌≡◌, ℕ, ◌<◌, ◌≤◌, ◌⊎◌, Bool, true, false, List, [], ◌∷◌, ◌++◌, length, Option, Some, None, is_some}
 use Rattle.rand_core.specs.Stream.{Stream}
 use Rattle.is_proto.specs.Lists.{Has, is_empty}
 use Rattle.is_proto.specs.Moments.{MAX}
@@ -23,17 +23,22 @@ use Rattle.is_rules.specs.Progress.{IsChecking, IsOfUse, Awaits, IsUnanswered}
 
 -- ---- the entries of a round
 
--- newest first: what came behind a moment, the moment, and the asking before it
+-- newest first: what came behind a moment, and the moment
 pub record LoggedRound (P : Type 0) : Type 0 where
   pub behind : List (Logged P)
   pub moment : Logged P
-  pub asked : Logged P
   pub now : ℕ
 
 -- the entries of rounds, newest first
 abbrev pub entries_of : {P : Type 0} → List (LoggedRound P) → List (Logged P)
 entries_of [] = []
-entries_of (r ∷ older) = r.behind ++ r.moment ∷ r.asked ∷ entries_of older
+entries_of (r ∷ older) = r.behind ++ r.moment ∷ entries_of older
+
+-- the moment of the oldest
+abbrev pub began_at : {P : Type 0} → List (LoggedRound P) → Option ℕ
+began_at [] = None
+began_at (r ∷ []) = Some r.now
+began_at (r ∷ older) = began_at older
 
 abbrev pub is_poll : {P : Type 0} → Call P → Bool
 is_poll PollTransmit = true
@@ -65,19 +70,15 @@ pub record IsTurn {P : Type 0} (before : List (Logged P)) (asked moment : Logged
   pub done : moment.entry.answer ≡ Done
   pub kept : wake ≤ now
 
--- A round: a turn, and then packets and polls. Where a check goes out on the path, an accepted success comes in the same round.
-pub record IsRound {P : Type 0} (by : ℕ) (path : Path) (before : List (Logged P)) (r : LoggedRound P) : Type 0 where
-  pub wake : ℕ
-  pub turn : IsTurn before r.asked r.moment wake r.now
+-- A round: a moment, and then packets and polls. Where a check goes out on the path, an accepted success comes in the same round.
+pub record IsRound {P : Type 0} (by : ℕ) (path : Path) (r : LoggedRound P) : Type 0 where
+  pub comes : r.moment.call ≡ HandleTimeout r.now
+  pub done : r.moment.entry.answer ≡ Done
   pub late : by < r.now
   pub early : r.now < MAX
   pub between : (x : Logged P) → Has r.behind x → is_between x.call ≡ true
   pub met : (id : List ℕ) → r.moment.entry.told.issued ≡ Some (issued_as path class.Request id)
       → (x : Logged P) × Has r.behind x × BringsSuccess x
-
-abbrev pub AreRounds : {P : Type 0} → ℕ → Path → List (Logged P) → List (LoggedRound P) → Type 0
-AreRounds by path before [] = Unit {0}
-AreRounds by path before (r ∷ older) = IsRound by path (entries_of older ++ before) r × AreRounds by path before older
 
 module _ {H P : Type 0} (mac : H → List ℕ → List ℕ → List ℕ) (answers : P → CandidateRecord → ℕ → ℕ → Type 0) where
   -- ---- parts of a log
@@ -127,13 +128,14 @@ module _ {H P : Type 0} (mac : H → List ℕ → List ℕ → List ℕ) (answer
       → IsChecking start → is_empty start.pairs ≡ false → wake < MAX
       → IsOfUse start moment.entry.told last
 
-  -- Wherever the log has a record with n pairs due by some moment, and then n rounds behind that moment in which the checks of one
-  -- of these pairs are answered, a path is announced in one of the rounds. Whatever else comes.
+  -- Wherever a moment stands in the log at which n pairs are due by an earlier one, and it begins n rounds behind that one in which the
+  -- checks of one of these pairs are answered, a path is announced in one of the rounds. Whatever else comes.
   abbrev pub RoundsAnnounce : AgentRecord H P → Stream → List (Logged P) → Type 0
   RoundsAnnounce first s log =
       (before : List (Logged P)) (start last : AgentRecord H P) (rounds : List (LoggedRound P)) (p : PairRecord) (at by : ℕ)
       → (part : Part first s log before start (entries_of rounds) last)
-      → Awaits at by start p → IsUnanswered start p → AreRounds by (path_of start p) before rounds
+      → began_at rounds ≡ Some at → Awaits at by start p → IsUnanswered start p
+      → ((r : LoggedRound P) → Has rounds r → IsRound by (path_of start p) r)
       → IsControllingIn before start part.at (entries_of rounds) last part.behind part.run
       → length (due_by by at start.timing start.pairs) ≤ length rounds
       → AnnouncesIn first s log (entries_of rounds)

@@ -132,8 +132,8 @@ pub fn parts_are_runs<H: Sha1HmacProvider, P: LocalPreference>()
     ensures { PartsAreRuns H.mac P.answers }
 {}
 
-/// From a fresh agent, wherever the log has a record with n pairs due by some moment, and then n rounds in which the checks of one of
-/// these pairs are answered, a path is announced in one of the rounds, while the agent is controlling.
+/// From a fresh agent, wherever n pairs, asked at a moment of the log, are due by an earlier one, and the moment begins n rounds in which
+/// the checks of one of these pairs are answered, a path is announced in one of the rounds, while the agent is controlling.
 pub fn answered_rounds_announce<H: Sha1HmacProvider, P: LocalPreference>()
     ensures { AnsweredRoundsAnnounce H.mac P.answers }
 {}
