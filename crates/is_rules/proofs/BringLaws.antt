@@ -155,7 +155,7 @@ module _ {H P : Type 0} (mac : H → List ℕ → List ℕ → List ℕ) (answer
     counted : (call : Call P) → Posted mac answers old new s t e call → Counted call
     counted call (inl none) = inl (ap (λ i. count test (reply_of i)) none)
     counted call (inr (inl (role, inl none))) = inl (ap (λ i. count test (reply_of i)) none)
-    counted call (inr (inl (role, inr (path, id, peer, c, names, out, known, has, values, put)))) = inl (ap (λ i. count test (reply_of i)) out)
+    counted call (inr (inl (role, inr (path, id, peer, c, names, out, known, has, values, put, leads)))) = inl (ap (λ i. count test (reply_of i)) out)
     counted call (inr (inr (q, serves, inl (inl none)))) = inl (ap (λ i. count test (reply_of i)) none.0)
     counted call (inr (inr (q, serves, inl (inr (out, values, put, nominates))))) = inr (q, serves, counts_reply e.told.issued q (ap (λ i. count test (reply_of i)) out))
     counted call (inr (inr (q, serves, inr (out, values, put, insists, stays)))) = inr (q, serves, counts_reply e.told.issued q (ap (λ i. count test (reply_of i)) out))

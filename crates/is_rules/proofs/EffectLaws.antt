@@ -193,13 +193,13 @@ module _ {H P : Type 0} (mac : H → List ℕ → List ℕ → List ℕ) (answer
 
   module _ (old new : AgentRecord H P) (s t : Stream) (e : Entry) (call : Call P) where
     -- the packet that the step issues
-    abbrev Issues : Type 0
+    abbrev pub Issues : Type 0
     Issues = (packet : Packet) × (new.packets ≡ old.packets ++ packet ∷ []) × IsIssued mac old call e packet new.controlling
 
-    issues : Posted mac answers old new s t e call → (e.told.issued ≡ None) ⊎ Issues
+    pub issues : Posted mac answers old new s t e call → (e.told.issued ≡ None) ⊎ Issues
     issues (inl none) = inl none
     issues (inr (inl (role, inl none))) = inl none
-    issues (inr (inl (role, inr (path, id, peer, c, names, out, known, has, values, put)))) =
+    issues (inr (inl (role, inr (path, id, peer, c, names, out, known, has, values, put, leads)))) =
         let m : Message = asks_with (frame_of old) peer id c names in
         let packet : Packet = packet_along path (written (mac old.provider) (Some peer.pass) m) in
         inr (
@@ -209,7 +209,7 @@ module _ {H P : Type 0} (mac : H → List ℕ → List ℕ → List ℕ) (answer
             m,
             ap (λ o. written (mac old.provider) (Some (key_for class.Request old.local_creds o)) m) (sym known),
             out,
-            (peer, c, names, known, has, refl, values, role),
+            (peer, c, names, known, has, refl, values, role, leads),
           ),
         )
     issues (inr (inr (q, serves, inl (inl none)))) = inl none.0

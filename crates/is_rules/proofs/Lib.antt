@@ -5,6 +5,7 @@ pub mod Rising
 mod DueLemmas
 mod PlaceLemmas
 mod ReplyLemmas
+mod Names
 mod TopLemmas
 mod RangeLemmas
 mod CutLemmas
@@ -47,3 +48,4 @@ pub mod Rounding
 pub mod LogParts
 pub mod Announced
 pub mod LoggedRounds
+pub mod Delivered

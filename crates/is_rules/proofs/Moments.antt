@@ -29,6 +29,7 @@ use Rattle.is_rules.proofs.Tells.{Tells, tells_one, tells_two, tells_behind, tel
 use Rattle.is_rules.proofs.Onward.{Parts, Fit, Onward, onward}
 use Rattle.is_rules.proofs.Moves.{Has-map, Has-at, parts_of, nominates, gives_up_moves}
 use Rattle.is_rules.proofs.Checks.{records, check_moves}
+use Rattle.is_rules.proofs.Addresses.{both}
 
 pub none_some : (p : Path) → None ≡ Some p → ⊥
 none_some p h = cc
@@ -56,7 +57,8 @@ CheckOut mac f local before issued behind =
     (issued ≡ None)
     ⊎ ((path : Path) × (id : List ℕ) × (peer : IceCreds) × (c : CandidateRecord) × (uses : Bool)
     × (issued ≡ Some (issued_as path class.Request id)) × (f.remote_creds ≡ Some peer) × Has local c × IsPut (written (mac f.provider) (Some peer.pass) (asks_with f peer id c uses)) (asks_with f peer id c uses)
-    × (behind ≡ before ++ packet_along path (written (mac f.provider) (Some peer.pass) (asks_with f peer id c uses)) ∷ []))
+    × (behind ≡ before ++ packet_along path (written (mac f.provider) (Some peer.pass) (asks_with f peer id c uses)) ∷ [])
+    × (uses ≡ true → f.controlling ≡ true))
 
 module _ (asks met : Path → Type 0) (sent : Path → List ℕ → Bool → Type 0) {H P : Type 0} where
   abbrev Goes : AgentRecord H P → AgentRecord H P → Type 0
@@ -89,6 +91,7 @@ module _ (asks met : Path → Type 0) (sent : Path → List ℕ → Bool → Typ
               Has-at old.local p.local nowhere at,
               values,
               ap (λ (a : AgentRecord H P). a.packets) made,
+              λ uses. (both old.controlling (is_nominated p) uses).0,
             )
 
   check_number : (mac : H → List ℕ → List ℕ → List ℕ) (now : ℕ) (remote : Option IceCreds) (old new : AgentRecord H P) (s t : Stream) (issued : Option Issued)

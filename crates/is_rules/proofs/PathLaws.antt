@@ -87,7 +87,7 @@ module _ {H P : Type 0} (mac : H → List ℕ → List ℕ → List ℕ) where
         × (q.use_candidate ≡ true → new.controlling ≡ false → IsNominatedOn new (turned q.path))
     replied_on (inl none) issued is success = let no : None ≡ Some issued = sym none ∙ is in absurd (cc)
     replied_on (inr (inl (role, inl none))) issued is success = let no : None ≡ Some issued = sym none ∙ is in absurd (cc)
-    replied_on (inr (inl (role, inr (path, id, peer, c, names, out, known, has, values, put)))) issued is success =
+    replied_on (inr (inl (role, inr (path, id, peer, c, names, out, known, has, values, put, leads)))) issued is success =
         no_class path class.Request id issued (sym out ∙ is) success (λ (h : class.Request ≡ class.Success). cc)
     replied_on (inr (inr (r, serves, inl (inl none)))) issued is success = let no : None ≡ Some issued = sym none.0 ∙ is in absurd (cc)
     replied_on (inr (inr (r, serves, inl (inr (out, values, put, nominates))))) issued is success =

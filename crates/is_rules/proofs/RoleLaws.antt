@@ -280,7 +280,7 @@ module _ {H P : Type 0} (mac : H → List ℕ → List ℕ → List ℕ) (old ne
     out c i = ap (option_map sent_as) told ∙ ap (λ k. Some (sent_of (way_out packet) k m.id)) (sym c) ∙ ap (λ k. Some (sent_of (way_out packet) n.class k)) (sym i)
 
     by : (c : Class) → m.class ≡ c → Says c old call e packet.contents m (way_out packet) new.controlling → roles.IsPosted (standing_of old) D (mail_of n) new.controlling
-    by class.Request is_c (peer, cand, uses, known, has, m_is, put, role) =
+    by class.Request is_c (peer, cand, uses, known, has, m_is, put, role, leads) =
         let same : SameMessage n m = put.reads n reads in record {
           path = way_out packet;
           issued = out same.class same.id;

@@ -1,5 +1,5 @@
 -- What a step issues, and what becomes of the queues.
-use Rattle.std.specs.Prelude.{◌≡◌, ℕ, Bool, List, [], ◌∷◌, ◌++◌, Option, Some, None, ◌⊎◌, if◌then◌else◌}
+use Rattle.std.specs.Prelude.{◌≡◌, ℕ, Bool, true, List, [], ◌∷◌, ◌++◌, Option, Some, None, ◌⊎◌, if◌then◌else◌}
 use Rattle.is_proto.specs.Lists.{Has}
 use Rattle.is_proto.specs.Packets.{Packet}
 use Rattle.is_candidate.specs.Candidates.{CandidateRecord}
@@ -75,12 +75,12 @@ module _ {H P : Type 0} where
 
   -- what the bytes of a message say that the step issues, by its class; `controlling` is the role after the step
   abbrev pub Says : Class → AgentRecord H P → Call P → Entry → List ℕ → Message → Path → Bool → Type 0
-  -- a check claims the role, which stays
+  -- a check claims the role, which stays, and nominates while the agent is controlling alone
   Says class.Request old call e bytes m path controlling =
       (peer : IceCreds) × (c : CandidateRecord) × (use_candidate : Bool)
       × (old.remote_creds ≡ Some peer) × Has old.local c
       × (m ≡ binding_request (username_between peer old.local_creds) m.id old.controlling old.tie_breaker (check_priority c) use_candidate)
-      × IsPut bytes m × (controlling ≡ old.controlling)
+      × IsPut bytes m × (controlling ≡ old.controlling) × (use_candidate ≡ true → old.controlling ≡ true)
   -- a success is the reply to the request served, and goes back where that came from
   Says class.Success old call e bytes m path controlling =
       (q : RequestRecord) × IsServing old call e q × (m ≡ binding_reply q.id q.path.source) × (path ≡ turned q.path)

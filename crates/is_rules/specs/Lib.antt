@@ -44,3 +44,4 @@ pub mod Standing
 pub mod RoleView
 pub mod Progress
 pub mod Rounds
+pub mod Delivery

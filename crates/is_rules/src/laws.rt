@@ -6,10 +6,12 @@ ghost use Rattle.is_rules.specs.Runs.{EntriesArePoints, RunsAreSound, AnnouncedA
 ghost use Rattle.is_rules.specs.Reporting.{QueuesLaw};
 ghost use Rattle.is_rules.specs.RoleView.{FreshIsNew, RoleLaw};
 ghost use Rattle.is_rules.specs.Progress.{AnsweredAnnounce, AnswersAnnounce, MomentsAnnounce, NoPairStarves, WakesAhead, WakesAreOfUse, WakesInTime};
+ghost use Rattle.is_rules.specs.Delivery.{ChecksAreServed, RepliesAreAccepted};
 ghost use Rattle.is_rules.specs.Rounds.{AnsweredRoundsAnnounce, PartsAreRuns, TurnsAreOfUse};
 
 use is_candidate::LocalPreference;
 use is_proto::Sha1HmacProvider;
+use is_stun::laws::{addresses_are_written_plain, checks_fit, replies_fit, written_is_read};
 
 /// A refused call keeps the record, and draws no random word.
 pub fn refusal_keeps<H: Sha1HmacProvider, P: LocalPreference>()
@@ -143,3 +145,15 @@ pub fn answered_rounds_announce<H: Sha1HmacProvider, P: LocalPreference>()
 pub fn turns_are_of_use<H: Sha1HmacProvider, P: LocalPreference>()
     ensures { TurnsAreOfUse H.mac P.answers }
 {}
+
+/// A check that is delivered to the other of two agents that know each other, while their roles differ, is accepted and answered;
+/// and the answer, delivered while the check is kept, is accepted.
+pub fn checks_are_answered<H: Sha1HmacProvider, P: LocalPreference>()
+    ensures served { ChecksAreServed H.mac P.answers }
+    ensures accepted { RepliesAreAccepted H.mac P.answers }
+{
+    written_is_read();
+    addresses_are_written_plain();
+    checks_fit();
+    replies_fit();
+}

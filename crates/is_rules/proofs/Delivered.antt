@@ -1,0 +1,334 @@
+-- A check that is delivered is served, and its answer accepted.
+use Rattle.std.proofs.Common.{◌≡◌, ℕ, ◌+◌, ◌≤◌, ◌==◌, ◌&&◌, Bool, true, false, not, List, [], ◌∷◌, ◌++◌, length, position, Option, Some, None, Result, Ok, Err, inl, inr, refl, ap, sym, ◌∙◌, subst, arith, bytes_eq, if◌then◌else◌}
+use Rattle.std.specs.Prelude.{MatchBool, MatchOption, IsSomeAnd, IfSome}
+use Rattle.std.specs.List.{list_any, position_or_len}
+use Rattle.std.specs.Option.{option_or, option_map_or}
+use Rattle.std.specs.declared.net.socket_addr.SocketAddr.{SocketAddr}
+use Rattle.std.proofs.lemmas.List.{length-append}
+use Rattle.std.proofs.lemmas.List.Quantifiers.{position-Some}
+use Rattle.std.proofs.lemmas.Slice.Eq.{bytes_eq-Decides}
+use Rattle.is_proto.specs.Lists.{Has}
+use Rattle.is_proto.specs.Packets.{Packet}
+use Rattle.is_proto.specs.declared.error.IceError.{IceError}
+use Rattle.is_proto.specs.declared.error.ParseFault.{ParseFault}
+use Rattle.is_candidate.specs.Candidates.{CandidateRecord, candidate_at, nowhere}
+use Rattle.is_candidate.specs.Priorities.{check_priority}
+use Rattle.is_stun.specs.declared.header.Class.{Class}
+use Rattle.is_stun.specs.declared.header.Class.TheVariants as class
+use Rattle.is_stun.specs.Checks.{binding_request, binding_reply}
+use Rattle.is_stun.specs.Integrity.{IsSignedBy}
+use Rattle.is_stun.specs.Laws.{IsPut, IsWrittenPlain, ReadsBack, SameMessage, WrittenIsRead, FitsInto}
+use Rattle.is_stun.specs.Message.{AttributesRecord, Message, split_username}
+use Rattle.is_stun.specs.Reading.{Reads, Fault}
+use Rattle.is_stun.specs.Writing.{written}
+use Rattle.is_rules.specs.declared.credentials.IceCreds.{IceCreds}
+use Rattle.is_rules.specs.declared.places.RemotePlace.{RemotePlace}
+use Rattle.is_rules.specs.declared.places.RemotePlace.TheVariants.{Known, Barred, Unknown}
+use Rattle.is_rules.specs.declared.roles.Conflict.TheVariants.{Absent}
+use Rattle.is_rules.specs.declared.told.Path.{Path}
+use Rattle.is_rules.specs.declared.told.Issued as code
+use Rattle.is_rules.specs.declared.told.Told.{Told}
+use Rattle.is_rules.specs.Agent.{AgentRecord}
+use Rattle.is_rules.specs.Accepting.{HandlesPacket, IsAcceptedAs, IsAcceptedOn, IsAddressed, Takes}
+use Rattle.is_rules.specs.Answers.{keeps_check_on}
+use Rattle.is_rules.specs.Checking.{username_between}
+use Rattle.is_rules.specs.Delivery.{IsFragment, IsReachedBy, Sends, Delivered, Issued, IsTaken, ChecksAreServed, RepliesAreAccepted, receives, is_gone_at}
+use Rattle.is_rules.specs.Fitting.{are_too_long}
+use Rattle.is_rules.specs.Issuing.{Says, IsIssued, key_for, way_out}
+use Rattle.is_rules.specs.Places.{is_live, is_reached, is_sender, local_place, place_by, IsRemotePlace, IsGreatestPlace}
+use Rattle.is_rules.specs.Request.{RequestRecord, request_in, rival_in}
+use Rattle.is_rules.specs.Roles.{conflict_by, conflict_of}
+use Rattle.is_rules.specs.Sending.{carried, path_between}
+use Rattle.is_rules.specs.Serving.{is_misled, names_another, request_counted, with_sender, Drops, Queues, TakesRequest, ServesPair, AddsPair, TakesAt, JoinsAt, MeetsSender, Admits, SettlesBy, Settles, ServesHere, Serves}
+use Rattle.is_rules.specs.Sound.{IsSound}
+use Rattle.is_rules.specs.Steps.{answer_by, Call, Entry, Flag, ReceivePacket, Receives, is_refusal}
+use Rattle.is_rules.specs.Told.{issued_as, turned}
+use Rattle.is_rules.proofs.Addresses.{both}
+use Rattle.is_rules.proofs.EffectLaws.{issues}
+use Rattle.is_rules.proofs.Moves.{Has-at}
+use Rattle.is_rules.proofs.Names.{splits, first_found, any_has}
+use Rattle.is_rules.proofs.PathLaws.{path_effect}
+use Rattle.is_rules.proofs.ReplyLemmas.{plain-reply}
+use Rattle.is_rules.proofs.Tells.{some_is}
+
+-- what stands behind the others is one packet
+last_same : (xs : List Packet) (x y : Packet) → xs ++ x ∷ [] ≡ xs ++ y ∷ [] → x ≡ y
+last_same [] x y h = cc
+last_same (z ∷ xs) x y h = last_same xs x y (let same : z ∷ (xs ++ x ∷ []) ≡ z ∷ (xs ++ y ∷ []) = h in cc)
+
+-- the names of two agents fit into a check
+name_fits : (own peer : IceCreds) → are_too_long own (Some peer) ≡ false → length (username_between peer own) ≤ 508
+name_fits own peer h =
+    let long : length (peer.ufrag ++ 58 ∷ own.ufrag) ≡ length peer.ufrag + length (58 ∷ own.ufrag) = length-append peer.ufrag (58 ∷ own.ufrag) in
+    let within : length own.ufrag + 1 + length peer.ufrag ≤ 508 = grind (arith, h) in
+    omega (arith, long, within)
+
+-- what two readings of the same bytes are
+same_reading : (bytes : List ℕ) (m n : Message) → Reads bytes m → Reads bytes n → n ≡ m
+same_reading bytes m n r s = s.spelled ∙ sym r.spelled
+
+faultless : {A : Type 0} (bytes : List ℕ) (m : Message) (fault : ParseFault) → Reads bytes m → Fault bytes fault → A
+faultless bytes m fault r is = absurd (let no : None ≡ Some fault = sym r.faultless ∙ is in cc)
+
+told_as : (way path : Path) (c d : Class) (i j : List ℕ) → Some (issued_as way c i) ≡ Some (issued_as path d j) → (way ≡ path) × (c ≡ d) × (i ≡ j)
+told_as way path c d i j h =
+    let same : issued_as way c i ≡ issued_as path d j = some_is _ _ h in
+    (ap (λ (x : code.Issued). x.path) same, ap (λ (x : code.Issued). x.class) same, ap (λ (x : code.Issued). x.id.0) same)
+
+-- one that passes has not gone
+neither_way : (d s : Bool) → s ≡ true → (s && not d) ≡ false → (s && d) ≡ false → ⊥
+neither_way true true is live gone = cc
+neither_way false true is live gone = cc
+neither_way d false is live gone = cc
+
+passes_none : (test : CandidateRecord → Bool) (cs : List CandidateRecord) (c : CandidateRecord) → list_any test cs ≡ false → Has cs c → test c ≡ false
+passes_none test cs c none has = none_passes (test c) refl where
+  none_passes : (b : Bool) → test c ≡ b → test c ≡ false
+  none_passes false is = is
+  none_passes true is = let wrong : true ≡ false = sym (any_has test cs c has is) ∙ none in absurd (cc)
+
+-- a check claims the sender's role, which the other has not, and nominates from the controlling one alone
+no_rival : (c : Bool) (q : RequestRecord) (tie : ℕ) → q.ice_controlling ≡ (if c then Some tie else None) → q.ice_controlled ≡ (if c then None else Some tie) → rival_in (not c) q ≡ None
+no_rival true q tie one other = other
+no_rival false q tie one other = one
+
+not_misled : (c u : Bool) → (u ≡ true → c ≡ true) → (not c && u) ≡ false
+not_misled true u leads = refl
+not_misled false true leads = let wrong : false ≡ true = leads refl in absurd (cc)
+not_misled false false leads = refl
+
+module _ {H P : Type 0} (mac : H → List ℕ → List ℕ → List ℕ) (answers : P → CandidateRecord → ℕ → ℕ → Type 0) where
+  -- ---- what a step issued
+
+  issued_packet : (a sent : AgentRecord H P) (class : Class) (id : List ℕ) (packet : Packet) → IsSound a → (i : Issued mac answers class id packet a sent)
+      → IsIssued mac a i.call i.entry packet sent.controlling
+  issued_packet a sent c id packet sound i =
+      let posted = (path_effect mac answers a sent i.before i.behind i.entry i.call sound i.step).2 in
+      elim (issues mac answers a sent i.before i.behind i.entry i.call posted) [
+        | inl none ↦ absurd (let no : None ≡ Some (issued_as (way_out packet) c id) = sym none ∙ i.sends.told in cc)
+        | inr (other, put, issued) ↦ subst (λ (p : Packet). IsIssued mac a i.call i.entry p sent.controlling) (last_same a.packets other packet (sym put ∙ i.sends.put)) issued
+      ]
+
+  -- ---- a check reads
+
+  module _ (read : (m : List ℕ → List ℕ → List ℕ) (key : List ℕ) (x : Message) → WrittenIsRead m key x)
+      (fits : (key id username : List ℕ) (controlling : Bool) (tie_breaker priority : ℕ) (nominates : Bool)
+      → length username ≤ 508 → FitsInto key 588 (binding_request username id controlling tie_breaker priority nominates)) where
+    check_reads : (key : List ℕ) (own peer : IceCreds) (id : List ℕ) (controlling uses : Bool) (tie priority : ℕ) (m : List ℕ → List ℕ → List ℕ) (bytes : List ℕ)
+        → ((k text : List ℕ) → length (m k text) ≡ 20) → are_too_long own (Some peer) ≡ false → IsFragment own.ufrag → IsFragment peer.ufrag
+        → IsPut bytes (binding_request (username_between peer own) id controlling tie priority uses)
+        → ReadsBack m key (written m (Some key) (binding_request (username_between peer own) id controlling tie priority uses))
+        (binding_request (username_between peer own) id controlling tie priority uses)
+    check_reads key own peer id controlling uses tie priority m bytes twenty short mine its put =
+        let x : Message = binding_request (username_between peer own) id controlling tie priority uses in
+        read m key x twenty 588 (fits key id (username_between peer own) controlling tie priority uses (name_fits own peer short) 588 (omega arith))
+        (record { class = tt; id = put.values.id; values = put.values.values; demands = rw (splits peer.ufrag own.ufrag its.plain mine.some) refl })
+
+  -- ---- where a request is served
+
+  -- the first candidate that receives it stands
+  live_place : (b : AgentRecord H P) (q : RequestRecord) → list_any (is_live (receives q.path)) b.local ≡ true
+      → (l : ℕ) × (local_place b.local q ≡ Some l) × ((candidate_at b.local l).discarded ≡ false)
+  live_place b q there =
+      let at : position (is_live (is_reached q)) b.local ≡ Some (position_or_len (is_live (is_reached q)) b.local) = first_found (is_live (is_reached q)) b.local there in
+      let l = position_or_len (is_live (is_reached q)) b.local in
+      let found = position-Some (is_live (is_reached q)) b.local l nowhere at in (
+        l,
+        ap (λ (o : Option ℕ). option_or o (position (is_reached q) b.local)) at,
+        stands (candidate_at b.local l).discarded (both (is_reached q (candidate_at b.local l)) (not (candidate_at b.local l).discarded) found.1).1,
+      ) where
+        stands : (d : Bool) → not d ≡ true → d ≡ false
+        stands true h = absurd (cc)
+        stands false h = refl
+
+  module _ (q : RequestRecord) where
+    -- the reply goes out
+    abbrev Replied : Told → Type 0
+    Replied told = (path : Path) × (told.issued ≡ Some (issued_as path class.Success q.id))
+
+    at_pair : (l r number : ℕ) (s new : AgentRecord H P) (told : Told) → ServesPair mac q l r number s told new → Replied told
+    at_pair l r number s new told (path, mid, nominates, (values, is, made)) = (path_between s l r, ap (λ (t : Told). t.issued) is)
+
+    takes_at : (l r : ℕ) (number : Option ℕ) (s new : AgentRecord H P) (told : Told) → (candidate_at s.local l).discarded ≡ false
+        → TakesAt mac q l r number s told new → Replied told
+    takes_at l r (Some number) s new told live h = at_pair l r number s new told h
+    takes_at l r None s new told live h =
+        let k : AddsPair mac q l r s told new = subst (λ b. MatchBool b (Drops s told new) (AddsPair mac q l r s told new)) live h in
+        at_pair l r s.next_number _ new told k.1
+
+    joins_at : (l : ℕ) (place : RemotePlace) (s new : AgentRecord H P) (told : Told) → (candidate_at s.local l).discarded ≡ false
+        → (place ≡ Barred → ⊥) → JoinsAt mac q l place s told new → Replied told
+    joins_at l (Known r) s new told live met (number, between, h) = takes_at l r number s new told live h
+    joins_at l Barred s new told live met h = absurd (met refl)
+    joins_at l Unknown s new told live met (number, between, h) = takes_at l (length s.remote) number (with_sender q s) new told live h
+
+    -- no discarded candidate alone stands where it came from
+    meets : (remote : List CandidateRecord) (place : RemotePlace) → list_any (is_gone_at q.path) remote ≡ false → IsRemotePlace remote q place → place ≡ Barred → ⊥
+    meets remote place none (Some live, greatest, is) barred = let wrong : Known live ≡ Barred = sym is ∙ barred in cc
+    meets remote place none (None, greatest, is) barred = senders remote none greatest (list_any (is_sender q) remote) refl (sym is ∙ barred) where
+      senders : (cs : List CandidateRecord) → list_any (is_gone_at q.path) cs ≡ false → IsGreatestPlace (is_live (is_sender q)) cs None
+          → (knows : Bool) → list_any (is_sender q) cs ≡ knows → place_by None knows ≡ Barred → ⊥
+      senders cs none greatest false is wrong = let no : Unknown ≡ Barred = wrong in cc
+      senders cs none greatest true is wrong =
+          let at : position (is_sender q) cs ≡ Some (position_or_len (is_sender q) cs) = first_found (is_sender q) cs is in
+          let k = position_or_len (is_sender q) cs in
+          let found = position-Some (is_sender q) cs k nowhere at in
+          let c = candidate_at cs k in
+          neither_way c.discarded (is_sender q c) found.1 (greatest k found.0) (passes_none (is_gone_at q.path) cs c none (Has-at cs k nowhere found.0))
+
+    -- roles apart, USE-CANDIDATE from a controlling agent alone, and places that stand: so the request is served
+    serves : (s new : AgentRecord H P) (told : Told) → names_another s q ≡ false → IsReachedBy s q.path → conflict_of s q ≡ Absent
+        → is_misled s.controlling q ≡ false → Serves mac q s told new → Replied told
+    serves s new told named reached apart led h =
+        let k : ServesHere mac q s told new = subst (λ b. MatchBool b (Drops s told new) (ServesHere mac q s told new)) named h in
+        let place = live_place s q reached.there in
+        let l = place.0 in
+        let m : Settles mac q l s told new = subst (λ o. MatchOption o (Drops s told new) (λ l. Settles mac q l s told new)) place.1 k in
+        let n : Admits mac q l s told new = subst (λ c. SettlesBy mac c q l s told new) apart m in
+        let o : MeetsSender mac q l (request_counted s) told new = subst (λ b. MatchBool b (Drops s told new) (MeetsSender mac q l (request_counted s) told new)) led n in
+        joins_at l o.0 (request_counted s) new told place.2 (meets s.remote o.0 reached.from o.1) o.2
+
+  -- ---- what comes of a packet
+
+  abbrev Took : Packet → ℕ → AgentRecord H P → Entry → Message → Type 0
+  Took packet at old e m = (e.answer ≡ Flag true) × ((mid : AgentRecord H P) × Takes mac m.class at old (way_out packet) m e.told mid)
+
+  took : (packet : Packet) (at : ℕ) (old : AgentRecord H P) (e : Entry) (new : AgentRecord H P) (m : Message) → Reads packet.contents m
+      → IsAcceptedOn mac old (way_out packet) m → Delivered mac answers packet at old e new → Took packet at old e m
+  took packet at old e new m reads accepted d = by d.step.0 where
+    handled : (r : Result Bool IceError) (told : Told) → e ≡ record { answer = answer_by Flag r; told = told }
+        → HandlesPacket mac at old (way_out packet) m r told new → Took packet at old e m
+    handled (Ok false) told is h = absurd (h.0 accepted)
+    handled (Ok true) told is h =
+        (ap (λ (x : Entry). x.answer) is, (h.1.0, subst (λ (t : Told). Takes mac m.class at old (way_out packet) m t h.1.0) (sym (ap (λ (x : Entry). x.told) is)) h.1.1))
+    handled (Err error) told is h = absurd (let wrong : true ≡ false = sym (ap (λ (x : Entry). is_refusal x.answer) is) ∙ d.granted in cc)
+
+    by : Receives mac answers at old (way_out packet) packet.contents e new → Took packet at old e m
+    by (inl (fault, is, answer, same)) = faultless packet.contents m fault reads is
+    by (inr (n, other, (r, told, is, handles))) =
+        handled r told is (subst (λ (x : Message). HandlesPacket mac at old (way_out packet) x r told new) (same_reading packet.contents m n reads other) handles)
+
+  -- ---- the check
+
+  module _ (read : (m : List ℕ → List ℕ → List ℕ) (key : List ℕ) (x : Message) → WrittenIsRead m key x)
+      (fits : (key id username : List ℕ) (controlling : Bool) (tie_breaker priority : ℕ) (nominates : Bool)
+      → length username ≤ 508 → FitsInto key 588 (binding_request username id controlling tie_breaker priority nominates)) where
+    pub checks-are-served : ChecksAreServed mac answers
+    checks-are-served a sent b served check id at e sound_a sound_b know apart reached issued delivered =
+        let i = issued_packet a sent class.Request id check sound_a issued in
+        let same = told_as (way_out check) (way_out check) class.Request i.0.class id i.0.id (sym issued.sends.told ∙ i.2) in
+        asked i.0 (i.1 ∙ ap (λ c. written (mac a.provider) (Some (key_for c a.local_creds a.remote_creds)) i.0) (sym same.1)) (sym same.2)
+        (subst (λ c. Says c a issued.call issued.entry check.contents i.0 (way_out check) sent.controlling) (sym same.1) i.3) where
+          way : Path
+          way = way_out check
+
+          Answered : Type 0
+          Answered = IsTaken mac answers check at e class.Request
+              × ((reply : Packet) × (way_out reply ≡ turned (way_out check)) × Sends b e class.Success id reply served)
+
+          back_to : (packet : Packet) (m : Message) → Says class.Success b (ReceivePacket at way check.contents) e packet.contents m (way_out packet) served.controlling
+              → way_out packet ≡ turned way
+          back_to packet m (q, (now, by, n, (now_is, by_is, reads, flag), request, known, is), m_is, path_is, put) =
+              path_is ∙ ap turned (ap (λ (r : RequestRecord). r.path) is ∙ sym by_is)
+
+          replied_by : (path : Path) → e.told.issued ≡ Some (issued_as path class.Success id)
+              → (reply : Packet) × (way_out reply ≡ turned (way_out check)) × Sends b e class.Success id reply served
+          replied_by path told =
+              let call : Call P = ReceivePacket at way check.contents in
+              let posted = (path_effect mac answers b served delivered.before delivered.behind e call sound_b delivered.step).2 in
+              elim (issues mac answers b served delivered.before delivered.behind e call posted) [
+                | inl none ↦ absurd (let no : None ≡ Some (issued_as path class.Success id) = sym none ∙ told in cc)
+                | inr (packet, put, issue) ↦ (let same = told_as path (way_out packet) class.Success issue.0.class id issue.0.id (sym told ∙ issue.2) in (
+                  packet,
+                  back_to packet issue.0 (subst (λ k. Says k b call e packet.contents issue.0 (way_out packet) served.controlling) (sym same.1) issue.3),
+                  record { told = told ∙ ap (λ w. Some (issued_as w class.Success id)) same.0; put = put },
+                ))
+              ]
+
+          taken : (peer : IceCreds) (c : CandidateRecord) (uses : Bool) (own : List ℕ) → own ≡ id → (uses ≡ true → a.controlling ≡ true) → peer ≡ b.local_creds
+              → (back : ReadsBack (mac a.provider) peer.pass
+              (written (mac a.provider) (Some peer.pass) (binding_request (username_between peer a.local_creds) own a.controlling a.tie_breaker (check_priority c) uses))
+              (binding_request (username_between peer a.local_creds) own a.controlling a.tie_breaker (check_priority c) uses))
+              → Reads check.contents back.read → Answered
+          taken peer c uses own id_is leads it back reads =
+              let x : Message = binding_request (username_between peer a.local_creds) own a.controlling a.tie_breaker (check_priority c) uses in
+              let n : Message = back.read in
+              let same : SameMessage n x = back.same in
+              let names : split_username n.attributes ≡ Some (peer.ufrag, a.local_creds.ufrag) =
+              ap (λ (r : AttributesRecord). split_username r) same.attributes
+              ∙ splits peer.ufrag a.local_creds.ufrag (subst (λ (y : IceCreds). list_any (λ b. b == 58) y.ufrag ≡ false) (sym it) know.other.plain) know.own.some in
+              let addressed : IsAddressed b n =
+              subst (λ o. IsSomeAnd o (λ (name : List ℕ × List ℕ). (name.0 ≡ b.local_creds.ufrag) × IfSome b.remote_creds (λ (k : IceCreds). name.1 ≡ k.ufrag))) (sym names)
+              (ap (λ (y : IceCreds). y.ufrag) it, subst (λ o. IfSome o (λ (k : IceCreds). a.local_creds.ufrag ≡ k.ufrag)) (sym know.its) refl) in
+              let signed : IsSignedBy (mac b.provider) n b.local_creds.pass =
+              subst (λ k. IsSignedBy k n b.local_creds.pass) know.alike (subst (λ (y : IceCreds). IsSignedBy (mac a.provider) n y.pass) it back.signed) in
+              let accepted : IsAcceptedOn mac b way n =
+              (same.method, subst (λ k. IsAcceptedAs mac k (keeps_check_on b way n.id) b n) (sym same.class) (addressed, signed)) in
+              let t = took check at b e served n reads accepted delivered in
+              let q : RequestRecord = request_in at way n in
+              let mid = t.1.0 in
+              let takes : TakesRequest mac q b e.told mid = subst (λ k. Takes mac k at b way n e.told mid) same.class t.1.1 in
+              let serving : Serves mac q b e.told mid = subst (λ o. MatchOption o (Queues q b e.told mid) (λ _. Serves mac q b e.told mid)) know.its takes in
+              let from : q.ufrag ≡ a.local_creds.ufrag = ap (λ o. option_map_or (λ (name : List ℕ × List ℕ). name.1) o []) names in
+              let named : names_another b q ≡ false =
+              ap (λ o. option_map_or (λ (k : IceCreds). not (bytes_eq q.ufrag k.ufrag)) o true) know.its
+              ∙ ap not ((bytes_eq-Decides q.ufrag a.local_creds.ufrag).1 from) in
+              let rival_of : rival_in b.controlling q ≡ None =
+              subst (λ r. rival_in r q ≡ None) (sym apart)
+              (no_rival a.controlling q a.tie_breaker (ap (λ (r : AttributesRecord). r.ice_controlling) same.attributes) (ap (λ (r : AttributesRecord). r.ice_controlled) same.attributes)) in
+              let led : is_misled b.controlling q ≡ false =
+              subst (λ r. (r && q.use_candidate) ≡ false) (sym apart)
+              (subst (λ u. (not a.controlling && u) ≡ false) (sym (ap (λ (r : AttributesRecord). r.use_candidate) same.attributes)) (not_misled a.controlling uses leads)) in
+              let reply = serves q b mid e.told named reached (ap (λ o. conflict_by b.tie_breaker o) rival_of) led serving in
+              ((n, (refl, refl, reads, t.0), same.class), replied_by reply.0 (reply.1 ∙ ap (λ i. Some (issued_as reply.0 class.Success i)) (same.id ∙ id_is)))
+
+          asked : (m : Message) → check.contents ≡ written (mac a.provider) (Some (key_for class.Request a.local_creds a.remote_creds)) m → m.id ≡ id
+              → Says class.Request a issued.call issued.entry check.contents m (way_out check) sent.controlling → Answered
+          asked m contents id_is (peer, c, uses, known, has, m_is, put, role, leads) =
+              let x : Message = binding_request (username_between peer a.local_creds) m.id a.controlling a.tie_breaker (check_priority c) uses in
+              let it : peer ≡ b.local_creds = some_is peer b.local_creds (sym known ∙ know.mine) in
+              let bytes : check.contents ≡ written (mac a.provider) (Some peer.pass) x =
+              contents ∙ ap (λ o. written (mac a.provider) (Some (key_for class.Request a.local_creds o)) m) known ∙ ap (λ (y : Message). written (mac a.provider) (Some peer.pass) y) m_is in
+              let back : ReadsBack (mac a.provider) peer.pass (written (mac a.provider) (Some peer.pass) x) x =
+              check_reads read fits peer.pass a.local_creds peer m.id a.controlling uses a.tie_breaker (check_priority c) (mac a.provider) check.contents know.twenty
+              (subst (λ (y : IceCreds). are_too_long a.local_creds (Some y) ≡ false) (sym it) know.fit) know.own
+              (subst (λ (y : IceCreds). IsFragment y.ufrag) (sym it) know.other) (subst (λ (y : Message). IsPut check.contents y) m_is put) in
+              taken peer c uses m.id id_is leads it back (subst (λ bs. Reads bs back.read) (sym bytes) back.reads)
+
+  -- ---- its answer
+
+  module _ (read : (m : List ℕ → List ℕ → List ℕ) (key : List ℕ) (x : Message) → WrittenIsRead m key x)
+      (unscoped : (m : List ℕ → List ℕ → List ℕ) (key : Option (List ℕ)) (x : Message) → IsWrittenPlain m key x)
+      (fits : (key id : List ℕ) (address : SocketAddr) → FitsInto key 76 (binding_reply id address)) where
+    pub replies-are-accepted : RepliesAreAccepted mac answers
+    replies-are-accepted a taken b served reply id at e sound_b know issued kept delivered =
+        let i = issued_packet b served class.Success id reply sound_b issued in
+        let same = told_as (way_out reply) (way_out reply) class.Success i.0.class id i.0.id (sym issued.sends.told ∙ i.2) in
+        told i.0 (i.1 ∙ ap (λ c. written (mac b.provider) (Some (key_for c b.local_creds b.remote_creds)) i.0) (sym same.1)) (sym same.2)
+        (subst (λ c. Says c b issued.call issued.entry reply.contents i.0 (way_out reply) served.controlling) (sym same.1) i.3) where
+          way : Path
+          way = way_out reply
+
+          told : (m : Message) → reply.contents ≡ written (mac b.provider) (Some b.local_creds.pass) m → m.id ≡ id
+              → Says class.Success b issued.call issued.entry reply.contents m way served.controlling → IsTaken mac answers reply at e class.Success
+          told m contents id_is (q, serving, m_is, path_is, put) =
+              let key : List ℕ = b.local_creds.pass in
+              let x : Message = binding_reply q.id (carried q.path.source) in
+              let bytes : reply.contents ≡ written (mac b.provider) (Some key) x =
+              contents ∙ ap (λ (y : Message). written (mac b.provider) (Some key) y) m_is ∙ unscoped (mac b.provider) (Some key) (binding_reply q.id q.path.source)
+              ∙ ap (λ (y : Message). written (mac b.provider) (Some key) y) (plain-reply q.id q.path.source) in
+              let twenty : (k text : List ℕ) → length (mac b.provider k text) ≡ 20 = subst (λ (f : List ℕ → List ℕ → List ℕ). (k text : List ℕ) → length (f k text) ≡ 20) know.alike know.twenty in
+              let back : ReadsBack (mac b.provider) key (written (mac b.provider) (Some key) x) x =
+              read (mac b.provider) key x twenty 76 (fits key q.id (carried q.path.source) 76 (omega arith))
+              (record { class = tt; id = put.values.id; values = put.values.values; demands = refl }) in
+              let n : Message = back.read in
+              let same : SameMessage n x = back.same in
+              let own : n.id ≡ id = same.id ∙ sym (ap (λ (y : Message). y.id) m_is) ∙ id_is in
+              let signed : IsSomeAnd a.remote_creds (λ peer. IsSignedBy (mac a.provider) n peer.pass) =
+              subst (λ o. IsSomeAnd o (λ (peer : IceCreds). IsSignedBy (mac a.provider) n peer.pass)) (sym know.mine) (subst (λ k. IsSignedBy k n key) (sym know.alike) back.signed) in
+              let awaited : list_any (keeps_check_on a way n.id) a.pairs ≡ true = subst (λ k. list_any (keeps_check_on a way k) a.pairs ≡ true) (sym own) kept in
+              let accepted : IsAcceptedOn mac a way n =
+              (same.method, subst (λ k. IsAcceptedAs mac k (keeps_check_on a way n.id) a n) (sym same.class) (awaited, signed)) in
+              let reads : Reads reply.contents n = subst (λ bs. Reads bs n) (sym bytes) back.reads in
+              let t = took reply at a e taken n reads accepted delivered in
+              (n, (refl, refl, reads, t.0), same.class)

@@ -1,0 +1,8 @@
+use Rattle.is_rules.proofs.Delivered as lemmas
+use Rattle.is_rules.proofs.laws.checks_are_answered.Goals as goal
+
+pub returns-clause-served : goal.returns-clause-served
+returns-clause-served g c = lemmas.checks-are-served _ _ c.written_is_read.ensures c.checks_fit.ensures.fits
+
+pub returns-clause-accepted : goal.returns-clause-accepted
+returns-clause-accepted g c = lemmas.replies-are-accepted _ _ c.written_is_read.ensures c.addresses_are_written_plain.ensures c.replies_fit.ensures.fits

@@ -1,0 +1,95 @@
+-- What a network that delivers brings about: a check is served and answered, and its answer is accepted (RFC 8445, section 7).
+use Rattle.std.specs.Prelude.{◌≡◌, ℕ, ◌==◌, ◌&&◌, Bool, true, false, not, List, [], ◌∷◌, ◌++◌, length, Some}
+use Rattle.std.specs.List.{list_any}
+use Rattle.rand_core.specs.Stream.{Stream}
+use Rattle.is_proto.specs.Lists.{is_empty}
+use Rattle.is_proto.specs.Packets.{Packet}
+use Rattle.is_candidate.specs.Candidates.{CandidateRecord}
+use Rattle.is_candidate.specs.Kinds.{is_direct}
+use Rattle.is_stun.specs.declared.header.Class.{Class}
+use Rattle.is_stun.specs.declared.header.Class.TheVariants.{Request, Success}
+use Rattle.is_stun.specs.Message.{Message}
+use Rattle.is_rules.specs.declared.told.Path.{Path}
+use Rattle.is_rules.specs.Agent.{AgentRecord}
+use Rattle.is_rules.specs.Answers.{keeps_check_on}
+use Rattle.is_rules.specs.Brought.{Brings}
+use Rattle.is_rules.specs.Fitting.{are_too_long}
+use Rattle.is_rules.specs.Issuing.{way_out}
+use Rattle.is_rules.specs.Places.{is_at, is_live}
+use Rattle.is_rules.specs.Sound.{IsSound}
+use Rattle.is_rules.specs.Steps.{Call, Entry, ReceivePacket, Step, is_refusal}
+use Rattle.is_rules.specs.Told.{issued_as, turned}
+
+-- a user fragment that stands in user names: not empty, and without a colon (RFC 8445, section 5.3)
+pub record IsFragment (ufrag : List ℕ) : Type 0 where
+  pub some : is_empty ufrag ≡ false
+  pub plain : list_any (λ b. b == 58) ufrag ≡ false
+
+-- the candidate receives what comes on the way (RFC 8445, section 7.3)
+abbrev pub receives : Path → CandidateRecord → Bool
+receives way c = is_direct c.kind && is_at way.destination way.proto c
+
+-- the way begins at the candidate, and it was discarded
+abbrev pub is_gone_at : Path → CandidateRecord → Bool
+is_gone_at way c = is_at way.source way.proto c && c.discarded
+
+module _ {H P : Type 0} where
+  -- the agents have each other's credentials, which fit into user names, and compute the same MACs, of twenty bytes
+  pub record KnowEachOther (mac : H → List ℕ → List ℕ → List ℕ) (a b : AgentRecord H P) : Type 0 where
+    pub mine : a.remote_creds ≡ Some b.local_creds
+    pub its : b.remote_creds ≡ Some a.local_creds
+    pub own : IsFragment a.local_creds.ufrag
+    pub other : IsFragment b.local_creds.ufrag
+    pub fit : are_too_long a.local_creds (Some b.local_creds) ≡ false
+    pub alike : mac a.provider ≡ mac b.provider
+    pub twenty : (key text : List ℕ) → length (mac a.provider key text) ≡ 20
+
+  -- the way leads to a candidate that stands, and from none that was discarded
+  pub record IsReachedBy (a : AgentRecord H P) (way : Path) : Type 0 where
+    pub there : list_any (is_live (receives way)) a.local ≡ true
+    pub from : list_any (is_gone_at way) a.remote ≡ false
+
+  -- the step tells of this packet, and puts it behind the others
+  pub record Sends (old : AgentRecord H P) (e : Entry) (class : Class) (id : List ℕ) (packet : Packet) (new : AgentRecord H P) : Type 0 where
+    pub told : e.told.issued ≡ Some (issued_as (way_out packet) class id)
+    pub put : new.packets ≡ old.packets ++ packet ∷ []
+
+  module _ (mac : H → List ℕ → List ℕ → List ℕ) (answers : P → CandidateRecord → ℕ → ℕ → Type 0) where
+    -- the packet comes as it went out, and the call is not refused
+    pub record Delivered (packet : Packet) (at : ℕ) (old : AgentRecord H P) (e : Entry) (new : AgentRecord H P) : Type 0 where
+      pub before : Stream
+      pub behind : Stream
+      pub step : Step mac answers old before (ReceivePacket at (way_out packet) packet.contents) e new behind
+      pub granted : is_refusal e.answer ≡ false
+
+    -- it was accepted, and reads as a message of the class
+    abbrev pub IsTaken : Packet → ℕ → Entry → Class → Type 0
+    IsTaken packet at e class =
+        (m : Message) × Brings {P = P} (ReceivePacket at (way_out packet) packet.contents) e at (way_out packet) m × (m.class ≡ class)
+
+    -- the step of a call issues the packet
+    pub record Issued (class : Class) (id : List ℕ) (packet : Packet) (old : AgentRecord H P) (new : AgentRecord H P) : Type 0 where
+      pub call : Call P
+      pub entry : Entry
+      pub before : Stream
+      pub behind : Stream
+      pub step : Step mac answers old before call entry new behind
+      pub sends : Sends old entry class id packet new
+
+    -- A check that one of two agents issued, delivered to the other while their roles differ, is accepted, and its success goes
+    -- out the way back.
+    abbrev pub ChecksAreServed : Type 0
+    ChecksAreServed =
+        (a sent b served : AgentRecord H P) (check : Packet) (id : List ℕ) (at : ℕ) (e : Entry)
+        → IsSound a → IsSound b → KnowEachOther mac a b → b.controlling ≡ not a.controlling → IsReachedBy b (way_out check)
+        → Issued Request id check a sent → Delivered check at b e served
+        → IsTaken check at e Request
+        × ((reply : Packet) × (way_out reply ≡ turned (way_out check)) × Sends b e Success id reply served)
+
+    -- And that success, delivered to the first while it keeps the check, is accepted.
+    abbrev pub RepliesAreAccepted : Type 0
+    RepliesAreAccepted =
+        (a taken b served : AgentRecord H P) (reply : Packet) (id : List ℕ) (at : ℕ) (e : Entry)
+        → IsSound b → KnowEachOther mac a b → Issued Success id reply b served
+        → list_any (keeps_check_on a (way_out reply) id) a.pairs ≡ true → Delivered reply at a e taken
+        → IsTaken reply at e Success
