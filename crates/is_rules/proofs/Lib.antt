@@ -49,3 +49,4 @@ pub mod LogParts
 pub mod Announced
 pub mod LoggedRounds
 pub mod Delivered
+pub mod KeptChecks

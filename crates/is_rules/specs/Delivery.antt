@@ -17,7 +17,7 @@ use Rattle.is_rules.specs.Fitting.{are_too_long}
 use Rattle.is_rules.specs.Issuing.{way_out}
 use Rattle.is_rules.specs.Places.{is_at, is_live}
 use Rattle.is_rules.specs.Sound.{IsSound}
-use Rattle.is_rules.specs.Steps.{Call, Entry, ReceivePacket, Step, is_refusal}
+use Rattle.is_rules.specs.Steps.{Call, Entry, HandleTimeout, ReceivePacket, Step, is_refusal}
 use Rattle.is_rules.specs.Told.{issued_as, turned}
 
 -- a user fragment that stands in user names: not empty, and without a colon (RFC 8445, section 5.3)
@@ -93,3 +93,10 @@ module _ {H P : Type 0} where
         → IsSound b → KnowEachOther mac a b → Issued Success id reply b served
         → list_any (keeps_check_on a (way_out reply) id) a.pairs ≡ true → Delivered reply at a e taken
         → IsTaken reply at e Success
+
+    -- A moment that sends a check keeps it, and so its way back.
+    abbrev pub ChecksAreKept : Type 0
+    ChecksAreKept =
+        (a sent : AgentRecord H P) (s t : Stream) (now : ℕ) (check : Packet) (id : List ℕ) (e : Entry)
+        → IsSound a → Step mac answers a s (HandleTimeout now) e sent t → Sends a e Request id check sent
+        → list_any (keeps_check_on sent (turned (way_out check)) id) sent.pairs ≡ true

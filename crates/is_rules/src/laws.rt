@@ -6,7 +6,7 @@ ghost use Rattle.is_rules.specs.Runs.{EntriesArePoints, RunsAreSound, AnnouncedA
 ghost use Rattle.is_rules.specs.Reporting.{QueuesLaw};
 ghost use Rattle.is_rules.specs.RoleView.{FreshIsNew, RoleLaw};
 ghost use Rattle.is_rules.specs.Progress.{AnsweredAnnounce, AnswersAnnounce, MomentsAnnounce, NoPairStarves, WakesAhead, WakesAreOfUse, WakesInTime};
-ghost use Rattle.is_rules.specs.Delivery.{ChecksAreServed, RepliesAreAccepted};
+ghost use Rattle.is_rules.specs.Delivery.{ChecksAreServed, ChecksAreKept, RepliesAreAccepted};
 ghost use Rattle.is_rules.specs.Rounds.{AnsweredRoundsAnnounce, PartsAreRuns, TurnsAreOfUse};
 
 use is_candidate::LocalPreference;
@@ -147,9 +147,10 @@ pub fn turns_are_of_use<H: Sha1HmacProvider, P: LocalPreference>()
 {}
 
 /// A check that is delivered to the other of two agents that know each other, while their roles differ, is accepted and answered;
-/// and the answer, delivered while the check is kept, is accepted.
+/// the moment that sends it keeps it; and the answer, delivered while the check is kept, is accepted.
 pub fn checks_are_answered<H: Sha1HmacProvider, P: LocalPreference>()
     ensures served { ChecksAreServed H.mac P.answers }
+    ensures kept { ChecksAreKept H.mac P.answers }
     ensures accepted { RepliesAreAccepted H.mac P.answers }
 {
     written_is_read();

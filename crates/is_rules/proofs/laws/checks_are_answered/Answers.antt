@@ -1,4 +1,5 @@
 use Rattle.is_rules.proofs.Delivered as lemmas
+use Rattle.is_rules.proofs.KeptChecks.{checks-are-kept}
 use Rattle.is_rules.proofs.laws.checks_are_answered.Goals as goal
 
 pub returns-clause-served : goal.returns-clause-served
@@ -6,3 +7,6 @@ returns-clause-served g c = lemmas.checks-are-served _ _ c.written_is_read.ensur
 
 pub returns-clause-accepted : goal.returns-clause-accepted
 returns-clause-accepted g c = lemmas.replies-are-accepted _ _ c.written_is_read.ensures c.addresses_are_written_plain.ensures c.replies_fit.ensures.fits
+
+pub returns-clause-kept : goal.returns-clause-kept
+returns-clause-kept g c = checks-are-kept _ g.P.LocalPreference.answers

@@ -1,0 +1,194 @@
+-- A moment that sends a check keeps it.
+use Rattle.std.proofs.Common.{◌≡◌, ℕ, ◌+◌, ◌-◌, ◌<◌, ◌≤◌, ◌==◌, Bool, true, List, [], ◌∷◌, ◌++◌, length, drop, bytes_eq, Option, Some, None, Result, Ok, Err, inl, inr, refl, ap, sym, ◌∙◌, subst, arith, if◌then◌else◌}
+use Rattle.std.specs.Prelude.{MatchOption}
+use Rattle.std.specs.List.{list_any}
+use Rattle.std.specs.declared.net.socket_addr.SocketAddr.{SocketAddr}
+use Rattle.std.specs.declared.net.socket_addr.SocketAddr.TheVariants.{V4, V6}
+use Rattle.std.specs.Net.Addr.{ipv4_octets, ipv6_segments}
+use Rattle.std.specs.Net.Socket.{v4_ip, v4_port, v6_ip, v6_port, v6_flowinfo, v6_scope_id}
+use Rattle.std.proofs.lemmas.Bool.{eq-eqb}
+use Rattle.std.proofs.lemmas.List.{length-append, drop-append-le}
+use Rattle.std.proofs.lemmas.Slice.Eq.{bytes_eq-Decides}
+use Rattle.rand_core.specs.Stream.{Stream}
+use Rattle.is_proto.specs.Lists.{Has}
+use Rattle.is_proto.specs.declared.error.IceError.{IceError}
+use Rattle.is_candidate.specs.Addresses.{same_address}
+use Rattle.is_candidate.specs.Candidates.{CandidateRecord, candidate_at}
+use Rattle.is_pair.specs.Bag.{change_at, change_pair}
+use Rattle.is_pair.specs.Checks.{Check, has_id, is_kept}
+use Rattle.is_pair.specs.Due.{IsNextDue}
+use Rattle.is_pair.specs.Pairs.{PairRecord, check_of, checked}
+use Rattle.is_stun.specs.declared.header.Class.{Class}
+use Rattle.is_stun.specs.declared.header.Class.TheVariants as class
+use Rattle.is_rules.specs.declared.credentials.IceCreds.{IceCreds}
+use Rattle.is_rules.specs.declared.places.RemotePlace.{RemotePlace}
+use Rattle.is_rules.specs.declared.places.RemotePlace.TheVariants.{Known, Barred, Unknown}
+use Rattle.is_rules.specs.declared.roles.Conflict.{Conflict}
+use Rattle.is_rules.specs.declared.roles.Conflict.TheVariants.{Absent, Insists, Yields}
+use Rattle.is_rules.specs.declared.told.Issued as code
+use Rattle.is_rules.specs.declared.told.Path.{Path}
+use Rattle.is_rules.specs.declared.told.Told.{Told}
+use Rattle.is_rules.specs.Agent.{AgentRecord}
+use Rattle.is_rules.specs.Answers.{goes_back, keeps_check_on}
+use Rattle.is_rules.specs.Checking.{all_asked, check_sent, ChecksPair, ChecksTop, MayCheck}
+use Rattle.is_rules.specs.Delivery.{ChecksAreKept}
+use Rattle.is_rules.specs.Forming.{formed, with_pair}
+use Rattle.is_rules.specs.Issuing.{way_out}
+use Rattle.is_rules.specs.Places.{local_place}
+use Rattle.is_rules.specs.Queue.{request_at, first_taken}
+use Rattle.is_rules.specs.Request.{RequestRecord}
+use Rattle.is_rules.specs.Roles.{conflict_of, switched}
+use Rattle.is_rules.specs.Sending.{path_of}
+use Rattle.is_rules.specs.Serving.{is_misled, names_another, request_counted, with_sender, Drops, ServesPair, TakesAt, JoinsAt, Admits, SettlesBy, Settles, Serves}
+use Rattle.is_rules.specs.Steps.{Entry, HandleTimeout}
+use Rattle.is_rules.specs.Timeouts.{awake, Proceeds, ServesQueued, TimesOut}
+use Rattle.is_rules.specs.Told.{issued_alone, issued_as, turned}
+use Rattle.is_rules.proofs.EffectLaws.{path_law}
+use Rattle.is_rules.proofs.Frames.{either}
+use Rattle.is_rules.proofs.Names.{any_has}
+use Rattle.is_rules.proofs.Serves.{Has-mapped}
+use Rattle.is_rules.proofs.Tells.{some_is}
+
+bytes_same : (a : List ℕ) → bytes_eq a a ≡ true
+bytes_same a = (bytes_eq-Decides a a).1 refl
+
+number_same : (n : ℕ) → (n == n) ≡ true
+number_same n = eq-eqb n n refl
+
+-- an address is itself
+same_self : (a : SocketAddr) → same_address a a ≡ true
+same_self (V4 a) = rw (bytes_same (ipv4_octets (v4_ip a)), number_same (v4_port a)) refl
+same_self (V6 a) = rw (bytes_same (ipv6_segments (v6_ip a)), number_same (v6_port a), number_same (v6_flowinfo a), number_same (v6_scope_id a)) refl
+
+back_again : (way : Path) → goes_back (turned way) way ≡ true
+back_again way = rw (same_self way.destination, same_self way.source) refl
+
+-- the last one is among the last n, where n is not 0
+Has-last : (cs : List Check) (c : Check) → Has (cs ++ c ∷ []) c
+Has-last [] c = inl refl
+Has-last (x ∷ cs) c = inr (Has-last cs c)
+
+Has-rear : (cs ds : List Check) (c : Check) → Has ds c → Has (cs ++ ds) c
+Has-rear [] ds c h = h
+Has-rear (x ∷ cs) ds c h = inr (Has-rear cs ds c h)
+
+among_last : (n : ℕ) (cs : List Check) (c : Check) → 0 < n → Has (drop (length (cs ++ c ∷ []) - n) (cs ++ c ∷ [])) c
+among_last n cs c some =
+    let long : length (cs ++ c ∷ []) ≡ length cs + 1 = length-append cs (c ∷ []) in
+    let k = length (cs ++ c ∷ []) - n in
+    let within : k ≤ length cs = omega (arith, long, some) in
+    subst (λ l. Has l c) (sym (drop-append-le k cs (c ∷ []) within)) (Has-rear (drop k cs) (c ∷ []) c (inl refl))
+
+told_as : (way path : Path) (i j : List ℕ) → Some (issued_as way class.Request i) ≡ Some (issued_as path class.Request j) → (way ≡ path) × (i ≡ j)
+told_as way path i j h =
+    let same : issued_as way class.Request i ≡ issued_as path class.Request j = some_is _ _ h in
+    (ap (λ (x : code.Issued). x.path) same, ap (λ (x : code.Issued). x.id.0) same)
+
+-- the pair that was checked keeps the check
+keeps_now : (now : ℕ) (kept : ℕ) (p : PairRecord) (id : List ℕ) (controlling : Bool) → 0 < kept
+    → is_kept id (drop (length (p.checks ++ check_of now controlling id p ∷ []) - kept) (p.checks ++ check_of now controlling id p ∷ [])) ≡ true
+keeps_now now kept p id controlling some =
+    any_has (has_id id) (drop (length (p.checks ++ check_of now controlling id p ∷ []) - kept) (p.checks ++ check_of now controlling id p ∷ []))
+    (check_of now controlling id p) (among_last kept p.checks (check_of now controlling id p) some) (bytes_same id)
+
+module _ {H P : Type 0} (mac : H → List ℕ → List ℕ → List ℕ) (answers : P → CandidateRecord → ℕ → ℕ → Type 0) where
+  -- ---- serving issues no check
+
+  module _ (q : RequestRecord) where
+    abbrev NoCheck : Told → Type 0
+    NoCheck told = (way : Path) (id : List ℕ) → told.issued ≡ Some (issued_as way class.Request id) → ⊥
+
+    dropped : (s new : AgentRecord H P) (told : Told) → Drops s told new → NoCheck told
+    dropped s new told (is, kept) way id out = let no : None ≡ Some (issued_as way class.Request id) = sym (ap (λ (t : Told). t.issued) is) ∙ out in cc
+
+    other_class : (c : Class) (path way : Path) (i id : List ℕ) → Some (issued_as path c i) ≡ Some (issued_as way class.Request id) → c ≡ class.Request
+    other_class c path way i id h = ap (λ (x : code.Issued). x.class) (some_is _ _ h)
+
+    at_pair : (l r number : ℕ) (s new : AgentRecord H P) (told : Told) → ServesPair mac q l r number s told new → NoCheck told
+    at_pair l r number s new told (path, mid, nominates, (values, is, made)) way id out =
+        let wrong : class.Success ≡ class.Request = other_class _ _ way _ id (sym (ap (λ (t : Told). t.issued) is) ∙ out) in cc
+
+    takes_at : (l r : ℕ) (number : Option ℕ) (s new : AgentRecord H P) (told : Told) → TakesAt mac q l r number s told new → NoCheck told
+    takes_at l r (Some number) s new told h = at_pair l r number s new told h
+    takes_at l r None s new told h = either (candidate_at s.local l).discarded h (λ _ k. dropped s new told k) (λ _ k. at_pair l r s.next_number (with_pair (formed s l r) s) new told k.1)
+
+    joins_at : (l : ℕ) (place : RemotePlace) (s new : AgentRecord H P) (told : Told) → JoinsAt mac q l place s told new → NoCheck told
+    joins_at l (Known r) s new told (number, between, h) = takes_at l r number s new told h
+    joins_at l Barred s new told h = dropped s new told h
+    joins_at l Unknown s new told (number, between, h) = takes_at l _ number (with_sender q s) new told h
+
+    admits : (l : ℕ) (s new : AgentRecord H P) (told : Told) → Admits mac q l s told new → NoCheck told
+    admits l s new told h = either (is_misled s.controlling q) h (λ _ k. dropped s new told k) (λ _ k. joins_at l k.0 (request_counted s) new told k.2)
+
+    insisted : (told : Told) → told ≡ issued_alone (turned q.path) class.Failure q.id → NoCheck told
+    insisted told is way id out =
+        let wrong : class.Failure ≡ class.Request = other_class class.Failure (turned q.path) way q.id id (sym (ap (λ (t : Told). t.issued) is) ∙ out) in cc
+
+    settles_by : (conflict : Conflict) (l : ℕ) (s new : AgentRecord H P) (told : Told) → SettlesBy mac conflict q l s told new → NoCheck told
+    settles_by Absent l s new told h = admits l s new told h
+    settles_by Insists l s new told (values, is, made) = insisted told is
+    settles_by Yields l s new told h = admits l (switched s) new told h
+
+    here : (place : Option ℕ) (s new : AgentRecord H P) (told : Told) → MatchOption place (Drops s told new) (λ l. Settles mac q l s told new) → NoCheck told
+    here None s new told h = dropped s new told h
+    here (Some l) s new told h = settles_by (conflict_of s q) l s new told h
+
+    serves : (s new : AgentRecord H P) (told : Told) → Serves mac q s told new → NoCheck told
+    serves s new told h = either (names_another s q) h (λ _ k. dropped s new told k) (λ _ k. here (local_place s.local q) s new told k)
+
+  -- ---- the check that goes out
+
+  checked_pair : (now : ℕ) (remote : IceCreds) (p : PairRecord) (old sent : AgentRecord H P) (s t : Stream) (issued : Option code.Issued) (way : Path) (id : List ℕ)
+      → Has old.pairs p → 0 < sent.timing.max_retransmits → issued ≡ Some (issued_as way class.Request id)
+      → ChecksPair mac now remote p old s issued sent t → list_any (keeps_check_on sent (turned way) id) sent.pairs ≡ true
+  checked_pair now remote p old sent s t issued way id has some out (own, drawn, values, is, made) =
+      let same = told_as way (path_of old p) id own (sym out ∙ is) in
+      let after : PairRecord = checked now old.timing old.controlling own p in
+      let some_old : 0 < old.timing.max_retransmits = subst (λ (a : AgentRecord H P). 0 < a.timing.max_retransmits) made some in
+      let own_change : change_at p.number (checked now old.timing old.controlling own) p ≡ after =
+      ap (λ b. if b then after else p) (number_same p.number) in
+      let stands : Has (change_pair p.number (checked now old.timing old.controlling own) old.pairs) after =
+      subst (λ (x : PairRecord). Has (change_pair p.number (checked now old.timing old.controlling own) old.pairs) x) own_change
+      (Has-mapped (change_at p.number (checked now old.timing old.controlling own)) old.pairs p has) in
+      let passes : keeps_check_on old (turned (path_of old p)) own after ≡ true =
+      rw (keeps_now now old.timing.max_retransmits p own old.controlling some_old, back_again (path_of old p)) refl in
+      let there : list_any (keeps_check_on (check_sent mac now remote p own old) (turned (path_of old p)) own) (check_sent mac now remote p own old).pairs ≡ true =
+      any_has (keeps_check_on old (turned (path_of old p)) own) (change_pair p.number (checked now old.timing old.controlling own) old.pairs) after stands passes in
+      subst (λ (a : AgentRecord H P). list_any (keeps_check_on a (turned way) id) a.pairs ≡ true) (sym made)
+      (subst (λ w. list_any (keeps_check_on (check_sent mac now remote p own old) (turned w) id) (check_sent mac now remote p own old).pairs ≡ true) (sym same.0)
+      (subst (λ i. list_any (keeps_check_on (check_sent mac now remote p own old) (turned (path_of old p)) i) (check_sent mac now remote p own old).pairs ≡ true) (sym same.1) there))
+
+  none_out : {A : Type 0} (issued : Option code.Issued) (way : Path) (id : List ℕ) → issued ≡ None → issued ≡ Some (issued_as way class.Request id) → A
+  none_out issued way id none out = absurd (let no : None ≡ Some (issued_as way class.Request id) = sym none ∙ out in cc)
+
+  may_check : (now : ℕ) (remote : Option IceCreds) (old sent : AgentRecord H P) (s t : Stream) (issued : Option code.Issued) (way : Path) (id : List ℕ)
+      → 0 < sent.timing.max_retransmits → issued ≡ Some (issued_as way class.Request id)
+      → MayCheck mac now remote old s issued sent t → list_any (keeps_check_on sent (turned way) id) sent.pairs ≡ true
+  may_check now None old sent s t issued way id some out h = none_out issued way id h.0 out
+  may_check now (Some remote) old sent s t issued way id some out h = either old.lite h
+      (λ _ k. none_out issued way id k.0 out)
+      (λ _ k. next k.0 k.1 k.2) where
+        next : (top : Option PairRecord) → IsNextDue now old.timing (all_asked now old).pairs top → ChecksTop mac now remote top (all_asked now old) s issued sent t
+            → list_any (keeps_check_on sent (turned way) id) sent.pairs ≡ true
+        next None due h = none_out issued way id h.0 out
+        next (Some p) due h = checked_pair now remote p (all_asked now old) sent s t issued way id due.0.0 some out h
+
+  pub checks-are-kept : ChecksAreKept mac answers
+  checks-are-kept a sent s t now check id e sound step sends =
+      let some : 0 < sent.timing.max_retransmits = (path_law mac answers a sent s t (HandleTimeout now) e sound tt step).1.checks in
+      by some step.0 step.1 (ap (λ (x : Entry). x.told) step.2) step.3 where
+        Kept : Type 0
+        Kept = list_any (keeps_check_on sent (turned (way_out check)) id) sent.pairs ≡ true
+
+        moment : (some : 0 < sent.timing.max_retransmits) (told : Told) → e.told ≡ told → (o : Option RequestRecord)
+            → MatchOption o (Proceeds mac now (awake now a) s told sent t) (λ q. ServesQueued mac q (awake now a) s told sent t) → Kept
+        moment some told is None (first, second, issued, named, kept, nominating, giving, checking, told_is) =
+            may_check now kept.remote_creds kept sent s t issued (way_out check) id some
+            (sym (ap (λ (x : Told). x.issued) told_is) ∙ sym (ap (λ (x : Told). x.issued) is) ∙ sends.told) checking
+        moment some told is (Some q) (serving, drawn) =
+            absurd (serves q (first_taken (awake now a)) sent told serving (way_out check) id (sym (ap (λ (x : Told). x.issued) is) ∙ sends.told))
+
+        by : (some : 0 < sent.timing.max_retransmits) (r : Result (Unit {0}) IceError) (told : Told) → e.told ≡ told → TimesOut mac now a s r told sent t → Kept
+        by some (Ok done) told is h = moment some told is (request_at now a) h
+        by some (Err error) told is h =
+            none_out e.told.issued (way_out check) id (ap (λ (x : Told). x.issued) (is ∙ h.1)) sends.told
