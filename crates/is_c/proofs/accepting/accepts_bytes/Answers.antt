@@ -1,0 +1,13 @@
+use Rattle.std.proofs.Common.{rules, ◌≡◌, ◌∙◌, inr, w32, to_z, of_z}
+use Rattle.is_stun.specs.MessageView.{message_view}
+use Rattle.is_c.proofs.accepting.accepts_bytes.Goals as goal
+
+-- the bytes read as the message, which the agent is asked about
+pub returns-in-Ok : goal.returns-in-Ok
+returns-in-Ok c =
+    let back : to_z w32 (of_z w32 c.found_code.result) ≡ c.found_code.result = search rules in
+    inr (
+      message_view c.in-Ok.message,
+      c.in-Ok.ensures.reads,
+      (c.accepts_packet.result, c.accepts_packet.ensures, back ∙ c.found_code.ensures),
+    )

@@ -1,0 +1,28 @@
+-- Which datagrams are for an agent, as C asks.
+use Rattle.std.specs.Prelude.{◌≡◌, ◌⊎◌, ◌↔◌, ℕ, Bool, List, Option, Some, None, IsTrue, ℤ}
+use Rattle.is_proto.specs.declared.error.StunError.{StunError}
+use Rattle.is_stun.specs.Message.{Message}
+use Rattle.is_stun.specs.Reading.{Reads, FailsBy}
+use Rattle.is_rules.specs.declared.told.Path.{Path}
+use Rattle.is_rules.specs.Accepting.{IsAccepted, IsAcceptedOn}
+use Rattle.is_c.specs.Codes.{BAD_ADDRESS, UNPARSED, found_code}
+use Rattle.is_c.specs.Held.{Held, HomeRecord}
+use Rattle.is_c.specs.Packets.{Mac}
+
+-- OK exactly where the bytes read as a message of which P holds, UNPARSED exactly where they read as none
+abbrev pub AnswersWhether : (Message → Type 0) → List ℕ → ℤ → Type 0
+AnswersWhether P bytes code =
+    ((e : StunError) × FailsBy bytes e × (code ≡ UNPARSED))
+    ⊎ ((m : Message) × Reads bytes m × ((yes : Bool) × (IsTrue yes ↔ P m) × (code ≡ found_code yes)))
+
+abbrev pub AsksOn : Mac → Held → Option Path → List ℕ → ℤ → Type 0
+AsksOn mac a None bytes code = code ≡ BAD_ADDRESS
+AsksOn mac a (Some way) bytes code = AnswersWhether (IsAcceptedOn mac a way) bytes code
+
+-- `is_agent_accepts_packet`
+abbrev pub AsksWay : Mac → Option Path → List ℕ → HomeRecord → ℤ → HomeRecord → Type 0
+AsksWay mac way bytes old code new = AsksOn mac old.agent way bytes code × (new ≡ old)
+
+-- `is_agent_accepts_message`
+abbrev pub AsksMessage : Mac → List ℕ → HomeRecord → ℤ → HomeRecord → Type 0
+AsksMessage mac bytes old code new = AnswersWhether (IsAccepted mac old.agent) bytes code × (new ≡ old)

@@ -1,0 +1,37 @@
+-- Events, as C is told of them.
+use Rattle.std.specs.Prelude.{◌≡◌, Option, Some, None, ℤ, pos}
+use Rattle.is_rules.specs.declared.event.IceAgentEvent.{IceAgentEvent}
+use Rattle.is_rules.specs.declared.event.IceAgentEvent.TheVariants.{IceRestart, IceConnectionStateChange, DiscoveredRecv, NominatedSend}
+use Rattle.is_rules.specs.declared.event.IceConnectionState.{IceConnectionState}
+use Rattle.is_rules.specs.declared.event.IceConnectionState.TheVariants.{New, Checking, Connected, Completed, Disconnected}
+use Rattle.is_rules.specs.Polls.{PollsEvent}
+use Rattle.is_c.specs.declared.events.Event.{Event}
+use Rattle.is_c.specs.Addresses.{socket_of, protocol_of}
+use Rattle.is_c.specs.Codes.{OK, NOTHING}
+use Rattle.is_c.specs.Held.{HomeRecord}
+
+abbrev pub state_number : IceConnectionState → ℤ
+state_number New = pos 0
+state_number Checking = pos 1
+state_number Connected = pos 2
+state_number Completed = pos 3
+state_number Disconnected = pos 4
+
+-- what C is told of an event, by its kind
+abbrev pub IsEvent : IceAgentEvent → Event → Type 0
+IsEvent (IceRestart creds) event = event.kind ≡ pos 1
+IsEvent (IceConnectionStateChange state) event = (event.kind ≡ pos 2) × (event.state ≡ state_number state)
+IsEvent (DiscoveredRecv proto source) event =
+    (event.kind ≡ pos 3) × (protocol_of event.protocol ≡ Some proto) × (socket_of event.source ≡ Some source)
+IsEvent (NominatedSend proto source destination) event =
+    (event.kind ≡ pos 4) × (protocol_of event.protocol ≡ Some proto) × (socket_of event.source ≡ Some source)
+    × (socket_of event.destination ≡ Some destination)
+
+abbrev pub TellsOf : Option IceAgentEvent → Event → Event → ℤ → Type 0
+TellsOf None before after code = (code ≡ NOTHING) × (after ≡ before)
+TellsOf (Some e) before after code = (code ≡ OK) × IsEvent e after
+
+-- `is_agent_poll_event`
+abbrev pub TellsEvent : Event → Event → HomeRecord → ℤ → HomeRecord → Type 0
+TellsEvent before after old code new =
+    (given : Option IceAgentEvent) × PollsEvent old.agent given new.agent × TellsOf given before after code × (new.waiting ≡ old.waiting)

@@ -1,0 +1,43 @@
+-- What a slot holds, and what the clauses of the exports have in common.
+use Rattle.std.specs.Prelude.{◌≡◌, Option, Some, None, option_map, ℤ}
+use Rattle.is_proto.specs.declared.hmac_provider.DefaultSha1HmacProvider.{DefaultSha1HmacProvider}
+use Rattle.is_proto.specs.Packets.{Packet, packet_of}
+use Rattle.is_rules.specs.Agent.{AgentRecord}
+use Rattle.is_agent.specs.View.{record_of}
+use Rattle.is_c.specs.Codes.{OK, NO_AGENT}
+use Rattle.is_c.specs.declared.preference.Preference.{Preference}
+use Rattle.is_c.specs.declared.home.Home.{Home}
+use Rattle.is_c.specs.declared.slot.Slot.{Slot}
+
+abbrev pub Held : Type 0
+Held = AgentRecord DefaultSha1HmacProvider Preference
+
+-- the agent, and a packet that waits for a longer buffer
+pub record HomeRecord : Type 0 where
+  pub agent : Held
+  pub waiting : Option Packet
+
+abbrev pub home_of : Home → HomeRecord
+home_of h = record { agent = record_of h.agent; waiting = option_map packet_of h.waiting }
+
+abbrev pub held_by : Slot → Option HomeRecord
+held_by slot = option_map home_of slot.handle.home
+
+-- what an export answers and does: with no agent nothing, and it says so
+abbrev pub At : (HomeRecord → ℤ → HomeRecord → Type 0) → Option HomeRecord → ℤ → Option HomeRecord → Type 0
+At Does None code new = (code ≡ NO_AGENT) × (new ≡ None)
+At Does (Some old) code None = ⊥
+At Does (Some old) code (Some new) = Does old code new
+
+-- a call that is done in any case
+abbrev pub Becomes : (Held → Held) → HomeRecord → ℤ → HomeRecord → Type 0
+Becomes change old code new = (code ≡ OK) × (new ≡ record old { agent = change old.agent })
+
+-- a call of the library, whose result the code tells
+abbrev pub Calls : {R : Type 0} → (Held → R → Held → Type 0) → (R → ℤ) → HomeRecord → ℤ → HomeRecord → Type 0
+Calls {R} Does to_code old code new =
+    (r : R) × Does old.agent r new.agent × (code ≡ to_code r) × (new.waiting ≡ old.waiting)
+
+-- a call that the library was not asked for
+abbrev pub Refuses : ℤ → HomeRecord → ℤ → HomeRecord → Type 0
+Refuses why old code new = (code ≡ why) × (new ≡ old)

@@ -1,0 +1,128 @@
+-- Packets, moments, and sessions begun anew.
+use Rattle.std.specs.Prelude.{◌≡◌, ◌≢◌, ℕ, List, ◌∷◌, length, take, nat_lt, ◌⊎◌, Bool, Option, Some, None, option_map, MatchBool, MatchOption, MatchResult, Result, Ok, Err, ℤ}
+use Rattle.std.specs.Option.{option_and_then}
+use Rattle.rand_core.specs.Stream.{Stream}
+use Rattle.rand_core.specs.Steps.{stream_of}
+use Rattle.is_proto.specs.declared.error.IceError.{IceError}
+use Rattle.is_proto.specs.declared.error.StunError.{StunError}
+use Rattle.is_proto.specs.declared.hmac_provider.DefaultSha1HmacProvider.{DefaultSha1HmacProvider}
+use Rattle.is_proto.specs.Packets as packets
+use Rattle.is_stun.specs.Message.{Message}
+use Rattle.is_stun.specs.Reading.{Reads, FailsBy}
+use Rattle.is_rules.specs.declared.credentials.IceCreds.{IceCreds}
+use Rattle.is_rules.specs.declared.told.Path.{Path}
+use Rattle.is_rules.specs.declared.told.Told.{Told}
+use Rattle.is_rules.specs.Accepting.{IsAcceptedOn, HandlesPacket}
+use Rattle.is_rules.specs.Polls.{IsPolled, PollsTimeout}
+use Rattle.is_rules.specs.Restarting.{Restarts}
+use Rattle.is_rules.specs.Timeouts.{TimesOut}
+use Rattle.is_c.specs.declared.address.Address.{Address}
+use Rattle.is_c.specs.declared.packets.Packet.{Packet}
+use Rattle.is_c.specs.Addresses.{socket_of, protocol_of}
+use Rattle.is_c.specs.Codes.{OK, NOTHING, BAD_ADDRESS, UNPARSED, BUFFER_TOO_SHORT, TOO_FEW_RANDOM_BYTES, done_code, flag_code}
+use Rattle.is_c.specs.Credentials.{MakesCreds}
+use Rattle.is_c.specs.Held.{Held, HomeRecord, Refuses}
+use Rattle.is_c.specs.Random.{given_steps}
+
+abbrev pub Mac : Type 0
+Mac = DefaultSha1HmacProvider → List ℕ → List ℕ → List ℕ
+
+-- ---- packets that came
+
+-- the way of a packet: from where and to where, as C says
+abbrev pub way_of : ℕ → Address → Address → Option Path
+way_of protocol source destination =
+    option_and_then (λ proto.
+    option_and_then (λ from. option_map (λ to. record { proto = proto; source = from; destination = to }) (socket_of destination))
+    (socket_of source))
+    (protocol_of protocol)
+
+-- the bytes read as a message that the agent accepts on the way that they came
+abbrev pub Accepts : Mac → Held → Path → List ℕ → Type 0
+Accepts mac a way bytes = (m : Message) × Reads bytes m × IsAcceptedOn mac a way m
+
+-- bytes that do not read change nothing; those that read are a step of the agent
+abbrev pub TakesBytes : Mac → ℕ → Path → List ℕ → HomeRecord → ℤ → HomeRecord → Type 0
+TakesBytes mac now way bytes old code new =
+    ((e : StunError) × FailsBy bytes e × Refuses UNPARSED old code new)
+    ⊎ ((m : Message) × Reads bytes m × ((r : Result Bool IceError) × ((told : Told)
+    × HandlesPacket mac now old.agent way m r told new.agent × (code ≡ flag_code r) × (new.waiting ≡ old.waiting))))
+
+-- `is_agent_handle_packet`
+abbrev pub Receives : Mac → ℕ → Option Path → List ℕ → HomeRecord → ℤ → HomeRecord → Type 0
+Receives mac now None bytes old code new = Refuses BAD_ADDRESS old code new
+Receives mac now (Some way) bytes old code new = TakesBytes mac now way bytes old code new
+
+-- the bytes are accepted on a way that C names
+abbrev pub AcceptsOn : Mac → Held → Option Path → List ℕ → Type 0
+AcceptsOn mac a None bytes = ⊥
+AcceptsOn mac a (Some way) bytes = Accepts mac a way bytes
+
+-- OK is answered for accepted bytes alone, and after any other answer all is as it was
+abbrev pub IsSettled : Mac → Option Path → List ℕ → HomeRecord → ℤ → HomeRecord → Type 0
+IsSettled mac way bytes old code new = (code ≡ OK → AcceptsOn mac old.agent way bytes) × (code ≢ OK → new ≡ old)
+
+-- ---- moments
+
+-- `is_agent_handle_timeout`: what is drawn are the random bytes, in order
+abbrev pub TimesOutBy : Mac → ℕ → List ℕ → HomeRecord → ℤ → HomeRecord → Type 0
+TimesOutBy mac now random old code new =
+    MatchBool (nat_lt (length random) 12)
+    (Refuses TOO_FEW_RANDOM_BYTES old code new)
+    ((r : Result (Unit {0}) IceError) × ((told : Told) × ((left : Stream)
+    × TimesOut mac now old.agent (stream_of given_steps random) r told new.agent left × (code ≡ done_code r) × (new.waiting ≡ old.waiting))))
+
+-- `is_agent_poll_timeout`
+abbrev pub WakesAt : ℕ → ℕ → HomeRecord → ℤ → HomeRecord → Type 0
+WakesAt before after old code new =
+    (wake : Option ℕ) × PollsTimeout old.agent wake new.agent × (new.waiting ≡ old.waiting)
+    × MatchOption wake ((code ≡ NOTHING) × (after ≡ before)) (λ at. (code ≡ OK) × (after ≡ at))
+
+-- ---- packets to be sent
+
+abbrev pub queued : Option packets.Packet → List packets.Packet → List packets.Packet
+queued None ps = ps
+queued (Some p) ps = p ∷ ps
+
+-- what waits goes first
+abbrev pub queue_of : HomeRecord → List packets.Packet
+queue_of h = queued h.waiting h.agent.packets
+
+-- C is told of this packet
+abbrev pub IsTold : packets.Packet → Packet → Type 0
+IsTold p packet =
+    (packet.length ≡ length p.contents) × (protocol_of packet.protocol ≡ Some p.proto)
+    × (socket_of packet.source ≡ Some p.source) × (socket_of packet.destination ≡ Some p.destination)
+
+-- the first packet goes to the caller: its bytes are in front of the buffer, and it is gone; or the buffer is too short, and it stays
+abbrev pub GivesFirst : List ℕ → List ℕ → packets.Packet → List packets.Packet → ℤ → List packets.Packet → Type 0
+GivesFirst before after p rest code new =
+    MatchBool (nat_lt (length before) (length p.contents))
+    ((code ≡ BUFFER_TOO_SHORT) × (after ≡ before) × (new ≡ p ∷ rest))
+    ((code ≡ OK) × (take (length p.contents) after ≡ p.contents) × (new ≡ rest))
+
+abbrev pub GivesOf : Option packets.Packet → List packets.Packet → List ℕ → List ℕ → Packet → ℤ → List packets.Packet → Type 0
+GivesOf None rest before after packet code new = (code ≡ NOTHING) × (new ≡ rest)
+GivesOf (Some p) rest before after packet code new = IsTold p packet × GivesFirst before after p rest code new
+
+-- `is_agent_poll_transmit`: nothing of the agent changes but what is to be sent
+abbrev pub Gives : List ℕ → List ℕ → Packet → HomeRecord → ℤ → HomeRecord → Type 0
+Gives before after packet old code new =
+    ((first : Option packets.Packet) × ((rest : List packets.Packet) × IsPolled (queue_of old) first rest
+    × GivesOf first rest before after packet code (queue_of new)))
+    × (new.agent ≡ record old.agent { packets = new.agent.packets })
+
+-- ---- sessions begun anew
+
+abbrev pub unless_done : {A : Type 0} → Result (Unit {0}) IceError → Option A → Option A
+unless_done (Ok _) kept = None
+unless_done (Err e) kept = kept
+
+abbrev pub Restarted : Bool → IceCreds → HomeRecord → Result (Unit {0}) IceError → HomeRecord → Type 0
+Restarted keep creds old r new = Restarts old.agent creds keep r new.agent × (new.waiting ≡ unless_done r old.waiting)
+
+-- `is_agent_restart`: a packet of the old session that waits goes too
+abbrev pub RestartsWith : Bool → List ℕ → List ℕ → HomeRecord → ℤ → HomeRecord → Type 0
+RestartsWith keep ufrag pass old code new =
+    (made : Result IceCreds ℤ) × MakesCreds ufrag pass made
+    × MatchResult made (λ creds. (r : Result (Unit {0}) IceError) × Restarted keep creds old r new × (code ≡ done_code r)) (λ why. Refuses why old code new)

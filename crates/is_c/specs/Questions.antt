@@ -1,0 +1,76 @@
+-- What C is told of an agent, which stays as it is.
+use Rattle.std.specs.Prelude.{◌≡◌, ℕ, Bool, true, false, List, Option, Some, None, MatchOption, slice_get, unwrap_or, ◌⊎◌, ℤ}
+use Rattle.is_candidate.specs.Candidates.{CandidateRecord}
+use Rattle.is_candidate.specs.Sdp.{sdp_text}
+use Rattle.is_rules.specs.declared.event.IceAgentStats.{IceAgentStats}
+use Rattle.is_rules.specs.Questions.{live, has_viable_remote, ice_timeout, nominated_rtt, nominated_total_rtt, nominated_responses}
+use Rattle.is_rules.specs.declared.credentials.IceCreds.{IceCreds}
+use Rattle.is_c.specs.declared.questions.Nominated.{Nominated}
+use Rattle.is_c.specs.declared.questions.Stats.{Stats}
+use Rattle.is_c.specs.declared.questions.Status.{Status}
+use Rattle.is_c.specs.declared.address.Address.{Address}
+use Rattle.is_c.specs.Addresses.{socket_of}
+use Rattle.is_c.specs.Codes.{OK, NOTHING, BAD_ADDRESS, OUT_OF_MEMORY, found_code}
+use Rattle.is_c.specs.Events.{state_number}
+use Rattle.is_c.specs.Held.{Held, HomeRecord}
+use Rattle.is_c.specs.Texts.{Puts}
+
+-- `is_agent_status`
+abbrev pub IsStatus : Held → Status → Type 0
+IsStatus a s =
+    (s.state ≡ state_number a.state) × (s.controlling ≡ a.controlling) × (s.lite ≡ a.lite)
+    × (s.mtu ≡ a.mtu) × (s.mtu_warn ≡ a.mtu_warn) × (s.ice_timeout ≡ ice_timeout a)
+
+abbrev pub TellsStatus : Status → HomeRecord → ℤ → HomeRecord → Type 0
+TellsStatus status old code new = (code ≡ OK) × IsStatus old.agent status × (new ≡ old)
+
+-- `is_agent_stats`
+abbrev pub stats_of : Stats → IceAgentStats
+stats_of s = record {
+  bind_request_sent = s.bind_request_sent;
+  bind_success_recv = s.bind_success_recv;
+  bind_request_recv = s.bind_request_recv;
+  discovered_recv_count = s.discovered_recv_count;
+  nomination_send_count = s.nomination_send_count;
+}
+
+abbrev pub TellsStats : Stats → HomeRecord → ℤ → HomeRecord → Type 0
+TellsStats stats old code new = (code ≡ OK) × (stats_of stats ≡ old.agent.stats) × (new ≡ old)
+
+-- `is_agent_nominated`: what is known of the pair that was announced last, while it stands
+abbrev pub IsRtt : Option ℕ → Nominated → Type 0
+IsRtt None n = n.has_rtt ≡ false
+IsRtt (Some time) n = (n.has_rtt ≡ true) × (n.rtt ≡ time)
+
+abbrev pub TellsNominated : Nominated → Nominated → HomeRecord → ℤ → HomeRecord → Type 0
+TellsNominated before after old code new =
+    MatchOption (nominated_total_rtt old.agent)
+    ((code ≡ NOTHING) × (after ≡ before))
+    (λ total. (code ≡ OK) × (after.total_rtt ≡ total) × (after.responses ≡ unwrap_or (nominated_responses old.agent) 0) × IsRtt (nominated_rtt old.agent) after)
+    × (new ≡ old)
+
+-- the line of a candidate, in the caller's buffer
+abbrev pub PutsLine : Option CandidateRecord → List ℕ → ℤ → List ℕ → ℕ → Type 0
+PutsLine None before code after count = (code ≡ NOTHING) × (after ≡ before)
+PutsLine (Some c) before code after count = ((code ≡ OUT_OF_MEMORY) × (after ≡ before)) ⊎ Puts (sdp_text c) before code after count
+
+-- `is_agent_local_candidate` and `is_agent_remote_candidate`: candidates are counted from 0 in the order in which they came, discarded ones left out
+abbrev pub TellsLine : (Held → List CandidateRecord) → ℕ → List ℕ → List ℕ → ℕ → HomeRecord → ℤ → HomeRecord → Type 0
+TellsLine candidates index before after count old code new =
+    PutsLine (slice_get (live (candidates old.agent)) index) before code after count × (new ≡ old)
+
+-- `is_agent_has_viable_remote`
+abbrev pub AnswersViable : Address → Held → ℤ → Type 0
+AnswersViable address a code =
+    MatchOption (socket_of address) (code ≡ BAD_ADDRESS) (λ at. code ≡ found_code (has_viable_remote a at))
+
+abbrev pub TellsViable : Address → HomeRecord → ℤ → HomeRecord → Type 0
+TellsViable address old code new = AnswersViable address old.agent code × (new ≡ old)
+
+-- a text of the remote credentials, where they are known
+abbrev pub PutsOf : (IceCreds → List ℕ) → Option IceCreds → List ℕ → ℤ → List ℕ → ℕ → Type 0
+PutsOf text None before code after count = (code ≡ NOTHING) × (after ≡ before)
+PutsOf text (Some creds) before code after count = Puts (text creds) before code after count
+
+abbrev pub TellsRemote : (IceCreds → List ℕ) → List ℕ → List ℕ → ℕ → HomeRecord → ℤ → HomeRecord → Type 0
+TellsRemote text before after count old code new = PutsOf text old.agent.remote_creds before code after count × (new ≡ old)

@@ -1,0 +1,41 @@
+-- The messages of refused candidates, in the caller's buffer.
+use Rattle.std.specs.Prelude.{◌≡◌, ℕ, List, Option, Some, None, MatchOption, Result, Ok, Err, ℤ, string_bytes}
+use Rattle.is_proto.specs.declared.error.IceError.{IceError}
+use Rattle.is_proto.specs.declared.error.IceError.TheVariants as errors
+use Rattle.is_candidate.specs.Candidates.{CandidateRecord}
+use Rattle.is_c.specs.declared.candidate.LocalCandidate.{LocalCandidate}
+use Rattle.is_c.specs.Candidates.{Made, MakesCandidate, ReadsBytes}
+use Rattle.is_c.specs.Codes.{NOTHING, NOT_UTF8, BAD_ADDRESS, code_of}
+use Rattle.is_c.specs.Texts.{Puts}
+
+-- the refusal of a candidate has a message, and no other refusal
+abbrev pub message_of : IceError → Option (List ℕ)
+message_of (errors.BadCandidate message) = Some (string_bytes message)
+message_of errors.OutOfMemory = None
+message_of errors.PairIdsExhausted = None
+message_of errors.MtuTooSmall = None
+message_of errors.CredentialsTooLong = None
+message_of errors.PriorityTooHigh = None
+
+abbrev pub PutsMessage : IceError → List ℕ → ℤ → List ℕ → ℕ → Type 0
+PutsMessage e before code after count =
+    MatchOption (message_of e) ((code ≡ code_of e) × (after ≡ before)) (λ text. Puts text before code after count)
+
+abbrev pub PutsRefusal : Result CandidateRecord IceError → List ℕ → ℤ → List ℕ → ℕ → Type 0
+PutsRefusal (Ok c) before code after count = (code ≡ NOTHING) × (after ≡ before)
+PutsRefusal (Err e) before code after count = PutsMessage e before code after count
+
+-- where no candidate can be asked for, the code that says why
+abbrev pub TellsWhy : ℤ → Made → List ℕ → ℤ → List ℕ → ℕ → Type 0
+TellsWhy why made before code after count =
+    MatchOption made ((code ≡ why) × (after ≡ before)) (λ outcome. PutsRefusal outcome before code after count)
+
+-- `is_line_refusal`
+abbrev pub TellsOfLine : List ℕ → List ℕ → ℤ → List ℕ → ℕ → Type 0
+TellsOfLine line before code after count =
+    (made : Made) × ReadsBytes line made × TellsWhy NOT_UTF8 made before code after count
+
+-- `is_candidate_refusal`
+abbrev pub TellsOfCandidate : LocalCandidate → List ℕ → ℤ → List ℕ → ℕ → Type 0
+TellsOfCandidate c before code after count =
+    (made : Made) × MakesCandidate c made × TellsWhy BAD_ADDRESS made before code after count

@@ -1,0 +1,86 @@
+//! Which datagrams are for an agent, asked before one is handed in: as where several agents share a socket.
+
+ghost use Rattle.std.specs.Prelude.{◌≡◌};
+ghost use Rattle.is_rules.specs.Accepting.{IsAccepted, IsAcceptedOn};
+ghost use Rattle.is_agent.specs.View.{record_of};
+ghost use Rattle.is_c.specs.Accepting.{AnswersWhether, AsksOn, AsksWay, AsksMessage};
+ghost use Rattle.is_c.specs.Held.{home_of, held_by, At};
+ghost use Rattle.is_c.specs.Packets.{way_of};
+
+use crate::address::Address;
+use crate::codes;
+use crate::home::Home;
+use crate::packets::way_of;
+use crate::slot::Slot;
+use is_proto::{DefaultSha1HmacProvider, Sha1HmacProvider};
+use is_rules::told::Path;
+use is_stun::stun::{StunMessage, StunPacket};
+use std::alloc::Global;
+
+fn accepts_bytes(home: &Home, way: Path, bytes: &[u8]) -> i32
+    ensures { AnswersWhether (IsAcceptedOn ⟦<DefaultSha1HmacProvider as Sha1HmacProvider>⟧.mac (record_of home.now.agent) way) bytes.now result }
+{
+    match StunMessage::parse(bytes) {
+        Ok(message) => {
+            let packet = StunPacket {
+                proto: way.proto,
+                source: way.source,
+                destination: way.destination,
+                message,
+            };
+            codes::found_code(home.agent.accepts_packet(&packet))
+        }
+        Err(_) => codes::UNPARSED,
+    }
+}
+
+fn accepts_way(home: &Home, way: Option<Path>, bytes: &[u8]) -> i32
+    ensures { AsksOn ⟦<DefaultSha1HmacProvider as Sha1HmacProvider>⟧.mac (record_of home.now.agent) way bytes.now result }
+{
+    match way {
+        Some(way) => accepts_bytes(home, way, bytes),
+        None => codes::BAD_ADDRESS,
+    }
+}
+
+/// Whether `is_agent_handle_packet` would accept the datagram. The agent stays as it was.
+#[unsafe(no_mangle)]
+pub extern "C" fn is_agent_accepts_packet(
+    alloc: Global,
+    slot: &mut Slot,
+    protocol: u8,
+    source: &Address,
+    destination: &Address,
+    bytes: &[u8],
+) -> i32
+    ensures { At (AsksWay ⟦<DefaultSha1HmacProvider as Sha1HmacProvider>⟧.mac (way_of protocol source.now destination.now) bytes.now) (held_by slot.old) result (held_by slot.new) }
+{
+    let Some(home) = slot.take(alloc) else {
+        return codes::NO_AGENT;
+    };
+    let code = accepts_way(&home, way_of(protocol, source, destination), bytes);
+    *slot = Slot::of(home);
+    code
+}
+
+fn accepts_message(home: &Home, bytes: &[u8]) -> i32
+    ensures { AnswersWhether (IsAccepted ⟦<DefaultSha1HmacProvider as Sha1HmacProvider>⟧.mac (record_of home.now.agent)) bytes.now result }
+{
+    match StunMessage::parse(bytes) {
+        Ok(message) => codes::found_code(home.agent.accepts_message(&message)),
+        Err(_) => codes::UNPARSED,
+    }
+}
+
+/// Whether the message is one for this agent, wherever it came from. The agent stays as it was.
+#[unsafe(no_mangle)]
+pub extern "C" fn is_agent_accepts_message(alloc: Global, slot: &mut Slot, bytes: &[u8]) -> i32
+    ensures { At (AsksMessage ⟦<DefaultSha1HmacProvider as Sha1HmacProvider>⟧.mac bytes.now) (held_by slot.old) result (held_by slot.new) }
+{
+    let Some(home) = slot.take(alloc) else {
+        return codes::NO_AGENT;
+    };
+    let code = accepts_message(&home, bytes);
+    *slot = Slot::of(home);
+    code
+}

@@ -1,0 +1,158 @@
+//! Credentials in and out.
+
+ghost use Rattle.std.specs.Prelude.{◌≡◌, IfOk};
+ghost use Rattle.is_c.specs.Credentials.{MakesCreds, CallsWith, drawn, Draws, Tells};
+ghost use Rattle.is_c.specs.Held.{home_of, held_by, At};
+ghost use Rattle.is_rules.specs.Credentials.{SetsLocal, SetsRemote};
+
+use crate::codes;
+use crate::home::Home;
+use crate::random::Given;
+use crate::slot::Slot;
+use crate::text::put;
+use is_agent::IceCreds;
+use is_proto::{IceError, Text};
+use std::alloc::Global;
+
+/// The credentials of two texts.
+pub(crate) fn creds_of(alloc: Global, ufrag: &[u8], pass: &[u8]) -> Result<IceCreds, i32>
+    ensures { MakesCreds ufrag.now pass.now result }
+{
+    let (Ok(ufrag), Ok(pass)) = (std::str::from_utf8(ufrag), std::str::from_utf8(pass)) else {
+        return Err(codes::NOT_UTF8);
+    };
+    match (Text::from_str(alloc, ufrag), Text::from_str(alloc, pass)) {
+        (Ok(ufrag), Ok(pass)) => Ok(IceCreds { ufrag, pass }),
+        _ => Err(codes::OUT_OF_MEMORY),
+    }
+}
+
+fn set_local(alloc: Global, home: &mut Home, ufrag: &[u8], pass: &[u8]) -> i32
+    ensures { CallsWith SetsLocal ufrag.now pass.now (home_of home.old) result (home_of home.new) }
+{
+    match creds_of(alloc, ufrag, pass) {
+        Ok(creds) => codes::done_code(home.agent.set_local_credentials(creds)),
+        Err(code) => code,
+    }
+}
+
+/// Sets the agent's own credentials.
+#[unsafe(no_mangle)]
+pub extern "C" fn is_agent_set_local_credentials(
+    alloc: Global,
+    slot: &mut Slot,
+    ufrag: &[u8],
+    pass: &[u8],
+) -> i32
+    ensures { At (CallsWith SetsLocal ufrag.now pass.now) (held_by slot.old) result (held_by slot.new) }
+{
+    let Some(mut home) = slot.take(alloc) else {
+        return codes::NO_AGENT;
+    };
+    let code = set_local(alloc, &mut home, ufrag, pass);
+    *slot = Slot::of(home);
+    code
+}
+
+fn set_remote(alloc: Global, home: &mut Home, ufrag: &[u8], pass: &[u8]) -> i32
+    ensures { CallsWith SetsRemote ufrag.now pass.now (home_of home.old) result (home_of home.new) }
+{
+    match creds_of(alloc, ufrag, pass) {
+        Ok(creds) => codes::done_code(home.agent.set_remote_credentials(creds)),
+        Err(code) => code,
+    }
+}
+
+/// Sets the credentials of the other agent.
+#[unsafe(no_mangle)]
+pub extern "C" fn is_agent_set_remote_credentials(
+    alloc: Global,
+    slot: &mut Slot,
+    ufrag: &[u8],
+    pass: &[u8],
+) -> i32
+    ensures { At (CallsWith SetsRemote ufrag.now pass.now) (held_by slot.old) result (held_by slot.new) }
+{
+    let Some(mut home) = slot.take(alloc) else {
+        return codes::NO_AGENT;
+    };
+    let code = set_remote(alloc, &mut home, ufrag, pass);
+    *slot = Slot::of(home);
+    code
+}
+
+// ---- random credentials
+
+/// How many bytes credentials are made of.
+const WANTED: usize = 38;
+
+#[tactic(auto, using(crate::proofs::Drawn::drawn_again))]
+fn drawn(alloc: Global, random: &[u8]) -> Result<IceCreds, IceError>
+    ensures { IfOk result (λ creds. creds ≡ drawn random.now) }
+{
+    let mut given = Given { rest: random };
+    IceCreds::new(alloc, &mut given)
+}
+
+/// Makes credentials of 38 random bytes: a user fragment of 16 characters, and a password of 22.
+#[unsafe(no_mangle)]
+pub extern "C" fn is_make_credentials(
+    alloc: Global,
+    random: &[u8],
+    ufrag: &mut [u8],
+    pass: &mut [u8],
+) -> i32
+    ensures { Draws random.now result ufrag.new pass.new }
+{
+    if random.len() < WANTED {
+        return codes::TOO_FEW_RANDOM_BYTES;
+    }
+    let Ok(creds) = drawn(alloc, random) else {
+        return codes::OUT_OF_MEMORY;
+    };
+    let mut length = 0;
+    if put(creds.ufrag.as_str().as_bytes(), ufrag, &mut length) != codes::OK {
+        return codes::BUFFER_TOO_SHORT;
+    }
+    put(creds.pass.as_str().as_bytes(), pass, &mut length)
+}
+
+// ---- told
+
+/// Tells the agent's own user fragment.
+#[unsafe(no_mangle)]
+pub extern "C" fn is_agent_local_ufrag(
+    alloc: Global,
+    slot: &mut Slot,
+    buffer: &mut [u8],
+    length: &mut usize,
+) -> i32
+    ensures { At (Tells (λ a. a.local_creds.ufrag) buffer.old buffer.new length.new) (held_by slot.old) result (held_by slot.new) }
+{
+    let Some(home) = slot.take(alloc) else {
+        return codes::NO_AGENT;
+    };
+    let text = home.agent.local_credentials().ufrag.as_str();
+    let code = put(text.as_bytes(), buffer, length);
+    *slot = Slot::of(home);
+    code
+}
+
+/// Tells the agent's own password.
+#[unsafe(no_mangle)]
+pub extern "C" fn is_agent_local_pass(
+    alloc: Global,
+    slot: &mut Slot,
+    buffer: &mut [u8],
+    length: &mut usize,
+) -> i32
+    ensures { At (Tells (λ a. a.local_creds.pass) buffer.old buffer.new length.new) (held_by slot.old) result (held_by slot.new) }
+{
+    let Some(home) = slot.take(alloc) else {
+        return codes::NO_AGENT;
+    };
+    let text = home.agent.local_credentials().pass.as_str();
+    let code = put(text.as_bytes(), buffer, length);
+    *slot = Slot::of(home);
+    code
+}

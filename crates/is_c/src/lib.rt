@@ -1,0 +1,38 @@
+//! The agent for C: one export for each call, and C's view of addresses, candidates, packets and events.
+//!
+//! C holds an agent in a slot of its own. An export takes what the slot holds, makes the library's call, and puts it back.
+#![tactic(auto)]
+
+mod accepting;
+mod address;
+mod candidate;
+mod candidates;
+pub mod codes;
+mod credentials;
+mod events;
+mod handle;
+mod home;
+mod making;
+mod packets;
+mod parts;
+mod preference;
+mod questions;
+mod random;
+mod refusals;
+mod session;
+mod settings;
+mod slot;
+mod text;
+
+pub use address::Address;
+pub use candidate::LocalCandidate;
+pub use events::Event;
+pub use handle::{Handle, Opaque};
+pub use home::Home;
+pub use packets::Packet;
+pub use preference::{KindPreferences, Preference, PreferenceTable};
+pub use questions::{Nominated, Stats, Status};
+pub use slot::Slot;
+
+#[cfg(test)]
+mod tests;

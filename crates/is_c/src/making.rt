@@ -1,0 +1,73 @@
+//! Agents, made and freed.
+
+ghost use Rattle.std.specs.Prelude.{◌≡◌, ◌≢◌, None, IfOk, IfErr};
+ghost use Rattle.is_rules.specs.Agent.{fresh};
+ghost use Rattle.is_c.specs.Codes.{OK};
+ghost use Rattle.is_c.specs.Credentials.{MakesAt};
+ghost use Rattle.is_c.specs.Held.{home_of, held_by};
+
+use crate::codes;
+use crate::credentials::creds_of;
+use crate::home::Home;
+use crate::slot::Slot;
+use is_agent::{Agent, IceCreds};
+use std::alloc::Global;
+
+fn boxed_agent(alloc: Global, creds: IceCreds, tie_breaker: u64) -> Result<Box<Home>, i32>
+    ensures made { IfOk result (λ home. home_of home.value ≡ record { agent = fresh (record {}) creds tie_breaker; waiting = None }) }
+    ensures refused { IfErr result (λ code. code ≢ OK) }
+{
+    let agent = match Agent::new(alloc, creds, tie_breaker) {
+        Ok(agent) => agent,
+        Err(error) => return Err(codes::code_of(&error)),
+    };
+    let waiting = None;
+    match Box::new(alloc, Home { agent, waiting }) {
+        Ok(home) => Ok(home),
+        Err(_) => Err(codes::OUT_OF_MEMORY),
+    }
+}
+
+/// Makes a controlled agent in a slot that holds none.
+#[unsafe(no_mangle)]
+pub extern "C" fn is_agent_new(
+    alloc: Global,
+    slot: &mut Slot,
+    ufrag: &[u8],
+    pass: &[u8],
+    tie_breaker: u64,
+) -> i32
+    ensures { MakesAt ufrag.now pass.now tie_breaker (held_by slot.old) result (held_by slot.new) }
+{
+    if let Some(home) = slot.take(alloc) {
+        *slot = Slot::of(home);
+        return codes::HAS_AGENT;
+    }
+    let creds = match creds_of(alloc, ufrag, pass) {
+        Ok(creds) => creds,
+        Err(code) => return code,
+    };
+    match boxed_agent(alloc, creds, tie_breaker) {
+        Ok(home) => {
+            *slot = Slot::of(home);
+            codes::OK
+        }
+        Err(code) => code,
+    }
+}
+
+/// Frees the agent of a slot, if it holds one.
+#[unsafe(no_mangle)]
+pub extern "C" fn is_agent_free(alloc: Global, slot: &mut Slot)
+    ensures { held_by slot.new ≡ None }
+{
+    drop(slot.take(alloc));
+}
+
+/// The version of this interface, which its header names too.
+#[unsafe(no_mangle)]
+pub extern "C" fn is_version() -> u32
+    ensures { result ≡ 1 }
+{
+    1
+}

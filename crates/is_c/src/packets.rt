@@ -1,0 +1,224 @@
+//! Packets that came, moments, and packets to be sent.
+
+ghost use Rattle.std.specs.Prelude.{◌≡◌, None, option_map};
+ghost use Rattle.is_rules.specs.Polls.{IsPolled};
+ghost use Rattle.is_proto.specs.Packets.{packet_of};
+ghost use Rattle.is_c.specs.Held.{home_of, held_by, At};
+ghost use Rattle.is_c.specs.Packets.{way_of, TakesBytes, Receives, IsSettled, TimesOutBy, WakesAt, queue_of, IsTold, GivesFirst, Gives};
+
+use crate::address::{Address, address_of, number_of, protocol_of, socket_of};
+use crate::codes;
+use crate::home::Home;
+use crate::random::Given;
+use crate::slot::Slot;
+use is_proto::{DefaultSha1HmacProvider, Instant, Sha1HmacProvider, Transmit};
+use is_rules::told::Path;
+use is_stun::stun::{StunMessage, StunPacket};
+use std::alloc::Global;
+
+/// A packet to be sent. Its bytes are in the buffer that was given.
+#[repr(C)]
+#[derive(Clone, Copy)]
+pub struct Packet {
+    /// The local address to send it from.
+    pub source: Address,
+    /// Where to send it.
+    pub destination: Address,
+    pub length: usize,
+    pub protocol: u8,
+}
+
+// ---- packets that came
+
+/// The way of a packet: from where and to where, as C says.
+pub(crate) fn way_of(protocol: u8, source: &Address, destination: &Address) -> Option<Path>
+    ensures { result ≡ way_of protocol source.now destination.now }
+{
+    Some(Path {
+        proto: protocol_of(protocol)?,
+        source: socket_of(source)?,
+        destination: socket_of(destination)?,
+    })
+}
+
+fn take_bytes(home: &mut Home, now: u64, way: Path, bytes: &[u8]) -> i32
+    ensures { TakesBytes ⟦<DefaultSha1HmacProvider as Sha1HmacProvider>⟧.mac now way bytes.now (home_of home.old) result (home_of home.new) }
+{
+    match StunMessage::parse(bytes) {
+        Ok(message) => {
+            let packet = StunPacket {
+                proto: way.proto,
+                source: way.source,
+                destination: way.destination,
+                message,
+            };
+            codes::flag_code(home.agent.handle_packet(Instant(now), packet))
+        }
+        Err(_) => codes::UNPARSED,
+    }
+}
+
+fn receive(
+    home: &mut Home,
+    now: u64,
+    protocol: u8,
+    source: &Address,
+    destination: &Address,
+    bytes: &[u8],
+) -> i32
+    ensures step { Receives ⟦<DefaultSha1HmacProvider as Sha1HmacProvider>⟧.mac now (way_of protocol source.now destination.now) bytes.now (home_of home.old) result (home_of home.new) }
+    ensures settled { IsSettled ⟦<DefaultSha1HmacProvider as Sha1HmacProvider>⟧.mac (way_of protocol source.now destination.now) bytes.now (home_of home.old) result (home_of home.new) }
+{
+    match way_of(protocol, source, destination) {
+        Some(way) => take_bytes(home, now, way, bytes),
+        None => codes::BAD_ADDRESS,
+    }
+}
+
+/// Takes a datagram that came at this moment.
+#[unsafe(no_mangle)]
+pub extern "C" fn is_agent_handle_packet(
+    alloc: Global,
+    slot: &mut Slot,
+    now: u64,
+    protocol: u8,
+    source: &Address,
+    destination: &Address,
+    bytes: &[u8],
+) -> i32
+    ensures step { At (Receives ⟦<DefaultSha1HmacProvider as Sha1HmacProvider>⟧.mac now (way_of protocol source.now destination.now) bytes.now) (held_by slot.old) result (held_by slot.new) }
+    ensures settled { At (IsSettled ⟦<DefaultSha1HmacProvider as Sha1HmacProvider>⟧.mac (way_of protocol source.now destination.now) bytes.now) (held_by slot.old) result (held_by slot.new) }
+{
+    let Some(mut home) = slot.take(alloc) else {
+        return codes::NO_AGENT;
+    };
+    let code = receive(&mut home, now, protocol, source, destination, bytes);
+    *slot = Slot::of(home);
+    code
+}
+
+// ---- moments
+
+/// How many random bytes a moment draws at most.
+const WANTED: usize = 12;
+
+fn time_out(home: &mut Home, now: u64, random: &[u8]) -> i32
+    ensures { TimesOutBy ⟦<DefaultSha1HmacProvider as Sha1HmacProvider>⟧.mac now random.now (home_of home.old) result (home_of home.new) }
+{
+    if random.len() < WANTED {
+        return codes::TOO_FEW_RANDOM_BYTES;
+    }
+    let mut given = Given { rest: random };
+    codes::done_code(home.agent.handle_timeout(Instant(now), &mut given))
+}
+
+/// Tells the agent of a moment, with 12 random bytes for the check that it may send.
+#[unsafe(no_mangle)]
+pub extern "C" fn is_agent_handle_timeout(
+    alloc: Global,
+    slot: &mut Slot,
+    now: u64,
+    random: &[u8],
+) -> i32
+    ensures { At (TimesOutBy ⟦<DefaultSha1HmacProvider as Sha1HmacProvider>⟧.mac now random.now) (held_by slot.old) result (held_by slot.new) }
+{
+    let Some(mut home) = slot.take(alloc) else {
+        return codes::NO_AGENT;
+    };
+    let code = time_out(&mut home, now, random);
+    *slot = Slot::of(home);
+    code
+}
+
+fn wake(home: &mut Home, at: &mut u64) -> i32
+    ensures { WakesAt at.old at.new (home_of home.old) result (home_of home.new) }
+{
+    match home.agent.poll_timeout() {
+        Some(moment) => {
+            *at = moment.0;
+            codes::OK
+        }
+        None => codes::NOTHING,
+    }
+}
+
+/// The moment at which the agent wants to be called next.
+#[unsafe(no_mangle)]
+pub extern "C" fn is_agent_poll_timeout(alloc: Global, slot: &mut Slot, at: &mut u64) -> i32
+    ensures { At (WakesAt at.old at.new) (held_by slot.old) result (held_by slot.new) }
+{
+    let Some(mut home) = slot.take(alloc) else {
+        return codes::NO_AGENT;
+    };
+    let code = wake(&mut home, at);
+    *slot = Slot::of(home);
+    code
+}
+
+// ---- packets to be sent
+
+/// The first packet to be sent: that which waits, or the agent's first.
+fn next_packet(home: &mut Home) -> Option<Transmit>
+    ensures first { IsPolled (queue_of (home_of home.old)) (option_map packet_of result) (queue_of (home_of home.new)) }
+    ensures agent { (home_of home.new).agent ≡ record (home_of home.old).agent { packets = (home_of home.new).agent.packets } }
+    ensures nothing_waits { home.new.waiting ≡ None }
+{
+    match home.waiting.take() {
+        Some(waiting) => Some(waiting),
+        None => home.agent.poll_transmit(),
+    }
+}
+
+fn told(next: &Transmit) -> Packet
+    ensures { IsTold (packet_of next.now) result }
+{
+    Packet {
+        source: address_of(next.source),
+        destination: address_of(next.destination),
+        length: next.contents.len(),
+        protocol: number_of(next.proto),
+    }
+}
+
+/// The packet goes to the front of the buffer; where that is too short, it waits.
+fn hand_over(home: &mut Home, next: Transmit, buffer: &mut [u8]) -> i32
+    requires { home.old.waiting ≡ None }
+    ensures given { GivesFirst buffer.old buffer.new (packet_of next) (queue_of (home_of home.old)) result (queue_of (home_of home.new)) }
+    ensures agent { (home_of home.new).agent ≡ (home_of home.old).agent }
+{
+    let length = next.contents.len();
+    if length > buffer.len() {
+        home.waiting = Some(next);
+        return codes::BUFFER_TOO_SHORT;
+    }
+    buffer[..length].copy_from_slice(&next.contents);
+    codes::OK
+}
+
+fn transmit(home: &mut Home, buffer: &mut [u8], packet: &mut Packet) -> i32
+    ensures { Gives buffer.old buffer.new packet.new (home_of home.old) result (home_of home.new) }
+{
+    let Some(next) = next_packet(home) else {
+        return codes::NOTHING;
+    };
+    *packet = told(&next);
+    hand_over(home, next, buffer)
+}
+
+/// The next packet to send: its bytes go to the front of the buffer. One that is longer than the buffer stays.
+#[unsafe(no_mangle)]
+pub extern "C" fn is_agent_poll_transmit(
+    alloc: Global,
+    slot: &mut Slot,
+    buffer: &mut [u8],
+    packet: &mut Packet,
+) -> i32
+    ensures { At (Gives buffer.old buffer.new packet.new) (held_by slot.old) result (held_by slot.new) }
+{
+    let Some(mut home) = slot.take(alloc) else {
+        return codes::NO_AGENT;
+    };
+    let code = transmit(&mut home, buffer, packet);
+    *slot = Slot::of(home);
+    code
+}

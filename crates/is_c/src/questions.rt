@@ -1,0 +1,291 @@
+//! What the caller may ask, with no change of the agent.
+
+ghost use Rattle.std.specs.Prelude.{◌≡◌, slice_get};
+ghost use Rattle.std.specs.Option.{option_copied};
+ghost use Rattle.is_rules.specs.Questions.{live};
+ghost use Rattle.is_agent.specs.View.{record_of};
+ghost use Rattle.is_c.specs.Held.{home_of, held_by, At};
+ghost use Rattle.is_c.specs.Questions.{IsStatus, TellsStatus, stats_of, TellsStats, TellsNominated, PutsLine, TellsLine, PutsOf, TellsRemote, AnswersViable, TellsViable};
+
+use crate::address::{Address, socket_of};
+use crate::codes;
+use crate::events::state_number;
+use crate::home::Home;
+use crate::slot::Slot;
+use crate::text::put;
+use is_candidate::Candidate;
+use std::alloc::Global;
+
+/// How the agent is set, and how far it has come.
+#[repr(C)]
+#[derive(Clone, Copy)]
+pub struct Status {
+    /// 0 New, 1 Checking, 2 Connected, 3 Completed, 4 Disconnected.
+    pub state: i32,
+    pub controlling: bool,
+    pub lite: bool,
+    pub mtu: usize,
+    pub mtu_warn: usize,
+    /// How long a pair is checked in vain before it is given up, in nanoseconds.
+    pub ice_timeout: u64,
+}
+
+/// How often things happened since the last restart.
+#[repr(C)]
+#[derive(Clone, Copy)]
+pub struct Stats {
+    pub bind_request_sent: u64,
+    pub bind_success_recv: u64,
+    pub bind_request_recv: u64,
+    pub discovered_recv_count: u64,
+    pub nomination_send_count: u64,
+}
+
+/// What is known of the pair that was announced last. Times are nanoseconds.
+#[repr(C)]
+#[derive(Clone, Copy)]
+pub struct Nominated {
+    /// Of all answered checks together.
+    pub total_rtt: u64,
+    pub responses: u64,
+    /// Of the last answered check, where there is one.
+    pub rtt: u64,
+    pub has_rtt: bool,
+}
+
+fn told_status(home: &Home) -> Status
+    ensures { IsStatus (record_of home.now.agent) result }
+{
+    let agent = &home.agent;
+    Status {
+        state: state_number(agent.state()),
+        controlling: agent.controlling(),
+        lite: agent.ice_lite(),
+        mtu: agent.mtu(),
+        mtu_warn: agent.mtu_warn(),
+        ice_timeout: agent.ice_timeout().0,
+    }
+}
+
+/// Tells how the agent is set, and how far it has come.
+#[unsafe(no_mangle)]
+pub extern "C" fn is_agent_status(alloc: Global, slot: &mut Slot, figures: &mut Status) -> i32
+    ensures { At (TellsStatus figures.new) (held_by slot.old) result (held_by slot.new) }
+{
+    let Some(home) = slot.take(alloc) else {
+        return codes::NO_AGENT;
+    };
+    *figures = told_status(&home);
+    *slot = Slot::of(home);
+    codes::OK
+}
+
+fn told_stats(home: &Home) -> Stats
+    ensures { stats_of result ≡ (record_of home.now.agent).stats }
+{
+    let stats = home.agent.stats();
+    Stats {
+        bind_request_sent: stats.bind_request_sent,
+        bind_success_recv: stats.bind_success_recv,
+        bind_request_recv: stats.bind_request_recv,
+        discovered_recv_count: stats.discovered_recv_count,
+        nomination_send_count: stats.nomination_send_count,
+    }
+}
+
+/// Tells how often things happened since the last restart.
+#[unsafe(no_mangle)]
+pub extern "C" fn is_agent_stats(alloc: Global, slot: &mut Slot, figures: &mut Stats) -> i32
+    ensures { At (TellsStats figures.new) (held_by slot.old) result (held_by slot.new) }
+{
+    let Some(home) = slot.take(alloc) else {
+        return codes::NO_AGENT;
+    };
+    *figures = told_stats(&home);
+    *slot = Slot::of(home);
+    codes::OK
+}
+
+fn tell_nominated(home: &mut Home, figures: &mut Nominated) -> i32
+    ensures { TellsNominated figures.old figures.new (home_of home.old) result (home_of home.new) }
+{
+    let Some(total) = home.agent.nominated_pair_total_rtt() else {
+        return codes::NOTHING;
+    };
+    let rtt = home.agent.nominated_pair_rtt();
+    *figures = Nominated {
+        total_rtt: total.0,
+        responses: home.agent.nominated_pair_responses_received().unwrap_or(0),
+        rtt: match rtt {
+            Some(time) => time.0,
+            None => 0,
+        },
+        has_rtt: rtt.is_some(),
+    };
+    codes::OK
+}
+
+/// Tells what is known of the pair that was announced last.
+#[unsafe(no_mangle)]
+pub extern "C" fn is_agent_nominated(alloc: Global, slot: &mut Slot, figures: &mut Nominated) -> i32
+    ensures { At (TellsNominated figures.old figures.new) (held_by slot.old) result (held_by slot.new) }
+{
+    let Some(mut home) = slot.take(alloc) else {
+        return codes::NO_AGENT;
+    };
+    let code = tell_nominated(&mut home, figures);
+    *slot = Slot::of(home);
+    code
+}
+
+// ---- candidates
+
+/// Writes the line of the candidate, where there is one.
+fn put_line(
+    alloc: Global,
+    candidate: Option<&Candidate>,
+    buffer: &mut [u8],
+    length: &mut usize,
+) -> i32
+    ensures { PutsLine (option_copied candidate.entry) buffer.old result buffer.new length.new }
+{
+    match candidate {
+        Some(candidate) => match candidate.to_sdp_string(alloc) {
+            Ok(line) => put(line.as_bytes(), buffer, length),
+            Err(_) => codes::OUT_OF_MEMORY,
+        },
+        None => codes::NOTHING,
+    }
+}
+
+fn local_at(home: &Home, index: usize) -> Option<&Candidate>
+    ensures { option_copied result ≡ slice_get (live (record_of home.now.agent).local) index }
+{
+    home.agent.local_candidates().nth(index)
+}
+
+fn remote_at(home: &Home, index: usize) -> Option<&Candidate>
+    ensures { option_copied result ≡ slice_get (live (record_of home.now.agent).remote) index }
+{
+    home.agent.remote_candidates().nth(index)
+}
+
+/// Tells the line of a local candidate, for signalling: counted from 0, discarded ones left out.
+#[unsafe(no_mangle)]
+pub extern "C" fn is_agent_local_candidate(
+    alloc: Global,
+    slot: &mut Slot,
+    index: usize,
+    buffer: &mut [u8],
+    length: &mut usize,
+) -> i32
+    ensures { At (TellsLine (λ a. a.local) index buffer.old buffer.new length.new) (held_by slot.old) result (held_by slot.new) }
+{
+    let Some(home) = slot.take(alloc) else {
+        return codes::NO_AGENT;
+    };
+    let code = put_line(alloc, local_at(&home, index), buffer, length);
+    *slot = Slot::of(home);
+    code
+}
+
+/// Tells the line of a remote candidate: counted from 0, discarded ones left out.
+#[unsafe(no_mangle)]
+pub extern "C" fn is_agent_remote_candidate(
+    alloc: Global,
+    slot: &mut Slot,
+    index: usize,
+    buffer: &mut [u8],
+    length: &mut usize,
+) -> i32
+    ensures { At (TellsLine (λ a. a.remote) index buffer.old buffer.new length.new) (held_by slot.old) result (held_by slot.new) }
+{
+    let Some(home) = slot.take(alloc) else {
+        return codes::NO_AGENT;
+    };
+    let code = put_line(alloc, remote_at(&home, index), buffer, length);
+    *slot = Slot::of(home);
+    code
+}
+
+fn has_viable(home: &Home, address: &Address) -> i32
+    ensures { AnswersViable address.now (record_of home.now.agent) result }
+{
+    match socket_of(address) {
+        Some(address) => codes::found_code(home.agent.has_viable_remote_candidate(address)),
+        None => codes::BAD_ADDRESS,
+    }
+}
+
+/// Whether a check succeeded on a pair whose remote candidate has this address.
+#[unsafe(no_mangle)]
+pub extern "C" fn is_agent_has_viable_remote(
+    alloc: Global,
+    slot: &mut Slot,
+    address: &Address,
+) -> i32
+    ensures { At (TellsViable address.now) (held_by slot.old) result (held_by slot.new) }
+{
+    let Some(home) = slot.take(alloc) else {
+        return codes::NO_AGENT;
+    };
+    let code = has_viable(&home, address);
+    *slot = Slot::of(home);
+    code
+}
+
+// ---- the other agent's credentials
+
+fn put_remote_ufrag(home: &Home, buffer: &mut [u8], length: &mut usize) -> i32
+    ensures { PutsOf (λ creds. creds.ufrag) (record_of home.now.agent).remote_creds buffer.old result buffer.new length.new }
+{
+    match home.agent.remote_credentials() {
+        Some(creds) => put(creds.ufrag.as_str().as_bytes(), buffer, length),
+        None => codes::NOTHING,
+    }
+}
+
+/// Tells the user fragment of the other agent.
+#[unsafe(no_mangle)]
+pub extern "C" fn is_agent_remote_ufrag(
+    alloc: Global,
+    slot: &mut Slot,
+    buffer: &mut [u8],
+    length: &mut usize,
+) -> i32
+    ensures { At (TellsRemote (λ creds. creds.ufrag) buffer.old buffer.new length.new) (held_by slot.old) result (held_by slot.new) }
+{
+    let Some(home) = slot.take(alloc) else {
+        return codes::NO_AGENT;
+    };
+    let code = put_remote_ufrag(&home, buffer, length);
+    *slot = Slot::of(home);
+    code
+}
+
+fn put_remote_pass(home: &Home, buffer: &mut [u8], length: &mut usize) -> i32
+    ensures { PutsOf (λ creds. creds.pass) (record_of home.now.agent).remote_creds buffer.old result buffer.new length.new }
+{
+    match home.agent.remote_credentials() {
+        Some(creds) => put(creds.pass.as_str().as_bytes(), buffer, length),
+        None => codes::NOTHING,
+    }
+}
+
+/// Tells the password of the other agent.
+#[unsafe(no_mangle)]
+pub extern "C" fn is_agent_remote_pass(
+    alloc: Global,
+    slot: &mut Slot,
+    buffer: &mut [u8],
+    length: &mut usize,
+) -> i32
+    ensures { At (TellsRemote (λ creds. creds.pass) buffer.old buffer.new length.new) (held_by slot.old) result (held_by slot.new) }
+{
+    let Some(home) = slot.take(alloc) else {
+        return codes::NO_AGENT;
+    };
+    let code = put_remote_pass(&home, buffer, length);
+    *slot = Slot::of(home);
+    code
+}

@@ -1,0 +1,61 @@
+//! The messages of refused candidates, which a code alone does not tell.
+
+ghost use Rattle.std.specs.Prelude.{◌≡◌};
+ghost use Rattle.is_c.specs.Refusals.{PutsMessage, PutsRefusal, TellsOfLine, TellsOfCandidate};
+
+use crate::candidate::{LocalCandidate, line_candidate, local_candidate};
+use crate::codes;
+use crate::text::put;
+use is_candidate::Candidate;
+use is_proto::IceError;
+use std::alloc::Global;
+
+fn put_message(error: &IceError, buffer: &mut [u8], length: &mut usize) -> i32
+    ensures { PutsMessage error.now buffer.old result buffer.new length.new }
+{
+    match error {
+        IceError::BadCandidate(message) => put(message.as_bytes(), buffer, length),
+        other => codes::code_of(other),
+    }
+}
+
+fn put_refusal(outcome: &Result<Candidate, IceError>, buffer: &mut [u8], length: &mut usize) -> i32
+    ensures { PutsRefusal outcome.now buffer.old result buffer.new length.new }
+{
+    match outcome {
+        Ok(_) => codes::NOTHING,
+        Err(error) => put_message(error, buffer, length),
+    }
+}
+
+/// Tells why a line is refused: the line, a colon and its first fault. NOTHING: it reads as a candidate.
+#[unsafe(no_mangle)]
+pub extern "C" fn is_line_refusal(
+    alloc: Global,
+    line: &[u8],
+    buffer: &mut [u8],
+    length: &mut usize,
+) -> i32
+    ensures { TellsOfLine line.now buffer.old result buffer.new length.new }
+{
+    match line_candidate(alloc, line) {
+        Some(outcome) => put_refusal(&outcome, buffer, length),
+        None => codes::NOT_UTF8,
+    }
+}
+
+/// Tells why a candidate is refused. NOTHING: it can be added.
+#[unsafe(no_mangle)]
+pub extern "C" fn is_candidate_refusal(
+    alloc: Global,
+    candidate: &LocalCandidate,
+    buffer: &mut [u8],
+    length: &mut usize,
+) -> i32
+    ensures { TellsOfCandidate candidate.now buffer.old result buffer.new length.new }
+{
+    match local_candidate(alloc, candidate) {
+        Some(outcome) => put_refusal(&outcome, buffer, length),
+        None => codes::BAD_ADDRESS,
+    }
+}

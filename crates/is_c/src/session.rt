@@ -1,0 +1,65 @@
+//! Sessions begun anew.
+
+ghost use Rattle.std.specs.Prelude.{◌≡◌};
+ghost use Rattle.is_rules.specs.Restarting.{Recreates};
+ghost use Rattle.is_c.specs.Codes.{done_code};
+ghost use Rattle.is_c.specs.Held.{home_of, held_by, At, Calls};
+ghost use Rattle.is_c.specs.Packets.{Restarted, RestartsWith};
+
+use crate::codes;
+use crate::credentials::creds_of;
+use crate::home::Home;
+use crate::slot::Slot;
+use is_agent::IceCreds;
+use is_proto::IceError;
+use std::alloc::Global;
+
+/// Begins the session anew: a packet that waits is one of the old session, and goes.
+fn begin(home: &mut Home, creds: IceCreds, keep: bool) -> Result<(), IceError>
+    ensures { Restarted keep creds (home_of home.old) result (home_of home.new) }
+{
+    home.agent.ice_restart(creds, keep)?;
+    home.waiting = None;
+    Ok(())
+}
+
+fn restart(alloc: Global, home: &mut Home, ufrag: &[u8], pass: &[u8], keep: bool) -> i32
+    ensures { RestartsWith keep ufrag.now pass.now (home_of home.old) result (home_of home.new) }
+{
+    match creds_of(alloc, ufrag, pass) {
+        Ok(creds) => codes::done_code(begin(home, creds, keep)),
+        Err(code) => code,
+    }
+}
+
+/// Restarts the session under new credentials; local candidates stay or go.
+#[unsafe(no_mangle)]
+pub extern "C" fn is_agent_restart(
+    alloc: Global,
+    slot: &mut Slot,
+    ufrag: &[u8],
+    pass: &[u8],
+    keep: bool,
+) -> i32
+    ensures { At (RestartsWith keep ufrag.now pass.now) (held_by slot.old) result (held_by slot.new) }
+{
+    let Some(mut home) = slot.take(alloc) else {
+        return codes::NO_AGENT;
+    };
+    let code = restart(alloc, &mut home, ufrag, pass, keep);
+    *slot = Slot::of(home);
+    code
+}
+
+/// Forms pairs anew, of all candidates that are not discarded.
+#[unsafe(no_mangle)]
+pub extern "C" fn is_agent_recreate_pairs(alloc: Global, slot: &mut Slot) -> i32
+    ensures { At (Calls (λ a r b. Recreates a r b) done_code) (held_by slot.old) result (held_by slot.new) }
+{
+    let Some(mut home) = slot.take(alloc) else {
+        return codes::NO_AGENT;
+    };
+    let code = codes::done_code(home.agent.recreate_candidate_pairs());
+    *slot = Slot::of(home);
+    code
+}

@@ -1,0 +1,207 @@
+//! What the caller may set.
+
+ghost use Rattle.std.specs.Prelude.{◌≡◌, ◌==◌, Some, MatchBool};
+ghost use Rattle.is_rules.specs.Settings.{SetsMtu, with_rtos, with_retransmits, numbers_skipped};
+ghost use Rattle.is_c.specs.Codes.{BAD_LIMIT, done_code};
+ghost use Rattle.is_c.specs.Held.{home_of, held_by, At, Becomes, Calls, Refuses};
+ghost use Rattle.is_c.specs.declared.preference.Preference.TheVariants.{ByDefault, Fixed, ByTable};
+
+use crate::codes;
+use crate::home::Home;
+use crate::preference::{Preference, PreferenceTable};
+use crate::slot::Slot;
+use is_proto::Duration;
+use std::alloc::Global;
+
+/// Gives the agent the controlling or the controlled role.
+#[unsafe(no_mangle)]
+pub extern "C" fn is_agent_set_controlling(alloc: Global, slot: &mut Slot, controlling: bool) -> i32
+    ensures { At (Becomes (λ a. record a { controlling = controlling })) (held_by slot.old) result (held_by slot.new) }
+{
+    let Some(mut home) = slot.take(alloc) else {
+        return codes::NO_AGENT;
+    };
+    home.agent.set_controlling(controlling);
+    *slot = Slot::of(home);
+    codes::OK
+}
+
+/// Makes the agent a lite one, or a full one.
+#[unsafe(no_mangle)]
+pub extern "C" fn is_agent_set_lite(alloc: Global, slot: &mut Slot, lite: bool) -> i32
+    ensures { At (Becomes (λ a. record a { lite = lite })) (held_by slot.old) result (held_by slot.new) }
+{
+    let Some(mut home) = slot.take(alloc) else {
+        return codes::NO_AGENT;
+    };
+    home.agent.set_ice_lite(lite);
+    *slot = Slot::of(home);
+    codes::OK
+}
+
+/// Sets the number that settles role conflicts.
+#[unsafe(no_mangle)]
+pub extern "C" fn is_agent_set_tie_breaker(alloc: Global, slot: &mut Slot, tie_breaker: u64) -> i32
+    ensures { At (Becomes (λ a. record a { tie_breaker = tie_breaker })) (held_by slot.old) result (held_by slot.new) }
+{
+    let Some(mut home) = slot.take(alloc) else {
+        return codes::NO_AGENT;
+    };
+    home.agent.set_control_tie_breaker(tie_breaker);
+    *slot = Slot::of(home);
+    codes::OK
+}
+
+/// Sets how many pairs forming leaves at most.
+#[unsafe(no_mangle)]
+pub extern "C" fn is_agent_set_max_pairs(alloc: Global, slot: &mut Slot, limit: usize) -> i32
+    ensures { At (Becomes (λ a. record a { max_pairs = limit })) (held_by slot.old) result (held_by slot.new) }
+{
+    let Some(mut home) = slot.take(alloc) else {
+        return codes::NO_AGENT;
+    };
+    home.agent.set_max_candidate_pairs(limit);
+    *slot = Slot::of(home);
+    codes::OK
+}
+
+/// Sets the pace of what the agent sends.
+#[unsafe(no_mangle)]
+pub extern "C" fn is_agent_set_timing_advance(
+    alloc: Global,
+    slot: &mut Slot,
+    nanoseconds: u64,
+) -> i32
+    ensures { At (Becomes (λ a. record a { timing_advance = nanoseconds })) (held_by slot.old) result (held_by slot.new) }
+{
+    let Some(mut home) = slot.take(alloc) else {
+        return codes::NO_AGENT;
+    };
+    home.agent.set_timing_advance(Duration(nanoseconds));
+    *slot = Slot::of(home);
+    codes::OK
+}
+
+/// Sets the delay behind a pair's first check.
+#[unsafe(no_mangle)]
+pub extern "C" fn is_agent_set_initial_rto(alloc: Global, slot: &mut Slot, nanoseconds: u64) -> i32
+    ensures { At (Becomes (λ a. with_rtos nanoseconds a.timing.max_rto.0 a)) (held_by slot.old) result (held_by slot.new) }
+{
+    let Some(mut home) = slot.take(alloc) else {
+        return codes::NO_AGENT;
+    };
+    home.agent.set_initial_stun_rto(Duration(nanoseconds));
+    *slot = Slot::of(home);
+    codes::OK
+}
+
+/// Sets the greatest delay behind a check.
+#[unsafe(no_mangle)]
+pub extern "C" fn is_agent_set_max_rto(alloc: Global, slot: &mut Slot, nanoseconds: u64) -> i32
+    ensures { At (Becomes (λ a. with_rtos a.timing.initial_rto.0 nanoseconds a)) (held_by slot.old) result (held_by slot.new) }
+{
+    let Some(mut home) = slot.take(alloc) else {
+        return codes::NO_AGENT;
+    };
+    home.agent.set_max_stun_rto(Duration(nanoseconds));
+    *slot = Slot::of(home);
+    codes::OK
+}
+
+/// Has the next pair take this number at least.
+#[unsafe(no_mangle)]
+pub extern "C" fn is_agent_skip_pair_ids(alloc: Global, slot: &mut Slot, number: u64) -> i32
+    ensures { At (Becomes (numbers_skipped number)) (held_by slot.old) result (held_by slot.new) }
+{
+    let Some(mut home) = slot.take(alloc) else {
+        return codes::NO_AGENT;
+    };
+    home.agent.skip_pair_ids(number);
+    *slot = Slot::of(home);
+    codes::OK
+}
+
+/// Sets how long packets may be, and from which length on they are warned of.
+#[unsafe(no_mangle)]
+pub extern "C" fn is_agent_set_mtu(alloc: Global, slot: &mut Slot, mtu: usize, warn: usize) -> i32
+    ensures { At (Calls (λ a r b. SetsMtu a mtu warn r b) done_code) (held_by slot.old) result (held_by slot.new) }
+{
+    let Some(mut home) = slot.take(alloc) else {
+        return codes::NO_AGENT;
+    };
+    let code = codes::done_code(home.agent.set_mtu(mtu..=warn));
+    *slot = Slot::of(home);
+    code
+}
+
+/// Has local candidates that are added from now on preferred by this number.
+#[unsafe(no_mangle)]
+pub extern "C" fn is_agent_set_local_preference(
+    alloc: Global,
+    slot: &mut Slot,
+    preference: u16,
+) -> i32
+    ensures { At (Becomes (λ a. record a { preference = Some (Fixed preference) })) (held_by slot.old) result (held_by slot.new) }
+{
+    let Some(mut home) = slot.take(alloc) else {
+        return codes::NO_AGENT;
+    };
+    home.agent
+        .set_local_preference(Preference::Fixed(preference));
+    *slot = Slot::of(home);
+    codes::OK
+}
+
+/// Has local candidates that are added from now on preferred by this table.
+#[unsafe(no_mangle)]
+pub extern "C" fn is_agent_set_preference_table(
+    alloc: Global,
+    slot: &mut Slot,
+    table: &PreferenceTable,
+) -> i32
+    ensures { At (Becomes (λ a. record a { preference = Some (ByTable table.now) })) (held_by slot.old) result (held_by slot.new) }
+{
+    let Some(mut home) = slot.take(alloc) else {
+        return codes::NO_AGENT;
+    };
+    home.agent.set_local_preference(Preference::ByTable(*table));
+    *slot = Slot::of(home);
+    codes::OK
+}
+
+/// Has local candidates that are added from now on preferred as by default.
+#[unsafe(no_mangle)]
+pub extern "C" fn is_agent_reset_local_preference(alloc: Global, slot: &mut Slot) -> i32
+    ensures { At (Becomes (λ a. record a { preference = Some ByDefault })) (held_by slot.old) result (held_by slot.new) }
+{
+    let Some(mut home) = slot.take(alloc) else {
+        return codes::NO_AGENT;
+    };
+    home.agent.set_local_preference(Preference::ByDefault);
+    *slot = Slot::of(home);
+    codes::OK
+}
+
+/// Sets how many checks a pair sends that go unanswered.
+fn limit_retransmits(home: &mut Home, limit: usize) -> i32
+    ensures { MatchBool (limit == 0) (Refuses BAD_LIMIT (home_of home.old) result (home_of home.new)) (Becomes (with_retransmits limit) (home_of home.old) result (home_of home.new)) }
+{
+    if limit == 0 {
+        return codes::BAD_LIMIT;
+    }
+    home.agent.set_max_stun_retransmits(limit);
+    codes::OK
+}
+
+/// Sets how many checks a pair sends that go unanswered, before it is given up: one at least.
+#[unsafe(no_mangle)]
+pub extern "C" fn is_agent_set_max_retransmits(alloc: Global, slot: &mut Slot, limit: usize) -> i32
+    ensures { At (λ old code new. MatchBool (limit == 0) (Refuses BAD_LIMIT old code new) (Becomes (with_retransmits limit) old code new)) (held_by slot.old) result (held_by slot.new) }
+{
+    let Some(mut home) = slot.take(alloc) else {
+        return codes::NO_AGENT;
+    };
+    let code = limit_retransmits(&mut home, limit);
+    *slot = Slot::of(home);
+    code
+}

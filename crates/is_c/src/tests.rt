@@ -1,0 +1,277 @@
+//! The exports as C calls them, on stories that the library's own tests tell too.
+
+use crate::accepting::{is_agent_accepts_message, is_agent_accepts_packet};
+use crate::address::Address;
+use crate::candidate::LocalCandidate;
+use crate::candidates::{is_agent_add_local, is_agent_add_remote, is_agent_invalidate};
+use crate::codes;
+use crate::credentials::{
+    is_agent_local_pass, is_agent_local_ufrag, is_agent_set_remote_credentials, is_make_credentials,
+};
+use crate::events::{Event, is_agent_poll_event};
+use crate::making::{is_agent_free, is_agent_new};
+use crate::packets::{
+    Packet, is_agent_handle_packet, is_agent_handle_timeout, is_agent_poll_timeout,
+    is_agent_poll_transmit,
+};
+use crate::preference::{KindPreferences, PreferenceTable};
+use crate::questions::{
+    Status, is_agent_has_viable_remote, is_agent_local_candidate, is_agent_status,
+};
+use crate::refusals::{is_candidate_refusal, is_line_refusal};
+use crate::session::is_agent_restart;
+use crate::settings::{
+    is_agent_set_controlling, is_agent_set_max_retransmits, is_agent_set_mtu,
+    is_agent_set_preference_table,
+};
+use crate::slot::Slot;
+
+const REQUEST: [u8; 100] = [
+    0x00, 0x01, 0x00, 0x50, 0x21, 0x12, 0xa4, 0x42, 0x6a, 0x75, 0x63, 0x31, 0x35, 0x75, 0x78, 0x55,
+    0x6e, 0x67, 0x47, 0x63, 0x00, 0x06, 0x00, 0x09, 0x70, 0x39, 0x4b, 0x41, 0x3a, 0x53, 0x51, 0x41,
+    0x74, 0x00, 0x00, 0x00, 0xc0, 0x57, 0x00, 0x04, 0x00, 0x01, 0x00, 0x0a, 0x80, 0x2a, 0x00, 0x08,
+    0x6e, 0xee, 0xc6, 0xe9, 0x7d, 0x18, 0x39, 0x5c, 0x00, 0x25, 0x00, 0x00, 0x00, 0x24, 0x00, 0x04,
+    0x6e, 0x7f, 0x1e, 0xff, 0x00, 0x08, 0x00, 0x14, 0x5d, 0x04, 0x25, 0xa0, 0x20, 0x7a, 0xb1, 0xe0,
+    0x54, 0x10, 0x22, 0x99, 0xaa, 0xf9, 0x83, 0x9c, 0xa0, 0x76, 0xc6, 0xd5, 0x80, 0x28, 0x00, 0x04,
+    0x36, 0x0e, 0x21, 0x9f,
+];
+
+const REPLY: [u8; 64] = [
+    0x01, 0x01, 0x00, 0x2c, 0x21, 0x12, 0xa4, 0x42, 0x6a, 0x75, 0x63, 0x31, 0x35, 0x75, 0x78, 0x55,
+    0x6e, 0x67, 0x47, 0x63, 0x00, 0x20, 0x00, 0x08, 0x00, 0x01, 0x26, 0xc2, 0x2b, 0x12, 0xa4, 0x40,
+    0x00, 0x08, 0x00, 0x14, 0x44, 0x65, 0xf0, 0x40, 0x54, 0x13, 0xb5, 0x25, 0xdd, 0x2d, 0x57, 0x30,
+    0xe3, 0xe8, 0xc8, 0x03, 0xda, 0xec, 0xef, 0x75, 0x80, 0x28, 0x00, 0x04, 0x4a, 0x6e, 0x46, 0x96,
+];
+
+fn address(last: u8, port: u16) -> Address {
+    Address {
+        family: 4,
+        bytes: [10, 0, 0, last, 0, 0, 0, 0, 0, 0, 0, 0, 0, 0, 0, 0],
+        port,
+        flow: 0,
+        scope: 0,
+    }
+}
+
+fn host(at: Address) -> LocalCandidate {
+    LocalCandidate {
+        address: at,
+        base: at,
+        kind: 0,
+        protocol: 0,
+    }
+}
+
+fn no_packet() -> Packet {
+    Packet {
+        source: address(0, 0),
+        destination: address(0, 0),
+        length: 0,
+        protocol: 9,
+    }
+}
+
+fn no_event() -> Event {
+    Event {
+        source: address(0, 0),
+        destination: address(0, 0),
+        kind: 0,
+        state: 9,
+        protocol: 9,
+    }
+}
+
+#[test]
+fn a_request_is_replied_to(rt: HostRuntime) {
+    let alloc = rt.alloc();
+    let own = address(1, 1000);
+    let peer = address(2, 2000);
+    let mut slot = Slot::empty(alloc);
+    let mut packet = no_packet();
+    let mut event = no_event();
+    let mut at = 7;
+    let mut buffer = [0; 64];
+    let made = is_agent_new(alloc, &mut slot, b"p9KA", b"xJcE9AQAR7kczUDVOXRUCl", 1);
+    assert_eq!(rt; made, codes::OK);
+    let again = is_agent_new(alloc, &mut slot, b"p9KA", b"x", 1);
+    assert_eq!(rt; again, codes::HAS_AGENT);
+    let told = is_agent_set_remote_credentials(alloc, &mut slot, b"SQAt", b"x");
+    assert_eq!(rt; told, codes::OK);
+    let added = is_agent_add_local(alloc, &mut slot, &host(own));
+    assert_eq!(rt; added, codes::OK);
+    let known = is_agent_add_local(alloc, &mut slot, &host(own));
+    assert_eq!(rt; known, codes::NOTHING);
+    let cut = is_agent_handle_packet(alloc, &mut slot, 0, 0, &peer, &own, &REQUEST[..99]);
+    assert_eq!(rt; cut, codes::UNPARSED);
+    let mine = is_agent_accepts_packet(alloc, &mut slot, 0, &peer, &own, &REQUEST);
+    assert_eq!(rt; mine, codes::OK);
+    let answer = is_agent_accepts_message(alloc, &mut slot, &REPLY);
+    assert_eq!(rt; answer, codes::NOTHING);
+    let taken = is_agent_handle_packet(alloc, &mut slot, 0, 0, &peer, &own, &REQUEST);
+    assert_eq!(rt; taken, codes::OK);
+    let short = is_agent_poll_transmit(alloc, &mut slot, &mut buffer[..63], &mut packet);
+    assert_eq!(rt; short, codes::BUFFER_TOO_SHORT);
+    assert_eq!(rt; packet.length, 64);
+    let given = is_agent_poll_transmit(alloc, &mut slot, &mut buffer, &mut packet);
+    assert_eq!(rt; given, codes::OK);
+    assert_eq!(rt; packet.destination.port, 2000);
+    assert!(rt; buffer[..] == REPLY[..]);
+    let heard = is_agent_poll_event(alloc, &mut slot, &mut event);
+    assert_eq!(rt; heard, codes::OK);
+    assert_eq!(rt; event.kind, 3);
+    assert_eq!(rt; event.source.port, 2000);
+    let viable = is_agent_has_viable_remote(alloc, &mut slot, &peer);
+    assert_eq!(rt; viable, codes::NOTHING);
+    let wake = is_agent_poll_timeout(alloc, &mut slot, &mut at);
+    assert_eq!(rt; wake, codes::NOTHING);
+    is_agent_free(alloc, &mut slot);
+    let gone = is_agent_poll_timeout(alloc, &mut slot, &mut at);
+    assert_eq!(rt; gone, codes::NO_AGENT);
+}
+
+#[test]
+fn a_check_has_the_random_bytes_as_its_id(rt: HostRuntime) {
+    let alloc = rt.alloc();
+    let mut slot = Slot::empty(alloc);
+    let mut packet = no_packet();
+    let mut buffer = [0; 200];
+    let id = *b"twelve bytes";
+    let made = is_agent_new(alloc, &mut slot, b"AAAA", b"PPPP", 10);
+    assert_eq!(rt; made, codes::OK);
+    let leads = is_agent_set_controlling(alloc, &mut slot, true);
+    assert_eq!(rt; leads, codes::OK);
+    let told = is_agent_set_remote_credentials(alloc, &mut slot, b"BBBB", b"QQQQ");
+    assert_eq!(rt; told, codes::OK);
+    let added = is_agent_add_local(alloc, &mut slot, &host(address(1, 1000)));
+    assert_eq!(rt; added, codes::OK);
+    let line = b"candidate:1 1 udp 2130706175 10.0.0.2 2000 typ host";
+    let known = is_agent_add_remote(alloc, &mut slot, line);
+    assert_eq!(rt; known, codes::OK);
+    let few = is_agent_handle_timeout(alloc, &mut slot, 60_000_000_000, &id[..11]);
+    assert_eq!(rt; few, codes::TOO_FEW_RANDOM_BYTES);
+    let begun = is_agent_handle_timeout(alloc, &mut slot, 60_000_000_000, &id);
+    assert_eq!(rt; begun, codes::OK);
+    let given = is_agent_poll_transmit(alloc, &mut slot, &mut buffer, &mut packet);
+    assert_eq!(rt; given, codes::OK);
+    assert!(rt; buffer[8..20] == id[..]);
+    let gone = is_agent_invalidate(alloc, &mut slot, line);
+    assert_eq!(rt; gone, codes::OK);
+    is_agent_free(alloc, &mut slot);
+}
+
+#[test]
+fn credentials_are_made_and_told(rt: HostRuntime) {
+    let alloc = rt.alloc();
+    let mut slot = Slot::empty(alloc);
+    let mut ufrag = [0; 16];
+    let mut pass = [0; 22];
+    let mut length = 0;
+    let few = is_make_credentials(alloc, &[0; 37], &mut ufrag, &mut pass);
+    assert_eq!(rt; few, codes::TOO_FEW_RANDOM_BYTES);
+    let drawn = is_make_credentials(alloc, &[26; 38], &mut ufrag, &mut pass);
+    assert_eq!(rt; drawn, codes::OK);
+    assert!(rt; ufrag[..] == b"aaaaaaaaaaaaaaaa"[..]);
+    let made = is_agent_new(alloc, &mut slot, &ufrag, b"\xff", 1);
+    assert_eq!(rt; made, codes::NOT_UTF8);
+    let made = is_agent_new(alloc, &mut slot, &ufrag, &pass, 1);
+    assert_eq!(rt; made, codes::OK);
+    let mut text = [0; 22];
+    let told = is_agent_local_ufrag(alloc, &mut slot, &mut text, &mut length);
+    assert_eq!(rt; told, codes::OK);
+    assert_eq!(rt; length, 16);
+    let told = is_agent_local_pass(alloc, &mut slot, &mut text, &mut length);
+    assert_eq!(rt; told, codes::OK);
+    assert!(rt; text[..] == pass[..]);
+    let again = is_agent_restart(alloc, &mut slot, b"CCCC", b"RRRR", true);
+    assert_eq!(rt; again, codes::OK);
+    let told = is_agent_local_ufrag(alloc, &mut slot, &mut text[..3], &mut length);
+    assert_eq!(rt; told, codes::BUFFER_TOO_SHORT);
+    assert_eq!(rt; length, 4);
+    is_agent_free(alloc, &mut slot);
+}
+
+#[test]
+fn settings_and_lines_are_told(rt: HostRuntime) {
+    let alloc = rt.alloc();
+    let mut slot = Slot::empty(alloc);
+    let mut line = [0; 100];
+    let mut length = 0;
+    let mut status = Status {
+        state: 9,
+        controlling: true,
+        lite: true,
+        mtu: 0,
+        mtu_warn: 0,
+        ice_timeout: 0,
+    };
+    let made = is_agent_new(alloc, &mut slot, b"AAAA", b"PPPP", 1);
+    assert_eq!(rt; made, codes::OK);
+    let none = is_agent_set_max_retransmits(alloc, &mut slot, 0);
+    assert_eq!(rt; none, codes::BAD_LIMIT);
+    let small = is_agent_set_mtu(alloc, &mut slot, 587, 1280);
+    assert_eq!(rt; small, codes::MTU_TOO_SMALL);
+    let asked = is_agent_status(alloc, &mut slot, &mut status);
+    assert_eq!(rt; asked, codes::OK);
+    assert_eq!(rt; status.state, 0);
+    assert_eq!(rt; status.mtu, 1150);
+    let added = is_agent_add_local(alloc, &mut slot, &host(address(1, 1000)));
+    assert_eq!(rt; added, codes::OK);
+    let told = is_agent_local_candidate(alloc, &mut slot, 0, &mut line, &mut length);
+    assert_eq!(rt; told, codes::OK);
+    let after = is_agent_local_candidate(alloc, &mut slot, 1, &mut line, &mut length);
+    assert_eq!(rt; after, codes::NOTHING);
+    assert!(rt; line[length - 10..length] == b"ufrag AAAA"[..]);
+    is_agent_free(alloc, &mut slot);
+}
+
+#[test]
+fn a_refusal_tells_its_message(rt: HostRuntime) {
+    let alloc = rt.alloc();
+    let mut text = [0; 40];
+    let mut length = 0;
+    let told = is_line_refusal(alloc, b"candidate:1 x", &mut text, &mut length);
+    assert_eq!(rt; told, codes::OK);
+    assert!(rt; text[..length] == b"candidate:1 x: bad component-id"[..]);
+    let short = is_line_refusal(alloc, b"candidate:1 x", &mut text[..30], &mut length);
+    assert_eq!(rt; short, codes::BUFFER_TOO_SHORT);
+    let unread = is_line_refusal(alloc, b"\xff", &mut text, &mut length);
+    assert_eq!(rt; unread, codes::NOT_UTF8);
+    let line = b"candidate:1 1 udp 2130706175 10.0.0.2 2000 typ host";
+    let read = is_line_refusal(alloc, line, &mut text, &mut length);
+    assert_eq!(rt; read, codes::NOTHING);
+    let none = is_candidate_refusal(alloc, &host(address(1, 1000)), &mut text, &mut length);
+    assert_eq!(rt; none, codes::NOTHING);
+}
+
+#[test]
+fn a_table_gives_the_preference(rt: HostRuntime) {
+    let alloc = rt.alloc();
+    let mut slot = Slot::empty(alloc);
+    let mut line = [0; 100];
+    let mut length = 0;
+    let kinds = KindPreferences {
+        host: 256,
+        peer_reflexive: 0,
+        server_reflexive: 0,
+        relayed: 0,
+    };
+    let table = PreferenceTable {
+        v4: kinds,
+        v6: kinds,
+    };
+    let made = is_agent_new(alloc, &mut slot, b"AAAA", b"PPPP", 1);
+    assert_eq!(rt; made, codes::OK);
+    let set = is_agent_set_preference_table(alloc, &mut slot, &table);
+    assert_eq!(rt; set, codes::OK);
+    let first = is_agent_add_local(alloc, &mut slot, &host(address(1, 1000)));
+    assert_eq!(rt; first, codes::OK);
+    let told = is_agent_local_candidate(alloc, &mut slot, 0, &mut line, &mut length);
+    assert_eq!(rt; told, codes::OK);
+    assert!(rt; line[41..51] == b"2113995007"[..]);
+    let second = is_agent_add_local(alloc, &mut slot, &host(address(3, 1000)));
+    assert_eq!(rt; second, codes::OK);
+    let told = is_agent_local_candidate(alloc, &mut slot, 1, &mut line, &mut length);
+    assert_eq!(rt; told, codes::OK);
+    assert!(rt; line[41..51] == b"2113994751"[..]);
+    is_agent_free(alloc, &mut slot);
+}
