@@ -1,0 +1,208 @@
+/* Clock, random bytes, sockets and addresses of this machine. */
+#define _DEFAULT_SOURCE
+#include "peer.h"
+#include <arpa/inet.h>
+#include <errno.h>
+#include <fcntl.h>
+#include <ifaddrs.h>
+#include <net/if.h>
+#include <netdb.h>
+#include <netinet/in.h>
+#include <stdio.h>
+#include <string.h>
+#include <sys/socket.h>
+#include <time.h>
+#include <unistd.h>
+
+uint64_t net_now(void)
+{
+    struct timespec t = {0};
+    if (clock_gettime(CLOCK_MONOTONIC, &t) != 0) return 60 * SECOND;
+    return (uint64_t)t.tv_sec * SECOND + (uint64_t)t.tv_nsec + 60 * SECOND;
+}
+
+bool net_random(void *bytes, size_t length)
+{
+    return getentropy(bytes, length) == 0;
+}
+
+/* ---- addresses, ours and the system's */
+
+static bool address_of(const struct sockaddr *from, is_address *address)
+{
+    memset(address, 0, sizeof *address);
+    if (from->sa_family == AF_INET) {
+        struct sockaddr_in v4;
+        memcpy(&v4, from, sizeof v4);
+        address->family = 4;
+        memcpy(address->bytes, &v4.sin_addr, 4);
+        address->port = ntohs(v4.sin_port);
+        return true;
+    }
+    if (from->sa_family == AF_INET6) {
+        struct sockaddr_in6 v6;
+        memcpy(&v6, from, sizeof v6);
+        address->family = 6;
+        memcpy(address->bytes, &v6.sin6_addr, 16);
+        address->port = ntohs(v6.sin6_port);
+        address->flow = ntohl(v6.sin6_flowinfo);
+        address->scope = v6.sin6_scope_id;
+        return true;
+    }
+    return false;
+}
+
+static socklen_t socket_of(const is_address *address, struct sockaddr_storage *to)
+{
+    memset(to, 0, sizeof *to);
+    if (address->family == 4) {
+        struct sockaddr_in v4 = {0};
+        v4.sin_family = AF_INET;
+        memcpy(&v4.sin_addr, address->bytes, 4);
+        v4.sin_port = htons(address->port);
+        memcpy(to, &v4, sizeof v4);
+        return sizeof v4;
+    }
+    struct sockaddr_in6 v6 = {0};
+    v6.sin6_family = AF_INET6;
+    memcpy(&v6.sin6_addr, address->bytes, 16);
+    v6.sin6_port = htons(address->port);
+    v6.sin6_flowinfo = htonl(address->flow);
+    v6.sin6_scope_id = address->scope;
+    memcpy(to, &v6, sizeof v6);
+    return sizeof v6;
+}
+
+bool net_equal(const is_address *a, const is_address *b)
+{
+    return a->family == b->family && a->port == b->port && memcmp(a->bytes, b->bytes, a->family == 4 ? 4 : 16) == 0;
+}
+
+const char *net_text(const is_address *address, char text[NET_TEXT])
+{
+    char ip[INET6_ADDRSTRLEN] = "?";
+    inet_ntop(address->family == 4 ? AF_INET : AF_INET6, address->bytes, ip, sizeof ip);
+    snprintf(text, NET_TEXT, address->family == 4 ? "%s:%u" : "[%s]:%u", ip, (unsigned)address->port);
+    return text;
+}
+
+size_t net_resolve(const char *server, const char *port, is_address found[2], const char **why)
+{
+    char host[256];
+    const char *behind = strchr(server, ':');
+    size_t length = strlen(server);
+    if (server[0] == '[' && (behind = strchr(server, ']')) != NULL) {
+        length = (size_t)(behind - ++server);
+        behind++;
+    } else if (behind && !strchr(behind + 1, ':')) {
+        length = (size_t)(behind - server);
+    } else {
+        behind = NULL;
+    }
+    if (behind && *behind == ':') port = behind + 1;
+    *why = "the name is too long";
+    if (length >= sizeof host) return 0;
+    memcpy(host, server, length);
+    host[length] = '\0';
+
+    struct addrinfo hints = {0}, *list = NULL;
+    hints.ai_socktype = SOCK_DGRAM;
+    int error = getaddrinfo(host, port, &hints, &list);
+    *why = gai_strerror(error);
+    if (error != 0) return 0;
+    size_t count = 0;
+    for (const struct addrinfo *at = list; at && count < 2; at = at->ai_next)
+        if (address_of(at->ai_addr, &found[count]) && (count == 0 || found[0].family != found[1].family)) count++;
+    freeaddrinfo(list);
+    return count;
+}
+
+/* ---- sockets */
+
+/* Binds a socket at this address, whose port is 0. */
+static bool bind_at(struct net *net, const is_address *address)
+{
+    struct sockaddr_storage own;
+    socklen_t size = socket_of(address, &own);
+    const int on = 1;
+    if (net->count == NET_SOCKETS) return false;
+    int s = socket(own.ss_family, SOCK_DGRAM, 0);
+    if (s < 0) return false;
+    bool ok = fcntl(s, F_SETFD, FD_CLOEXEC) == 0 && fcntl(s, F_SETFL, O_NONBLOCK) == 0;
+    if (own.ss_family == AF_INET6) ok = ok && setsockopt(s, IPPROTO_IPV6, IPV6_V6ONLY, &on, sizeof on) == 0;
+    ok = ok && bind(s, (struct sockaddr *)&own, size) == 0 && getsockname(s, (struct sockaddr *)&own, &size) == 0;
+    if (!ok || !address_of((struct sockaddr *)&own, &net->addresses[net->count])) {
+        int why = errno;
+        close(s);
+        errno = why;
+        return false;
+    }
+    net->sockets[net->count++] = s;
+    return true;
+}
+
+bool net_bind(struct net *net, const char *address)
+{
+    struct addrinfo hints = {0}, *list = NULL;
+    is_address own;
+    hints.ai_socktype = SOCK_DGRAM;
+    hints.ai_flags = AI_NUMERICHOST;
+    if (getaddrinfo(address, "0", &hints, &list) != 0) {
+        errno = EINVAL;
+        return false;
+    }
+    bool ok = address_of(list->ai_addr, &own) && bind_at(net, &own);
+    freeaddrinfo(list);
+    return ok;
+}
+
+/* A link-local address means nothing to the other peer. */
+static bool is_link_local(const is_address *a)
+{
+    return a->family == 4 ? a->bytes[0] == 169 && a->bytes[1] == 254 : a->bytes[0] == 0xfe && (a->bytes[1] & 0xc0) == 0x80;
+}
+
+void net_bind_all(struct net *net, bool loopback)
+{
+    struct ifaddrs *list = NULL;
+    is_address own;
+    if (getifaddrs(&list) != 0) {
+        perror("peer: interfaces");
+        return;
+    }
+    for (const struct ifaddrs *at = list; at; at = at->ifa_next) {
+        bool is_up = (at->ifa_flags & IFF_UP) != 0, is_loopback = (at->ifa_flags & IFF_LOOPBACK) != 0;
+        if (!at->ifa_addr || !is_up || (is_loopback && !loopback)) continue;
+        if (!address_of(at->ifa_addr, &own) || is_link_local(&own)) continue;
+        if (!bind_at(net, &own)) fprintf(stderr, "peer: %s: %s\n", at->ifa_name, net->count == NET_SOCKETS ? "too many addresses" : strerror(errno));
+    }
+    freeifaddrs(list);
+}
+
+void net_close(struct net *net)
+{
+    while (net->count > 0) close(net->sockets[--net->count]);
+}
+
+void net_send(struct net *net, const is_address *from, const is_address *to, const void *bytes, size_t length)
+{
+    struct sockaddr_storage name;
+    socklen_t size = socket_of(to, &name);
+    for (size_t i = 0; i < net->count; i++) {
+        if (!net_equal(&net->addresses[i], from)) continue;
+        if (sendto(net->sockets[i], bytes, length, 0, (struct sockaddr *)&name, size) < 0) {
+            net->lost++;
+            net->lost_why = errno;
+        }
+        return;
+    }
+}
+
+ssize_t net_receive(const struct net *net, size_t index, void *bytes, size_t size, is_address *from)
+{
+    struct sockaddr_storage name;
+    memset(&name, 0, sizeof name);
+    socklen_t length = sizeof name;
+    ssize_t got = recvfrom(net->sockets[index], bytes, size, 0, (struct sockaddr *)&name, &length);
+    return got >= 0 && address_of((struct sockaddr *)&name, from) ? got : -1;
+}

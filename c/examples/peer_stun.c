@@ -1,0 +1,105 @@
+/* Asks a STUN server for the address that it sees a socket at: RFC 8489, a Binding request without credentials. */
+#include "peer.h"
+#include <string.h>
+
+enum { HEADER = 20, BINDING_REQUEST = 0x0001, BINDING_SUCCESS = 0x0101, MAPPED = 0x0001, XOR_MAPPED = 0x0020 };
+
+/* RFC 8489, section 6.2.1: the first wait, which doubles, and how often a request is sent. */
+#define FIRST_WAIT (500 * MILLISECOND)
+enum { SENT_AT_MOST = 7 };
+
+static const uint8_t cookie[4] = {0x21, 0x12, 0xa4, 0x42};
+
+static unsigned word(const uint8_t *at)
+{
+    return (unsigned)at[0] << 8 | at[1];
+}
+
+bool stun_begin(struct stun *stun, const struct net *net, const is_address *servers, size_t count, uint64_t now)
+{
+    memset(stun, 0, sizeof *stun);
+    for (size_t i = 0; i < net->count; i++) {
+        struct stun_question *q = &stun->questions[i];
+        for (size_t j = 0; j < count; j++) {
+            if (servers[j].family != net->addresses[i].family) continue;
+            if (!net_random(q->id, sizeof q->id)) return false;
+            q->server = servers[j];
+            q->due = now;
+            q->is_open = true;
+        }
+    }
+    return true;
+}
+
+unsigned stun_send(struct stun *stun, struct net *net, uint64_t now)
+{
+    unsigned closed = 0;
+    for (size_t i = 0; i < net->count; i++) {
+        struct stun_question *q = &stun->questions[i];
+        if (!q->is_open || q->due > now) continue;
+        if (q->sent == SENT_AT_MOST) {
+            q->is_open = false;
+            closed++;
+            continue;
+        }
+        uint8_t request[HEADER] = {0, BINDING_REQUEST, 0, 0};
+        memcpy(request + 4, cookie, 4);
+        memcpy(request + 8, q->id, 12);
+        net_send(net, &net->addresses[i], &q->server, request, sizeof request);
+        q->due = now + (FIRST_WAIT << q->sent++);
+    }
+    return closed;
+}
+
+uint64_t stun_due(const struct stun *stun)
+{
+    uint64_t due = UINT64_MAX;
+    for (size_t i = 0; i < NET_SOCKETS; i++) {
+        const struct stun_question *q = &stun->questions[i];
+        if (q->is_open && q->due < due) due = q->due;
+    }
+    return due;
+}
+
+/* Reads a mapped address, or one that is XORed with the cookie and the id (RFC 8489, section 14.2). */
+static bool read_address(const uint8_t *value, size_t length, const uint8_t mask[16], is_address *address)
+{
+    if (length < 4) return false;
+    size_t size = value[1] == 1 ? 4 : value[1] == 2 ? 16 : 0;
+    if (size == 0 || length < 4 + size) return false;
+    memset(address, 0, sizeof *address);
+    address->family = size == 4 ? 4 : 6;
+    address->port = (uint16_t)(word(value + 2) ^ word(mask));
+    for (size_t i = 0; i < size; i++) address->bytes[i] = value[4 + i] ^ mask[i];
+    return true;
+}
+
+/* Goes through the attributes: the XORed address counts, and before it the plain one of older servers. */
+static bool read_reply(const uint8_t *bytes, size_t length, is_address *mapped)
+{
+    static const uint8_t plain[16] = {0};
+    uint8_t mask[16];
+    bool found = false;
+    memcpy(mask, bytes + 4, 16); /* the cookie, and behind it the id */
+    for (size_t at = HEADER; at + 4 <= length;) {
+        unsigned kind = word(bytes + at);
+        size_t size = word(bytes + at + 2);
+        if (size > length - at - 4) return false;
+        const uint8_t *value = bytes + at + 4;
+        if (kind == XOR_MAPPED) return read_address(value, size, mask, mapped);
+        if (kind == MAPPED) found = read_address(value, size, plain, mapped);
+        at += 4 + (size + 3) / 4 * 4;
+    }
+    return found;
+}
+
+bool stun_take(struct stun *stun, size_t index, const is_address *from, const uint8_t *bytes, size_t length, is_address *mapped)
+{
+    struct stun_question *q = &stun->questions[index];
+    if (!q->is_open || !net_equal(from, &q->server)) return false;
+    if (length < HEADER || word(bytes) != BINDING_SUCCESS || word(bytes + 2) != length - HEADER) return false;
+    if (memcmp(bytes + 4, cookie, 4) != 0 || memcmp(bytes + 8, q->id, 12) != 0) return false;
+    if (!read_reply(bytes, length, mapped)) return false;
+    q->is_open = false;
+    return true;
+}
