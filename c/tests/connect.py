@@ -35,18 +35,19 @@ class Peer:
         self.lines.put(None)
 
     def says(self, begins, patience=PATIENCE):
-        """The rest of the next line that begins so; those before it are kept in `told`."""
+        """The rest of the first line that begins so, of those that were not asked for yet."""
         end = time.monotonic() + patience
         while True:
+            for place, line in enumerate(self.told):
+                if line.startswith(begins):
+                    return self.told.pop(place)[len(begins):]
             try:
                 line = self.lines.get(timeout=max(0.01, end - time.monotonic()))
             except queue.Empty:
-                raise Failed(f"no line {begins!r} behind {self.told}") from None
+                raise Failed(f"no line {begins!r} among {self.told}") from None
             if line is None:
                 raise Failed(f"ended before {begins!r}, behind {self.told}; {self.run.stderr.read()}")
             self.told.append(line)
-            if line.startswith(begins):
-                return line[len(begins):]
 
     def hears(self, line):
         self.run.stdin.write(line + "\n")
@@ -125,8 +126,8 @@ def interfaces():
     """All addresses of the machine's interfaces, loopback ones too."""
     a, b = pair("-l")
     introduce(a, b)
-    connected(a, b)
     for side in (a, b):
+        side.says("path ")
         side.says("state Co")
     talk(a, b)
 

@@ -71,7 +71,7 @@ static void has_line(is_agent *agent, size_t index, const is_candidate *candidat
     exit(1);
 }
 
-/* is_candidate, of each kind and family, and is_preference_table: 126, 100 and 0 are the types' preferences. */
+/* is_candidate, of each kind and family, and is_preference_table, whose number is the third byte of the priority. */
 static void candidates(void)
 {
     static const is_preference_table table = {{1, 2, 3, 4}, {5, 6, 7, 8}};
@@ -82,10 +82,10 @@ static void candidates(void)
     HOLD(is_agent_set_preference_table(&agent, &table) == IS_OK);
     has_line(&agent, 0, &all[0], " 1 udp 2113929727 10.0.0.1 1000 typ host");
     has_line(&agent, 1, &all[1], " 1 udp 1677722623 192.0.2.1 2000 typ srflx raddr 0.0.0.0 rport 0");
-    has_line(&agent, 2, &all[2], " 1 tcp 1279 192.0.2.1 2000 typ relay raddr 0.0.0.0 rport 0");
-    has_line(&agent, 3, &all[3], " 1 ssltcp 2113930751 2001:db8::1 3000 typ host");
+    has_line(&agent, 2, &all[2], " 1 tcp 16778495 192.0.2.1 2000 typ relay raddr 0.0.0.0 rport 0");
+    has_line(&agent, 3, &all[3], " 1 ssltcp 1509950975 2001:db8::1 3000 typ host");
     has_line(&agent, 4, &all[4], " 1 tls 1677723647 2001:db8::2 4000 typ srflx raddr :: rport 0");
-    has_line(&agent, 5, &all[5], " 1 udp 2303 2001:db8::2 4000 typ relay raddr :: rport 0");
+    has_line(&agent, 5, &all[5], " 1 udp 33556735 2001:db8::2 4000 typ relay raddr :: rport 0");
     HOLD(is_agent_invalidate_local(&agent, &all[1]) == IS_OK && is_agent_invalidate_local(&agent, &all[1]) == IS_NOTHING);
     is_agent_free(&agent);
 }
