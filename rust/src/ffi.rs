@@ -1,0 +1,370 @@
+//! The library's C interface, `c/is.h`, behind functions that are safe to call: the one module with `unsafe`.
+//!
+//! What makes the calls safe, beside what is said at each block:
+//! - An `Agent` is made zeroed, in a box that it never leaves, and its fields are private to this module: so it is never copied
+//!   and written by the library alone.
+//! - It holds a raw pointer, so it is neither `Send` nor `Sync`: it stays on the thread that made it. A call borrows it
+//!   mutably, so it has one call at a time.
+//! - References and slices are not null, and those that are written overlap no other argument.
+
+use std::ptr;
+
+// ---- codes
+
+pub(crate) const OK: i32 = 0;
+pub(crate) const NOTHING: i32 = 1;
+pub(crate) const UNPARSED: i32 = -5;
+pub(crate) const BUFFER_TOO_SHORT: i32 = -6;
+
+/// A word for each refusal, as `is_code_text` of the header has it.
+pub(crate) fn text_of(code: i32) -> &'static str {
+    match code {
+        -1 => "no agent",
+        -2 => "there is an agent already",
+        -3 => "text is not UTF-8",
+        -4 => "bad address family, protocol or kind",
+        -5 => "no STUN message",
+        -6 => "buffer too short",
+        -7 => "out of memory",
+        -8 => "bad candidate",
+        -9 => "pair ids exhausted",
+        -10 => "MTU target too small",
+        -11 => "ICE credentials too long",
+        -12 => "candidate priority too high",
+        -13 => "bad limit",
+        -14 => "too few random bytes",
+        _ => "unknown code",
+    }
+}
+
+// ---- types
+
+/// Where the library holds an agent. All zero: there is none.
+#[repr(C)]
+pub(crate) struct Agent {
+    is_held: bool,
+    at: *mut u8,
+}
+
+#[repr(C)]
+#[derive(Clone, Copy, Default)]
+pub(crate) struct Address {
+    pub(crate) family: u8,
+    pub(crate) bytes: [u8; 16],
+    pub(crate) port: u16,
+    pub(crate) flow: u32,
+    pub(crate) scope: u32,
+}
+
+#[repr(C)]
+#[derive(Clone, Copy, Default)]
+pub(crate) struct Gathered {
+    pub(crate) address: Address,
+    pub(crate) base: Address,
+    pub(crate) kind: u8,
+    pub(crate) protocol: u8,
+}
+
+#[repr(C)]
+#[derive(Clone, Copy, Default)]
+pub(crate) struct Packet {
+    pub(crate) source: Address,
+    pub(crate) destination: Address,
+    pub(crate) length: usize,
+    pub(crate) protocol: u8,
+}
+
+#[repr(C)]
+#[derive(Clone, Copy, Default)]
+pub(crate) struct Event {
+    pub(crate) source: Address,
+    pub(crate) destination: Address,
+    pub(crate) kind: i32,
+    pub(crate) state: i32,
+    pub(crate) protocol: u8,
+}
+
+#[repr(C)]
+#[derive(Clone, Copy, Default)]
+pub(crate) struct Status {
+    pub(crate) state: i32,
+    pub(crate) controlling: bool,
+    pub(crate) lite: bool,
+    pub(crate) mtu: usize,
+    pub(crate) mtu_warn: usize,
+    pub(crate) ice_timeout: u64,
+}
+
+#[repr(C)]
+#[derive(Clone, Copy, Default)]
+pub(crate) struct Stats {
+    pub(crate) bind_request_sent: u64,
+    pub(crate) bind_success_recv: u64,
+    pub(crate) bind_request_recv: u64,
+    pub(crate) discovered_recv_count: u64,
+    pub(crate) nomination_send_count: u64,
+}
+
+#[repr(C)]
+#[derive(Clone, Copy, Default)]
+pub(crate) struct Nominated {
+    pub(crate) total_rtt: u64,
+    pub(crate) responses: u64,
+    pub(crate) rtt: u64,
+    pub(crate) has_rtt: bool,
+}
+
+#[repr(C)]
+#[derive(Clone, Copy, Default)]
+pub(crate) struct KindPreferences {
+    pub(crate) host: u16,
+    pub(crate) peer_reflexive: u16,
+    pub(crate) server_reflexive: u16,
+    pub(crate) relayed: u16,
+}
+
+#[repr(C)]
+#[derive(Clone, Copy, Default)]
+pub(crate) struct PreferenceTable {
+    pub(crate) v4: KindPreferences,
+    pub(crate) v6: KindPreferences,
+}
+
+// The sizes that the header asserts, and some offsets.
+#[cfg(target_pointer_width = "64")]
+const _: () = {
+    assert!(size_of::<Agent>() == 16 && size_of::<Address>() == 28 && size_of::<Gathered>() == 60);
+    assert!(size_of::<Packet>() == 72 && size_of::<Event>() == 68 && size_of::<Status>() == 32);
+    assert!(size_of::<Stats>() == 40 && size_of::<Nominated>() == 32);
+    assert!(size_of::<KindPreferences>() == 8 && size_of::<PreferenceTable>() == 16);
+    assert!(std::mem::offset_of!(Agent, at) == 8 && std::mem::offset_of!(Address, flow) == 20);
+    assert!(std::mem::offset_of!(Gathered, kind) == 56 && std::mem::offset_of!(Packet, length) == 56);
+    assert!(std::mem::offset_of!(Event, state) == 60 && std::mem::offset_of!(Status, mtu) == 8);
+};
+
+// ---- calls: `safe` where all arguments are numbers and references
+
+#[allow(unsafe_code)]
+// SAFETY: names, arguments and results are those of is.h; `c/run names` compares that header with the library.
+unsafe extern "C" {
+    pub(crate) safe fn is_version() -> u32;
+    pub(crate) safe fn is_agent_free(agent: &mut Agent);
+    pub(crate) safe fn is_agent_set_controlling(agent: &mut Agent, controlling: bool) -> i32;
+    pub(crate) safe fn is_agent_set_lite(agent: &mut Agent, lite: bool) -> i32;
+    pub(crate) safe fn is_agent_set_tie_breaker(agent: &mut Agent, tie_breaker: u64) -> i32;
+    pub(crate) safe fn is_agent_set_max_pairs(agent: &mut Agent, limit: usize) -> i32;
+    pub(crate) safe fn is_agent_set_timing_advance(agent: &mut Agent, nanoseconds: u64) -> i32;
+    pub(crate) safe fn is_agent_set_initial_rto(agent: &mut Agent, nanoseconds: u64) -> i32;
+    pub(crate) safe fn is_agent_set_max_rto(agent: &mut Agent, nanoseconds: u64) -> i32;
+    pub(crate) safe fn is_agent_set_max_retransmits(agent: &mut Agent, limit: usize) -> i32;
+    pub(crate) safe fn is_agent_set_mtu(agent: &mut Agent, mtu: usize, warn: usize) -> i32;
+    pub(crate) safe fn is_agent_set_local_preference(agent: &mut Agent, preference: u16) -> i32;
+    pub(crate) safe fn is_agent_set_preference_table(agent: &mut Agent, table: &PreferenceTable) -> i32;
+    pub(crate) safe fn is_agent_reset_local_preference(agent: &mut Agent) -> i32;
+    pub(crate) safe fn is_agent_add_local(agent: &mut Agent, candidate: &Gathered) -> i32;
+    pub(crate) safe fn is_agent_invalidate_local(agent: &mut Agent, candidate: &Gathered) -> i32;
+    pub(crate) safe fn is_agent_poll_timeout(agent: &mut Agent, at: &mut u64) -> i32;
+    pub(crate) safe fn is_agent_poll_event(agent: &mut Agent, event: &mut Event) -> i32;
+    pub(crate) safe fn is_agent_recreate_pairs(agent: &mut Agent) -> i32;
+    pub(crate) safe fn is_agent_status(agent: &mut Agent, status: &mut Status) -> i32;
+    pub(crate) safe fn is_agent_stats(agent: &mut Agent, stats: &mut Stats) -> i32;
+    pub(crate) safe fn is_agent_nominated(agent: &mut Agent, nominated: &mut Nominated) -> i32;
+    pub(crate) safe fn is_agent_has_viable_remote(agent: &mut Agent, address: &Address) -> i32;
+
+    fn is_make_credentials(
+        random: *const u8,
+        random_length: usize,
+        ufrag: *mut u8,
+        ufrag_length: usize,
+        pass: *mut u8,
+        pass_length: usize,
+    ) -> i32;
+    fn is_agent_new(agent: &mut Agent, ufrag: *const u8, ufrag_length: usize, pass: *const u8, pass_length: usize, tie_breaker: u64)
+    -> i32;
+    fn is_agent_set_local_credentials(agent: &mut Agent, ufrag: *const u8, ufrag_length: usize, pass: *const u8, pass_length: usize)
+    -> i32;
+    fn is_agent_set_remote_credentials(
+        agent: &mut Agent,
+        ufrag: *const u8,
+        ufrag_length: usize,
+        pass: *const u8,
+        pass_length: usize,
+    ) -> i32;
+    fn is_agent_restart(
+        agent: &mut Agent,
+        ufrag: *const u8,
+        ufrag_length: usize,
+        pass: *const u8,
+        pass_length: usize,
+        keep_local_candidates: bool,
+    ) -> i32;
+    fn is_agent_add_remote(agent: &mut Agent, line: *const u8, length: usize) -> i32;
+    fn is_agent_invalidate(agent: &mut Agent, line: *const u8, length: usize) -> i32;
+    fn is_agent_local_candidate(agent: &mut Agent, index: usize, buffer: *mut u8, size: usize, length: &mut usize) -> i32;
+    fn is_agent_remote_candidate(agent: &mut Agent, index: usize, buffer: *mut u8, size: usize, length: &mut usize) -> i32;
+    fn is_line_refusal(line: *const u8, line_length: usize, buffer: *mut u8, size: usize, length: &mut usize) -> i32;
+    fn is_candidate_refusal(candidate: &Gathered, buffer: *mut u8, size: usize, length: &mut usize) -> i32;
+    fn is_agent_handle_timeout(agent: &mut Agent, now: u64, random: *const u8, random_length: usize) -> i32;
+    fn is_agent_handle_packet(
+        agent: &mut Agent,
+        now: u64,
+        protocol: u8,
+        source: &Address,
+        destination: &Address,
+        bytes: *const u8,
+        length: usize,
+    ) -> i32;
+    fn is_agent_accepts_message(agent: &mut Agent, bytes: *const u8, length: usize) -> i32;
+    fn is_agent_poll_transmit(agent: &mut Agent, buffer: *mut u8, size: usize, packet: &mut Packet) -> i32;
+}
+
+// ---- calls with texts, datagrams and buffers
+//
+// Why each block is safe: a slice's pointer and length go together, the slice lives as long as the call, and the library keeps no
+// pointer of it. What is written is lent mutably.
+
+impl Agent {
+    /// An agent under these credentials.
+    pub(crate) fn new(ufrag: &str, pass: &str, tie_breaker: u64) -> Result<Box<Agent>, i32> {
+        assert_eq!(is_version(), 1, "is.h belongs to another library");
+        let mut agent = Box::new(Agent { is_held: false, at: ptr::null_mut() });
+        #[allow(unsafe_code)]
+        // SAFETY: both texts are slices that are read; the agent is zeroed, and stays in its box.
+        let code = unsafe { is_agent_new(&mut agent, ufrag.as_ptr(), ufrag.len(), pass.as_ptr(), pass.len(), tie_breaker) };
+        if code == OK { Ok(agent) } else { Err(code) }
+    }
+
+    pub(crate) fn set_local_credentials(&mut self, ufrag: &str, pass: &str) -> i32 {
+        #[allow(unsafe_code)]
+        // SAFETY: both texts are slices that are read.
+        unsafe {
+            is_agent_set_local_credentials(self, ufrag.as_ptr(), ufrag.len(), pass.as_ptr(), pass.len())
+        }
+    }
+
+    pub(crate) fn set_remote_credentials(&mut self, ufrag: &str, pass: &str) -> i32 {
+        #[allow(unsafe_code)]
+        // SAFETY: both texts are slices that are read.
+        unsafe {
+            is_agent_set_remote_credentials(self, ufrag.as_ptr(), ufrag.len(), pass.as_ptr(), pass.len())
+        }
+    }
+
+    pub(crate) fn restart(&mut self, ufrag: &str, pass: &str, keep_local_candidates: bool) -> i32 {
+        #[allow(unsafe_code)]
+        // SAFETY: both texts are slices that are read.
+        unsafe {
+            is_agent_restart(self, ufrag.as_ptr(), ufrag.len(), pass.as_ptr(), pass.len(), keep_local_candidates)
+        }
+    }
+
+    pub(crate) fn add_remote(&mut self, line: &str) -> i32 {
+        #[allow(unsafe_code)]
+        // SAFETY: the line is a slice that is read.
+        unsafe {
+            is_agent_add_remote(self, line.as_ptr(), line.len())
+        }
+    }
+
+    pub(crate) fn invalidate(&mut self, line: &str) -> i32 {
+        #[allow(unsafe_code)]
+        // SAFETY: the line is a slice that is read.
+        unsafe {
+            is_agent_invalidate(self, line.as_ptr(), line.len())
+        }
+    }
+
+    pub(crate) fn local_candidate(&mut self, index: usize, buffer: &mut [u8], length: &mut usize) -> i32 {
+        #[allow(unsafe_code)]
+        // SAFETY: the buffer is a slice that is lent mutably.
+        unsafe {
+            is_agent_local_candidate(self, index, buffer.as_mut_ptr(), buffer.len(), length)
+        }
+    }
+
+    pub(crate) fn remote_candidate(&mut self, index: usize, buffer: &mut [u8], length: &mut usize) -> i32 {
+        #[allow(unsafe_code)]
+        // SAFETY: the buffer is a slice that is lent mutably.
+        unsafe {
+            is_agent_remote_candidate(self, index, buffer.as_mut_ptr(), buffer.len(), length)
+        }
+    }
+
+    pub(crate) fn handle_timeout(&mut self, now: u64, random: &[u8; 12]) -> i32 {
+        #[allow(unsafe_code)]
+        // SAFETY: the bytes are an array that is read.
+        unsafe {
+            is_agent_handle_timeout(self, now, random.as_ptr(), random.len())
+        }
+    }
+
+    pub(crate) fn handle_packet(&mut self, now: u64, protocol: u8, source: &Address, destination: &Address, bytes: &[u8]) -> i32 {
+        #[allow(unsafe_code)]
+        // SAFETY: the datagram is a slice that is read.
+        unsafe {
+            is_agent_handle_packet(self, now, protocol, source, destination, bytes.as_ptr(), bytes.len())
+        }
+    }
+
+    pub(crate) fn accepts_message(&mut self, bytes: &[u8]) -> i32 {
+        #[allow(unsafe_code)]
+        // SAFETY: the message is a slice that is read.
+        unsafe {
+            is_agent_accepts_message(self, bytes.as_ptr(), bytes.len())
+        }
+    }
+
+    pub(crate) fn poll_transmit(&mut self, buffer: &mut [u8], packet: &mut Packet) -> i32 {
+        #[allow(unsafe_code)]
+        // SAFETY: the buffer is a slice that is lent mutably.
+        unsafe {
+            is_agent_poll_transmit(self, buffer.as_mut_ptr(), buffer.len(), packet)
+        }
+    }
+}
+
+impl Drop for Agent {
+    fn drop(&mut self) {
+        is_agent_free(self);
+    }
+}
+
+pub(crate) fn make_credentials(random: &[u8; 38], ufrag: &mut [u8; 16], pass: &mut [u8; 22]) -> i32 {
+    #[allow(unsafe_code)]
+    // SAFETY: three arrays, of which the last two are lent mutably.
+    unsafe {
+        is_make_credentials(random.as_ptr(), random.len(), ufrag.as_mut_ptr(), ufrag.len(), pass.as_mut_ptr(), pass.len())
+    }
+}
+
+pub(crate) fn line_refusal(line: &str, buffer: &mut [u8], length: &mut usize) -> i32 {
+    #[allow(unsafe_code)]
+    // SAFETY: the line is a slice that is read, the buffer one that is lent mutably.
+    unsafe {
+        is_line_refusal(line.as_ptr(), line.len(), buffer.as_mut_ptr(), buffer.len(), length)
+    }
+}
+
+pub(crate) fn candidate_refusal(candidate: &Gathered, buffer: &mut [u8], length: &mut usize) -> i32 {
+    #[allow(unsafe_code)]
+    // SAFETY: the buffer is a slice that is lent mutably.
+    unsafe {
+        is_candidate_refusal(candidate, buffer.as_mut_ptr(), buffer.len(), length)
+    }
+}
+
+/// The text that a call writes to a buffer, which grows until it is long enough; or the call's code, where it is not `OK`.
+pub(crate) fn told(mut call: impl FnMut(&mut [u8], &mut usize) -> i32) -> Result<String, i32> {
+    let mut buffer = vec![0; 256];
+    loop {
+        let mut length = 0;
+        match call(&mut buffer, &mut length) {
+            OK => {
+                buffer.truncate(length);
+                return Ok(String::from_utf8(buffer).expect("texts of the library are UTF-8"));
+            }
+            BUFFER_TOO_SHORT => buffer.resize(length, 0),
+            code => return Err(code),
+        }
+    }
+}

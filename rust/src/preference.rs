@@ -1,0 +1,61 @@
+//! Which local candidates are preferred.
+
+use crate::ffi;
+
+/// Local preferences by kind, for one IP version (RFC 8445, section 5.1.2.1).
+#[derive(Clone, Copy, Debug, PartialEq, Eq)]
+pub struct KindPreferences {
+    /// Of host candidates.
+    pub host: u16,
+    /// Of peer reflexive candidates.
+    pub peer_reflexive: u16,
+    /// Of server reflexive candidates.
+    pub server_reflexive: u16,
+    /// Of relayed candidates.
+    pub relayed: u16,
+}
+
+/// Local preferences by IP version and kind.
+#[derive(Clone, Copy, Debug, PartialEq, Eq)]
+pub struct PreferenceTable {
+    /// Of IPv4 addresses.
+    pub v4: KindPreferences,
+    /// Of IPv6 addresses.
+    pub v6: KindPreferences,
+}
+
+/// How local candidates that are added from now on are preferred.
+#[derive(Clone, Copy, Debug, Default, PartialEq, Eq)]
+pub enum LocalPreference {
+    /// Hosts before reflexive before relayed ones, IPv6 just before IPv4, earlier before later ones.
+    #[default]
+    ByDefault,
+    /// Each has this number.
+    Fixed(u16),
+    /// The table's number for its kind and IP version, less one for each candidate of the same that came before, and at least 0.
+    ByKind(PreferenceTable),
+}
+
+impl KindPreferences {
+    fn raw(&self) -> ffi::KindPreferences {
+        ffi::KindPreferences {
+            host: self.host,
+            peer_reflexive: self.peer_reflexive,
+            server_reflexive: self.server_reflexive,
+            relayed: self.relayed,
+        }
+    }
+}
+
+impl LocalPreference {
+    pub(crate) fn set(&self, agent: &mut ffi::Agent) -> i32 {
+        match self {
+            LocalPreference::ByDefault => ffi::is_agent_reset_local_preference(agent),
+            LocalPreference::Fixed(number) => ffi::is_agent_set_local_preference(agent, *number),
+            LocalPreference::ByKind(table) => {
+                let table = ffi::PreferenceTable { v4: table.v4.raw(), v6: table.v6.raw() };
+                ffi::is_agent_set_preference_table(agent, &table)
+            }
+        }
+    }
+}

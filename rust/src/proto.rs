@@ -1,0 +1,113 @@
+//! Transport protocols, and socket addresses as the library has them.
+
+use crate::ffi;
+use std::fmt;
+use std::net::{IpAddr, Ipv4Addr, Ipv6Addr, SocketAddr, SocketAddrV6};
+
+/// What a candidate's packets go over.
+#[derive(Clone, Copy, Debug, PartialEq, Eq, PartialOrd, Ord, Hash)]
+pub enum Protocol {
+    /// UDP.
+    Udp,
+    /// TCP, with frames (RFC 4571).
+    Tcp,
+    /// TCP behind a fixed SSL handshake.
+    SslTcp,
+    /// TLS over TCP.
+    Tls,
+}
+
+impl Protocol {
+    pub(crate) fn number(self) -> u8 {
+        match self {
+            Protocol::Udp => 0,
+            Protocol::Tcp => 1,
+            Protocol::SslTcp => 2,
+            Protocol::Tls => 3,
+        }
+    }
+
+    pub(crate) fn of(number: u8) -> Protocol {
+        match number {
+            0 => Protocol::Udp,
+            1 => Protocol::Tcp,
+            2 => Protocol::SslTcp,
+            _ => Protocol::Tls,
+        }
+    }
+}
+
+impl TryFrom<&str> for Protocol {
+    type Error = ();
+
+    /// The protocol of a word, in any case of letters.
+    fn try_from(word: &str) -> Result<Protocol, ()> {
+        match word.to_ascii_lowercase().as_str() {
+            "udp" => Ok(Protocol::Udp),
+            "tcp" => Ok(Protocol::Tcp),
+            "ssltcp" => Ok(Protocol::SslTcp),
+            "tls" => Ok(Protocol::Tls),
+            _ => Err(()),
+        }
+    }
+}
+
+impl fmt::Display for Protocol {
+    fn fmt(&self, f: &mut fmt::Formatter<'_>) -> fmt::Result {
+        f.write_str(match self {
+            Protocol::Udp => "udp",
+            Protocol::Tcp => "tcp",
+            Protocol::SslTcp => "ssltcp",
+            Protocol::Tls => "tls",
+        })
+    }
+}
+
+/// Who connects, of a TCP candidate (RFC 6544).
+#[derive(Clone, Copy, Debug, PartialEq, Eq, Hash)]
+pub enum TcpType {
+    /// It connects.
+    Active,
+    /// It is connected to.
+    Passive,
+    /// Both at once.
+    So,
+}
+
+impl TcpType {
+    pub(crate) fn of(word: &str) -> Option<TcpType> {
+        match word {
+            "active" => Some(TcpType::Active),
+            "passive" => Some(TcpType::Passive),
+            "so" => Some(TcpType::So),
+            _ => None,
+        }
+    }
+}
+
+/// The socket address as it is handed to the library.
+pub(crate) fn address_of(socket: SocketAddr) -> ffi::Address {
+    let mut address = ffi::Address { port: socket.port(), ..Default::default() };
+    match socket {
+        SocketAddr::V4(v4) => {
+            address.family = 4;
+            address.bytes[..4].copy_from_slice(&v4.ip().octets());
+        }
+        SocketAddr::V6(v6) => {
+            address.family = 6;
+            address.bytes = v6.ip().octets();
+            address.flow = v6.flowinfo();
+            address.scope = v6.scope_id();
+        }
+    }
+    address
+}
+
+/// The socket address that the library tells of.
+pub(crate) fn socket_of(address: &ffi::Address) -> SocketAddr {
+    if address.family == 4 {
+        let [a, b, c, d, ..] = address.bytes;
+        return SocketAddr::new(IpAddr::V4(Ipv4Addr::new(a, b, c, d)), address.port);
+    }
+    SocketAddr::V6(SocketAddrV6::new(Ipv6Addr::from(address.bytes), address.port, address.flow, address.scope))
+}

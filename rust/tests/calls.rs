@@ -1,0 +1,275 @@
+//! One agent, call by call.
+
+mod world;
+
+use is::stun::{StunMessage, StunPacket};
+use is::{Candidate, CandidateKind, IceAgent, IceAgentEvent, IceConnectionState, IceCreds, IceError};
+use is::{KindPreferences, LocalPreference, PreferenceTable, Protocol, StunError, TcpType};
+use std::time::{Duration, Instant};
+use world::{at, creds, host, ms};
+
+/// A browser's signed Binding request, for the user fragment p9KA under the password below.
+const REQUEST: &str = "000100502112a4426a756331357578556e6747630006000970394b413a53514174000000c05700040001000a802a00086eeec6e97d18395c\
+                       00250000002400046e7f1eff000800145d0425a0207ab1e054102299aaf9839ca076c6d580280004360e219f";
+const PASSWORD: &str = "xJcE9AQAR7kczUDVOXRUCl";
+const PEER: &str = "candidate:1 1 udp 2130706175 10.0.0.2 2000 typ host";
+
+fn unhex(text: &str) -> Vec<u8> {
+    let digits: Vec<u32> = text.chars().filter_map(|digit| digit.to_digit(16)).collect();
+    digits.chunks(2).map(|pair| (pair[0] * 16 + pair[1]) as u8).collect()
+}
+
+fn from_peer(bytes: &[u8]) -> StunPacket<'_> {
+    let message = StunMessage::parse(bytes).expect("a message");
+    StunPacket { proto: Protocol::Udp, source: at("10.0.0.2:2000"), destination: at("10.0.0.1:1000"), message }
+}
+
+/// The agent that the request is for.
+fn addressed() -> IceAgent {
+    let mut agent = IceAgent::new(IceCreds { ufrag: "p9KA".to_owned(), pass: PASSWORD.to_owned() });
+    agent.set_remote_credentials(IceCreds { ufrag: "SQAt".to_owned(), pass: "x".to_owned() });
+    agent.add_local_candidate(host("10.0.0.1:1000")).expect("a candidate");
+    agent
+}
+
+/// A controlling agent that knows its peer, and a candidate of the peer's.
+fn paired() -> IceAgent {
+    let mut agent = IceAgent::new(creds("near"));
+    agent.set_controlling(true);
+    agent.set_remote_credentials(creds("farr"));
+    agent.add_local_candidate(host("10.0.0.1:1000")).expect("a candidate");
+    agent.add_remote_candidate(Candidate::from_sdp_string(PEER).unwrap());
+    agent
+}
+
+// ---- packets
+
+#[test]
+fn a_browsers_request_is_answered() {
+    let (mut agent, bytes) = (addressed(), unhex(REQUEST));
+    assert!(agent.accepts_message(&StunMessage::parse(&bytes).unwrap()));
+    assert!(agent.handle_packet(Instant::now(), from_peer(&bytes)));
+    let reply = agent.poll_transmit().expect("a reply");
+    assert_eq!((reply.source, reply.destination), (at("10.0.0.1:1000"), at("10.0.0.2:2000")));
+    assert_eq!(reply.contents.len(), 64);
+    assert_eq!(reply.contents[..8], unhex("0101002c2112a442"));
+    assert_eq!(reply.contents[8..20], bytes[8..20]);
+    assert_eq!(agent.poll_transmit(), None);
+    assert_eq!(agent.poll_event(), Some(IceAgentEvent::DiscoveredRecv { proto: Protocol::Udp, source: at("10.0.0.2:2000") }));
+    assert_eq!(agent.poll_event(), None);
+}
+
+#[test]
+fn a_forged_request_changes_nothing() {
+    let (mut agent, mut bytes) = (addressed(), unhex(REQUEST));
+    bytes[67] ^= 1;
+    assert!(!agent.accepts_message(&StunMessage::parse(&bytes).unwrap()));
+    assert!(!agent.handle_packet(Instant::now(), from_peer(&bytes)));
+    assert_eq!((agent.poll_transmit(), agent.poll_event()), (None, None));
+    assert_eq!(agent.stats(), Default::default());
+}
+
+#[test]
+fn media_is_no_message() {
+    assert!(matches!(StunMessage::parse(b"\x80 media"), Err(StunError::Parse(_))));
+    assert!(StunMessage::parse(&unhex(REQUEST)[..99]).is_err());
+    assert!(StunMessage::parse(&[]).is_err());
+}
+
+// ---- moments
+
+#[test]
+fn no_moment_was_told_yet() {
+    let mut agent = paired();
+    assert_eq!((agent.poll_timeout(), agent.state()), (None, IceConnectionState::New));
+}
+
+#[test]
+fn checks_go_out_by_the_schedule() {
+    let (mut agent, began) = (paired(), Instant::now());
+    let mut when = began;
+    for after in [250, 750, 1750, 3750, 6750, 9750, 12750, 15750, 18750] {
+        agent.handle_timeout(when);
+        let check = agent.poll_transmit().expect("a check");
+        assert_eq!((check.destination, check.contents.len()), (at("10.0.0.2:2000"), 88));
+        when = agent.poll_timeout().expect("a wake-up");
+        assert_eq!(when - began, ms(after));
+    }
+    agent.handle_timeout(when);
+    assert_eq!(agent.poll_transmit(), None);
+    assert!(agent.state().is_disconnected());
+}
+
+#[test]
+fn transaction_ids_are_random() {
+    let (mut agent, mut when, mut ids) = (paired(), Instant::now(), Vec::new());
+    for _ in 0..9 {
+        agent.handle_timeout(when);
+        ids.push(agent.poll_transmit().expect("a check").contents[8..20].to_vec());
+        when = agent.poll_timeout().unwrap();
+    }
+    ids.sort();
+    ids.dedup();
+    assert_eq!(ids.len(), 9);
+}
+
+#[test]
+fn the_clock_may_stand_or_go_back() {
+    let (mut agent, began) = (paired(), Instant::now() + Duration::from_secs(3600));
+    agent.handle_timeout(began);
+    assert!(agent.poll_transmit().is_some());
+    agent.handle_timeout(began);
+    agent.handle_timeout(began - Duration::from_secs(1));
+    assert_eq!(agent.poll_transmit(), None);
+    assert_eq!(agent.poll_timeout(), Some(began + ms(250)));
+}
+
+// ---- settings
+
+#[test]
+fn settings_begin_as_documented() {
+    let agent = IceAgent::new(creds("near"));
+    assert_eq!((agent.mtu(), agent.mtu_warn()), (1150, 1280));
+    assert!(!agent.controlling() && !agent.ice_lite());
+    assert_eq!(agent.ice_timeout(), ms(21500));
+    assert_eq!((agent.local_credentials(), agent.remote_credentials()), (&creds("near"), None));
+}
+
+#[test]
+fn delays_are_set() {
+    let mut agent = IceAgent::new(creds("near"));
+    agent.set_max_stun_retransmits(2);
+    assert_eq!(agent.ice_timeout(), ms(1000));
+    agent.set_max_stun_rto(ms(400));
+    assert_eq!(agent.ice_timeout(), ms(800));
+    agent.set_initial_stun_rto(ms(100));
+    assert_eq!(agent.ice_timeout(), ms(400));
+    agent.set_timing_advance(ms(20));
+    agent.set_mtu(600..=700);
+    assert_eq!((agent.mtu(), agent.mtu_warn()), (600, 700));
+}
+
+#[test]
+#[should_panic(expected = "MTU target too small")]
+fn a_short_mtu_is_refused() {
+    IceAgent::new(creds("near")).set_mtu(587..=1280);
+}
+
+#[test]
+#[should_panic(expected = "bad limit")]
+fn no_retransmits_are_refused() {
+    IceAgent::new(creds("near")).set_max_stun_retransmits(0);
+}
+
+#[test]
+#[should_panic(expected = "ICE credentials too long")]
+fn long_user_fragments_are_refused() {
+    let mut agent = IceAgent::new(creds(&"a".repeat(254)));
+    agent.set_remote_credentials(creds(&"b".repeat(253)));
+    agent.set_remote_credentials(creds(&"b".repeat(254)));
+}
+
+#[test]
+fn random_credentials() {
+    let (one, two) = (IceCreds::new(), IceCreds::new());
+    assert_eq!((one.ufrag.len(), one.pass.len()), (16, 22));
+    assert_ne!(one, two);
+}
+
+// ---- candidates
+
+#[test]
+fn candidates_are_printed_and_read() {
+    let candidate = host("1.2.3.4:9876");
+    assert!(candidate.to_sdp_string().ends_with(" 1 udp 2130706175 1.2.3.4 9876 typ host"));
+    let read = Candidate::from_sdp_string(&candidate.to_sdp_string()).unwrap();
+    assert_eq!(
+        (read.addr(), read.prio(), read.kind(), read.proto()),
+        (candidate.addr(), candidate.prio(), CandidateKind::Host, Protocol::Udp)
+    );
+    let tcp =
+        Candidate::from_sdp_string("candidate:1 1 tcp 1 10.0.0.2 9 typ srflx raddr 0.0.0.0 rport 0 tcptype passive ufrag EsAw").unwrap();
+    assert_eq!((tcp.kind(), tcp.tcptype(), tcp.ufrag()), (CandidateKind::ServerReflexive, Some(TcpType::Passive), Some("EsAw")));
+}
+
+#[test]
+fn refused_candidates_say_why() {
+    let Err(IceError::BadCandidate(why)) = Candidate::from_sdp_string("candidate:12344 bad value") else { panic!("it reads") };
+    assert_eq!(why, "candidate:12344 bad value: bad component-id");
+    let two = Candidate::server_reflexive(at("10.0.0.1:1000"), at("[::1]:1000"), "udp").unwrap_err();
+    assert_eq!(two.to_string(), "ICE bad candidate: addr and base are different IP versions");
+    assert!(Candidate::host(at("0.0.0.0:1000"), "udp").is_err());
+    assert!(Candidate::host(at("10.0.0.1:1000"), "sctp").is_err());
+}
+
+#[test]
+fn a_candidate_that_is_known_is_not_added() {
+    let mut agent = IceAgent::new(creds("near"));
+    let added = agent.add_local_candidate(host("10.0.0.1:1000")).expect("a new one");
+    assert_eq!((added.ufrag(), added.prio(), added.local()), (Some("near"), 2130706175, at("10.0.0.1:1000")));
+    assert!(agent.add_local_candidate(host("10.0.0.1:1000")).is_none());
+    assert_eq!(agent.add_local_candidate(host("10.0.0.1:1001")).unwrap().prio(), 2130705663);
+    assert_eq!(agent.local_candidates().count(), 2);
+}
+
+#[test]
+fn some_remote_candidates_are_ignored() {
+    let mut agent = paired();
+    for line in [PEER, "candidate:1 2 udp 2130706174 10.0.0.2 2001 typ host", "candidate:1 1 udp 7 10.0.0.3 3000 typ host ufrag else"] {
+        agent.add_remote_candidate(Candidate::from_sdp_string(line).unwrap());
+        assert_eq!(agent.remote_candidates().count(), 1, "{line}");
+    }
+    agent.add_remote_candidate(Candidate::from_sdp_string("candidate:1 1 udp 7 10.0.0.3 3000 typ host ufrag farr").unwrap());
+    assert_eq!(agent.remote_candidates().map(|candidate| candidate.addr()).collect::<Vec<_>>(), [at("10.0.0.2:2000"), at("10.0.0.3:3000")]);
+    assert!(agent.invalidate_candidate(&Candidate::from_sdp_string(PEER).unwrap()));
+    assert_eq!(agent.remote_candidates().count(), 1);
+}
+
+#[test]
+fn reflexive_and_relayed_candidates_go() {
+    let mut agent = IceAgent::new(creds("near"));
+    let reflexive = Candidate::server_reflexive(at("192.0.2.1:9"), at("10.0.0.1:1000"), "udp").unwrap();
+    let relayed = Candidate::relayed(at("192.0.2.2:9"), at("10.0.0.1:1000"), "udp").unwrap();
+    for candidate in [&reflexive, &relayed] {
+        agent.add_local_candidate(candidate.clone()).expect("a new one");
+    }
+    let listed: Vec<_> = agent.local_candidates().collect();
+    assert_eq!(listed.iter().map(|candidate| candidate.local()).collect::<Vec<_>>(), [at("10.0.0.1:1000"); 2]);
+    assert!(listed.iter().all(|candidate| agent.invalidate_candidate(candidate)));
+    assert_eq!(agent.local_candidates().count(), 0);
+}
+
+#[test]
+fn preferences_are_set() {
+    let mut agent = IceAgent::new(creds("near"));
+    let prio = |agent: &mut IceAgent, address: &str| agent.add_local_candidate(host(address)).expect("a new one").prio();
+    let v4 = KindPreferences { host: 100, peer_reflexive: 0, server_reflexive: 0, relayed: 0 };
+    let v6 = KindPreferences { host: 7, ..v4 };
+    agent.set_local_preference(LocalPreference::ByKind(PreferenceTable { v4, v6 }));
+    assert_eq!(prio(&mut agent, "10.0.0.1:1"), 126 << 24 | 100 << 8 | 255);
+    assert_eq!(prio(&mut agent, "10.0.0.2:1"), 126 << 24 | 99 << 8 | 255);
+    assert_eq!(prio(&mut agent, "[2001:db8::1]:1"), 126 << 24 | 7 << 8 | 255);
+    agent.set_local_preference(LocalPreference::Fixed(5));
+    assert_eq!(prio(&mut agent, "10.0.0.3:1"), 126 << 24 | 5 << 8 | 255);
+    agent.set_local_preference(LocalPreference::ByDefault);
+    assert_eq!(prio(&mut agent, "10.0.0.4:1"), 126 << 24 | (65534 - 6) << 8 | 255);
+}
+
+// ---- others
+
+#[test]
+fn pairs_may_be_few() {
+    let mut agent = paired();
+    agent.set_max_candidate_pairs(1);
+    agent.add_remote_candidate(Candidate::from_sdp_string("candidate:1 1 udp 2130706431 10.0.0.3 3000 typ host").unwrap());
+    agent.handle_timeout(Instant::now());
+    assert_eq!(agent.poll_transmit().expect("a check").destination, at("10.0.0.3:3000"));
+    agent.recreate_candidate_pairs();
+    assert!(!agent.has_viable_remote_candidate(at("10.0.0.3:3000")));
+}
+
+#[test]
+fn an_agent_shows_no_secret() {
+    let text = format!("{:?}", paired());
+    assert!(text.contains("controlling: true") && !text.contains("password"), "{text}");
+}

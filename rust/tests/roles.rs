@@ -1,0 +1,92 @@
+//! Roles, and ice-lite agents.
+
+mod world;
+
+use is::IceConnectionState;
+use std::time::Duration;
+use world::{World, at, host, ms};
+
+/// Two agents in these roles, the first of the greater tie-breaker.
+fn claim(controlling: [bool; 2]) -> World {
+    let mut world = World::new();
+    for side in [0, 1] {
+        world.sides[side].agent.set_control_tie_breaker(10 - side as u64);
+        world.sides[side].agent.set_controlling(controlling[side]);
+    }
+    world.add(0, host("10.0.0.1:1000"));
+    world.add(1, host("10.0.0.2:2000"));
+    world
+}
+
+#[test]
+fn roles_that_agree_stay() {
+    for controlling in [[true, false], [false, true]] {
+        let mut world = claim(controlling);
+        world.connect();
+        assert_eq!([world.left().controlling(), world.right().controlling()], controlling);
+    }
+}
+
+#[test]
+fn the_lesser_tie_breaker_yields() {
+    for controlling in [true, false] {
+        let mut world = claim([controlling; 2]);
+        world.connect();
+        world.pass(Duration::from_secs(5));
+        assert_eq!((world.left().controlling(), world.right().controlling()), (controlling, !controlling));
+        assert_eq!(world.sides[0].path(), Some((at("10.0.0.1:1000"), at("10.0.0.2:2000"))));
+        assert_eq!(world.sides[1].path(), Some((at("10.0.0.2:2000"), at("10.0.0.1:1000"))));
+    }
+}
+
+#[test]
+fn the_controlling_one_chooses() {
+    // the controlled one sends no packet but answers before it was asked for the path
+    let mut world = claim([true, false]);
+    world.connect();
+    let told = |side: usize| world.sides[side].when(IceConnectionState::Completed).unwrap();
+    assert!(told(0) < told(1), "{:?} and {:?}", told(0), told(1));
+}
+
+// ---- ice-lite
+
+/// A full agent, controlling, and a lite one.
+fn beside_lite() -> World {
+    let mut world = claim([true, false]);
+    world.sides[1].agent.set_ice_lite(true);
+    world
+}
+
+#[test]
+fn a_lite_agent_sends_no_checks() {
+    let mut world = beside_lite();
+    world.connect();
+    world.pass(Duration::from_secs(10));
+    assert!(world.right().ice_lite() && !world.left().ice_lite());
+    assert_eq!(world.right().stats().bind_request_sent, 0);
+    assert_eq!(world.sides[1].sent as u64, world.right().stats().bind_request_recv);
+    assert_eq!(world.sides[1].path(), Some((at("10.0.0.2:2000"), at("10.0.0.1:1000"))));
+}
+
+#[test]
+fn a_lite_agent_takes_hosts_alone() {
+    let mut world = beside_lite();
+    let reflexive = is::Candidate::server_reflexive(at("192.0.2.1:1"), at("10.0.0.2:2000"), "udp").unwrap();
+    assert!(world.sides[1].agent.add_local_candidate(reflexive).is_none());
+}
+
+#[test]
+fn a_lite_agent_gives_up_15_seconds_behind_the_last_check() {
+    let mut world = beside_lite();
+    world.connect();
+    world.pass(Duration::from_secs(5));
+    world.lost = Box::new(|_, _| true);
+    let cut = world.now;
+    world.pass_until("given up", |world| world.right().state().is_disconnected());
+    let took = world.now - cut;
+    assert!(took > Duration::from_secs(11) && took < Duration::from_secs(19), "{took:?}");
+    // and comes back with its peer
+    world.lost = Box::new(|_, _| false);
+    world.pass_until("back", |world| world.right().state().is_connected());
+    assert!(world.now - cut < took + ms(4000));
+}
