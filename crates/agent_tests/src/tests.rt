@@ -8,6 +8,7 @@ mod driver;
 mod memory;
 mod moments;
 mod pairs;
+mod progress;
 mod queue;
 mod requests;
 mod restarts;

@@ -15,9 +15,11 @@ impl Subject for Answers {
         figures_are_those_of_the_announced_pair(player)?;
         an_answer_of_another_key_or_id_is_none(player)?;
         a_failure_of_another_code_is_taken_and_does_nothing(player)?;
+        a_failure_that_carries_nothing_is_refused(player)?;
         of_equal_ids_the_one_on_the_path_is_answered(player)?;
         of_two_checks_of_one_id_that_of_the_pair_left_is_answered(player)?;
         of_two_checks_of_one_id_that_of_the_pair_gone_is_not(player)?;
+        of_two_checks_of_one_id_each_goes_with_its_pair(player)?;
         an_unknown_mapped_address_is_a_candidate(player)?;
         a_discarded_candidate_keeps_its_address_from_being_learnt(player)?;
         a_learnt_candidate_pairs_with_later_ones(player)
@@ -194,6 +196,48 @@ fn of_two_checks_of_one_id_that_of_the_pair_gone_is_not(player: &mut Player) -> 
         has_checked_twice(player),
         player.loses(SECOND) && !player.takes(60, at(3, 2000), at(1, 1000)),
         player.is_still() && player.has_no_figures(),
+    ])
+}
+
+/// A failure of the id of twelve zeros without attributes, so without a signature.
+const BARE_FAILURE: [u8; 20] = [
+    0x01, 0x11, 0x00, 0x00, 0x21, 0x12, 0xa4, 0x42, 0, 0, 0, 0, 0, 0, 0, 0, 0, 0, 0, 0,
+];
+
+/// It would take that one.
+fn accepts_bare_failure(player: &Player) -> bool {
+    match StunMessage::parse(&BARE_FAILURE) {
+        Ok(message) => player.agent.accepts_message(&message),
+        Err(_) => true,
+    }
+}
+
+fn a_failure_that_carries_nothing_is_refused(player: &mut Player) -> Told {
+    Story("a_failure_that_carries_nothing_is_refused").holds(&[
+        player.is_paired() && checks_under_zeros(player, 0, at(2, 2000)),
+        !accepts_bare_failure(player),
+        expects_failure(player) && player.accepts(),
+    ])
+}
+
+/// The answer of that id comes from there once more: whether it is taken, and whether a check of its id stands at all.
+fn answered_from(player: &mut Player, source: SocketAddr) -> (bool, bool) {
+    let taken = player.takes(60, source, at(1, 1000));
+    (taken, player.accepts())
+}
+
+fn of_two_checks_of_one_id_each_goes_with_its_pair(player: &mut Player) -> Told {
+    let (first, second) = (at(2, 2000), at(3, 2000));
+    Story("of_two_checks_of_one_id_each_goes_with_its_pair").holds(&[
+        has_checked_twice(player) && answered_from(player, second) == (true, true),
+        player.loses(PEER) && answered_from(player, second) == (true, true),
+        answered_from(player, first) == (false, true),
+        player.loses(SECOND) && answered_from(player, second) == (false, false),
+        // the other way round
+        has_checked_twice(player) && answered_from(player, second) == (true, true),
+        player.loses(SECOND) && answered_from(player, second) == (false, true),
+        answered_from(player, first) == (true, true),
+        player.loses(PEER) && answered_from(player, first) == (false, false),
     ])
 }
 

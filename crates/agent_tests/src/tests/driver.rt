@@ -128,6 +128,18 @@ impl Player {
         true
     }
 
+    /// Sends a packet each so many milliseconds at most.
+    pub(super) fn is_paced(&mut self, ms: u64) -> bool {
+        self.agent.set_timing_advance(Duration::from_millis(ms));
+        true
+    }
+
+    /// Checks each pair once at most.
+    pub(super) fn tries_once(&mut self) -> bool {
+        self.agent.set_max_stun_retransmits(1);
+        true
+    }
+
     /// Tells the credentials of the peer.
     pub(super) fn knows(&mut self, ufrag: &str, pass: &str) -> bool {
         match creds(self.alloc, ufrag, pass) {

@@ -1,7 +1,6 @@
 //! Moments: when the agent wants to be called, and when pairs are checked, announced and given up.
 
 use super::*;
-use is::Duration;
 
 /// What comes at which moment.
 struct Moments;
@@ -104,12 +103,6 @@ fn a_nominated_pair_that_was_not_asked_is_due(player: &mut Player) -> Told {
     ])
 }
 
-/// Sends a packet each so many milliseconds at most.
-fn is_paced(player: &mut Player, ms: u64) -> bool {
-    player.agent.set_timing_advance(Duration::from_millis(ms));
-    true
-}
-
 fn another_delay_asks_for_due_moments_anew(player: &mut Player) -> Told {
     Story("another_delay_asks_for_due_moments_anew").holds(&[
         player.is_paired(),
@@ -117,19 +110,13 @@ fn another_delay_asks_for_due_moments_anew(player: &mut Player) -> Told {
         player.waits_at_first(100) && player.wakes_at(100),
         player.waits_at_most(80) && player.wakes_at(80),
         // the pace of what is sent bounds it from below
-        is_paced(player, 90) && player.wakes_at(90),
+        player.is_paced(90) && player.wakes_at(90),
     ])
-}
-
-/// Checks each pair once at most.
-fn tries_once(player: &mut Player) -> bool {
-    player.agent.set_max_stun_retransmits(1);
-    true
 }
 
 fn fewer_checks_give_up_sooner(player: &mut Player) -> Told {
     Story("fewer_checks_give_up_sooner").holds(&[
-        player.is_paired() && tries_once(player),
+        player.is_paired() && player.tries_once(),
         player.checks(0),
         player.timeout(249) && player.pair_with(PEER).is_some(),
         player.timeout(250) && player.pair_with(PEER).is_none(),
