@@ -5,6 +5,7 @@ mod calls;
 mod nomination;
 mod order;
 mod replies;
+mod rounds;
 mod scripts;
 mod stage;
 mod story;
