@@ -101,4 +101,5 @@ module _ (now by : ℕ) (t : StunTiming) (controlling : Bool) (id : List ℕ) (p
       (at-own (is_numbered p.number p) p (eq-eqb p.number p.number refl))
 
 pub fewer-ahead : FewerAreAhead
-fewer-ahead now by t controlling id pairs p paced early from has due = fewer-due now by t controlling id paced early from pairs p has due
+fewer-ahead now by t controlling id pairs p paced early from has due =
+    let fewer = fewer-due now by t controlling id paced early (omega (arith, from)) pairs p has due in omega (arith, fewer)

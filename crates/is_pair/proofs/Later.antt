@@ -30,10 +30,10 @@ whole n h = omega arith
 millis : (t : StunTiming) (n : ℕ) → IsPaced t → 1 ≤ delay_millis t n
 unfolding delay_millis
 millis t n paced =
-    let a : 1 ≤ t.initial_rto.0 / MILLISECOND = whole t.initial_rto.0 paced.initial in
+    let a : 1 ≤ t.initial_rto.0 / MILLISECOND = whole t.initial_rto.0 (let m = paced.initial in omega (arith, m)) in
     let b : 1 ≤ 2 ^ min (n - 1) t.max_retransmits = one-le-pow (min (n - 1) t.max_retransmits) 2 (omega arith) in
     let c : 1 ≤ t.initial_rto.0 / MILLISECOND * 2 ^ min (n - 1) t.max_retransmits = product _ _ a b in
-    let d : 1 ≤ t.max_rto.0 / MILLISECOND = whole t.max_rto.0 paced.greatest in
+    let d : 1 ≤ t.max_rto.0 / MILLISECOND = whole t.max_rto.0 (let m = paced.greatest in omega (arith, m)) in
     least (t.initial_rto.0 / MILLISECOND * 2 ^ min (n - 1) t.max_retransmits) (t.max_rto.0 / MILLISECOND) c d where
       least : (x y : ℕ) → 1 ≤ x → 1 ≤ y → 1 ≤ min x y
       least x y h k = omega arith
@@ -115,7 +115,7 @@ wanted at t Success cs = refl
 
 pub checked-later : CheckedIsLater
 checked-later now at t controlling id p paced early =
-    let k = kept-last t.max_retransmits p.checks (check_of now controlling id p) paced.retransmits in
+    let k = kept-last t.max_retransmits p.checks (check_of now controlling id p) (let m = paced.retransmits in omega (arith, m)) in
     let kept = last_checks t.max_retransmits (p.checks ++ check_of now controlling id p ∷ []) in
     let next : now < next_moment at t kept = next-later now at t kept (check_of now controlling id p) k.0 paced early refl refl k.1 in
     let is : wanted_moment (nomination_once_sent p.nomination) at t kept ≡ next_moment at t kept = wanted at t p.nomination kept in

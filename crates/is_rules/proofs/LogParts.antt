@@ -1,5 +1,5 @@
 -- Parts of a log: what they lead to, which packets were taken before them, and their turns.
-use Rattle.std.proofs.Common.{◌≡◌, ℕ, ◌+◌, true, false, List, [], ◌∷◌, ◌++◌, length, Option, Some, None, Result, Ok, Err, inl, inr, refl, ap, sym, ◌∙◌, subst, append_assoc}
+use Rattle.std.proofs.Common.{◌≡◌, ℕ, true, false, List, [], ◌∷◌, ◌++◌, length, Option, Some, None, Result, Ok, Err, inl, inr, refl, ap, sym, ◌∙◌, subst, arith, append_assoc}
 use Rattle.rand_core.specs.Stream.{Stream}
 use Rattle.is_proto.specs.Packets.{Packet}
 use Rattle.is_proto.specs.declared.error.IceError.{IceError}
@@ -112,7 +112,7 @@ module _ {H P : Type 0} where
         gone (subst (λ (c : Call P). Step mac answers mid u c x.entry last t) call step) where
           gone : Step mac answers mid u PollTransmit x.entry last t → last.packets ≡ []
           gone (given, told, (polled, made), drawn) =
-              none-left given mid.packets last.packets polled (polled-is given None (sym (ap (λ (e : Entry). e.answer) told) ∙ answer))
+              none-left given mid.packets last.packets polled (polled-is given None (let is = answer in let was = ap (λ (e : Entry). e.answer) told in cc))
     all-taken first last s t (x ∷ before) (mid, u, run, number, based, step) (inr (poll, taken)) =
         poll-keeps x.call x.entry mid last u t poll step (all-taken first mid s u before run taken)
 
@@ -139,5 +139,5 @@ module _ {H P : Type 0} where
               wakes-are-of-use mac start mid last u part.behind wake now moment.entry.told
               (runs_sound mac answers (path_law mac answers) first start s part.at before fresh part.led) checking
               (all-taken first start s part.at before part.led turn.taken) some early
-              (subst (λ (a : AgentRecord H P). PollsTimeout a (Some wake) mid) same polls) turn.kept
+              (subst (λ (a : AgentRecord H P). PollsTimeout a (Some wake) mid) same polls) (let kept = turn.kept in omega (arith, kept))
               (passed mid last u part.behind now moment.entry turn.done moves)

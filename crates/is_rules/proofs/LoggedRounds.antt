@@ -1,5 +1,5 @@
 -- Rounds in a log: a pair whose checks are answered makes a path be announced within as many rounds as pairs are due no later.
-use Rattle.std.proofs.Common.{◌≡◌, ℕ, ◌<◌, ◌≤◌, true, List, [], ◌∷◌, ◌++◌, length, Some, inl, inr, ◌⊎◌, refl, ap, sym, ◌∙◌, subst, append_assoc}
+use Rattle.std.proofs.Common.{◌≡◌, ℕ, ◌<◌, ◌≤◌, true, List, [], ◌∷◌, ◌++◌, length, Some, inl, inr, ◌⊎◌, refl, ap, sym, ◌∙◌, subst, arith, append_assoc}
 use Rattle.rand_core.specs.Stream.{Stream}
 use Rattle.is_proto.specs.Lists.{Has}
 use Rattle.is_proto.specs.Moments.{MAX}
@@ -24,6 +24,13 @@ use Rattle.is_rules.proofs.Passing.{Calm, Stands, Waits, begins, stands, passed,
 use Rattle.is_rules.proofs.Rounding.{calm-on, waits-on, asks}
 use Rattle.is_rules.proofs.LogParts.{no-case, run-on, starts-controlling, Halves, halves, passed as passed-at}
 use Rattle.is_rules.proofs.Announced.{announces-at}
+
+module _ {P : Type 0} where
+  falls-late : (by : ℕ) (path : Path) (r : LoggedRound P) → IsRound by path r → by < r.now
+  falls-late by path r round = let behind = round.late in omega (arith, behind)
+
+  falls-early : (by : ℕ) (path : Path) (r : LoggedRound P) → IsRound by path r → r.now < MAX
+  falls-early by path r round = let ahead = round.early in omega (arith, ahead)
 
 module _ {H P : Type 0} where
   module _ (mac : H → List ℕ → List ℕ → List ℕ) (answers : P → CandidateRecord → ℕ → ℕ → Type 0) where
@@ -132,16 +139,16 @@ module _ {H P : Type 0} where
               left = mid.events;
               taken = refl;
             } in
-            elim (pass-on mac answers by n path r.now (length older) r.moment.entry.told old mid st round.late round.early passes) [
+            elim (pass-on mac answers by n path r.now (length older) r.moment.entry.told old mid st (falls-late by path r round) (falls-early by path r round) passes) [
               | inl (id, out) ↦
                   (let met = round.met id out in
                   let p = passed mac answers r.now r.moment.entry.told old mid st.calm passes in
-                  inl (meet by r.now round.late round.early part (λ a. Rests r.now a) (λ a k. k)
-                  (λ a b k sound came. (calm-on mac answers by r.now round.late round.early a b k.0 sound came, ap (λ (c : Core). c.last_moment) came.0 ∙ k.1))
+                  inl (meet by r.now (falls-late by path r round) (falls-early by path r round) part (λ a. Rests r.now a) (λ a k. k)
+                  (λ a b k sound came. (calm-on mac answers by r.now (falls-late by path r round) (falls-early by path r round) a b k.0 sound came, ap (λ (c : Core). c.last_moment) came.0 ∙ k.1))
                   ((r.moment ∷ entries_of older) ++ before) mid last v t over r.behind line within round.between to_mid back role (p.calm, p.last) met.0 met.1 met.2))
               | inr still ↦
-                  walk by r.now round.late round.early part (λ a. Waits by n path r.now (length (r ∷ older)) a) (λ a k. (k.calm, k.last))
-                  (λ a b k sound came. waits-on mac answers by r.now round.late round.early n path (length (r ∷ older)) a b k sound came)
+                  walk by r.now (falls-late by path r round) (falls-early by path r round) part (λ a. Waits by n path r.now (length (r ∷ older)) a) (λ a k. (k.calm, k.last))
+                  (λ a b k sound came. waits-on mac answers by r.now (falls-late by path r round) (falls-early by path r round) n path (length (r ∷ older)) a b k sound came)
                   ((r.moment ∷ entries_of older) ++ before) mid last v t over r.behind line within round.between to_mid back role still
             ]
 
@@ -191,7 +198,7 @@ module _ {H P : Type 0} where
                     | inl announced ↦ inl announced
                     | inr k ↦
                         (let round = rounds r (inl refl) in
-                        behind-moment r older old mid last z v t over round line-behind in-behind (stands-at r older old (here-began older began) round.late k)
+                        behind-moment r older old mid last z v t over round line-behind in-behind (stands-at r older old (here-began older began) (falls-late by path r round) k)
                         (subst (λ (c : Call P). Step mac answers old z c r.moment.entry mid v) round.comes step)
                         (run-on mac answers first start mid s u v before (r.moment ∷ entries_of older) led (old, z, run_older, number, based, step)) back role_back)
                   ]
@@ -209,4 +216,4 @@ module _ {H P : Type 0} where
           by-rounds rs none are enough (inl announced) = announced
           by-rounds [] none are enough (inr w) = absurd (cc)
           by-rounds (r ∷ older) began are enough (inr w) =
-              absurd (never by (length (due_by by at start.timing start.pairs)) (path_of start p) r.now (length (r ∷ older)) last (are r (inl refl)).late w enough)
+              absurd (never by (length (due_by by at start.timing start.pairs)) (path_of start p) r.now (length (r ∷ older)) last (falls-late by (path_of start p) r (are r (inl refl))) w (omega (arith, enough)))

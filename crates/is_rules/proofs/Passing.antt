@@ -38,8 +38,8 @@ use Rattle.is_rules.proofs.Moves.{Has-map}
 use Rattle.is_rules.proofs.Onward.{Has-filter}
 use Rattle.is_rules.proofs.Nominations.{Announces, announces}
 use Rattle.is_rules.proofs.Rising.{AllBelow, below-each}
-use Rattle.is_rules.proofs.Thinning.{Distinct, Alike, Base, base_of as agent_base, gives-up-has}
-use Rattle.is_rules.proofs.Moving.{Matches, Follows, same-path, WaitsOn, next-check, check-moves, moment-follows}
+use Rattle.is_rules.proofs.Thinning.{Distinct, Base, base_of as agent_base, gives-up-has}
+use Rattle.is_rules.proofs.Moving.{Follows, same-path, WaitsOn, next-check, check-moves, moment-follows}
 use Rattle.is_rules.proofs.Starving.{none-left, proceeds-from, distinct-sound}
 use Rattle.is_rules.proofs.Arriving.{NoneValid, Held}
 
@@ -272,8 +272,8 @@ module _ {H P : Type 0} where
       paced = waits.paced;
       pair = p;
       there = waits.there;
-      young = lt-is (length p.checks) a.timing.max_retransmits unanswered.young;
-      due = waits.due;
+      young = lt-is (length p.checks) a.timing.max_retransmits (let young = unanswered.young in omega (arith, young));
+      due = (let due = waits.due in omega (arith, due));
       placed = (sound.placed p waits.there).1;
       on = refl;
       count = omega arith;

@@ -192,5 +192,6 @@ module _ {H P : Type 0} where
 
     pub answered-announce : AnsweredAnnounce mac answers
     answered-announce first last r rounds p by sound role waits unanswered moments rounding echoes enough =
-        met-in by (length (due_by by r.now first.timing first.pairs)) (path_of first p) 0 r rounds first last (begins mac answers r.now by first p sound role waits unanswered) moments rounding echoes
+        met-in by (length (due_by by r.now first.timing first.pairs)) (path_of first p) 0 r rounds first last (begins mac answers r.now by first p sound role waits unanswered)
+        (λ x has. (let late = (moments x has).0 in let early = (moments x has).1 in (omega (arith, late), omega (arith, early)))) rounding echoes
         (omega (arith, enough))

@@ -290,7 +290,7 @@ module _ {H P : Type 0} where
 
         by-queue : (queue : List RequestRecord) → old.queue ≡ queue → IsOfUse old told new
         by-queue (first ∷ behind) waits =
-            inr (queue-of-use old asked_old new s t now told first behind (asks-follow at wake old asked_old is polled).0 checking.peer checking.full waits h)
+            inr (let fewer = queue-of-use old asked_old new s t now told first behind (asks-follow at wake old asked_old is polled).0 checking.peer checking.full waits h in omega (arith, fewer))
         by-queue [] none =
             let a = all-are-asked old asked_old at wake is checking.full packets none some polled in
             let low : earliest_due old at ≤ wake = below (earliest_due old at) (soon old at) a.0 in
@@ -314,4 +314,5 @@ module _ {H P : Type 0} where
           idle = record { packets = packets; queue = waits.queue };
           last = last_is;
         })
-        waits.paced waits.there waits.due moments turning enough
+        waits.paced waits.there (let due = waits.due in omega (arith, due))
+        (λ x has. (let from = (moments x has).0 in let early = (moments x has).1 in (omega (arith, from), omega (arith, early)))) turning (omega (arith, enough))

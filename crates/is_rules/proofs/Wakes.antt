@@ -1,5 +1,5 @@
 -- The wake-up that an agent asks for: behind the last moment, and behind no pair's due moment but for the pacing.
-use Rattle.std.proofs.Common.{◌≡◌, ℕ, ◌*◌, ◌<◌, ◌≤◌, ◌||◌, Bool, true, false, not, List, [], ◌∷◌, map, fold, min, max, nat_le, Some, None, inl, inr, refl, ap, sym, ◌∙◌, subst, arith}
+use Rattle.std.proofs.Common.{◌≡◌, ℕ, ◌*◌, ◌<◌, ◌≤◌, ◌||◌, Bool, true, false, not, List, [], ◌∷◌, map, fold, min, max, nat_le, Some, None, inl, inr, refl, ap, ◌∙◌, subst, arith}
 use Rattle.std.proofs.lemmas.Bool.Decides.{nat_tests}
 use Rattle.std.specs.Prelude.{MatchBool}
 use Rattle.is_proto.specs.Lists.{Has, is_empty}
@@ -45,18 +45,6 @@ least-is f m w (x ∷ xs) low above =
 
 -- ---- wake-ups
 
-later-behind : (at by : ℕ) → 0 < by → at < MAX → at < later at by
-later-behind at by some early = omega (arith, some, early)
-
-max-behind : (x y at : ℕ) → at < y → at < max x y
-max-behind x y at h = omega (arith, h)
-
-max-right : (x y : ℕ) → y ≤ max x y
-max-right x y = omega arith
-
-max-least : (x y z : ℕ) → x ≤ y → max x z ≤ max y z
-max-least x y z h = omega (arith, h)
-
 idle-has : (lite : Bool) (pairs : List PairRecord) (p : PairRecord) → lite ≡ false → Has pairs p → lite || is_empty pairs ≡ true → ⊥
 idle-has true pairs p full has h = absurd (cc)
 idle-has false [] p full has h = absurd has
@@ -73,23 +61,23 @@ module _ {H P : Type 0} where
   pub wakes-ahead : WakesAhead H P
   wakes-ahead old new None h = tt
   wakes-ahead old new (Some wake) h = λ last is some early.
-      let next : last < soon old last = later-behind last old.timing_advance some early in
+      let next : last < soon old last = omega (arith, some, early) in
       either (is_waiting old) (wakes-from old new last wake is h)
-      (λ _ k. subst (λ n. last < n) (sym k.0) next)
+      (λ _ k. (let is = k.0 in omega (arith, is, next)))
       (λ _ k. either (is_idle old) k
-      (λ _ l. subst (λ n. last < n) (sym l.0) (later-behind last (3 * SECOND) (omega arith) early))
-      (λ _ l. subst (λ n. last < n) (sym l.0) (max-behind (earliest_due old last) (soon old last) last next)))
+      (λ _ l. (let is = l.0 in omega (arith, is, early)))
+      (λ _ l. (let is = l.0 in omega (arith, is, next))))
 
   pub wakes-in-time : WakesInTime H P
   wakes-in-time old new None h = tt
   wakes-in-time old new (Some wake) h = λ last is full p has.
       either (is_waiting old) (wakes-from old new last wake is h)
-      (λ _ k. subst (λ n. n ≤ max (due_moment last old.timing p) (soon old last)) (sym k.0) (max-right (due_moment last old.timing p) (soon old last)))
+      (λ _ k. (let is = k.0 in omega (arith, is)))
       (λ _ k. either (is_idle old) k
       (λ idle _. absurd (idle-has old.lite old.pairs p full has idle))
-      (λ _ l. subst (λ n. n ≤ max (due_moment last old.timing p) (soon old last)) (sym l.0)
-      (max-least (earliest_due old last) (due_moment last old.timing p) (soon old last)
-      (least-below (due_moment last old.timing) MAX old.pairs p has))))
+      (λ _ l. (
+      let is = l.0 in let least : earliest_due old last ≤ due_moment last old.timing p = least-below (due_moment last old.timing) MAX old.pairs p has in
+      omega (arith, is, least))))
 
   not-waiting : (a : AgentRecord H P) → a.packets ≡ [] → a.queue ≡ [] → is_waiting a ≡ false
   not-waiting a no_packets no_queue =
