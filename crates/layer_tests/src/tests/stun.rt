@@ -3,5 +3,6 @@
 mod faults;
 mod fingerprints;
 mod published;
+mod refusals;
 mod timing;
 mod written;

@@ -102,6 +102,21 @@ fn the_builder_makes_a_passive_host(rt: HostRuntime) -> Result<(), Fail> {
 }
 
 #[test]
+fn the_builder_makes_a_host_over_ssl_tcp(rt: HostRuntime) -> Result<(), Fail> {
+    let host = Candidate::builder()
+        .ssl_tcp()
+        .host("192.168.1.1:443".parse()?)
+        .tcptype(TcpType::Active)
+        .build(rt.alloc())?;
+    assert!(rt; host.proto() == Protocol::SslTcp);
+    assert!(rt; host.tcptype() == Some(TcpType::Active));
+    let line = host.to_sdp_string(rt.alloc())?;
+    // the priority is that of other protocols than UDP: 90 * 2^24 + 65534 * 2^8 + 255
+    assert!(rt; line.ends_with(" 1 ssltcp 1526726399 192.168.1.1 443 typ host tcptype active"));
+    Ok(())
+}
+
+#[test]
 fn a_relayed_candidate_over_ssl_tcp_has_the_least_priority(rt: HostRuntime) -> Result<(), Fail> {
     let (addr, local) = ("1.2.3.4:9876".parse()?, "7.8.9.0:2345".parse()?);
     let relayed = Candidate::relayed(rt.alloc(), addr, local, Protocol::SslTcp)?;
