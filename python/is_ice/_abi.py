@@ -1,0 +1,137 @@
+"""The C interface (c/is.h) as ctypes sees it: structs, prototypes, and the shared library that has them."""
+
+from __future__ import annotations
+
+import ctypes
+import os
+from ctypes import POINTER, c_bool, c_char_p, c_int32, c_size_t, c_uint8, c_uint16, c_uint32, c_uint64, c_void_p
+from pathlib import Path
+
+VERSION = 1
+CREDENTIALS_RANDOM = 38
+TIMEOUT_RANDOM = 12
+UFRAG_LENGTH = 16
+PASS_LENGTH = 22
+
+
+class Agent(ctypes.Structure):
+    """Where an agent is held. All zero: there is none. Its fields are the library's."""
+
+    _fields_ = [("is_held", c_bool), ("at", c_void_p)]
+
+
+class Address(ctypes.Structure):
+    _fields_ = [("family", c_uint8), ("bytes", c_uint8 * 16), ("port", c_uint16), ("flow", c_uint32), ("scope", c_uint32)]
+
+
+class Candidate(ctypes.Structure):
+    _fields_ = [("address", Address), ("base", Address), ("kind", c_uint8), ("protocol", c_uint8)]
+
+
+class Packet(ctypes.Structure):
+    _fields_ = [("source", Address), ("destination", Address), ("length", c_size_t), ("protocol", c_uint8)]
+
+
+class Event(ctypes.Structure):
+    _fields_ = [("source", Address), ("destination", Address), ("kind", c_int32), ("state", c_int32), ("protocol", c_uint8)]
+
+
+class Status(ctypes.Structure):
+    _fields_ = [
+        ("state", c_int32),
+        ("controlling", c_bool),
+        ("lite", c_bool),
+        ("mtu", c_size_t),
+        ("mtu_warn", c_size_t),
+        ("ice_timeout", c_uint64),
+    ]
+
+
+class Stats(ctypes.Structure):
+    _fields_ = [
+        ("bind_request_sent", c_uint64),
+        ("bind_success_recv", c_uint64),
+        ("bind_request_recv", c_uint64),
+        ("discovered_recv_count", c_uint64),
+        ("nomination_send_count", c_uint64),
+    ]
+
+
+class Nominated(ctypes.Structure):
+    _fields_ = [("total_rtt", c_uint64), ("responses", c_uint64), ("rtt", c_uint64), ("has_rtt", c_bool)]
+
+
+# What c/is.h says that the structs take.
+SIZES = {Agent: 16, Address: 28, Candidate: 60, Packet: 72, Event: 68, Status: 32, Stats: 40, Nominated: 32}
+
+_AGENT = POINTER(Agent)
+_BYTES = [c_char_p, c_size_t]
+_WAY = [c_uint8, POINTER(Address), POINTER(Address)]
+_TOLD = [c_void_p, c_size_t, POINTER(c_size_t)]
+
+# Behind each name the arguments; all answer a code but the two below.
+PROTOTYPES: dict[str, list[object]] = {
+    "is_make_credentials": [*_BYTES, c_void_p, c_size_t, c_void_p, c_size_t],
+    "is_line_refusal": [*_BYTES, *_TOLD],
+    "is_candidate_refusal": [POINTER(Candidate), *_TOLD],
+    "is_agent_new": [_AGENT, *_BYTES, *_BYTES, c_uint64],
+    "is_agent_set_controlling": [_AGENT, c_bool],
+    "is_agent_set_lite": [_AGENT, c_bool],
+    "is_agent_set_tie_breaker": [_AGENT, c_uint64],
+    "is_agent_set_max_pairs": [_AGENT, c_size_t],
+    "is_agent_set_timing_advance": [_AGENT, c_uint64],
+    "is_agent_set_initial_rto": [_AGENT, c_uint64],
+    "is_agent_set_max_rto": [_AGENT, c_uint64],
+    "is_agent_set_max_retransmits": [_AGENT, c_size_t],
+    "is_agent_set_mtu": [_AGENT, c_size_t, c_size_t],
+    "is_agent_skip_pair_ids": [_AGENT, c_uint64],
+    "is_agent_set_local_preference": [_AGENT, c_uint16],
+    "is_agent_reset_local_preference": [_AGENT],
+    "is_agent_set_local_credentials": [_AGENT, *_BYTES, *_BYTES],
+    "is_agent_set_remote_credentials": [_AGENT, *_BYTES, *_BYTES],
+    "is_agent_add_local": [_AGENT, POINTER(Candidate)],
+    "is_agent_add_remote": [_AGENT, *_BYTES],
+    "is_agent_invalidate_local": [_AGENT, POINTER(Candidate)],
+    "is_agent_invalidate": [_AGENT, *_BYTES],
+    "is_agent_local_candidate": [_AGENT, c_size_t, *_TOLD],
+    "is_agent_remote_candidate": [_AGENT, c_size_t, *_TOLD],
+    "is_agent_handle_packet": [_AGENT, c_uint64, *_WAY, *_BYTES],
+    "is_agent_handle_timeout": [_AGENT, c_uint64, *_BYTES],
+    "is_agent_accepts_packet": [_AGENT, *_WAY, *_BYTES],
+    "is_agent_accepts_message": [_AGENT, *_BYTES],
+    "is_agent_poll_transmit": [_AGENT, c_void_p, c_size_t, POINTER(Packet)],
+    "is_agent_poll_event": [_AGENT, POINTER(Event)],
+    "is_agent_poll_timeout": [_AGENT, POINTER(c_uint64)],
+    "is_agent_restart": [_AGENT, *_BYTES, *_BYTES, c_bool],
+    "is_agent_recreate_pairs": [_AGENT],
+    "is_agent_status": [_AGENT, POINTER(Status)],
+    "is_agent_stats": [_AGENT, POINTER(Stats)],
+    "is_agent_nominated": [_AGENT, POINTER(Nominated)],
+    "is_agent_has_viable_remote": [_AGENT, POINTER(Address)],
+    "is_agent_local_ufrag": [_AGENT, *_TOLD],
+    "is_agent_local_pass": [_AGENT, *_TOLD],
+    "is_agent_remote_ufrag": [_AGENT, *_TOLD],
+    "is_agent_remote_pass": [_AGENT, *_TOLD],
+}
+
+
+def library_path() -> Path:
+    """The shared library: what IS_LIBRARY names, else what python/build makes."""
+    told = os.environ.get("IS_LIBRARY")
+    return Path(told) if told else Path(__file__).resolve().parent.parent / "out" / "libis.so"
+
+
+def load(path: Path | None = None) -> ctypes.CDLL:
+    """The library with its prototypes set. OSError where there is none, or where it is of another version."""
+    path = path or library_path()
+    if not path.exists():
+        raise OSError(f"{path} is not there: run python/build, or name another one by IS_LIBRARY")
+    library = ctypes.CDLL(str(path))
+    library.is_version.restype, library.is_version.argtypes = c_uint32, []
+    if library.is_version() != VERSION:
+        raise OSError(f"{path} has version {library.is_version()} of the interface, and {VERSION} is wanted")
+    library.is_agent_free.restype, library.is_agent_free.argtypes = None, [_AGENT]
+    for name, arguments in PROTOTYPES.items():
+        function = getattr(library, name)
+        function.restype, function.argtypes = c_int32, arguments
+    return library

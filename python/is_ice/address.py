@@ -1,0 +1,70 @@
+"""Socket addresses and protocols, as Python has them and as the library has them."""
+
+from __future__ import annotations
+
+import enum
+import ipaddress
+from functools import lru_cache
+from typing import NamedTuple
+
+from . import _abi
+
+
+class Protocol(enum.IntEnum):
+    """What carries a candidate's packets."""
+
+    UDP = 0
+    TCP = 1
+    SSL_TCP = 2
+    TLS = 3
+
+
+class SocketAddress(NamedTuple):
+    """An IP address and a port, as the `socket` module has them; `flow` and `scope` are those of IPv6."""
+
+    ip: str
+    port: int
+    flow: int = 0
+    scope: int = 0
+
+    @property
+    def version(self) -> int:
+        """4 or 6."""
+        return 6 if ":" in self.ip else 4
+
+    def __str__(self) -> str:
+        return f"[{self.ip}]:{self.port}" if ":" in self.ip else f"{self.ip}:{self.port}"
+
+
+def in_range(value: int, bits: int, what: str) -> int:
+    """The value, where it is a whole number of so many bits: ctypes would cut it silently."""
+    if not 0 <= value < 1 << bits:
+        raise ValueError(f"{what} must be from 0 to {(1 << bits) - 1}, and is {value}")
+    return value
+
+
+@lru_cache(maxsize=1 << 14)
+def address_of(socket: SocketAddress) -> _abi.Address:
+    """The library's form, which is read and never written, so that it can be kept. ValueError for what is no IP address."""
+    ip = ipaddress.ip_address(socket.ip.split("%")[0])
+    address = _abi.Address()
+    address.family = ip.version
+    address.bytes[: len(ip.packed)] = list(ip.packed)
+    address.port = in_range(socket.port, 16, "a port")
+    address.flow = in_range(socket.flow, 32, "flow information")
+    address.scope = in_range(socket.scope, 32, "a scope")
+    return address
+
+
+def socket_of(address: _abi.Address) -> SocketAddress:
+    """The address that the library told."""
+    return _socket_of_bytes(bytes(address))
+
+
+@lru_cache(maxsize=1 << 14)
+def _socket_of_bytes(told: bytes) -> SocketAddress:
+    address = _abi.Address.from_buffer_copy(told)
+    packed = bytes(address.bytes)
+    if address.family == 4:
+        return SocketAddress(str(ipaddress.IPv4Address(packed[:4])), address.port)
+    return SocketAddress(str(ipaddress.IPv6Address(packed)), address.port, address.flow, address.scope)

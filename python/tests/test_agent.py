@@ -1,0 +1,182 @@
+"""The module over the library: two agents connect, calls are refused as they should be, texts and addresses come back."""
+
+import threading
+import unittest
+
+from is_ice import (
+    BadAddress,
+    BadCandidate,
+    BadLimit,
+    Candidate,
+    CredentialsTooLong,
+    DiscoveredRecv,
+    IceAgent,
+    IceConnectionState,
+    IceCreds,
+    IceRestart,
+    MtuTooSmall,
+    NoAgent,
+    NominatedSend,
+    SocketAddress,
+    TooFewRandomBytes,
+    Unparsed,
+    line_refusal,
+    new_creds,
+)
+
+HERE = SocketAddress("10.0.0.1", 1000)
+THERE = SocketAddress("10.0.0.2", 2000)
+SECOND = 1_000_000_000
+BEGINNING = 60 * SECOND
+LINE_OF_THERE = "candidate:1 1 udp 2130706175 10.0.0.2 2000 typ host"
+
+
+def two_agents() -> tuple[IceAgent, IceAgent]:
+    """Two that know each other."""
+    a = IceAgent(IceCreds("AAAA", "P" * 22), tie_breaker=10)
+    b = IceAgent(IceCreds("BBBB", "Q" * 22), tie_breaker=5)
+    a.set_controlling(True)
+    for agent, other, address in ((a, b, HERE), (b, a, THERE)):
+        agent.set_remote_credentials(other.local_credentials)
+        agent.add_local_candidate(Candidate.host(address))
+    for agent, other in ((a, b), (b, a)):
+        for line in other.local_candidates():
+            agent.add_remote_candidate(line)
+    return a, b
+
+
+def play(agents: tuple[IceAgent, IceAgent], moments: int = 10) -> tuple[list[object], list[object]]:
+    """Gives both so many moments, 50 ms apart, and delivers what they send at once."""
+    events: tuple[list[object], list[object]] = ([], [])
+    for count in range(moments):
+        now = BEGINNING + count * SECOND // 20
+        for agent in agents:
+            agent.handle_timeout(now, bytes([count, agents.index(agent)]) * 6)
+        moved = True
+        while moved:
+            moved = False
+            for agent, other in (agents, agents[::-1]):
+                while packet := agent.poll_transmit():
+                    other.handle_packet(now, packet.source, packet.destination, packet.contents)
+                    moved = True
+    for agent, told in zip(agents, events):
+        while event := agent.poll_event():
+            told.append(event)
+    return events
+
+
+class Sessions(unittest.TestCase):
+    def test_two_agents_connect(self) -> None:
+        a, b = two_agents()
+        of_a, of_b = play((a, b))
+        paths_a = [e for e in of_a if isinstance(e, NominatedSend)]
+        paths_b = [e for e in of_b if isinstance(e, NominatedSend)]
+        self.assertEqual((paths_a[-1].source, paths_a[-1].destination), (HERE, THERE))
+        self.assertEqual((paths_b[-1].source, paths_b[-1].destination), (THERE, HERE))
+        self.assertIn(IceRestart(a.local_credentials), of_a)
+        self.assertIn(DiscoveredRecv(paths_a[-1].protocol, THERE), of_a)
+        self.assertTrue(a.state.is_connected() and b.state.is_connected())
+        self.assertGreater(a.stats.bind_success_recv, 0)
+        pair = a.nominated_pair
+        assert pair is not None
+        self.assertEqual(pair.rtt, 0)
+        self.assertTrue(a.has_viable_remote_candidate(THERE))
+
+    def test_a_restart_begins_anew(self) -> None:
+        a, b = two_agents()
+        play((a, b))
+        a.ice_restart(IceCreds("CCCC", "R" * 22), True)
+        self.assertEqual(a.state, IceConnectionState.CHECKING)
+        self.assertIsNone(a.remote_credentials)
+        self.assertEqual(len(a.local_candidates()), 1)
+        self.assertIn("ufrag CCCC", a.local_candidates()[0])
+
+    def test_a_wake_up_is_told_behind_the_first_moment(self) -> None:
+        a, _ = two_agents()
+        self.assertIsNone(a.poll_timeout())
+        a.handle_timeout(BEGINNING)
+        self.assertEqual(a.poll_timeout(), BEGINNING + SECOND // 20)
+
+
+class Refusals(unittest.TestCase):
+    def setUp(self) -> None:
+        self.agent = IceAgent()
+
+    def test_lines_say_why(self) -> None:
+        with self.assertRaises(BadCandidate) as refusal:
+            self.agent.add_remote_candidate("candidate:1 1 udp")
+        self.assertEqual(str(refusal.exception), f"bad candidate: {line_refusal('candidate:1 1 udp')}")
+        self.assertIsNone(line_refusal(LINE_OF_THERE))
+
+    def test_candidates_say_why(self) -> None:
+        with self.assertRaises(BadCandidate):
+            self.agent.add_local_candidate(Candidate.host(SocketAddress("0.0.0.0", 1)))
+
+    def test_settings(self) -> None:
+        self.assertRaises(MtuTooSmall, self.agent.set_mtu, 587, 1280)
+        self.assertRaises(BadLimit, self.agent.set_max_stun_retransmits, 0)
+        self.assertRaises(CredentialsTooLong, self.agent.set_remote_credentials, IceCreds("x" * 600, "p"))
+        self.assertRaises(TooFewRandomBytes, self.agent.handle_timeout, BEGINNING, b"short")
+        self.assertRaises(ValueError, self.agent.set_initial_stun_rto, -1)
+        self.assertRaises(ValueError, self.agent.set_max_candidate_pairs, 1 << 64)
+
+    def test_bytes_that_are_no_message(self) -> None:
+        self.assertRaises(Unparsed, self.agent.handle_packet, BEGINNING, THERE, HERE, b"media")
+        self.assertRaises(Unparsed, self.agent.handle_packet, BEGINNING, THERE, HERE, b"")
+
+    def test_protocols_have_numbers(self) -> None:
+        self.assertRaises(BadAddress, self.agent.handle_packet, BEGINNING, THERE, HERE, b"", 9)
+
+    def test_a_closed_agent(self) -> None:
+        self.agent.close()
+        self.agent.close()
+        self.assertRaises(NoAgent, self.agent.handle_timeout, BEGINNING)
+        self.assertRaises(NoAgent, lambda: self.agent.local_credentials)
+
+
+class Values(unittest.TestCase):
+    def test_credentials(self) -> None:
+        creds = new_creds(bytes(38))
+        self.assertEqual((len(creds.ufrag), len(creds.pass_)), (16, 22))
+        self.assertEqual(creds, new_creds(bytes(38)))
+        self.assertNotEqual(new_creds(), new_creds())
+        with IceAgent(creds) as agent:
+            self.assertEqual(agent.local_credentials, creds)
+
+    def test_candidates_of_each_kind(self) -> None:
+        agent = IceAgent()
+        seen, lent = SocketAddress("203.0.113.1", 3000), SocketAddress("198.51.100.1", 4000)
+        six = SocketAddress("2001:db8::1", 1000)
+        lines = [agent.add_local_candidate(c) for c in (Candidate.host(HERE), Candidate.server_reflexive(seen, HERE),
+                                                        Candidate.relayed(lent, HERE), Candidate.host(six))]
+        self.assertEqual([line.split(" typ ")[1].split()[0] for line in lines if line], ["host", "srflx", "relay", "host"])
+        self.assertEqual(agent.local_candidates(), lines)
+        self.assertIsNone(agent.add_local_candidate(Candidate.host(HERE)))
+        self.assertTrue(agent.invalidate_candidate(Candidate.server_reflexive(seen, HERE)))
+        self.assertFalse(agent.invalidate_candidate(Candidate.server_reflexive(seen, HERE)))
+        self.assertEqual(len(agent.local_candidates()), 3)
+
+    def test_addresses_print_as_in_scripts(self) -> None:
+        self.assertEqual(str(SocketAddress("2001:db8::1", 80)), "[2001:db8::1]:80")
+        self.assertEqual(SocketAddress("2001:db8::1", 80).version, 6)
+        self.assertEqual(str(HERE), "10.0.0.1:1000")
+
+    def test_a_preference(self) -> None:
+        agent = IceAgent()
+        agent.set_local_preference(0)
+        low = agent.add_local_candidate(Candidate.host(HERE))
+        agent.set_local_preference(None)
+        high = agent.add_local_candidate(Candidate.host(SocketAddress("10.0.0.3", 1000)))
+        assert low is not None and high is not None
+        self.assertLess(int(low.split()[3]), int(high.split()[3]))
+
+    def test_an_agent_that_is_dropped_elsewhere_is_left_alone(self) -> None:
+        kept = [IceAgent()]
+        thread = threading.Thread(target=kept.clear)
+        thread.start()
+        thread.join()
+        self.assertEqual(kept, [])
+
+
+if __name__ == "__main__":
+    unittest.main()

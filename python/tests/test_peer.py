@@ -1,0 +1,74 @@
+"""Two peers connect over loopback, in each constellation of roles; against aioice where that is installed."""
+
+import asyncio
+import sys
+import unittest
+from pathlib import Path
+
+PEER = Path(__file__).resolve().parent.parent / "peer.py"
+ROLES = [("controlling", "controlled"), ("controlled", "controlling"), ("controlling", "controlling"), ("controlled", "controlled")]
+
+try:
+    import aioice
+except ImportError:
+    aioice = None
+
+
+async def start(role: str) -> asyncio.subprocess.Process:
+    pipe = asyncio.subprocess.PIPE
+    return await asyncio.create_subprocess_exec(sys.executable, str(PEER), "-m", "hello", "-t", "15", role, stdin=pipe, stdout=pipe)
+
+
+async def end(peer: asyncio.subprocess.Process) -> tuple[int, str]:
+    assert peer.stdout is not None
+    told = (await peer.stdout.read()).decode()
+    return await peer.wait(), told
+
+
+async def two_peers(roles: tuple[str, str]) -> list[tuple[int, str]]:
+    peers = [await start(role) for role in roles]
+    signals = [await peer.stdout.readline() for peer in peers if peer.stdout]
+    for peer, signal in zip(peers, reversed(signals)):
+        assert peer.stdin is not None
+        peer.stdin.write(signal)
+    return list(await asyncio.gather(*(end(peer) for peer in peers)))
+
+
+async def with_aioice(role: str, their_control: bool) -> tuple[int, bytes]:
+    theirs = aioice.Connection(ice_controlling=their_control, components=1)
+    await theirs.gather_candidates()
+    peer = await start(role)
+    assert peer.stdout is not None and peer.stdin is not None
+    _, ufrag, password, line = (await peer.stdout.readline()).decode().rstrip().split(" ", 3)
+    theirs.remote_username, theirs.remote_password = ufrag, password
+    await theirs.add_remote_candidate(aioice.Candidate.from_sdp(line.removeprefix("candidate:")))
+    await theirs.add_remote_candidate(None)
+    lines = ",".join("candidate:" + c.to_sdp() for c in theirs.local_candidates)
+    peer.stdin.write(f"signal {theirs.local_username} {theirs.local_password} {lines}\n".encode())
+    await theirs.connect()
+    heard = await theirs.recv()
+    await theirs.send(b"hello")
+    status, _ = await end(peer)
+    await theirs.close()
+    return status, heard
+
+
+class Peers(unittest.TestCase):
+    def test_two_peers(self) -> None:
+        for roles in ROLES:
+            with self.subTest(roles=roles):
+                for status, told in asyncio.run(two_peers(roles)):
+                    self.assertEqual(status, 0, told)
+                    self.assertIn("heard hello", told)
+                    self.assertIn("state Completed", told)
+
+    @unittest.skipIf(aioice is None, "aioice is not installed (Debian's python3-aioice)")
+    def test_with_aioice(self) -> None:
+        aioice.ice.get_host_addresses = lambda use_ipv4, use_ipv6: ["127.0.0.1"]
+        for role, theirs in (("controlling", False), ("controlled", True), ("controlling", True), ("controlled", False)):
+            with self.subTest(role=role, their_control=theirs):
+                self.assertEqual(asyncio.run(asyncio.wait_for(with_aioice(role, theirs), 20)), (0, b"hello"))
+
+
+if __name__ == "__main__":
+    unittest.main()
