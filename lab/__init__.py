@@ -1,0 +1,1 @@
+"""A laboratory: two agents over a network that is made up, in simulated time."""

@@ -1,0 +1,251 @@
+"""The caller of one agent: its sockets, its gathering, its signalling and its loop. No rule of ICE stands here."""
+
+from __future__ import annotations
+
+from random import Random
+from typing import Protocol as Interface_
+
+from is_ice import Candidate, IceAgent, IceAgentEvent, IceCreds, SocketAddress, new_creds
+
+from .clock import Clock, nanoseconds
+from .network import Datagram, Interface, Packet
+from .scenario import AgentSettings
+from .servers import SMALL, WRAPPED, AskAddress, AskRelay, Permit, Relayed, Told
+from .signalling import Channel, Signal
+
+# A question to a server that was not answered is asked again so often, so much later (RFC 8489, 6.2.1).
+QUESTIONS = 7
+PATIENCE = 500_000_000
+
+
+class Watch(Interface_):
+    """Who is told of what a caller does and hears."""
+
+    def sent(self, side: str, datagram: Datagram) -> None: ...
+
+    def took(self, side: str, datagram: Datagram, source: SocketAddress, local: SocketAddress, accepted: bool) -> None: ...
+
+    def told(self, side: str, event: IceAgentEvent) -> None: ...
+
+    def cleared(self, side: str) -> None: ...
+
+
+class Caller:
+    """One side of a session."""
+
+    def __init__(self, side: str, settings: AgentSettings, interfaces: list[Interface], servers: list[SocketAddress],
+                 clock: Clock, channel: Channel, random: Random, watch: Watch) -> None:
+        self.side, self.settings, self.interfaces = side, settings, interfaces
+        self._servers, self._clock, self._channel, self._random, self._watch = servers, clock, channel, random, watch
+        self.tie_breaker = random.getrandbits(64)
+        self.agent = IceAgent(self._creds(), self.tie_breaker)
+        self.sockets: dict[SocketAddress, Interface] = {}
+        self.relays: dict[SocketAddress, tuple[SocketAddress, SocketAddress]] = {}  # with its socket and its server
+        self.generation = 0
+        self.began = False
+        self.late = 0  # by how much the own credentials come behind the candidates
+        self._candidates: dict[SocketAddress, list[Candidate]] = {}  # by socket
+        self._asked: set[tuple[SocketAddress, SocketAddress, bool]] = set()
+        self._untold: list[str] = []
+        self._wake: int | None = None
+        self._peers: set[str] = set()
+        self._trickle = True
+        self._configure()
+
+    def _creds(self) -> IceCreds:
+        return new_creds(self._random.randbytes(38))
+
+    def _configure(self) -> None:
+        s, agent = self.settings, self.agent
+        agent.set_controlling(s.controlling)
+        agent.set_ice_lite(s.lite)
+        for value, setter in ((s.initial_rto_ms, agent.set_initial_stun_rto), (s.max_rto_ms, agent.set_max_stun_rto),
+                              (s.advance_ms, agent.set_timing_advance)):
+            if value is not None:
+                setter(nanoseconds(value))
+        for limit, setter in ((s.retransmits, agent.set_max_stun_retransmits), (s.max_pairs, agent.set_max_candidate_pairs)):
+            if limit is not None:
+                setter(limit)
+
+    # ---- beginning, restarting, interfaces
+
+    def begin(self, trickle: bool) -> None:
+        """Gathers, tells the peer, and begins the session."""
+        self._trickle = trickle
+        self.began = True
+        self._tell_creds()
+        for interface in self.interfaces:
+            if interface.is_on:
+                self._bind(interface)
+        self._tell_candidates()
+        self._tell_moment()
+
+    def restart(self) -> None:
+        """Restarts the agent under new credentials, and tells the peer."""
+        self.generation += 1
+        self._renew()
+
+    def _renew(self) -> None:
+        self.agent.ice_restart(self._creds(), True)
+        self._watch.cleared(self.side)
+        lines = tuple(self.agent.local_candidates())
+        self._untold.clear()
+        self._channel.tell(Signal(self.generation, self.agent.local_credentials, lines))
+        self.turn()
+
+    def turn_on(self, interface: Interface) -> None:
+        """An interface comes up: its candidates are gathered."""
+        interface.is_on = True
+        self._bind(interface)
+        self._tell_candidates()
+        self.turn()
+
+    def turn_off(self, interface: Interface) -> None:
+        """An interface goes, and its candidates with it."""
+        interface.is_on = False
+        for socket in [s for s, i in self.sockets.items() if i is interface]:
+            for candidate in self._candidates.pop(socket, []):
+                self.agent.invalidate_candidate(candidate)
+            del self.sockets[socket]
+        self.turn()
+
+    def _bind(self, interface: Interface) -> None:
+        socket = SocketAddress(interface.ip, self._random.randrange(49152, 65536))
+        interface.take = self._take
+        self.sockets[socket] = interface
+        self._add(socket, Candidate.host(socket))
+        for server in self._servers:
+            if server.version == socket.version:
+                if self.settings.stun and socket.version == 4:
+                    self._ask(socket, server, False, QUESTIONS)
+                if self.settings.relay:
+                    self._ask(socket, server, True, QUESTIONS)
+
+    # ---- gathering
+
+    def _ask(self, socket: SocketAddress, server: SocketAddress, is_relay: bool, left: int) -> None:
+        question = (socket, server, is_relay)
+        interface = self.sockets.get(socket)
+        if left < QUESTIONS and question not in self._asked:
+            return  # answered meanwhile
+        self._asked.add(question)
+        if interface is None or left == 0:
+            self._answered(question)
+            return
+        interface.send(Packet(socket, server, AskRelay() if is_relay else AskAddress(), SMALL))
+        self._clock.at(self._clock.now + PATIENCE, self._ask, socket, server, is_relay, left - 1)
+
+    def _answered(self, question: tuple[SocketAddress, SocketAddress, bool]) -> None:
+        self._asked.discard(question)
+        self._tell_candidates()
+
+    def _told(self, socket: SocketAddress, told: Told) -> None:
+        question = (socket, told.server, told.is_relay)
+        if question not in self._asked or socket not in self.sockets:
+            return
+        if told.is_relay:
+            self.relays[told.address] = (socket, told.server)
+            self._add(socket, Candidate.relayed(told.address, socket))
+            for ip in self._peers:
+                self._permit(told.address, ip)
+        elif told.address != socket:
+            self._add(socket, Candidate.server_reflexive(told.address, socket))
+        self._answered(question)
+        self.turn()
+
+    def _add(self, socket: SocketAddress, candidate: Candidate) -> None:
+        self._candidates.setdefault(socket, []).append(candidate)
+        line = self.agent.add_local_candidate(candidate)
+        if line is not None:
+            self._untold.append(line)
+
+    def _permit(self, relay: SocketAddress, ip: str) -> None:
+        socket, server = self.relays[relay]
+        if interface := self.sockets.get(socket):
+            interface.send(Packet(socket, server, Permit(relay, ip), SMALL))
+
+    # ---- signalling
+
+    def _tell_creds(self) -> None:
+        self._channel.tell(Signal(self.generation, self.agent.local_credentials), self.late)
+
+    def _tell_candidates(self) -> None:
+        if self._untold and (self._trickle or not self._asked):
+            self._channel.tell(Signal(self.generation, None, tuple(self._untold)))
+            self._untold.clear()
+
+    def hear(self, signal: Signal) -> None:
+        """Takes what the peer told."""
+        if signal.generation > self.generation:
+            self.generation = signal.generation
+            self._renew()
+        elif signal.generation < self.generation:
+            return  # of a session that is no more
+        if signal.creds is not None:
+            self.agent.set_remote_credentials(signal.creds)
+        for line in signal.lines:
+            self._hear_line(line)
+        self.turn()
+
+    def _hear_line(self, line: str) -> None:
+        self.agent.add_remote_candidate(line)
+        ip = line.split()[4]
+        if ip not in self._peers:
+            self._peers.add(ip)
+            for relay in self.relays:
+                self._permit(relay, ip)
+
+    # ---- the loop
+
+    def turn(self) -> None:
+        """Asks for the wake-up, sends what there is to send, and notes what there is to know."""
+        if not self.began:
+            return
+        wake = self.agent.poll_timeout()
+        while packet := self.agent.poll_transmit():
+            self._send(packet.source, packet.destination, packet.contents)
+        while event := self.agent.poll_event():
+            self._watch.told(self.side, event)
+        if wake is not None and wake != self._wake:
+            self._wake = wake
+            self._clock.at(wake, self._woken, wake)
+
+    def _woken(self, wake: int) -> None:
+        if wake == self._wake:
+            self._wake = None
+            self._tell_moment()
+
+    def _tell_moment(self) -> None:
+        self.agent.handle_timeout(self._clock.now, self._random.randbytes(12))
+        self.turn()
+
+    def _send(self, source: SocketAddress, destination: SocketAddress, contents: bytes) -> None:
+        datagram = Datagram(0, self.side, self._clock.now, source, destination, contents)
+        self._watch.sent(self.side, datagram)
+        socket, server = self.relays.get(source, (source, None))
+        interface = self.sockets.get(socket)
+        if interface is None:
+            datagram.fates.append((self._clock.now, "the socket is closed"))
+        elif server is None:
+            interface.send(Packet(source, destination, datagram, len(contents), datagram))
+        else:
+            word = Relayed(source, destination, datagram)
+            interface.send(Packet(socket, server, word, len(contents) + WRAPPED, datagram))
+
+    def _take(self, interface: Interface, packet: Packet) -> None:
+        word = packet.payload
+        if packet.destination not in self.sockets:
+            return
+        if isinstance(word, Told):
+            self._told(packet.destination, word)
+        elif isinstance(word, Relayed):
+            self._take_datagram(word.contents, word.peer, word.relay)
+        elif isinstance(word, Datagram):
+            self._take_datagram(word, packet.source, packet.destination)
+
+    def _take_datagram(self, datagram: Datagram, source: SocketAddress, local: SocketAddress) -> None:
+        now = self._clock.now
+        accepted = self.agent.handle_packet(now, source, local, datagram.contents)
+        datagram.fates.append((now, "taken" if accepted else "refused"))
+        self._watch.took(self.side, datagram, source, local, accepted)
+        self.turn()

@@ -1,0 +1,166 @@
+"""Networks, what is attached to them, and the way of a packet between them."""
+
+from __future__ import annotations
+
+from collections.abc import Callable
+from dataclasses import dataclass, field
+from random import Random
+from typing import Protocol as Interface_
+
+from is_ice import SocketAddress
+
+from .clock import Clock
+from .link import Link, LinkSettings
+from .nat import Nat, NatSettings
+
+# IPv4 or IPv6 and UDP headers, which a link carries too.
+HEADERS = {4: 28, 6: 48}
+
+
+@dataclass
+class Datagram:
+    """What an agent sent, and what became of it. `source` and `destination` are as the agent named them."""
+
+    number: int
+    side: str
+    moment: int
+    source: SocketAddress
+    destination: SocketAddress
+    contents: bytes
+    hops: list[tuple[int, str]] = field(default_factory=list)
+    fates: list[tuple[int, str]] = field(default_factory=list)
+
+
+@dataclass
+class Packet:
+    """A datagram, or a word between a caller and a server, on its way."""
+
+    source: SocketAddress
+    destination: SocketAddress
+    payload: object
+    size: int
+    datagram: Datagram | None = None
+
+    def copy(self) -> Packet:
+        """The same, to be turned apart."""
+        return Packet(self.source, self.destination, self.payload, self.size, self.datagram)
+
+
+class Node(Interface_):
+    """What can be attached to a network."""
+
+    def arrive(self, packet: Packet) -> None:
+        """Takes a packet for its address."""
+
+
+class Network:
+    """Addresses that reach each other, and perhaps a gateway to another network."""
+
+    def __init__(self, name: str, clock: Clock, delay: int = 0) -> None:
+        self.name = name
+        self.clock = clock
+        self.delay = delay
+        self.nodes: dict[str, Node] = {}
+        self.gateway: Gateway | None = None
+
+    def attach(self, ip: str, node: Node) -> None:
+        """Gives a node an address. ValueError where it is taken."""
+        if ip in self.nodes:
+            raise ValueError(f"{ip} is attached to {self.name} twice")
+        self.nodes[ip] = node
+
+    def route(self, packet: Packet) -> None:
+        """Takes a packet to the node of its destination, or out."""
+        node = self.nodes.get(packet.destination.ip)
+        if node is not None:
+            self.clock.at(self.clock.now + self.delay, node.arrive, packet)
+        elif self.gateway is not None and packet.destination.version == 4:
+            self.gateway.leave(packet)
+        else:
+            lose(packet, self.clock.now, "no route")
+
+
+class Gateway:
+    """A NAT between an inner network and an outer one."""
+
+    def __init__(self, name: str, settings: NatSettings, inner: Network, outer: Network, random: Random) -> None:
+        self.name = name
+        self.nat = Nat(settings, random)
+        self.inner, self.outer = inner, outer
+        inner.gateway = self
+        outer.attach(settings.outside, self)
+
+    def leave(self, packet: Packet) -> None:
+        """Takes a packet from inside."""
+        now = self.inner.clock.now
+        settings = self.nat.settings
+        hop(packet, now, self.name)
+        turns_back = packet.destination.ip == settings.outside
+        if turns_back and not settings.hairpinning:
+            lose(packet, now, f"{self.name} does not hairpin")
+            return
+        packet.source = self.nat.outgoing(now, packet.source, packet.destination)
+        if turns_back:
+            self.arrive(packet)
+        else:
+            self.outer.route(packet)
+
+    def arrive(self, packet: Packet) -> None:
+        """Takes a packet from outside."""
+        now = self.inner.clock.now
+        hop(packet, now, self.name)
+        inside = self.nat.incoming(now, packet.source, packet.destination)
+        if inside is None:
+            lose(packet, now, f"{self.name} lets it not in")
+            return
+        packet.destination = inside
+        self.inner.route(packet)
+
+
+class Interface:
+    """An address of a side, with a link to its network and one from there."""
+
+    def __init__(self, name: str, ip: str, network: Network, up: LinkSettings, down: LinkSettings, random: Random) -> None:
+        self.name, self.ip, self.network = name, ip, network
+        self.up, self.down = Link(up, random), Link(down, random)
+        self.is_on = True
+        self.take: Callable[[Interface, Packet], None] = lambda interface, packet: None
+        network.attach(ip, self)
+
+    def send(self, packet: Packet) -> None:
+        """Sends a packet, unless the interface is off."""
+        now = self.network.clock.now
+        if not self.is_on:
+            lose(packet, now, f"{self.name} is off")
+            return
+        self._carry(self.up, packet, self.network.route)
+
+    def arrive(self, packet: Packet) -> None:
+        """Takes a packet from the network to the side."""
+        self._carry(self.down, packet, self._deliver)
+
+    def _carry(self, link: Link, packet: Packet, then: Callable[[Packet], None]) -> None:
+        clock = self.network.clock
+        arrivals = link.carry(clock.now, packet.size + HEADERS[packet.destination.version])
+        if not arrivals:
+            lose(packet, clock.now, "lost")
+        for arrival in arrivals:
+            clock.at(arrival, then, packet.copy())
+
+    def _deliver(self, packet: Packet) -> None:
+        if self.is_on:
+            self.take(self, packet)
+        else:
+            lose(packet, self.network.clock.now, f"{self.name} is off")
+
+
+def hop(packet: Packet, now: int, place: str) -> None:
+    """Notes that a datagram came by a place."""
+    if packet.datagram is not None:
+        packet.datagram.hops.append((now, place))
+
+
+def lose(packet: Packet, now: int, why: str) -> None:
+    """Notes that a datagram came to an end."""
+    if packet.datagram is not None:
+        packet.datagram.fates.append((now, why))

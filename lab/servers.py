@@ -1,0 +1,100 @@
+"""A STUN server and a TURN server, as far as a caller sees them. Their words are no bytes: they are simulated."""
+
+from __future__ import annotations
+
+from dataclasses import dataclass
+
+from is_ice import SocketAddress
+
+from .network import Datagram, Network, Packet, lose
+
+# The bytes that such words take on a link, about.
+SMALL = 60
+# What a relay adds to a datagram on its way to or from its client (RFC 8656, 11: Send and Data indications).
+WRAPPED = 36
+
+
+@dataclass(frozen=True)
+class AskAddress:
+    """A Binding request to a STUN server."""
+
+
+@dataclass(frozen=True)
+class AskRelay:
+    """An Allocate request to a TURN server."""
+
+
+@dataclass(frozen=True)
+class Permit:
+    """A CreatePermission request: what comes from this IP address is let in (RFC 8656, 9)."""
+
+    relay: SocketAddress
+    ip: str
+
+
+@dataclass(frozen=True)
+class Told:
+    """An answer: the address that was seen, or lent."""
+
+    server: SocketAddress
+    address: SocketAddress
+    is_relay: bool
+
+
+@dataclass(frozen=True)
+class Relayed:
+    """A datagram between a client and its relay, with the peer that it goes to or came from."""
+
+    relay: SocketAddress
+    peer: SocketAddress
+    contents: Datagram
+
+
+class Server:
+    """Tells who asks of the address that it sees, and lends addresses of its own."""
+
+    def __init__(self, ip: str, network: Network) -> None:
+        self.address = SocketAddress(ip, 3478)
+        self._network = network
+        self._clients: dict[int, SocketAddress] = {}
+        self._ports: dict[SocketAddress, int] = {}
+        self._permitted: set[tuple[int, str]] = set()
+        network.attach(ip, self)
+
+    def arrive(self, packet: Packet) -> None:
+        """Takes a word of a client, or a datagram for a relay."""
+        word = packet.payload
+        if packet.destination.port != self.address.port:
+            self._to_client(packet)
+        elif isinstance(word, AskAddress):
+            self._answer(packet.source, Told(self.address, packet.source, False))
+        elif isinstance(word, AskRelay):
+            self._answer(packet.source, Told(self.address, self._lend(packet.source), True))
+        elif isinstance(word, Permit) and self._clients.get(word.relay.port) == packet.source:
+            self._permitted.add((word.relay.port, word.ip))
+        elif isinstance(word, Relayed) and self._clients.get(word.relay.port) == packet.source:
+            self._to_peer(word)
+        else:
+            lose(packet, self._network.clock.now, "no such relay")
+
+    def _lend(self, client: SocketAddress) -> SocketAddress:
+        port = self._ports.setdefault(client, 50000 + len(self._ports))
+        self._clients[port] = client
+        return SocketAddress(self.address.ip, port)
+
+    def _answer(self, to: SocketAddress, told: Told) -> None:
+        self._network.route(Packet(self.address, to, told, SMALL))
+
+    def _to_peer(self, word: Relayed) -> None:
+        datagram = word.contents
+        self._permitted.add((word.relay.port, word.peer.ip))
+        self._network.route(Packet(word.relay, word.peer, datagram, len(datagram.contents), datagram))
+
+    def _to_client(self, packet: Packet) -> None:
+        port, datagram = packet.destination.port, packet.datagram
+        client = self._clients.get(port)
+        if client is None or datagram is None or (port, packet.source.ip) not in self._permitted:
+            lose(packet, self._network.clock.now, "the relay lets it not in")
+            return
+        word = Relayed(SocketAddress(self.address.ip, port), packet.source, datagram)
+        self._network.route(Packet(self.address, client, word, len(datagram.contents) + WRAPPED, datagram))

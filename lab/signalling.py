@@ -1,0 +1,42 @@
+"""The channel between the two callers: it keeps order, loses nothing, and takes its time."""
+
+from __future__ import annotations
+
+from collections.abc import Callable
+from dataclasses import dataclass
+from random import Random
+
+from is_ice import IceCreds
+
+from .clock import Clock, nanoseconds
+from .scenario import SignallingSettings
+
+
+@dataclass(frozen=True)
+class Signal:
+    """What one caller tells the other. `generation` counts restarts; `gone` are lines of candidates that went."""
+
+    generation: int
+    creds: IceCreds | None = None
+    lines: tuple[str, ...] = ()
+    gone: tuple[str, ...] = ()
+
+
+class Channel:
+    """One direction."""
+
+    def __init__(self, settings: SignallingSettings, clock: Clock, random: Random) -> None:
+        self._settings, self._clock, self._random = settings, clock, random
+        self._last = 0
+        self.take: Callable[[Signal], None] = lambda signal: None
+
+    def tell(self, signal: Signal, extra: int = 0) -> None:
+        """Sends a signal; one that is kept back by `extra` may be overtaken."""
+        delay = self._settings.delay_ms + self._random.random() * self._settings.jitter_ms
+        arrival = max(self._clock.now + nanoseconds(delay), self._last)
+        if not extra:
+            self._last = arrival
+        self._clock.at(arrival + extra, self._deliver, signal)
+
+    def _deliver(self, signal: Signal) -> None:
+        self.take(signal)

@@ -1,0 +1,135 @@
+"""Links, ways between networks, hairpinning, servers: without any agent."""
+
+import unittest
+from random import Random
+
+from is_ice import SocketAddress
+from lab.clock import BEGINNING, MILLISECOND, Clock
+from lab.link import Link, LinkSettings
+from lab.nat import NatSettings
+from lab.network import Datagram, Gateway, Interface, Network, Packet
+from lab.servers import AskAddress, AskRelay, Relayed, Server, Told
+
+OUTSIDE = "203.0.113.1"
+STUN = SocketAddress("198.51.100.10", 3478)
+
+
+class Links(unittest.TestCase):
+    def carried(self, settings: LinkSettings, count: int = 10000, apart: int = MILLISECOND) -> list[list[int]]:
+        link = Link(settings, Random(7))
+        return [link.carry(BEGINNING + n * apart, 100) for n in range(count)]
+
+    def test_a_plain_link_only_delays(self) -> None:
+        self.assertEqual(self.carried(LinkSettings(delay_ms=3), 2), [[BEGINNING + 3 * MILLISECOND], [BEGINNING + 4 * MILLISECOND]])
+
+    def test_loss_is_as_told(self) -> None:
+        lost = sum(not arrivals for arrivals in self.carried(LinkSettings(loss=0.2)))
+        self.assertAlmostEqual(lost / 10000, 0.2, delta=0.02)
+
+    def test_bursts_have_their_length(self) -> None:
+        fates = [not arrivals for arrivals in self.carried(LinkSettings(burst=0.01, burst_packets=8), 100000)]
+        bursts = sum(now and not before for before, now in zip([False, *fates], fates))
+        self.assertAlmostEqual(sum(fates) / bursts, 8, delta=1)
+
+    def test_duplicates_are_as_told(self) -> None:
+        twice = sum(len(arrivals) == 2 for arrivals in self.carried(LinkSettings(duplicate=0.1)))
+        self.assertAlmostEqual(twice / 10000, 0.1, delta=0.02)
+
+    def test_jitter_keeps_order_and_reordering_does_not(self) -> None:
+        for reorder, kept in ((0.0, True), (0.1, False)):
+            arrivals = [a[0] for a in self.carried(LinkSettings(jitter_ms=30, reorder=reorder))]
+            self.assertEqual(arrivals == sorted(arrivals), kept)
+
+    def test_a_rate_spaces_packets_and_a_full_queue_drops(self) -> None:
+        arrivals = self.carried(LinkSettings(delay_ms=0, rate_kbit=80, queue_ms=25), 10, apart=0)
+        self.assertEqual([a[0] - BEGINNING for a in arrivals if a], [10 * MILLISECOND * n for n in (1, 2, 3)])
+
+
+class Ways(unittest.TestCase):
+    def setUp(self) -> None:
+        self.clock = Clock()
+        self.internet = Network("internet", self.clock, 20 * MILLISECOND)
+        self.home = Network("home", self.clock)
+        self.heard: list[tuple[str, Packet]] = []
+
+    def interface(self, ip: str, network: Network) -> Interface:
+        quick = LinkSettings(delay_ms=1)
+        made = Interface(ip, ip, network, quick, quick, Random(1))
+        made.take = lambda interface, packet: self.heard.append((interface.ip, packet))
+        return made
+
+    def gateway(self, **more: object) -> Gateway:
+        return Gateway("router", NatSettings(OUTSIDE, **more), self.home, self.internet, Random(1))  # type: ignore[arg-type]
+
+    def send(self, interface: Interface, port: int, to: SocketAddress, payload: object = "hello") -> Datagram:
+        source = SocketAddress(interface.ip, port)
+        datagram = Datagram(0, "a", self.clock.now, source, to, b"")
+        interface.send(Packet(source, to, payload, 100, datagram))
+        while self.clock.step(1 << 62):
+            pass
+        return datagram
+
+    def test_a_lan_is_left_by_nobody(self) -> None:
+        self.gateway()
+        here, there = self.interface("10.0.0.1", self.home), self.interface("10.0.0.2", self.home)
+        self.send(here, 1, SocketAddress(there.ip, 2))
+        self.assertEqual([(ip, p.source) for ip, p in self.heard], [(there.ip, SocketAddress(here.ip, 1))])
+        self.assertEqual(self.clock.now, BEGINNING + 2 * MILLISECOND)
+
+    def test_a_gateway_turns_the_source_and_back(self) -> None:
+        self.gateway()
+        here, there = self.interface("10.0.0.1", self.home), self.interface("192.0.2.1", self.internet)
+        self.send(here, 1, SocketAddress(there.ip, 2))
+        seen = self.heard[0][1].source
+        self.assertEqual(seen.ip, OUTSIDE)
+        self.send(there, 2, seen)
+        self.assertEqual(self.heard[1][1].destination, SocketAddress(here.ip, 1))
+        self.assertIn("lets it not in", self.send(there, 3, seen).fates[0][1])
+
+    def test_hairpins_or_none(self) -> None:
+        for hairpinning in (True, False):
+            self.setUp()
+            gateway = self.gateway(hairpinning=hairpinning)
+            one, two = self.interface("10.0.0.1", self.home), self.interface("10.0.0.2", self.home)
+            outside = [gateway.nat.outgoing(self.clock.now, SocketAddress(i.ip, 9), SocketAddress(OUTSIDE, 9)) for i in (one, two)]
+            fates = self.send(one, 9, outside[1]).fates
+            if hairpinning:
+                self.assertEqual([(ip, p.source) for ip, p in self.heard], [(two.ip, outside[0])])
+            else:
+                self.assertIn("does not hairpin", fates[0][1])
+
+    def test_no_way_and_no_interface(self) -> None:
+        six = self.interface("2001:db8::1", self.internet)
+        self.assertEqual(self.send(six, 1, SocketAddress("2001:db8::9", 1)).fates[0][1], "no route")
+        six.is_on = False
+        self.assertIn("is off", self.send(six, 1, STUN).fates[0][1])
+
+    def test_private_addresses_do_not_leave_the_internet(self) -> None:
+        self.gateway()
+        here = self.interface("10.0.0.1", self.home)
+        self.assertEqual(self.send(here, 1, SocketAddress("192.168.7.7", 1)).fates[0][1], "no route")
+
+    def test_a_server_tells_what_it_sees(self) -> None:
+        self.gateway()
+        Server(STUN.ip, self.internet)
+        here = self.interface("10.0.0.1", self.home)
+        self.send(here, 77, STUN, AskAddress())
+        self.assertEqual(self.heard[0][1].payload, Told(STUN, SocketAddress(OUTSIDE, 77), False))
+
+    def test_a_relay_takes_back_and_forth_who_is_permitted(self) -> None:
+        Server(STUN.ip, self.internet)
+        client, peer, stranger = (self.interface(f"192.0.2.{n}", self.internet) for n in (1, 2, 3))
+        self.send(client, 1, STUN, AskRelay())
+        lent = self.heard.pop()[1].payload.address  # type: ignore[attr-defined]
+        self.assertIn("lets it not in", self.send(peer, 2, lent).fates[0][1])
+        word = Relayed(lent, SocketAddress(peer.ip, 2), Datagram(0, "a", 0, lent, STUN, b""))
+        self.send(client, 1, STUN, word)
+        self.assertEqual(self.heard.pop()[1].source, lent)
+        self.send(peer, 2, lent)
+        back = self.heard.pop()
+        self.assertEqual((back[0], back[1].payload.peer), (client.ip, SocketAddress(peer.ip, 2)))  # type: ignore[attr-defined]
+        self.assertIn("lets it not in", self.send(stranger, 2, lent).fates[0][1])
+
+
+if __name__ == "__main__":
+    unittest.main()
