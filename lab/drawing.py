@@ -1,0 +1,63 @@
+"""The program `lab/draw`."""
+
+from __future__ import annotations
+
+import argparse
+import sys
+from pathlib import Path
+
+from . import mermaid, scenario, svg
+from .picture import Picture, of_session
+from .promises import Broken
+from .script import of_script
+from .session import Session, Trace
+
+
+def _arguments() -> argparse.Namespace:
+    parser = argparse.ArgumentParser(prog="lab/draw", description="Draws one session, or a script of ice_run.")
+    parser.add_argument("scenario", nargs="?", help="a name of lab/scenarios, or a TOML file")
+    parser.add_argument("--seed", type=int, default=0)
+    parser.add_argument("--set", action="append", default=[], metavar="KEY=VALUE", help="changes the scenario")
+    parser.add_argument("--script", type=Path, metavar="FILE", help="a script of ice_run; FILE.out is what it printed")
+    parser.add_argument("--output", type=Path, metavar="FILE", help="what it printed, where that is another file")
+    parser.add_argument("--begin", type=float, default=0.0, metavar="SECONDS", help="draws from here")
+    parser.add_argument("--end", type=float, default=1e9, metavar="SECONDS", help="draws up to here")
+    parser.add_argument("--title")
+    parser.add_argument("--svg", type=Path, metavar="FILE")
+    parser.add_argument("--mermaid", type=Path, metavar="FILE", help="without any file: Mermaid text is printed")
+    return parser.parse_args()
+
+
+def _picture(options: argparse.Namespace) -> Picture:
+    if options.script:
+        return of_script(options.script, options.output or options.script.with_name(options.script.name + ".out"))
+    if not options.scenario:
+        raise ValueError("a scenario or --script is wanted")
+    chosen, trace = scenario.load(options.scenario, tuple(options.set)), Trace()
+    try:
+        Session(chosen, options.seed, trace).run()
+    except Broken as broken:
+        print(f"lab: BROKEN PROMISE: {broken}", file=sys.stderr)
+    return of_session(chosen, trace)
+
+
+def main() -> int:
+    """The exit status: 0, or 2 where something does not read."""
+    options = _arguments()
+    try:
+        picture = _picture(options).between(round(options.begin * 1e9), round(options.end * 1e9))
+        picture.title = options.title or picture.title
+        if options.svg:
+            options.svg.write_text(svg.draw(picture), encoding="utf-8")
+        if options.mermaid:
+            options.mermaid.write_text(mermaid.text_of(picture), encoding="utf-8")
+        if not options.svg and not options.mermaid:
+            print(mermaid.text_of(picture), end="")
+        return 0
+    except (ValueError, OSError) as fault:
+        print(f"lab/draw: {fault}", file=sys.stderr)
+        return 2
+
+
+if __name__ == "__main__":
+    sys.exit(main())

@@ -1,0 +1,82 @@
+"""The program `lab/run`."""
+
+from __future__ import annotations
+
+import argparse
+import sys
+import time
+from contextlib import ExitStack
+from pathlib import Path
+
+from . import compare, figures, plot, pool, scenario
+from .promises import Broken
+from .scenario import BadScenario, Scenario
+
+
+def _arguments() -> argparse.Namespace:
+    parser = argparse.ArgumentParser(prog="lab/run", description="Plays sessions of two agents over networks that are made up.")
+    words = parser.add_subparsers(dest="word", required=True)
+    words.add_parser("list", help="the scenarios")
+    measure = words.add_parser("measure", help="plays sessions of scenarios and tells what came of them")
+    measure.add_argument("scenario", nargs="*", help="names of lab/scenarios, or TOML files; without any: all of lab/scenarios")
+    measure.add_argument("-n", "--sessions", type=int, default=200, help="of each scenario (200)")
+    measure.add_argument("--set", action="append", default=[], metavar="KEY=VALUE", help="changes a scenario: a.initial_rto_ms=100")
+    measure.add_argument("--csv", type=Path, metavar="FILE", help="a row for each session")
+    measure.add_argument("--plot", type=Path, metavar="FILE", help="the share connected over time, .svg or (by matplotlib) .png")
+    comparing = words.add_parser("compare", help="plays settings beside each other, and plots them")
+    comparing.add_argument("question", choices=sorted(compare.QUESTIONS))
+    comparing.add_argument("-n", "--sessions", type=int, default=1000, help="of each setting (1000)")
+    comparing.add_argument("--plot", type=Path, metavar="FILE", required=True)
+    for command in (measure, comparing):
+        command.add_argument("--seed", type=int, default=0, help="the first seed (0)")
+        command.add_argument("-j", "--processes", type=int, default=1)
+        command.add_argument("-q", "--quiet", action="store_true", help="no progress bar")
+        command.add_argument("--own-svg", action="store_true", help="plots without matplotlib, also where that is installed")
+    return parser.parse_args()
+
+
+def _measure(options: argparse.Namespace) -> None:
+    begun = time.monotonic()
+    scenarios = [scenario.load(name, tuple(options.set)) for name in options.scenario or scenario.names()]
+    with ExitStack() as files:
+        outcomes = pool.run(scenarios, options.sessions, options.seed, options.processes, options.quiet)
+        if options.csv:
+            stream = files.enter_context(options.csv.open("w", encoding="utf-8", newline=""))
+            outcomes = iter(figures.write_csv(outcomes, stream))
+        told = figures.gather(outcomes)
+    print(figures.table(told[s.name] for s in scenarios))
+    total = sum(f.sessions for f in told.values())
+    print(f"{total} sessions in {time.monotonic() - begun:.0f} s, no promise broken")
+    if options.plot:
+        _plot(options, scenarios, told)
+
+
+def _plot(options: argparse.Namespace, scenarios: list[Scenario], told: dict[str, figures.Figures]) -> None:
+    latest = [figures.quantile(f.first, 0.995) or 0.0 for f in told.values()]
+    end = max(1.0, max(latest) / 1000 * 1.05)
+    curves = [plot.share_over_time(s.title, told[s.name].first, told[s.name].sessions, end) for s in scenarios]
+    plot.write(options.plot, "How soon both have a path", "seconds from the first signal", "sessions connected, %", curves, options.own_svg)
+
+
+def main() -> int:
+    """The exit status: 0; 1 where a promise is broken; 2 where a scenario or a file does not read."""
+    options = _arguments()
+    try:
+        if options.word == "list":
+            for name in scenario.names():
+                print(f"{name:22} {scenario.load(name).title}")
+        elif options.word == "measure":
+            _measure(options)
+        else:
+            compare.run(options.question, options.sessions, options.seed, options.processes, options.quiet, options.plot, options.own_svg)
+        return 0
+    except Broken as broken:
+        print(f"lab: BROKEN PROMISE: {broken}", file=sys.stderr)
+        return 1
+    except (BadScenario, OSError, ValueError) as fault:
+        print(f"lab: {fault}", file=sys.stderr)
+        return 2
+
+
+if __name__ == "__main__":
+    sys.exit(main())

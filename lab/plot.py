@@ -1,0 +1,140 @@
+"""Plots: matplotlib where it is installed, else an SVG of a few lines."""
+
+from __future__ import annotations
+
+from collections.abc import Sequence
+from dataclasses import dataclass
+from pathlib import Path
+from xml.sax.saxutils import escape
+
+COLOURS = ("#1f77b4", "#d62728", "#2ca02c", "#9467bd", "#ff7f0e", "#17becf", "#8c564b", "#e377c2", "#7f7f7f", "#bcbd22",
+           "#393b79", "#637939", "#843c39", "#7b4173")
+WIDTH, HEIGHT = 860, 440
+LEFT, RIGHT, TOP, BOTTOM = 62, 230, 40, 52
+
+
+@dataclass(frozen=True)
+class Curve:
+    """Points of a curve, from left to right. `dashed` tells it apart from another one of its colour."""
+
+    label: str
+    points: Sequence[tuple[float, float]]
+    dashed: bool = False
+    colour: str | None = None
+
+
+def share_over_time(label: str, times: Sequence[float], sessions: int, end: float, dashed: bool = False,
+                    colour: str | None = None) -> Curve:
+    """The share of the sessions, in per cent, for which a time (milliseconds) has come, over seconds."""
+    points = [(0.0, 0.0)]
+    for count, time in enumerate(sorted(times), 1):
+        points += [(time / 1000, points[-1][1]), (time / 1000, 100 * count / sessions)]
+    points.append((end, points[-1][1]))
+    return Curve(label, [p for p in points if p[0] <= end], dashed, colour)
+
+
+def write(path: Path, title: str, x: str, y: str, curves: Sequence[Curve], own: bool = False) -> None:
+    """Writes a plot; one whose name ends with .svg is the own SVG where that is wanted, or matplotlib is missing."""
+    curves = [Curve(c.label, c.points, c.dashed, c.colour or COLOURS[n % len(COLOURS)]) for n, c in enumerate(curves)]
+    if not own:
+        try:
+            _write_by_matplotlib(path, title, x, y, curves)
+            return
+        except ImportError:
+            pass
+    if path.suffix != ".svg":
+        raise ValueError(f"{path}: without matplotlib plots are .svg alone")
+    path.write_text(svg(title, x, y, curves), encoding="utf-8")
+
+
+def _write_by_matplotlib(path: Path, title: str, x: str, y: str, curves: Sequence[Curve]) -> None:
+    import matplotlib
+
+    matplotlib.use("Agg")
+    matplotlib.rcParams["svg.hashsalt"] = "lab"
+    from matplotlib import pyplot
+
+    figure, axes = pyplot.subplots(figsize=(WIDTH / 100, HEIGHT / 100))
+    for curve in curves:
+        axes.plot(*zip(*curve.points), label=curve.label, color=curve.colour, linestyle="--" if curve.dashed else "-")
+    axes.set(title=title, xlabel=x, ylabel=y)
+    axes.set_xlim(left=0)
+    axes.set_ylim(bottom=0)
+    axes.grid(alpha=0.3)
+    axes.legend(loc="center left", bbox_to_anchor=(1.01, 0.5), fontsize="small", frameon=False)
+    figure.savefig(path, bbox_inches="tight", metadata={"Date": None} if path.suffix == ".svg" else None)
+    pyplot.close(figure)
+
+
+# ---- the own SVG
+
+def ticks(top: float) -> list[float]:
+    """Round numbers from 0 to about this one, from five to ten of them."""
+    if top <= 0:
+        return [0.0, 1.0]
+    step = 1.0
+    while step * 10 < top:
+        step *= 10
+    while step * 5 > top:
+        step /= 10
+    for factor in (1, 2, 5, 10):
+        if top / (step * factor) <= 8:
+            step *= factor
+            break
+    return [n * step for n in range(int(top / step + 1e-9) + 1)]
+
+
+def svg(title: str, x: str, y: str, curves: Sequence[Curve]) -> str:
+    """A plot from 0 on, with its legend at the right."""
+    right = max((p[0] for c in curves for p in c.points), default=1.0) or 1.0
+    top = max((p[1] for c in curves for p in c.points), default=1.0) or 1.0
+    wide, high = WIDTH - LEFT - RIGHT, HEIGHT - TOP - BOTTOM
+
+    def at(px: float, py: float) -> tuple[float, float]:
+        return LEFT + wide * px / right, TOP + high * (1 - py / (top * 1.03))
+
+    lines = [f'<svg xmlns="http://www.w3.org/2000/svg" width="{WIDTH}" height="{HEIGHT}" viewBox="0 0 {WIDTH} {HEIGHT}" '
+             'font-family="sans-serif" font-size="12">',
+             f'<rect width="{WIDTH}" height="{HEIGHT}" fill="#ffffff"/>',
+             _text(LEFT + wide / 2, 22, title, "middle", 'font-size="15" font-weight="bold"')]
+    for tick in ticks(right):
+        px, _ = at(tick, 0)
+        lines.append(_line(px, TOP, px, TOP + high, "#e4e4e4"))
+        lines.append(_text(px, TOP + high + 18, f"{tick:g}", "middle"))
+    for tick in ticks(top):
+        _, py = at(0, tick)
+        lines.append(_line(LEFT, py, LEFT + wide, py, "#e4e4e4"))
+        lines.append(_text(LEFT - 8, py + 4, f"{tick:g}", "end"))
+    lines.append(f'<rect x="{LEFT}" y="{TOP}" width="{wide}" height="{high}" fill="none" stroke="#555555"/>')
+    lines.append(_text(LEFT + wide / 2, HEIGHT - 12, x, "middle"))
+    lines.append(_text(0, 0, y, "middle", f'transform="translate(16 {TOP + high / 2:g}) rotate(-90)"'))
+    for number, curve in enumerate(curves):
+        lines += _curve(curve, [at(*point) for point in curve.points], number)
+    return "\n".join([*lines, "</svg>", ""])
+
+
+def _curve(curve: Curve, points: Sequence[tuple[float, float]], number: int) -> list[str]:
+    dash = ' stroke-dasharray="6 4"' if curve.dashed else ""
+    path = " ".join(f"{px:.1f},{py:.1f}" for px, py in _thinned(points))
+    py = TOP + 10 + 18 * number
+    px = WIDTH - RIGHT + 14
+    return [f'<polyline points="{path}" fill="none" stroke="{curve.colour}" stroke-width="1.8"{dash}/>',
+            f'<line x1="{px}" y1="{py}" x2="{px + 22}" y2="{py}" stroke="{curve.colour}" stroke-width="2.4"{dash}/>',
+            _text(px + 28, py + 4, curve.label, "start")]
+
+
+def _thinned(points: Sequence[tuple[float, float]]) -> list[tuple[float, float]]:
+    kept: list[tuple[float, float]] = []
+    for n, point in enumerate(points):
+        is_last = n == len(points) - 1
+        if not kept or is_last or abs(point[0] - kept[-1][0]) + abs(point[1] - kept[-1][1]) >= 0.7:
+            kept.append(point)
+    return kept
+
+
+def _line(x1: float, y1: float, x2: float, y2: float, colour: str) -> str:
+    return f'<line x1="{x1:.1f}" y1="{y1:.1f}" x2="{x2:.1f}" y2="{y2:.1f}" stroke="{colour}"/>'
+
+
+def _text(x: float, y: float, text: str, anchor: str, more: str = "") -> str:
+    return f'<text x="{x:.1f}" y="{y:.1f}" text-anchor="{anchor}" fill="#222222" {more}>{escape(text)}</text>'

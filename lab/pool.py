@@ -1,0 +1,100 @@
+"""Many sessions, in several processes, with a bar that tells how far it is."""
+
+from __future__ import annotations
+
+import multiprocessing
+import sys
+import time
+from collections.abc import Iterable, Iterator
+from dataclasses import dataclass
+
+from .promises import Broken
+from .scenario import Scenario
+from .session import Outcome, Session
+
+# How many sessions a process takes at once.
+PORTION = 20
+
+
+@dataclass(frozen=True)
+class Fault:
+    """A session in which a promise was broken."""
+
+    scenario: str
+    seed: int
+    text: str
+
+
+Portion = tuple[Scenario, range]
+
+
+def play(portion: Portion) -> list[Outcome] | Fault:
+    """Plays a portion of sessions, up to the first broken promise."""
+    scenario, seeds = portion
+    outcomes = []
+    for seed in seeds:
+        try:
+            outcomes.append(Session(scenario, seed).run())
+        except Broken as broken:
+            return Fault(scenario.name, seed, str(broken))
+    return outcomes
+
+
+def portions(scenarios: Iterable[Scenario], count: int, seed: int) -> list[Portion]:
+    """So many sessions of each scenario, seeds from `seed` on, the scenarios by turns."""
+    parts = [range(first, min(first + PORTION, seed + count)) for first in range(seed, seed + count, PORTION)]
+    return [(scenario, part) for part in parts for scenario in scenarios]
+
+
+def run(scenarios: list[Scenario], count: int, seed: int = 0, processes: int = 1, quiet: bool = False) -> Iterator[Outcome]:
+    """The outcomes, in an order of which nothing hangs. Broken, with scenario and seed, at the first broken promise."""
+    work = portions(scenarios, count, seed)
+    bar = Bar(count * len(scenarios), quiet)
+    for result in _results(work, processes):
+        if isinstance(result, Fault):
+            bar.end()
+            raise Broken(f"{result.scenario}, seed {result.seed}: {result.text}")
+        bar.add(len(result))
+        yield from result
+    bar.end()
+
+
+def _results(work: list[Portion], processes: int) -> Iterator[list[Outcome] | Fault]:
+    if processes <= 1:
+        yield from map(play, work)
+        return
+    with multiprocessing.get_context("spawn").Pool(processes) as pool:
+        yield from pool.imap(play, work)
+
+
+class Bar:
+    """A progress bar on standard error, where that is a terminal; else a line now and then."""
+
+    WIDTH = 40
+    EVERY = 20.0  # seconds between lines, where there is no terminal
+
+    def __init__(self, total: int, quiet: bool) -> None:
+        self._total, self._quiet = total, quiet
+        self._done, self._begun, self._shown = 0, time.monotonic(), time.monotonic()
+        self._is_terminal = sys.stderr.isatty()
+
+    def add(self, count: int) -> None:
+        """So many more are done."""
+        self._done += count
+        if self._quiet or time.monotonic() - self._shown < (0.1 if self._is_terminal else self.EVERY):
+            return
+        self._shown = time.monotonic()
+        text = self._text()
+        print(f"\r{text}" if self._is_terminal else text, end="" if self._is_terminal else "\n", file=sys.stderr, flush=True)
+
+    def end(self) -> None:
+        """Leaves the line."""
+        if not self._quiet and self._is_terminal:
+            print(f"\r{self._text()}", file=sys.stderr)
+
+    def _text(self) -> str:
+        share = self._done / self._total if self._total else 1.0
+        full = round(share * self.WIDTH)
+        spent = time.monotonic() - self._begun
+        left = spent / share - spent if share else 0.0
+        return f"[{'#' * full}{'.' * (self.WIDTH - full)}] {self._done}/{self._total}  {spent:.0f} s, {left:.0f} s to go "

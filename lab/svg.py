@@ -1,0 +1,142 @@
+"""A picture as SVG: time goes down, and long waits are drawn short."""
+
+from __future__ import annotations
+
+import math
+from xml.sax.saxutils import escape
+
+from .picture import Picture, Way
+
+COLOURS = {"check": "#1f77b4", "asking": "#6a3d9a", "answer": "#2ca02c", "failure": "#d62728"}
+STATES = {"New": "#bdbdbd", "Checking": "#f0b429", "Connected": "#7bc96f", "Completed": "#1b8a3a", "Disconnected": "#d62728"}
+MARGIN_LEFT, MARGIN_RIGHT, TOP, LANE, FLAG = 300, 300, 78, 250, 13
+
+
+class Scale:
+    """Where a moment lies. Between two moments at which something happens the gap counts by its logarithm."""
+
+    def __init__(self, picture: Picture) -> None:
+        stacked: dict[int, dict[str, int]] = {}
+        for moment, lane, _ in picture.flags:
+            lanes = stacked.setdefault(moment, {})
+            lanes[lane] = lanes.get(lane, 0) + 1
+        moments = {moment for way in picture.ways for moment, _ in way.stops} | set(stacked) | {s[0] for s in picture.states}
+        self.moments = sorted(moments) or [0]
+        self._places = [TOP + 14.0]
+        for before, after in zip(self.moments, self.moments[1:]):
+            room = FLAG * max(stacked.get(before, {"": 0}).values())
+            gap = 3 + 9 * math.log10(1 + (after - before) / 1e6)
+            self._places.append(self._places[-1] + max(room + 2 if room else 0, gap))
+        self.bottom = self._places[-1] + FLAG * max(stacked.get(self.moments[-1], {"": 0}).values()) + 26
+        self._by_moment = dict(zip(self.moments, self._places))
+
+    def at(self, moment: int) -> float:
+        """The height of one of the moments."""
+        return self._by_moment[moment]
+
+
+def draw(picture: Picture) -> str:
+    """The SVG."""
+    scale = Scale(picture)
+    places = {lane: MARGIN_LEFT + LANE * n for n, lane in enumerate(picture.lanes)}
+    width, height = MARGIN_LEFT + LANE * (len(places) - 1) + MARGIN_RIGHT, scale.bottom + 34
+    lines = [f'<svg xmlns="http://www.w3.org/2000/svg" width="{width}" height="{height:.0f}" viewBox="0 0 {width} {height:.0f}" '
+             'font-family="sans-serif" font-size="11">',
+             f'<rect width="{width}" height="{height:.0f}" fill="#ffffff"/>',
+             _text(width / 2, 24, picture.title, "middle", "#222222", 'font-size="16" font-weight="bold"')]
+    lines += _times(scale, width)
+    for lane, x in places.items():
+        lines += _lane(picture, scale, lane, x)
+    for way in picture.ways:
+        lines += _way(way, scale, places)
+    lines += _flags(picture, scale, places)
+    lines += _legend(width, height)
+    return "\n".join([*lines, "</svg>", ""])
+
+
+def told(moment: int) -> str:
+    """A moment, as it is printed."""
+    return f"{moment / 1e6:.1f} ms" if moment < 10**9 else f"{moment / 1e9:.3f} s"
+
+
+def _times(scale: Scale, width: float) -> list[str]:
+    lines, last = [], 0.0
+    for moment in scale.moments:
+        y = scale.at(moment)
+        if y - last >= 12:
+            last = y
+            lines.append(_text(8, y + 4, told(moment), "start", "#777777"))
+            lines.append(f'<line x1="66" y1="{y:.1f}" x2="{width - 8}" y2="{y:.1f}" stroke="#f1f1f1"/>')
+    return lines
+
+
+def _lane(picture: Picture, scale: Scale, lane: str, x: float) -> list[str]:
+    lines = [_text(x, TOP - 22, lane, "middle", "#222222", 'font-size="13" font-weight="bold"')]
+    lines.append(f'<line x1="{x}" y1="{TOP - 10}" x2="{x}" y2="{scale.bottom:.1f}" stroke="#999999" stroke-dasharray="2 3"/>')
+    states = [(moment, name) for moment, of, name in picture.states if of == lane]
+    ends = [scale.at(moment) for moment, _ in states[1:]] + [scale.bottom]
+    for (moment, name), end in zip(states, ends):
+        y = scale.at(moment)
+        lines.append(f'<rect x="{x - 4}" y="{y:.1f}" width="8" height="{max(0.0, end - y):.1f}" fill="{STATES.get(name, "#bdbdbd")}"/>')
+    return lines
+
+
+def _way(way: Way, scale: Scale, places: dict[str, float]) -> list[str]:
+    points = [(places[lane], scale.at(moment)) for moment, lane in way.stops]
+    colour = COLOURS[way.kind]
+    is_cut = bool(way.end) and way.end != "refused"
+    if is_cut and way.toward:
+        x, y = points[-1]
+        points.append((x + (places[way.toward] - x) * 0.42, y + 7))
+    if len(points) == 1:
+        return []
+    dash = ' stroke-dasharray="5 3"' if way.end else ""
+    path = " ".join(f"{x:.1f},{y:.1f}" for x, y in points)
+    lines = [f'<polyline points="{path}" fill="none" stroke="{colour}" stroke-width="1.5"{dash}/>']
+    lines.append(_cross(*points[-1]) if is_cut else _head(points[-2], points[-1], colour))
+    if is_cut and not way.toward:
+        x, y = points[-1]
+        lines.append(_text(x + 8, y + 12, way.end, "start", "#d62728", 'font-size="9"'))
+    (x1, y1), (x2, y2) = points[0], points[1]
+    at = 0.5
+    lines.append(_text(x1 + (x2 - x1) * at, y1 + (y2 - y1) * at - 3, way.label, "middle", colour, 'font-size="10"'))
+    return lines
+
+
+def _head(before: tuple[float, float], end: tuple[float, float], colour: str) -> str:
+    angle = math.atan2(end[1] - before[1], end[0] - before[0])
+    corners = [end] + [(end[0] - 9 * math.cos(angle + turn), end[1] - 9 * math.sin(angle + turn)) for turn in (0.35, -0.35)]
+    return f'<polygon points="{" ".join(f"{x:.1f},{y:.1f}" for x, y in corners)}" fill="{colour}"/>'
+
+
+def _cross(x: float, y: float) -> str:
+    return (f'<path d="M{x - 4:.1f} {y - 4:.1f} L{x + 4:.1f} {y + 4:.1f} M{x - 4:.1f} {y + 4:.1f} L{x + 4:.1f} {y - 4:.1f}" '
+            'stroke="#d62728" stroke-width="2" fill="none"/>')
+
+
+def _flags(picture: Picture, scale: Scale, places: dict[str, float]) -> list[str]:
+    lines: list[str] = []
+    stacked: dict[tuple[int, str], int] = {}
+    for moment, lane, text in picture.flags:
+        row = stacked.get((moment, lane), 0)
+        stacked[moment, lane] = row + 1
+        is_left = lane == picture.lanes[0]
+        x = places[lane] + (-10 if is_left else 10)
+        colour = STATES.get(text, "#111111")
+        weight = ' font-weight="bold"' if text in STATES or text.startswith(("path", "[")) else ""
+        lines.append(_text(x, scale.at(moment) + 4 + FLAG * row, text, "end" if is_left else "start", colour, weight))
+    return lines
+
+
+def _legend(width: float, height: float) -> list[str]:
+    lines, x = [], 20.0
+    for name, colour in (("check", COLOURS["check"]), ("check with USE-CANDIDATE", COLOURS["asking"]), ("answer", COLOURS["answer"]),
+                         ("487", COLOURS["failure"]), *STATES.items()):
+        lines.append(f'<rect x="{x:.0f}" y="{height - 20:.0f}" width="11" height="8" fill="{colour}"/>')
+        lines.append(_text(x + 15, height - 12, name, "start", "#555555", 'font-size="10"'))
+        x += 28 + 6 * len(name)
+    return lines
+
+
+def _text(x: float, y: float, text: str, anchor: str, colour: str, more: str = "") -> str:
+    return f'<text x="{x:.1f}" y="{y:.1f}" text-anchor="{anchor}" fill="{colour}" {more}>{escape(text)}</text>'
