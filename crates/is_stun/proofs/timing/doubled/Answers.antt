@@ -1,4 +1,4 @@
-use Rattle.std.proofs.Common.{◌≡◌, ◌*◌, ◌%◌, ◌^◌, arith}
+use Rattle.std.proofs.Common.{◌≡◌, ◌*◌, ◌%◌, ◌^◌, rules, arith}
 use Rattle.std.proofs.lemmas.Nat.{shl_whole}
 use Rattle.is_stun.proofs.TimingLemmas.{min-doubled}
 use Rattle.is_stun.proofs.timing.doubled.Goals as goal
@@ -9,4 +9,4 @@ returns c =
     let whole : (c.args.number * 2 ^ c.min.result) % 2 ^ 128 ≡ c.args.number * 2 ^ c.min.result =
     shl_whole c.args.number 64 c.min.result 128 (omega arith) (omega arith) in
     let doubled = min-doubled c.args.number times 64 c.args.greatest (omega arith) in
-    cc
+    search (whole, doubled, rules)
