@@ -3,8 +3,9 @@
  *     peer [-l] [-a ADDRESS].. [-s SERVER[:PORT]] [-L] [-m TEXT] [-t SECONDS] controlling|controlled
  *
  * It binds a socket at each address of the machine's interfaces (-a: at these addresses alone; -l: at loopback ones too),
- * asks the STUN server what addresses it sees, and prints its signal as a line, which the other peer's standard input is to
- * read; candidates that come later are lines of their own. It reads the same from its own standard input:
+ * asks the STUN server what addresses it sees, and prints its signal as a line, and candidates that come later as lines of
+ * their own: standard output is what the other peer's standard input is to read. What happens is told on standard error. It
+ * reads from standard input:
  *
  *     signal UFRAG PASSWORD LINE,LINE,..   the other peer's signal
  *     candidate:..                         a candidate of the other peer's
@@ -94,7 +95,7 @@ static void note_path(struct session *s, const is_event *event)
     s->path_from = event->source;
     s->path_to = event->destination;
     s->has_path = true;
-    printf("path %s %s\n", net_text(&event->source, from), net_text(&event->destination, to));
+    fprintf(stderr, "path %s %s\n", net_text(&event->source, from), net_text(&event->destination, to));
 }
 
 static void note_state(struct session *s, int32_t state)
@@ -102,7 +103,7 @@ static void note_state(struct session *s, int32_t state)
     static const char *const names[] = {"New", "Checking", "Connected", "Completed", "Disconnected"};
     s->state = state;
     if (state == IS_DISCONNECTED) s->has_path = false;
-    printf("state %s\n", names[state]);
+    fprintf(stderr, "state %s\n", names[state]);
 }
 
 static void note_all(struct session *s)
@@ -111,31 +112,29 @@ static void note_all(struct session *s)
     is_event event = {0};
     while (warn("event", is_agent_poll_event(&s->agent, &event)) == IS_OK) {
         switch (event.kind) {
-        case IS_RESTARTED: printf("session begins\n"); break;
+        case IS_RESTARTED: fprintf(stderr, "session begins\n"); break;
         case IS_STATE_CHANGED: note_state(s, event.state); break;
         case IS_DISCOVERED_RECV:
             s->sources[s->source_count++ % SOURCES] = event.source;
-            printf("source %s\n", net_text(&event.source, text));
+            fprintf(stderr, "source %s\n", net_text(&event.source, text));
             break;
         case IS_NOMINATED_SEND: note_path(s, &event); break;
         default: break;
         }
-        fflush(stdout);
     }
 }
 
 /* ---- what comes by the sockets */
 
 /* Prints what the other peer says, where it comes from an address that authentic packets came from. */
-static void hear(struct session *s, const is_address *from, const uint8_t *bytes, size_t length)
+static void hear(struct session *s, const is_address *from, uint8_t *bytes, size_t length)
 {
     bool is_known = false;
     for (size_t i = 0; i < SOURCES && i < s->source_count; i++) is_known = is_known || net_equal(from, &s->sources[i]);
     if (!is_known) return;
-    printf("heard ");
-    for (size_t i = 0; i < length; i++) putchar(bytes[i] < ' ' || bytes[i] == 127 ? '?' : bytes[i]);
-    printf("\n");
-    fflush(stdout);
+    for (size_t i = 0; i < length; i++)
+        if (bytes[i] < ' ' || bytes[i] == 127) bytes[i] = '?';
+    fprintf(stderr, "heard %.*s\n", (int)length, (const char *)bytes);
     s->has_heard = true;
 }
 
@@ -181,11 +180,11 @@ static void print_stats(struct session *s)
     is_stats stats;
     is_nominated path;
     if (warn("stats", is_agent_stats(&s->agent, &stats)) != IS_OK) return;
-    printf("stats sent %llu answered %llu served %llu lost %llu", (unsigned long long)stats.bind_request_sent, (unsigned long long)stats.bind_success_recv,
-           (unsigned long long)stats.bind_request_recv, (unsigned long long)s->net.lost);
-    if (is_agent_nominated(&s->agent, &path) == IS_OK && path.has_rtt) printf(" last round trip %llu us", (unsigned long long)(path.rtt / 1000));
-    printf("\n");
-    fflush(stdout);
+    fprintf(stderr, "stats sent %llu answered %llu served %llu lost %llu", (unsigned long long)stats.bind_request_sent,
+            (unsigned long long)stats.bind_success_recv, (unsigned long long)stats.bind_request_recv, (unsigned long long)s->net.lost);
+    if (is_agent_nominated(&s->agent, &path) == IS_OK && path.has_rtt)
+        fprintf(stderr, " last round trip %llu us", (unsigned long long)(path.rtt / 1000));
+    fprintf(stderr, "\n");
 }
 
 static void take_line(struct session *s, char *line)

@@ -24,7 +24,7 @@ class Peer:
     runs = []
 
     def __init__(self, *words):
-        self.run = subprocess.Popen([PEER, *words], stdin=subprocess.PIPE, stdout=subprocess.PIPE, stderr=subprocess.PIPE, text=True, bufsize=1)
+        self.run = subprocess.Popen([PEER, *words], stdin=subprocess.PIPE, stdout=subprocess.PIPE, stderr=subprocess.STDOUT, text=True, bufsize=1)
         self.lines, self.told = queue.Queue(), []
         threading.Thread(target=self.read, daemon=True).start()
         Peer.runs.append(self.run)
@@ -46,7 +46,7 @@ class Peer:
             except queue.Empty:
                 raise Failed(f"no line {begins!r} among {self.told}") from None
             if line is None:
-                raise Failed(f"ended before {begins!r}, behind {self.told}; {self.run.stderr.read()}")
+                raise Failed(f"ended before {begins!r}, behind {self.told}")
             self.told.append(line)
 
     def hears(self, line):
@@ -54,15 +54,15 @@ class Peer:
         self.run.stdin.flush()
 
     def ends(self, status=0):
-        """Waits for the end, and returns what was written to standard error."""
+        """Waits for the end, and returns the lines that were not asked for."""
         try:
             got = self.run.wait(PATIENCE)
         except subprocess.TimeoutExpired:
             raise Failed(f"no end behind {self.told}") from None
-        error = self.run.stderr.read()
+        self.told += iter(self.lines.get, None)
         if got != status:
-            raise Failed(f"status {got}: {error} {self.told}")
-        return error
+            raise Failed(f"status {got}: {self.told}")
+        return "\n".join(self.told)
 
 
 def pair(*words, roles=ROLES):

@@ -29,6 +29,7 @@ mod event;
 mod ffi;
 mod preference;
 mod proto;
+mod settings;
 pub mod stun;
 
 pub use agent::IceAgent;
