@@ -146,7 +146,8 @@ static void gathered(struct session *s, size_t index, const is_address *mapped)
     candidate.protocol = IS_UDP;
     candidate.address = *mapped;
     candidate.base = s->net.addresses[index];
-    if (warn("server reflexive candidate", is_agent_add_local(&s->agent, &candidate)) == IS_OK) warn("candidate", signal_print_last(&s->agent));
+    if (warn("server reflexive candidate", is_agent_add_local(&s->agent, &candidate)) == IS_OK)
+        warn("candidate", signal_print_last(&s->agent));
 }
 
 static void receive(struct session *s, size_t index)
@@ -361,7 +362,8 @@ int main(int count, char **words)
     session.end = options.patience == UINT64_MAX ? UINT64_MAX : net_now() + options.patience;
     run(&session);
     if (session.net.lost > 0)
-        fprintf(stderr, "peer: %llu datagrams could not be sent: %s\n", (unsigned long long)session.net.lost, strerror(session.net.lost_why));
+        fprintf(stderr, "peer: %llu datagrams could not be sent: %s\n", (unsigned long long)session.net.lost,
+                strerror(session.net.lost_why));
     is_agent_free(&session.agent);
     net_close(&session.net);
     return session.is_late ? 1 : 0;

@@ -174,7 +174,8 @@ void net_bind_all(struct net *net, bool loopback)
         bool is_up = (at->ifa_flags & IFF_UP) != 0, is_loopback = (at->ifa_flags & IFF_LOOPBACK) != 0;
         if (!at->ifa_addr || !is_up || (is_loopback && !loopback)) continue;
         if (!address_of(at->ifa_addr, &own) || is_link_local(&own)) continue;
-        if (!bind_at(net, &own)) fprintf(stderr, "peer: %s: %s\n", at->ifa_name, net->count == NET_SOCKETS ? "too many addresses" : strerror(errno));
+        if (bind_at(net, &own)) continue;
+        fprintf(stderr, "peer: %s: %s\n", at->ifa_name, net->count == NET_SOCKETS ? "too many addresses" : strerror(errno));
     }
     freeifaddrs(list);
 }
