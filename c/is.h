@@ -235,7 +235,9 @@ typedef struct is_preference_table {
  * IS_OK. IS_TOO_FEW_RANDOM_BYTES: fewer than 38. IS_BUFFER_TOO_SHORT: no password was written, and perhaps a user
  * fragment. IS_OUT_OF_MEMORY. On any thread. */
 enum { IS_CREDENTIALS_RANDOM = 38, IS_UFRAG_LENGTH = 16, IS_PASS_LENGTH = 22 };
-IS_CALL int32_t is_make_credentials(const uint8_t *random, size_t random_length, uint8_t *ufrag, size_t ufrag_length, uint8_t *pass, size_t pass_length);
+IS_CALL int32_t is_make_credentials(
+    const uint8_t *random, size_t random_length, uint8_t *ufrag, size_t ufrag_length, uint8_t *pass,
+    size_t pass_length);
 
 /* is_agent_new - makes an agent under these credentials of its own.
  *
@@ -244,7 +246,9 @@ IS_CALL int32_t is_make_credentials(const uint8_t *random, size_t random_length,
  * is_agent_free; and the calling thread is the agent's.
  *
  * IS_OK. IS_HAS_AGENT: there is one, which stays. IS_NOT_UTF8. IS_CREDENTIALS_TOO_LONG. IS_OUT_OF_MEMORY. */
-IS_CALL int32_t is_agent_new(is_agent *agent, const uint8_t *ufrag, size_t ufrag_length, const uint8_t *pass, size_t pass_length, uint64_t tie_breaker);
+IS_CALL int32_t is_agent_new(
+    is_agent *agent, const uint8_t *ufrag, size_t ufrag_length, const uint8_t *pass, size_t pass_length,
+    uint64_t tie_breaker);
 
 /* is_agent_free - frees the agent, where there is one, with all that waits in it. The is_agent holds none then, and may be
  * given to is_agent_new again. */
@@ -307,13 +311,15 @@ IS_QUIET_CALL int32_t is_agent_reset_local_preference(is_agent *agent);
  * Candidates that were added keep the user fragment that they were told under.
  *
  * IS_OK. IS_NOT_UTF8. IS_CREDENTIALS_TOO_LONG. IS_OUT_OF_MEMORY. */
-IS_CALL int32_t is_agent_set_local_credentials(is_agent *agent, const uint8_t *ufrag, size_t ufrag_length, const uint8_t *pass, size_t pass_length);
+IS_CALL int32_t is_agent_set_local_credentials(
+    is_agent *agent, const uint8_t *ufrag, size_t ufrag_length, const uint8_t *pass, size_t pass_length);
 
 /* is_agent_set_remote_credentials - sets the other agent's credentials, as signalling tells of them. Before it no check is
  * sent, and up to 100 requests of the other agent's wait.
  *
  * IS_OK. IS_NOT_UTF8. IS_CREDENTIALS_TOO_LONG. IS_OUT_OF_MEMORY. */
-IS_CALL int32_t is_agent_set_remote_credentials(is_agent *agent, const uint8_t *ufrag, size_t ufrag_length, const uint8_t *pass, size_t pass_length);
+IS_CALL int32_t is_agent_set_remote_credentials(
+    is_agent *agent, const uint8_t *ufrag, size_t ufrag_length, const uint8_t *pass, size_t pass_length);
 
 /* ---- candidates: at any time, also while media goes */
 
@@ -386,13 +392,17 @@ IS_CALL int32_t is_agent_handle_timeout(is_agent *agent, uint64_t now, const uin
  *
  * IS_OK: it was for this agent. IS_NOTHING: a STUN message that was not. IS_UNPARSED: no STUN message, as media.
  * IS_BAD_ADDRESS: a family or the protocol is none. IS_PAIR_IDS_EXHAUSTED. IS_OUT_OF_MEMORY. */
-IS_CALL int32_t is_agent_handle_packet(is_agent *agent, uint64_t now, uint8_t protocol, const is_address *source, const is_address *destination, const uint8_t *bytes, size_t length);
+IS_CALL int32_t is_agent_handle_packet(
+    is_agent *agent, uint64_t now, uint8_t protocol, const is_address *source, const is_address *destination,
+    const uint8_t *bytes, size_t length);
 
 /* is_agent_accepts_packet - tells whether is_agent_handle_packet would take the datagram, and changes nothing: for several
  * agents on one socket. Takes no memory.
  *
  * IS_OK: it would. IS_NOTHING, IS_UNPARSED: it would not. IS_BAD_ADDRESS: as there. */
-IS_CALL int32_t is_agent_accepts_packet(is_agent *agent, uint8_t protocol, const is_address *source, const is_address *destination, const uint8_t *bytes, size_t length);
+IS_CALL int32_t is_agent_accepts_packet(
+    is_agent *agent, uint8_t protocol, const is_address *source, const is_address *destination, const uint8_t *bytes,
+    size_t length);
 
 /* is_agent_accepts_message - tells whether the message is one for this agent, wherever it came from, and changes nothing.
  * Takes no memory.
@@ -425,7 +435,9 @@ IS_CALL int32_t is_agent_poll_event(is_agent *agent, is_event *event);
  * signalling tells anew is set again. Media goes on where it went, until the next IS_NOMINATED_SEND.
  *
  * IS_OK. IS_NOT_UTF8. IS_CREDENTIALS_TOO_LONG. IS_OUT_OF_MEMORY. */
-IS_CALL int32_t is_agent_restart(is_agent *agent, const uint8_t *ufrag, size_t ufrag_length, const uint8_t *pass, size_t pass_length, bool keep_local_candidates);
+IS_CALL int32_t is_agent_restart(
+    is_agent *agent, const uint8_t *ufrag, size_t ufrag_length, const uint8_t *pass, size_t pass_length,
+    bool keep_local_candidates);
 
 /* is_agent_recreate_pairs - forms the pairs anew, of all candidates; checks that are under way count no more.
  *

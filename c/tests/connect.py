@@ -24,7 +24,8 @@ class Peer:
     runs = []
 
     def __init__(self, *words):
-        self.run = subprocess.Popen([PEER, *words], stdin=subprocess.PIPE, stdout=subprocess.PIPE, stderr=subprocess.STDOUT, text=True, bufsize=1)
+        pipe = subprocess.PIPE
+        self.run = subprocess.Popen([PEER, *words], stdin=pipe, stdout=pipe, stderr=subprocess.STDOUT, text=True, bufsize=1)
         self.lines, self.told = queue.Queue(), []
         threading.Thread(target=self.read, daemon=True).start()
         Peer.runs.append(self.run)
@@ -221,11 +222,10 @@ def silent_server():
 
 def errors():
     """What can't be done is said on standard error, and stops nothing that can."""
-    for words, error in ((("nobody",), "usage"), (("-a", "example", "controlled"), "example: "), (("-a", "203.0.113.1", "controlled"), "203.0.113.1: "),
-                         (("-t", "x", "controlled"), "no number of seconds: x")):
-        peer = Peer(*words)
-        if error not in peer.ends(2):
-            raise Failed(f"{words}")
+    for words, error in (("nobody", "usage"), ("-a example controlled", "example: "), ("-a 203.0.113.1 controlled", "203.0.113.1: "),
+                         ("-t x controlled", "no number of seconds: x"), ("-s [::1 controlled", "[::1: ")):
+        if error not in Peer(*words.split()).ends(2):
+            raise Failed(words)
     a, b = pair("-a", "127.0.0.1")
     a.hears("nobody hears this")
     a.hears("signal alone")
