@@ -218,22 +218,31 @@ fn settings_and_lines_are_told(rt: HostRuntime) {
     assert_eq!(rt; added, codes::OK);
     let told = is_agent_local_candidate(alloc, &mut slot, 0, &mut line, &mut length);
     assert_eq!(rt; told, codes::OK);
+    assert_eq!(rt; length, 85);
+    assert!(rt; line[51..85] == b" 10.0.0.1 1000 typ host ufrag AAAA"[..]);
     let after = is_agent_local_candidate(alloc, &mut slot, 1, &mut line, &mut length);
     assert_eq!(rt; after, codes::NOTHING);
-    assert!(rt; line[length - 10..length] == b"ufrag AAAA"[..]);
     is_agent_free(alloc, &mut slot);
 }
 
 #[test]
-fn a_refusal_tells_its_message(rt: HostRuntime) {
+fn a_refused_line_tells_its_fault(rt: HostRuntime) {
     let alloc = rt.alloc();
     let mut text = [0; 40];
     let mut length = 0;
     let told = is_line_refusal(alloc, b"candidate:1 x", &mut text, &mut length);
     assert_eq!(rt; told, codes::OK);
     assert!(rt; text[..length] == b"candidate:1 x: bad component-id"[..]);
-    let short = is_line_refusal(alloc, b"candidate:1 x", &mut text[..30], &mut length);
+}
+
+#[test]
+fn a_refusal_wants_a_message_and_room(rt: HostRuntime) {
+    let alloc = rt.alloc();
+    let mut text = [0; 30];
+    let mut length = 0;
+    let short = is_line_refusal(alloc, b"candidate:1 x", &mut text, &mut length);
     assert_eq!(rt; short, codes::BUFFER_TOO_SHORT);
+    assert_eq!(rt; length, 31);
     let unread = is_line_refusal(alloc, b"\xff", &mut text, &mut length);
     assert_eq!(rt; unread, codes::NOT_UTF8);
     let line = b"candidate:1 1 udp 2130706175 10.0.0.2 2000 typ host";
