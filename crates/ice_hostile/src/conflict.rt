@@ -2,15 +2,13 @@
 use crate::agents::{at, creds, ms};
 use crate::broken::Broken;
 use is::{
-    AgentSpec, Answer, Call, Candidate, DefaultSha1HmacProvider, LocalPreference, Protocol, Side,
-    World, WorldEntry, WorldEvent, WorldLog,
+    AgentSpec, Answer, Call, Candidate, DefaultSha1HmacProvider, Protocol, Side, World, WorldEntry,
+    WorldEvent, WorldLog,
 };
 use rand_core::SeedableRng;
 use rand_pcg::Pcg32;
 use std::alloc::Global;
 use std::io::Write;
-
-type Event = WorldEvent<Box<dyn LocalPreference>>;
 
 type Pair = World<DefaultSha1HmacProvider>;
 
@@ -59,7 +57,7 @@ fn host(alloc: Global, side: Side) -> Result<Candidate, Broken> {
 }
 
 /// An agent learns of its peer, and is told the moment 0: three calls and one more.
-fn introduce(alloc: Global, side: Side, events: &mut Vec<Event>) -> Result<(), Broken> {
+fn introduce(alloc: Global, side: Side, events: &mut Vec<WorldEvent>) -> Result<(), Broken> {
     let peer = creds(alloc, ufrag_of(other(side)), "password")?;
     events.push(WorldEvent::Call(side, Call::SetRemoteCredentials(peer)))?;
     let own = host(alloc, side)?;
@@ -72,7 +70,7 @@ fn introduce(alloc: Global, side: Side, events: &mut Vec<Event>) -> Result<(), B
 }
 
 /// The packet of this number arrives as it was sent, at the agent that did not send it.
-fn arrival(packet: usize, sender: Side, now: u64) -> Event {
+fn arrival(packet: usize, sender: Side, now: u64) -> WorldEvent {
     WorldEvent::Deliver {
         packet,
         now: ms(now),
@@ -83,7 +81,7 @@ fn arrival(packet: usize, sender: Side, now: u64) -> Event {
 }
 
 /// Packet 0 is A's check, 1 is B's; B's arrives at A, and 2 is A's 487.
-fn begin(alloc: Global, events: &mut Vec<Event>) -> Result<(), Broken> {
+fn begin(alloc: Global, events: &mut Vec<WorldEvent>) -> Result<(), Broken> {
     introduce(alloc, Side::A, events)?;
     introduce(alloc, Side::B, events)?;
     events.push(arrival(1, Side::B, 10))?;
@@ -92,7 +90,7 @@ fn begin(alloc: Global, events: &mut Vec<Event>) -> Result<(), Broken> {
 }
 
 /// 50 events in which B waits, checks again and sends.
-fn wait(events: &mut Vec<Event>) -> Result<(), Broken> {
+fn wait(events: &mut Vec<WorldEvent>) -> Result<(), Broken> {
     for turn in 1..26u64 {
         let now = ms(turn.saturating_mul(100));
         events.push(WorldEvent::Call(Side::B, Call::HandleTimeout(now)))?;
@@ -164,7 +162,7 @@ fn write_roles<W: Write>(name: &str, log: &WorldLog, output: &mut W) -> Result<(
     Ok(())
 }
 
-fn run(alloc: Global, events: Vec<Event>) -> Result<WorldLog, Broken> {
+fn run(alloc: Global, events: Vec<WorldEvent>) -> Result<WorldLog, Broken> {
     let mut pair = make_pair(alloc)?;
     let mut random = Pcg32::seed_from_u64(1);
     Ok(pair.run(events, &mut random))

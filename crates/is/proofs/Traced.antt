@@ -21,7 +21,7 @@ use Rattle.is.specs.declared.calls.Answer.TheVariants as answer
 use Rattle.is.specs.declared.world.Side.{Side}
 use Rattle.is.specs.declared.traces.Trace.{Trace}
 use Rattle.is.specs.declared.world.WorldEntry.{WorldEntry}
-use Rattle.is.specs.declared.world.WorldEvent.{WorldEvent}
+use Rattle.is.specs.declared.world.TwoAgentsEvent.{TwoAgentsEvent}
 use Rattle.is.specs.Views.{answer_view}
 use Rattle.is.specs.World as world
 use Rattle.is.specs.declared.world.WorldLog.{WorldLog}
@@ -114,21 +114,21 @@ came_back path way (world.Call side c) came back = absurd (let wrong : None ≡ 
 came_back path way (world.Poll side) came back = absurd (let wrong : None ≡ Some way = came in cc)
 
 -- an entry of the list, and its place in the log
-record Entered {P : Type 0} (events : List (WorldEvent P)) (entries : List WorldEntry) (n : ℕ) (x : Logged P) : Type 0 where
-  event : WorldEvent P
+record Entered {P : Type 0} (events : List (TwoAgentsEvent P)) (entries : List WorldEntry) (n : ℕ) (x : Logged P) : Type 0 where
+  event : TwoAgentsEvent P
   entry : WorldEntry
   found : slice_get entries n ≡ Some entry
   is : x ≡ logged_as event entry
 
 module _ {P : Type 0} where
-  logged_at : (events : List (WorldEvent P)) (entries : List WorldEntry) → length entries ≡ length events → (n : ℕ) (e : WorldEntry) → slice_get entries n ≡ Some e
-      → (v : WorldEvent P) × (slice_get (logged events entries) n ≡ Some (logged_as v e))
+  logged_at : (events : List (TwoAgentsEvent P)) (entries : List WorldEntry) → length entries ≡ length events → (n : ℕ) (e : WorldEntry) → slice_get entries n ≡ Some e
+      → (v : TwoAgentsEvent P) × (slice_get (logged events entries) n ≡ Some (logged_as v e))
   logged_at events [] count n e h = absurd (let wrong : None ≡ Some e = h in cc)
   logged_at [] (f ∷ entries) count n e h = absurd (let none : ⊥ = omega (arith, count) in none)
   logged_at (v ∷ events) (f ∷ entries) count zero e h = (v, (let same : f ≡ e = cc in ap (λ x. Some (logged_as v x)) same))
   logged_at (v ∷ events) (f ∷ entries) count (suc n) e h = logged_at events entries (omega (arith, count)) n e h
 
-  entered : (events : List (WorldEvent P)) (entries : List WorldEntry) (n : ℕ) (x : Logged P) → slice_get (logged events entries) n ≡ Some x → Entered events entries n x
+  entered : (events : List (TwoAgentsEvent P)) (entries : List WorldEntry) (n : ℕ) (x : Logged P) → slice_get (logged events entries) n ≡ Some x → Entered events entries n x
   entered [] entries n x h = absurd (let wrong : None ≡ Some x = h in cc)
   entered (v ∷ events) [] n x h = absurd (let wrong : None ≡ Some x = h in cc)
   entered (v ∷ events) (e ∷ entries) zero x h = record { event = v; entry = e; found = refl; is = (let w : Some (logged_as v e) ≡ Some x = h in cc) }
@@ -170,7 +170,7 @@ module _ {H P : Type 0} (mac : H → List ℕ → List ℕ → List ℕ) (answer
       record { mid = more.mid; u = more.u; after = more.after; v = more.v; m = more.m; led = (mid, u, number, happens, more.led); happens = more.happens; leads = more.leads }
 
   module _ (paths : PathLaw {H = H} {P = P} mac answers) (roles : RoleLaw {H = H} {P = P} mac answers) (fresh_sound : FreshIsSound H P)
-      (events : List (WorldEvent P)) (entries : List WorldEntry) (count : length entries ≡ length events)
+      (events : List (TwoAgentsEvent P)) (entries : List WorldEntry) (count : length entries ≡ length events)
       (first last : WorldRecord H P) (s t : Stream) (ran : world.Run mac answers first s 0 (logged events entries) last t) (greater : Side) (fair : IsFairWorld first greater (logged events entries)) where
     abbrev Log : List (Logged P)
     Log = logged events entries
@@ -214,7 +214,7 @@ module _ {H P : Type 0} (mac : H → List ℕ → List ℕ → List ℕ) (answer
 
       -- what is seen in the front is an entry of the log, at this number at the latest
       record Shows (m : ℕ) (e : Told) : Type 0 where
-        event : WorldEvent P
+        event : TwoAgentsEvent P
         entry : WorldEntry
         found : slice_get entries m ≡ Some entry
         is : told_at (logged_as event entry) ≡ e
@@ -323,12 +323,12 @@ module _ {H P : Type 0} (mac : H → List ℕ → List ℕ → List ℕ) (answer
 
 -- ---- whole logs
 
-logged_none : {P : Type 0} (events : List (WorldEvent P)) → logged events [] ≡ []
+logged_none : {P : Type 0} (events : List (TwoAgentsEvent P)) → logged events [] ≡ []
 logged_none [] = refl
 logged_none (v ∷ events) = refl
 
 module _ {H P : Type 0} (mac : H → List ℕ → List ℕ → List ℕ) (answers : P → CandidateRecord → ℕ → ℕ → Type 0) where
-  ran_or_none : (first last : WorldRecord H P) (s t : Stream) (events : List (WorldEvent P)) (log : WorldLog) → IsWorldLog mac answers first s events log last t
+  ran_or_none : (first last : WorldRecord H P) (s t : Stream) (events : List (TwoAgentsEvent P)) (log : WorldLog) → IsWorldLog mac answers first s events log last t
       → (log.entries.items ≡ []) ⊎ ((length log.entries.items ≡ length events) × world.Run mac answers first s 0 (logged events log.entries.items) last t)
   ran_or_none first last s t events log h =
       elim log.stopped as (λ b. MatchBool b ((log.entries.items ≡ []) × (last ≡ first) × (t ≡ s)) ((length log.entries.items ≡ length events) × world.Run mac answers first s 0 (logged events log.entries.items) last t)
@@ -336,21 +336,21 @@ module _ {H P : Type 0} (mac : H → List ℕ → List ℕ → List ℕ) (answer
       [ true ↦ λ k. inl k.0 | false ↦ λ k. inr k ] h
 
   module _ (paths : PathLaw {H = H} {P = P} mac answers) (roles : RoleLaw {H = H} {P = P} mac answers) (fresh_sound : FreshIsSound H P) where
-    pub log_keeps : (first last : WorldRecord H P) (s t : Stream) (events : List (WorldEvent P)) (log : WorldLog) → IsWorldLog mac answers first s events log last t
+    pub log_keeps : (first last : WorldRecord H P) (s t : Stream) (events : List (TwoAgentsEvent P)) (log : WorldLog) → IsWorldLog mac answers first s events log last t
         → GreaterKeeps first (logged events log.entries.items)
     log_keeps first last s t events log h greater fair = elim (ran_or_none first last s t events log h) [
       | inl none ↦ subst (λ xs. AllByRecursion (λ x. role_in greater x ≡ (world.at greater first).controlling) xs) (sym (ap (logged events) none ∙ logged_none events)) tt
       | inr ran ↦ greater_keeps mac answers paths roles fresh_sound first last s t 0 (logged events log.entries.items) ran.1 greater fair
     ]
 
-    pub log_yields : (first last : WorldRecord H P) (s t : Stream) (events : List (WorldEvent P)) (log : WorldLog) → IsWorldLog mac answers first s events log last t
+    pub log_yields : (first last : WorldRecord H P) (s t : Stream) (events : List (TwoAgentsEvent P)) (log : WorldLog) → IsWorldLog mac answers first s events log last t
         → LesserYieldsOnce first (logged events log.entries.items)
     log_yields first last s t events log h greater fair = elim (ran_or_none first last s t events log h) [
       | inl none ↦ subst (λ xs. changes (world.at (other greater) first).controlling (map (role_in (other greater)) xs) ≤ 1) (sym (ap (logged events) none ∙ logged_none events)) (omega arith)
       | inr ran ↦ lesser_yields_once mac answers paths roles fresh_sound first last s t 0 (logged events log.entries.items) ran.1 greater fair
     ]
 
-    pub log_traced : (first last : WorldRecord H P) (s t : Stream) (events : List (WorldEvent P)) (log : WorldLog) → IsWorldLog mac answers first s events log last t
+    pub log_traced : (first last : WorldRecord H P) (s t : Stream) (events : List (TwoAgentsEvent P)) (log : WorldLog) → IsWorldLog mac answers first s events log last t
         → AnnouncedAreTraced first (logged events log.entries.items) log.entries.items
     log_traced first last s t events log h greater side fair never n place path at = elim (ran_or_none first last s t events log h) [
       | inl none ↦ absurd (empty_at log.entries.items none n at.0 at.1)

@@ -2,17 +2,17 @@
 use Rattle.std.proofs.Common.{◌≡◌, ℕ, suc, List, [], ◌∷◌, ◌++◌, length, ◌+◌, true, false, refl, ap, sym, ◌∙◌, subst, arith}
 use Rattle.rand_core.specs.Stream.{Stream}
 use Rattle.is_candidate.specs.Candidates.{CandidateRecord}
-use Rattle.is.specs.declared.world.WorldEvent.{WorldEvent}
+use Rattle.is.specs.declared.world.TwoAgentsEvent.{TwoAgentsEvent}
 use Rattle.is.specs.declared.world.WorldEntry.{WorldEntry}
 use Rattle.is.specs.World.{WorldRecord, Logged, logged_as, logged, Run, Happens}
 
-pub logged-push : {P : Type 0} (events : List (WorldEvent P)) (entries : List WorldEntry) (v : WorldEvent P) (e : WorldEntry) → length entries ≡ length events → logged (events ++ v ∷ []) (entries ++ e ∷ []) ≡ logged events entries ++ logged_as v e ∷ []
+pub logged-push : {P : Type 0} (events : List (TwoAgentsEvent P)) (entries : List WorldEntry) (v : TwoAgentsEvent P) (e : WorldEntry) → length entries ≡ length events → logged (events ++ v ∷ []) (entries ++ e ∷ []) ≡ logged events entries ++ logged_as v e ∷ []
 logged-push [] [] v e h = refl
 logged-push [] (f ∷ entries) v e h = cc
 logged-push (d ∷ events) [] v e h = cc
 logged-push (d ∷ events) (f ∷ entries) v e h = ap (λ log. logged_as d f ∷ log) (logged-push events entries v e (omega arith))
 
-pub length-logged : {P : Type 0} (events : List (WorldEvent P)) (entries : List WorldEntry) → length entries ≡ length events → length (logged events entries) ≡ length events
+pub length-logged : {P : Type 0} (events : List (TwoAgentsEvent P)) (entries : List WorldEntry) → length entries ≡ length events → length (logged events entries) ≡ length events
 length-logged [] [] h = refl
 length-logged [] (f ∷ entries) h = cc
 length-logged (d ∷ events) [] h = cc

@@ -25,8 +25,8 @@ use Rattle.is.specs.declared.world.Side.TheVariants.{A, B}
 use Rattle.is.specs.declared.world.AgentSpec.{AgentSpec}
 use Rattle.is.specs.declared.world.Letter as code
 use Rattle.is.specs.declared.world.TwoAgents.{TwoAgents}
-use Rattle.is.specs.declared.world.WorldEvent.{WorldEvent}
-use Rattle.is.specs.declared.world.WorldEvent.TheVariants as event
+use Rattle.is.specs.declared.world.TwoAgentsEvent.{TwoAgentsEvent}
+use Rattle.is.specs.declared.world.TwoAgentsEvent.TheVariants as event
 use Rattle.is.specs.declared.world.WorldEntry.{WorldEntry}
 use Rattle.is.specs.declared.world.WorldLog.{WorldLog}
 use Rattle.is.specs.Views.{call_view, answer_view}
@@ -91,7 +91,7 @@ pub data Event (P : Type 0) : Type 0 where
   -- a packet of the bag, the moment, and the way by which it arrives
   Deliver : ℕ → ℕ → Path → Event P
 
-abbrev pub event_view : {P : Type 0} → WorldEvent P → Event P
+abbrev pub event_view : {P : Type 0} → TwoAgentsEvent P → Event P
 event_view (event.Call side c) = Call side (call_view c)
 event_view (event.Poll side) = Poll side
 event_view (event.Deliver packet now proto source destination) =
@@ -188,11 +188,11 @@ pub record Logged (P : Type 0) : Type 0 where
   pub event : Event P
   pub outcome : Outcome
 
-abbrev pub logged_as : {P : Type 0} → WorldEvent P → WorldEntry → Logged P
+abbrev pub logged_as : {P : Type 0} → TwoAgentsEvent P → WorldEntry → Logged P
 logged_as v e = record { number = e.number; event = event_view v; outcome = outcome_of e }
 
 -- in order
-abbrev pub logged : {P : Type 0} → List (WorldEvent P) → List WorldEntry → List (Logged P)
+abbrev pub logged : {P : Type 0} → List (TwoAgentsEvent P) → List WorldEntry → List (Logged P)
 logged [] entries = []
 logged (v ∷ events) [] = []
 logged (v ∷ events) (e ∷ entries) = logged_as v e ∷ logged events entries
@@ -205,7 +205,7 @@ module _ {H P : Type 0} (mac : H → List ℕ → List ℕ → List ℕ) (answer
       (mid : WorldRecord H P) × (u : Stream) × (x.number ≡ n) × Happens mac answers first s x.event x.outcome mid u × Run mid u (suc n) rest last t
 
   -- one entry for each event, in order, or nothing done
-  abbrev pub IsWorldLog : WorldRecord H P → Stream → List (WorldEvent P) → WorldLog → WorldRecord H P → Stream → Type 0
+  abbrev pub IsWorldLog : WorldRecord H P → Stream → List (TwoAgentsEvent P) → WorldLog → WorldRecord H P → Stream → Type 0
   IsWorldLog old s events log new t =
       MatchBool log.stopped
       ((log.entries.items ≡ []) × (new ≡ old) × (t ≡ s))

@@ -2,7 +2,7 @@
 use Rattle.std.specs.Prelude.{ℕ, List}
 use Rattle.rand_core.specs.Stream.{Stream}
 use Rattle.is_candidate.specs.Candidates.{CandidateRecord}
-use Rattle.is.specs.declared.world.WorldEvent.{WorldEvent}
+use Rattle.is.specs.declared.world.TwoAgentsEvent.{TwoAgentsEvent}
 use Rattle.is.specs.declared.world.WorldLog.{WorldLog}
 use Rattle.is.specs.World.{WorldRecord, Logged, logged, IsWorldLog}
 use Rattle.is.specs.WorldRoles.{GreaterKeeps, LesserYieldsOnce, RolesDifferOnceMet}
@@ -11,12 +11,12 @@ use Rattle.is.specs.Traces.{AnnouncedAreTraced}
 module _ {H P : Type 0} (mac : H → List ℕ → List ℕ → List ℕ) (answers : P → CandidateRecord → ℕ → ℕ → Type 0) where
   abbrev pub KeepsLaw : Type 0
   KeepsLaw =
-      (first last : WorldRecord H P) (s t : Stream) (events : List (WorldEvent P)) (log : WorldLog) → IsWorldLog mac answers first s events log last t
+      (first last : WorldRecord H P) (s t : Stream) (events : List (TwoAgentsEvent P)) (log : WorldLog) → IsWorldLog mac answers first s events log last t
       → GreaterKeeps first (logged events log.entries.items)
 
   abbrev pub YieldsLaw : Type 0
   YieldsLaw =
-      (first last : WorldRecord H P) (s t : Stream) (events : List (WorldEvent P)) (log : WorldLog) → IsWorldLog mac answers first s events log last t
+      (first last : WorldRecord H P) (s t : Stream) (events : List (TwoAgentsEvent P)) (log : WorldLog) → IsWorldLog mac answers first s events log last t
       → LesserYieldsOnce first (logged events log.entries.items)
 
   abbrev pub DiffersLaw : Type 0
@@ -24,5 +24,5 @@ module _ {H P : Type 0} (mac : H → List ℕ → List ℕ → List ℕ) (answer
 
   abbrev pub TracedLaw : Type 0
   TracedLaw =
-      (first last : WorldRecord H P) (s t : Stream) (events : List (WorldEvent P)) (log : WorldLog) → IsWorldLog mac answers first s events log last t
+      (first last : WorldRecord H P) (s t : Stream) (events : List (TwoAgentsEvent P)) (log : WorldLog) → IsWorldLog mac answers first s events log last t
       → AnnouncedAreTraced first (logged events log.entries.items) log.entries.items

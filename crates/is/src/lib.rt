@@ -31,7 +31,9 @@ pub use is_proto::{
 pub use is_rules::told::{Issued, Path};
 pub use runs::{RunLog, run};
 pub use traces::Trace;
-pub use world::{AgentSpec, Letter, Side, TwoAgents, World, WorldEntry, WorldEvent, WorldLog};
+pub use world::{
+    AgentSpec, Letter, Side, TwoAgents, TwoAgentsEvent, World, WorldEntry, WorldEvent, WorldLog,
+};
 
 /// The type states of `CandidateBuilder`.
 pub mod candidate {

@@ -42,9 +42,12 @@ pub struct Letter {
     pub(crate) packet: Transmit,
 }
 
-/// What happens in a world. Local candidates may be preferred by an object of `P`.
+/// What happens in a world whose local candidates may be preferred by boxed objects.
+pub type WorldEvent = TwoAgentsEvent<Box<dyn LocalPreference>>;
+
+/// What happens to two agents whose local candidates may be preferred by an object of `P`.
 #[derive(Drop)]
-pub enum WorldEvent<P> {
+pub enum TwoAgentsEvent<P> {
     /// An agent is called. `Packet`, `SetControlling` and `SetControlTieBreaker` are no calls of a world.
     Call(Side, AgentCall<P>),
     /// The next packet of the agent, if there is one, is sent off.
@@ -339,20 +342,20 @@ impl<H: Sha1HmacProvider + Drop, P: LocalPreference> TwoAgents<H, P> {
     }
 
     /// One event.
-    fn happen<R: Rng>(&mut self, number: usize, event: WorldEvent<P>, rng: &mut R) -> WorldEntry
+    fn happen<R: Rng>(&mut self, number: usize, event: TwoAgentsEvent<P>, rng: &mut R) -> WorldEntry
         ensures did { Happens H.mac P.answers (world_of self.old) (R.stream rng.old) (event_view event) (outcome_of result) (world_of self.new) (R.stream rng.new) }
         ensures numbered { result.number ≡ number }
     {
         match event {
-            WorldEvent::Call(side, call) => {
+            TwoAgentsEvent::Call(side, call) => {
                 if in_world(&call) {
                     self.turn(side, number, call, rng)
                 } else {
                     self.stand(number, Answer::NotInWorld, Some(side))
                 }
             }
-            WorldEvent::Poll(side) => self.poll(side, number),
-            WorldEvent::Deliver {
+            TwoAgentsEvent::Poll(side) => self.poll(side, number),
+            TwoAgentsEvent::Deliver {
                 packet,
                 now,
                 proto,
@@ -370,7 +373,7 @@ impl<H: Sha1HmacProvider + Drop, P: LocalPreference> TwoAgents<H, P> {
     }
 
     /// Room for all entries is taken before the first event.
-    fn run_events<R: Rng>(&mut self, events: Vec<WorldEvent<P>>, rng: &mut R) -> WorldLog
+    fn run_events<R: Rng>(&mut self, events: Vec<TwoAgentsEvent<P>>, rng: &mut R) -> WorldLog
         ensures { IsWorldLog H.mac P.answers (world_of self.old) (R.stream rng.old) events.items result (world_of self.new) (R.stream rng.new) }
     {
         let alloc = *events.allocator();
@@ -394,7 +397,7 @@ impl<H: Sha1HmacProvider + Drop, P: LocalPreference> TwoAgents<H, P> {
     /// `new` made it.
     ///
     /// Room for all entries is taken first. Where that is refused nothing is done, and the log says so.
-    pub fn run<R: Rng>(&mut self, events: Vec<WorldEvent<P>>, rng: &mut R) -> WorldLog
+    pub fn run<R: Rng>(&mut self, events: Vec<TwoAgentsEvent<P>>, rng: &mut R) -> WorldLog
         // The log is a run of both agents' steps: one entry for each event, in order, or nothing done.
         ensures log { IsWorldLog H.mac P.answers (world_of self.old) (R.stream rng.old) events.items result (world_of self.new) (R.stream rng.new) }
 

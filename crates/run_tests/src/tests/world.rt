@@ -5,7 +5,7 @@ mod roles;
 mod traces;
 
 use super::*;
-use is::{AgentSpec, LocalPreference, World, WorldEntry, WorldEvent, WorldLog};
+use is::{AgentSpec, World, WorldEntry, WorldEvent, WorldLog};
 
 type Two = World<DefaultSha1HmacProvider>;
 
@@ -48,7 +48,7 @@ fn opening() -> [Event; 8] {
     ]
 }
 
-fn event_of(alloc: Global, event: Event) -> Option<WorldEvent<Box<dyn LocalPreference>>> {
+fn event_of(alloc: Global, event: Event) -> Option<WorldEvent> {
     match event {
         Event::Do(side, step) => Some(WorldEvent::Call(side, call(alloc, side, step)?)),
         Event::Poll(side) => Some(WorldEvent::Poll(side)),
@@ -68,10 +68,7 @@ fn event_of(alloc: Global, event: Event) -> Option<WorldEvent<Box<dyn LocalPrefe
 }
 
 /// The events, part by part.
-fn events_of(
-    alloc: Global,
-    parts: &[&[Event]],
-) -> Option<Vec<WorldEvent<Box<dyn LocalPreference>>>> {
+fn events_of(alloc: Global, parts: &[&[Event]]) -> Option<Vec<WorldEvent>> {
     let mut all = Vec::new(alloc);
     for part in parts {
         for next in *part {
