@@ -5,7 +5,9 @@ from __future__ import annotations
 from dataclasses import dataclass
 from random import Random
 
-from .clock import nanoseconds
+from .clock import BEGINNING, nanoseconds
+
+NEVER = 1 << 63
 
 
 @dataclass(frozen=True)
@@ -15,8 +17,8 @@ class LinkSettings:
     delay_ms: float = 5.0
     jitter_ms: float = 0.0  # added, evenly from 0 to this
     loss: float = 0.0  # each packet by itself
-    burst: float = 0.0  # how likely a burst, in which all is lost, begins with a packet
-    burst_packets: float = 4.0  # how many packets a burst takes, on average
+    burst_every_s: float = 0.0  # how long it is good on average between two bursts, in which all is lost; 0: there are none
+    burst_ms: float = 200.0  # how long a burst takes, on average
     duplicate: float = 0.0
     reorder: float = 0.0  # how likely a packet is held back, and overtaken
     reorder_ms: float = 20.0  # for how long
@@ -30,13 +32,14 @@ class Link:
     def __init__(self, settings: LinkSettings, random: Random) -> None:
         self.settings = settings
         self._random = random
-        self._bursting = False
+        self._is_bursting = False
+        self._turns = self._later(BEGINNING, settings.burst_every_s * 1000)  # when a burst begins, or ends
         self._free = 0  # when the packet before has gone out
         self._last = 0  # when the packet before arrives
 
     def carry(self, now: int, size: int) -> list[int]:
         """The moments at which a packet of so many bytes arrives: none where it is lost, two where it is duplicated."""
-        if self._is_lost():
+        if self._is_lost(now):
             return []
         gone = self._sent(now, size)
         if gone is None:
@@ -46,15 +49,15 @@ class Link:
             arrivals.append(self._arrival(gone))
         return arrivals
 
-    def _is_lost(self) -> bool:
+    def _later(self, moment: int, mean_ms: float) -> int:
+        return moment + nanoseconds(self._random.expovariate(1 / mean_ms)) if mean_ms else NEVER
+
+    def _is_lost(self, now: int) -> bool:
         s = self.settings
-        if s.burst:
-            ends = self._bursting and self._random.random() < 1 / max(1.0, s.burst_packets)
-            begins = not self._bursting and self._random.random() < s.burst
-            self._bursting = begins or (self._bursting and not ends)
-            if self._bursting:
-                return True
-        return bool(s.loss) and self._random.random() < s.loss
+        while self._turns <= now:
+            self._is_bursting = not self._is_bursting
+            self._turns = self._later(self._turns, s.burst_ms if self._is_bursting else s.burst_every_s * 1000)
+        return self._is_bursting or (bool(s.loss) and self._random.random() < s.loss)
 
     def _sent(self, now: int, size: int) -> int | None:
         s = self.settings

@@ -97,7 +97,7 @@ class Gateway:
         hop(packet, now, self.name)
         turns_back = packet.destination.ip == settings.outside
         if turns_back and not settings.hairpinning:
-            lose(packet, now, f"{self.name} does not hairpin")
+            lose(packet, now, f"no hairpin at {self.name}")
             return
         packet.source = self.nat.outgoing(now, packet.source, packet.destination)
         if turns_back:
@@ -111,7 +111,7 @@ class Gateway:
         hop(packet, now, self.name)
         inside = self.nat.incoming(now, packet.source, packet.destination)
         if inside is None:
-            lose(packet, now, f"{self.name} lets it not in")
+            lose(packet, now, f"filtered by {self.name}")
             return
         packet.destination = inside
         self.inner.route(packet)

@@ -70,7 +70,7 @@ def flag_of(event: IceAgentEvent) -> str:
     if isinstance(event, DiscoveredRecv):
         return f"hears {event.source}"
     if isinstance(event, IceRestart):
-        return "begins" if event.creds else "restarts"
+        return "session begins"
     return event.state.name.capitalize()
 
 

@@ -10,7 +10,10 @@ from xml.sax.saxutils import escape
 COLOURS = ("#1f77b4", "#d62728", "#2ca02c", "#9467bd", "#ff7f0e", "#17becf", "#8c564b", "#e377c2", "#7f7f7f", "#bcbd22",
            "#393b79", "#637939", "#843c39", "#7b4173")
 WIDTH, HEIGHT = 860, 440
-LEFT, RIGHT, TOP, BOTTOM = 62, 230, 40, 52
+LEFT, TOP, BOTTOM = 62, 40, 52
+# What a letter of the legend takes, about.
+LETTER = 6.7
+PLOT = 570
 
 
 @dataclass(frozen=True)
@@ -88,14 +91,15 @@ def svg(title: str, x: str, y: str, curves: Sequence[Curve]) -> str:
     """A plot from 0 on, with its legend at the right."""
     right = max((p[0] for c in curves for p in c.points), default=1.0) or 1.0
     top = max((p[1] for c in curves for p in c.points), default=1.0) or 1.0
-    wide, high = WIDTH - LEFT - RIGHT, HEIGHT - TOP - BOTTOM
+    wide, high = PLOT, max(HEIGHT - TOP - BOTTOM, 18 * len(curves) + 10)
+    width, height = LEFT + PLOT + 48 + round(LETTER * max((len(c.label) for c in curves), default=0)), TOP + high + BOTTOM
 
     def at(px: float, py: float) -> tuple[float, float]:
         return LEFT + wide * px / right, TOP + high * (1 - py / (top * 1.03))
 
-    lines = [f'<svg xmlns="http://www.w3.org/2000/svg" width="{WIDTH}" height="{HEIGHT}" viewBox="0 0 {WIDTH} {HEIGHT}" '
+    lines = [f'<svg xmlns="http://www.w3.org/2000/svg" width="{width}" height="{height}" viewBox="0 0 {width} {height}" '
              'font-family="sans-serif" font-size="12">',
-             f'<rect width="{WIDTH}" height="{HEIGHT}" fill="#ffffff"/>',
+             f'<rect width="{width}" height="{height}" fill="#ffffff"/>',
              _text(LEFT + wide / 2, 22, title, "middle", 'font-size="15" font-weight="bold"')]
     for tick in ticks(right):
         px, _ = at(tick, 0)
@@ -106,7 +110,7 @@ def svg(title: str, x: str, y: str, curves: Sequence[Curve]) -> str:
         lines.append(_line(LEFT, py, LEFT + wide, py, "#e4e4e4"))
         lines.append(_text(LEFT - 8, py + 4, f"{tick:g}", "end"))
     lines.append(f'<rect x="{LEFT}" y="{TOP}" width="{wide}" height="{high}" fill="none" stroke="#555555"/>')
-    lines.append(_text(LEFT + wide / 2, HEIGHT - 12, x, "middle"))
+    lines.append(_text(LEFT + wide / 2, height - 12, x, "middle"))
     lines.append(_text(0, 0, y, "middle", f'transform="translate(16 {TOP + high / 2:g}) rotate(-90)"'))
     for number, curve in enumerate(curves):
         lines += _curve(curve, [at(*point) for point in curve.points], number)
@@ -117,7 +121,7 @@ def _curve(curve: Curve, points: Sequence[tuple[float, float]], number: int) -> 
     dash = ' stroke-dasharray="6 4"' if curve.dashed else ""
     path = " ".join(f"{px:.1f},{py:.1f}" for px, py in _thinned(points))
     py = TOP + 10 + 18 * number
-    px = WIDTH - RIGHT + 14
+    px = LEFT + PLOT + 14
     return [f'<polyline points="{path}" fill="none" stroke="{curve.colour}" stroke-width="1.8"{dash}/>',
             f'<line x1="{px}" y1="{py}" x2="{px + 22}" y2="{py}" stroke="{curve.colour}" stroke-width="2.4"{dash}/>',
             _text(px + 28, py + 4, curve.label, "start")]

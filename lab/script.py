@@ -59,7 +59,7 @@ def _take(picture: Picture, transactions: Transactions, moment: int, lane: str, 
         picture.flags.append((moment, lane, words[3]))
         picture.states.append((moment, lane, words[3]))
     elif words[1:3] == ["event", "restart"]:
-        picture.flags.append((moment, lane, "begins"))
+        picture.flags.append((moment, lane, "session begins"))
         picture.states.append((moment, lane, "Checking"))
     elif words[1:3] == ["event", "discovered"]:
         picture.flags.append((moment, lane, f"hears {words[4]}"))

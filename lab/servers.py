@@ -94,7 +94,7 @@ class Server:
         port, datagram = packet.destination.port, packet.datagram
         client = self._clients.get(port)
         if client is None or datagram is None or (port, packet.source.ip) not in self._permitted:
-            lose(packet, self._network.clock.now, "the relay lets it not in")
+            lose(packet, self._network.clock.now, "not permitted at the relay")
             return
         word = Relayed(SocketAddress(self.address.ip, port), packet.source, datagram)
         self._network.route(Packet(self.address, client, word, len(datagram.contents) + WRAPPED, datagram))

@@ -9,7 +9,9 @@ from .picture import Picture, Way
 
 COLOURS = {"check": "#1f77b4", "asking": "#6a3d9a", "answer": "#2ca02c", "failure": "#d62728"}
 STATES = {"New": "#bdbdbd", "Checking": "#f0b429", "Connected": "#7bc96f", "Completed": "#1b8a3a", "Disconnected": "#d62728"}
-MARGIN_LEFT, MARGIN_RIGHT, TOP, LANE, FLAG = 300, 300, 78, 250, 13
+TOP, LANE, FLAG = 78, 250, 13
+# What the moments at the left take, and a letter of a flag, about.
+TIMES, LETTER = 72, 6.9
 
 
 class Scale:
@@ -38,8 +40,9 @@ class Scale:
 def draw(picture: Picture) -> str:
     """The SVG."""
     scale = Scale(picture)
-    places = {lane: MARGIN_LEFT + LANE * n for n, lane in enumerate(picture.lanes)}
-    width, height = MARGIN_LEFT + LANE * (len(places) - 1) + MARGIN_RIGHT, scale.bottom + 34
+    left, right = TIMES + _room(picture, picture.lanes[0]), max(_room(picture, lane) for lane in picture.lanes[1:])
+    places = {lane: left + LANE * n for n, lane in enumerate(picture.lanes)}
+    width, height = round(left + LANE * (len(places) - 1) + right), scale.bottom + 34
     lines = [f'<svg xmlns="http://www.w3.org/2000/svg" width="{width}" height="{height:.0f}" viewBox="0 0 {width} {height:.0f}" '
              'font-family="sans-serif" font-size="11">',
              f'<rect width="{width}" height="{height:.0f}" fill="#ffffff"/>',
@@ -52,6 +55,10 @@ def draw(picture: Picture) -> str:
     lines += _flags(picture, scale, places)
     lines += _legend(width, height)
     return "\n".join([*lines, "</svg>", ""])
+
+
+def _room(picture: Picture, lane: str) -> float:
+    return 24 + LETTER * max((len(text) for _, of, text in picture.flags if of == lane), default=10)
 
 
 def told(moment: int) -> str:
@@ -94,12 +101,12 @@ def _way(way: Way, scale: Scale, places: dict[str, float]) -> list[str]:
     path = " ".join(f"{x:.1f},{y:.1f}" for x, y in points)
     lines = [f'<polyline points="{path}" fill="none" stroke="{colour}" stroke-width="1.5"{dash}/>']
     lines.append(_cross(*points[-1]) if is_cut else _head(points[-2], points[-1], colour))
-    if is_cut and not way.toward:
+    if is_cut:
         x, y = points[-1]
-        lines.append(_text(x + 8, y + 12, way.end, "start", "#d62728", 'font-size="9"'))
+        is_right = points[-1][0] > points[-2][0]
+        lines.append(_text(x + (8 if is_right else -8), y + 4, way.end, "start" if is_right else "end", "#d62728", 'font-size="9"'))
     (x1, y1), (x2, y2) = points[0], points[1]
-    at = 0.5
-    lines.append(_text(x1 + (x2 - x1) * at, y1 + (y2 - y1) * at - 3, way.label, "middle", colour, 'font-size="10"'))
+    lines.append(_text((x1 + x2) / 2, (y1 + y2) / 2 - 3, way.label, "middle", colour, 'font-size="10"'))
     return lines
 
 

@@ -27,9 +27,10 @@ class Links(unittest.TestCase):
         self.assertAlmostEqual(lost / 10000, 0.2, delta=0.02)
 
     def test_bursts_have_their_length(self) -> None:
-        fates = [not arrivals for arrivals in self.carried(LinkSettings(burst=0.01, burst_packets=8), 100000)]
+        fates = [not arrivals for arrivals in self.carried(LinkSettings(burst_every_s=0.1, burst_ms=20), 100000)]
         bursts = sum(now and not before for before, now in zip([False, *fates], fates))
-        self.assertAlmostEqual(sum(fates) / bursts, 8, delta=1)
+        self.assertAlmostEqual(sum(fates) / bursts, 20, delta=2)
+        self.assertAlmostEqual(100000 / bursts, 120, delta=12)
 
     def test_duplicates_are_as_told(self) -> None:
         twice = sum(len(arrivals) == 2 for arrivals in self.carried(LinkSettings(duplicate=0.1)))
@@ -84,7 +85,7 @@ class Ways(unittest.TestCase):
         self.assertEqual(seen.ip, OUTSIDE)
         self.send(there, 2, seen)
         self.assertEqual(self.heard[1][1].destination, SocketAddress(here.ip, 1))
-        self.assertIn("lets it not in", self.send(there, 3, seen).fates[0][1])
+        self.assertIn("filtered by router", self.send(there, 3, seen).fates[0][1])
 
     def test_hairpins_or_none(self) -> None:
         for hairpinning in (True, False):
@@ -96,7 +97,7 @@ class Ways(unittest.TestCase):
             if hairpinning:
                 self.assertEqual([(ip, p.source) for ip, p in self.heard], [(two.ip, outside[0])])
             else:
-                self.assertIn("does not hairpin", fates[0][1])
+                self.assertIn("no hairpin", fates[0][1])
 
     def test_no_way_and_no_interface(self) -> None:
         six = self.interface("2001:db8::1", self.internet)
@@ -121,14 +122,14 @@ class Ways(unittest.TestCase):
         client, peer, stranger = (self.interface(f"192.0.2.{n}", self.internet) for n in (1, 2, 3))
         self.send(client, 1, STUN, AskRelay())
         lent = self.heard.pop()[1].payload.address  # type: ignore[attr-defined]
-        self.assertIn("lets it not in", self.send(peer, 2, lent).fates[0][1])
+        self.assertIn("not permitted", self.send(peer, 2, lent).fates[0][1])
         word = Relayed(lent, SocketAddress(peer.ip, 2), Datagram(0, "a", 0, lent, STUN, b""))
         self.send(client, 1, STUN, word)
         self.assertEqual(self.heard.pop()[1].source, lent)
         self.send(peer, 2, lent)
         back = self.heard.pop()
         self.assertEqual((back[0], back[1].payload.peer), (client.ip, SocketAddress(peer.ip, 2)))  # type: ignore[attr-defined]
-        self.assertIn("lets it not in", self.send(stranger, 2, lent).fates[0][1])
+        self.assertIn("not permitted", self.send(stranger, 2, lent).fates[0][1])
 
 
 if __name__ == "__main__":
