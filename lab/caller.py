@@ -13,7 +13,8 @@ from .scenario import AgentSettings
 from .servers import SMALL, WRAPPED, AskAddress, AskRelay, Permit, Relayed, Told
 from .signalling import Channel, Signal
 
-# A question to a server that was not answered is asked again so often, so much later (RFC 8489, 6.2.1).
+# A question to a server that was not answered is asked so often, so much later at first, then twice as late each time
+# (RFC 8489, 6.2.1).
 QUESTIONS = 7
 PATIENCE = 500_000_000
 
@@ -133,7 +134,7 @@ class Caller:
             self._answered(question)
             return
         interface.send(Packet(socket, server, AskRelay() if is_relay else AskAddress(), SMALL))
-        self._clock.at(self._clock.now + PATIENCE, self._ask, socket, server, is_relay, left - 1)
+        self._clock.at(self._clock.now + (PATIENCE << QUESTIONS - left), self._ask, socket, server, is_relay, left - 1)
 
     def _answered(self, question: tuple[SocketAddress, SocketAddress, bool]) -> None:
         self._asked.discard(question)

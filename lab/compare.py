@@ -8,17 +8,18 @@ from pathlib import Path
 
 from . import figures, plot, pool, scenario
 from .figures import Figures
-from .scenario import Scenario
+from .scenario import AgentSettings, Scenario
 
 
 @dataclass(frozen=True)
 class Setting:
-    """One curve: the scenario under a name of its own, and how it is drawn."""
+    """The scenario under a name of its own, and how its curve is drawn."""
 
     label: str
     scenario: Scenario
-    dashed: bool
     colour: str
+    dashed: bool = False
+    is_drawn: bool = True
 
 
 @dataclass(frozen=True)
@@ -33,56 +34,59 @@ class Question:
     shift: float = 0.0  # milliseconds that are no part of what is asked
 
 
-def _of(name: str, label: str, changes: Sequence[str], dashed: bool, colour: int) -> Setting:
-    made = scenario.load(name, tuple(changes))
-    return Setting(label, replace(made, name=label), dashed, plot.COLOURS[colour])
+# Of the same question's parameter one colour, of the other's a shade of it.
+SHADES = (("#9ecae1", "#4292c6", "#2171b5", "#08306b"), ("#fdae6b", "#f16913", "#d94801", "#7f2704"),
+          ("#a1d99b", "#41ab5d", "#238b45", "#00441b"))
+LOSSES = (0, 5, 20)
+RETRANSMITS = (100, 250, 500)
+INTERFACES = (2, 5, 10)
+ADVANCES = (10, 20, 50, 100)
 
 
 def _first_retransmit() -> list[Setting]:
-    settings = []
-    for colour, loss in enumerate((0.0, 0.05, 0.2)):
-        for rto in (100, 250, 500):
-            changes = [f"link.home.loss={loss / 2}", f"a.initial_rto_ms={rto}", f"b.initial_rto_ms={rto}", 'connects="sometimes"']
-            setting = _of("two_homes", f"first retransmit {rto} ms, loss {loss * 100:g} %", changes, False, 0)
-            shade = (("#9ecae1", "#3182bd", "#08306b"), ("#fdae6b", "#e6550d", "#7f2704"), ("#a1d99b", "#31a354", "#00441b"))
-            settings.append(replace(setting, colour=shade[colour][(100, 250, 500).index(rto)]))
-    return settings
+    return [_retransmit(loss, rto) for loss in range(len(LOSSES)) for rto in range(len(RETRANSMITS))]
+
+
+def _retransmit(loss: int, rto: int) -> Setting:
+    by_link = round(1 - (1 - LOSSES[loss] / 100) ** 0.5, 6)  # two links lie on the way
+    changes = (f"link.home.loss={by_link}", f"a.initial_rto_ms={RETRANSMITS[rto]}",
+               f"b.initial_rto_ms={RETRANSMITS[rto]}", 'connects="sometimes"')
+    label = f"{RETRANSMITS[rto]} ms, {LOSSES[loss]} % lost"
+    return Setting(label, replace(scenario.load("two_homes", changes), name=label), SHADES[loss][rto + (rto > 0)])
 
 
 def _pairs() -> list[Setting]:
-    settings = []
-    for colour, interfaces in enumerate((2, 5, 10)):
-        for advance in (20, 50):
-            for limit in (4, 25, 100):
-                settings.append(_many(interfaces, advance, limit, colour))
-    return settings
+    by_advance = [_many(i, a, 100) for i in range(len(INTERFACES)) for a in range(len(ADVANCES))]
+    by_limit = [_many(i, ADVANCES.index(50), limit) for i in range(len(INTERFACES)) for limit in (4, 25)]
+    return by_advance + by_limit
 
 
-def _many(interfaces: int, advance: int, limit: int, colour: int) -> Setting:
+def _many(interfaces: int, advance: int, limit: int) -> Setting:
     made = scenario.load("many_interfaces")
-    label = f"{interfaces * interfaces} pairs, limit {limit}, advance {advance} ms"
+    count = INTERFACES[interfaces]
+    label = f"{count * count} pairs, advance {ADVANCES[advance]} ms, limit {limit}"
 
-    def side(name: str) -> scenario.AgentSettings:
+    def side(name: str) -> AgentSettings:
         own = made.side(name)
-        return replace(own, interface=own.interface[-interfaces:], max_pairs=limit, advance_ms=advance)
+        return replace(own, interface=own.interface[-count:], max_pairs=limit, advance_ms=ADVANCES[advance])
 
-    shade = (("#08306b", "#3182bd", "#9ecae1"), ("#7f2704", "#e6550d", "#fdae6b"), ("#00441b", "#31a354", "#a1d99b"))
     changed = replace(made, name=label, a=side("a"), b=side("b"), connects="sometimes")
-    return Setting(label, changed, advance == 20, shade[colour][(4, 25, 100).index(limit)])
+    return Setting(label, changed, SHADES[interfaces][advance], is_drawn=limit == 100)
 
 
 def _consent() -> list[Setting]:
     settings = []
-    for colour, (retransmits, greatest) in enumerate(((9, 3000), (5, 3000), (9, 1000), (5, 1000))):
-        changes = [f"{side}.{key}={value}" for side in "ab" for key, value in (("retransmits", retransmits), ("max_rto_ms", greatest))]
-        settings.append(_of("consent", f"{retransmits} checks, at most {greatest} ms apart", changes, False, colour))
+    for number, (retransmits, greatest) in enumerate(((9, 3000), (7, 3000), (5, 3000), (9, 1000))):
+        changes = tuple(f"{side}.{key}={value}" for side in "ab" for key, value in (("retransmits", retransmits), ("max_rto_ms", greatest)))
+        label = f"{retransmits} checks, {greatest} ms apart"
+        settings.append(Setting(label, replace(scenario.load("consent", changes), name=label), plot.COLOURS[number]))
     return settings
 
 
 QUESTIONS = {
-    "first-retransmit": Question("Time to connect, by the first retransmit time", "seconds from the first signal",
+    "first-retransmit": Question("Time to connect, by initial RTO and loss on the way", "seconds from the first signal",
                                  "sessions connected, %", _first_retransmit, lambda f: f.first),
-    "pairs": Question("Time to the first path, of which only the last pair works", "seconds from the first signal",
+    "pairs": Question("Time to connect where only the last pair works", "seconds from the first signal",
                       "sessions connected, %", _pairs, lambda f: f.first),
     "consent": Question("How long consent takes to be lost", "seconds behind the last packet that came through",
                         "sessions that were told, %", _consent, lambda f: f.lost, 10000.0),
@@ -103,7 +107,7 @@ def run(name: str, count: int, seed: int, processes: int, quiet: bool, path: Pat
         cells = ["-" if value is None else f"{value / 1000:.2f}" for value in at]
         print(f"| {s.label} | {told[s.label].sessions} | {100 * len(times) / count:.1f} | {' | '.join(cells)} |")
         end = max(end, (figures.quantile(times, 0.995) or 0.0) / 1000 * 1.05)
-    for s in settings:
+    for s in (s for s in settings if s.is_drawn):
         times = [time - question.shift for time in question.times(told[s.label])]
         curves.append(plot.share_over_time(s.label, times, told[s.label].sessions, end, s.dashed, s.colour))
     plot.write(path, question.title, question.x, question.y, curves, own)
