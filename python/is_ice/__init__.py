@@ -6,7 +6,7 @@ the next moment come out. `python/README.md` shows the loop, and `python/peer.py
 
 from .address import Protocol, SocketAddress
 from .agent import IceAgent, line_refusal, new_creds
-from .candidate import Candidate, CandidateKind
+from .candidate import Candidate, CandidateKind, KindPreferences
 from .errors import (
     BadAddress,
     BadCandidate,
@@ -39,6 +39,6 @@ from .events import (
 __all__ = [
     "BadAddress", "BadCandidate", "BadLimit", "Candidate", "CandidateKind", "CredentialsTooLong", "DiscoveredRecv", "HasAgent",
     "IceAgent", "IceAgentEvent", "IceAgentStats", "IceConnectionState", "IceConnectionStateChange", "IceCreds", "IceError",
-    "IceRestart", "MtuTooSmall", "NoAgent", "NominatedPair", "NominatedSend", "NotUtf8", "OutOfMemory", "PairIdsExhausted",
+    "IceRestart", "KindPreferences", "MtuTooSmall", "NoAgent", "NominatedPair", "NominatedSend", "NotUtf8", "OutOfMemory", "PairIdsExhausted",
     "PriorityTooHigh", "Protocol", "SocketAddress", "TooFewRandomBytes", "Transmit", "Unparsed", "line_refusal", "new_creds",
 ]

@@ -61,8 +61,17 @@ class Nominated(ctypes.Structure):
     _fields_ = [("total_rtt", c_uint64), ("responses", c_uint64), ("rtt", c_uint64), ("has_rtt", c_bool)]
 
 
+class KindPreferences(ctypes.Structure):
+    _fields_ = [("host", c_uint16), ("peer_reflexive", c_uint16), ("server_reflexive", c_uint16), ("relayed", c_uint16)]
+
+
+class PreferenceTable(ctypes.Structure):
+    _fields_ = [("v4", KindPreferences), ("v6", KindPreferences)]
+
+
 # What c/is.h says that the structs take.
-SIZES = {Agent: 16, Address: 28, Candidate: 60, Packet: 72, Event: 68, Status: 32, Stats: 40, Nominated: 32}
+SIZES = {Agent: 16, Address: 28, Candidate: 60, Packet: 72, Event: 68, Status: 32, Stats: 40, Nominated: 32, KindPreferences: 8,
+         PreferenceTable: 16}
 
 _AGENT = POINTER(Agent)
 _BYTES = [c_char_p, c_size_t]
@@ -86,6 +95,7 @@ PROTOTYPES: dict[str, list[object]] = {
     "is_agent_set_mtu": [_AGENT, c_size_t, c_size_t],
     "is_agent_skip_pair_ids": [_AGENT, c_uint64],
     "is_agent_set_local_preference": [_AGENT, c_uint16],
+    "is_agent_set_preference_table": [_AGENT, POINTER(PreferenceTable)],
     "is_agent_reset_local_preference": [_AGENT],
     "is_agent_set_local_credentials": [_AGENT, *_BYTES, *_BYTES],
     "is_agent_set_remote_credentials": [_AGENT, *_BYTES, *_BYTES],

@@ -12,7 +12,7 @@ from types import TracebackType
 
 from . import _abi
 from .address import Protocol, SocketAddress, address_of, in_range, socket_of
-from .candidate import Candidate, struct_of
+from .candidate import Candidate, KindPreferences, struct_of, table_of
 from .errors import BUFFER_TOO_SHORT, BadCandidate, NoAgent, done, error_of
 from .events import (
     DiscoveredRecv,
@@ -142,6 +142,10 @@ class IceAgent:
             done(self._c.is_agent_reset_local_preference(self._at))
         else:
             done(self._c.is_agent_set_local_preference(self._at, in_range(preference, 16, "a preference")))
+
+    def set_preference_table(self, v4: KindPreferences, v6: KindPreferences) -> None:
+        """Local candidates that are added from now on are preferred by kind and IP version, less one for each that came before."""
+        done(self._c.is_agent_set_preference_table(self._at, byref(table_of(v4, v6))))
 
     def set_local_credentials(self, creds: IceCreds) -> None:
         self._with_creds(self._c.is_agent_set_local_credentials, creds)

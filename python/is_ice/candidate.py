@@ -7,7 +7,7 @@ import enum
 from dataclasses import dataclass
 
 from . import _abi
-from .address import Protocol, SocketAddress, address_of
+from .address import Protocol, SocketAddress, address_of, in_range
 
 
 class CandidateKind(enum.IntEnum):
@@ -41,6 +41,25 @@ class Candidate:
     def relayed(address: SocketAddress, local: SocketAddress, protocol: Protocol = Protocol.UDP) -> Candidate:
         """The address that a TURN server lent to the socket `local`."""
         return Candidate(CandidateKind.RELAYED, address, local, protocol)
+
+
+@dataclass(frozen=True)
+class KindPreferences:
+    """Local preferences by kind, for one IP version: numbers up to 65535."""
+
+    host: int
+    peer_reflexive: int
+    server_reflexive: int
+    relayed: int
+
+
+def table_of(v4: KindPreferences, v6: KindPreferences) -> _abi.PreferenceTable:
+    """The library's form of two."""
+    table = _abi.PreferenceTable()
+    for name, preferences in (("v4", v4), ("v6", v6)):
+        for kind, _ in _abi.KindPreferences._fields_:
+            setattr(getattr(table, name), kind, in_range(getattr(preferences, kind), 16, "a preference"))
+    return table
 
 
 def struct_of(candidate: Candidate) -> _abi.Candidate:

@@ -1,8 +1,12 @@
 """The module over the library: two agents connect, calls are refused as they should be, texts and addresses come back."""
 
+import ctypes
+import re
 import threading
 import unittest
+from pathlib import Path
 
+from is_ice import _abi
 from is_ice import (
     BadAddress,
     BadCandidate,
@@ -14,6 +18,7 @@ from is_ice import (
     IceConnectionState,
     IceCreds,
     IceRestart,
+    KindPreferences,
     MtuTooSmall,
     NoAgent,
     NominatedSend,
@@ -169,6 +174,26 @@ class Values(unittest.TestCase):
         high = agent.add_local_candidate(Candidate.host(SocketAddress("10.0.0.3", 1000)))
         assert low is not None and high is not None
         self.assertLess(int(low.split()[3]), int(high.split()[3]))
+
+    def test_preferences_by_kind(self) -> None:
+        agent = IceAgent()
+        agent.set_preference_table(KindPreferences(100, 90, 80, 70), KindPreferences(200, 190, 180, 170))
+        lines = [agent.add_local_candidate(Candidate.host(SocketAddress(ip, 1))) for ip in ("10.0.0.1", "10.0.0.2", "2001:db8::1")]
+        # type preference 126, component 1 (RFC 8445, 5.1.2.1)
+        wanted = [(126 << 24) + (preference << 8) + 255 for preference in (100, 99, 200)]
+        self.assertEqual([int(line.split()[3]) for line in lines if line], wanted)
+
+    def test_structs_take_what_the_header_says(self) -> None:
+        for struct, size in _abi.SIZES.items():
+            self.assertEqual(ctypes.sizeof(struct), size, struct)
+
+    def test_the_header_declares_what_is_called(self) -> None:
+        header = Path(__file__).resolve().parents[2] / "c" / "is.h"
+        if not header.exists():
+            self.skipTest("c/is.h is not there")
+        text = re.sub(r"/\*.*?\*/", "", header.read_text(), flags=re.S)
+        declared = set(re.findall(r"^(?:IS_CALL|IS_QUIET_CALL|uint32_t)\s[^;(]*?\b(is_\w+)\([^)]*\);", text, re.M))
+        self.assertEqual(declared, {*_abi.PROTOTYPES, "is_version", "is_agent_free"})
 
     def test_an_agent_that_is_dropped_elsewhere_is_left_alone(self) -> None:
         kept = [IceAgent()]
