@@ -111,8 +111,9 @@ def _way(datagram: Datagram, lanes: list[str], transactions: Transactions) -> Wa
             stops.append((moment - BEGINNING, place))
     taken = [moment for moment, fate in datagram.fates if fate in ("taken", "refused")]
     if taken:
-        refused = all(fate != "taken" for _, fate in datagram.fates)
-        return Way(label + (" (twice)" if len(taken) > 1 else ""), kind, [*stops, (taken[0] - BEGINNING, goal)], "refused" if refused else "")
+        is_refused = all(fate != "taken" for _, fate in datagram.fates)
+        times = " (twice)" if len(taken) > 1 else ""
+        return Way(label + times, kind, [*stops, (taken[0] - BEGINNING, goal)], "refused" if is_refused else "")
     why = datagram.fates[-1][1] if datagram.fates else "still on its way"
     place = stops[-1][1]
     step = 1 if start == "A" else -1

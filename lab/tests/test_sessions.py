@@ -60,9 +60,10 @@ class Scenarios(unittest.TestCase):
 
     def test_what_does_not_read_is_told(self) -> None:
         side = {"interface": [{"name": "x", "ip": "10.0.0.1"}]}
-        for table, word in (({"a": side}, "side b has no interface"), ({"a": side, "b": side, "speed": 1}, "speed is not known"),
-                            ({"a": side, "b": side, "nat": [{"name": "n", "inner": "i"}]}, "outside is missing"),
-                            ({"a": side, "b": side, "nat": [{"name": "n", "inner": "i", "outside": "1.1.1.1", "mapping": "odd"}]}, "mapping is one of")):
+        sides, nat = {"a": side, "b": side}, {"name": "n", "inner": "i"}
+        for table, word in (({"a": side}, "side b has no interface"), ({**sides, "speed": 1}, "speed is not known"),
+                            ({**sides, "nat": [nat]}, "outside is missing"),
+                            ({**sides, "nat": [{**nat, "outside": "192.0.2.1", "mapping": "odd"}]}, "mapping is one of")):
             with self.assertRaises(scenario.BadScenario) as fault:
                 scenario.scenario_of("x", table)
             self.assertIn(word, str(fault.exception))

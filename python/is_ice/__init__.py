@@ -37,8 +37,9 @@ from .events import (
 )
 
 __all__ = [
-    "BadAddress", "BadCandidate", "BadLimit", "Candidate", "CandidateKind", "CredentialsTooLong", "DiscoveredRecv", "HasAgent",
-    "IceAgent", "IceAgentEvent", "IceAgentStats", "IceConnectionState", "IceConnectionStateChange", "IceCreds", "IceError",
-    "IceRestart", "KindPreferences", "MtuTooSmall", "NoAgent", "NominatedPair", "NominatedSend", "NotUtf8", "OutOfMemory", "PairIdsExhausted",
-    "PriorityTooHigh", "Protocol", "SocketAddress", "TooFewRandomBytes", "Transmit", "Unparsed", "line_refusal", "new_creds",
+    "BadAddress", "BadCandidate", "BadLimit", "Candidate", "CandidateKind", "CredentialsTooLong", "DiscoveredRecv",
+    "HasAgent", "IceAgent", "IceAgentEvent", "IceAgentStats", "IceConnectionState", "IceConnectionStateChange",
+    "IceCreds", "IceError", "IceRestart", "KindPreferences", "MtuTooSmall", "NoAgent", "NominatedPair", "NominatedSend",
+    "NotUtf8", "OutOfMemory", "PairIdsExhausted", "PriorityTooHigh", "Protocol", "SocketAddress", "TooFewRandomBytes",
+    "Transmit", "Unparsed", "line_refusal", "new_creds",
 ]
