@@ -1,11 +1,14 @@
 """Two peers connect over loopback, in each constellation of roles; against aioice where that is installed."""
 
 import asyncio
+import os
 import sys
 import unittest
 from pathlib import Path
 
 PEER = Path(__file__).resolve().parent.parent / "peer.py"
+# The program of c/examples, where it was built.
+C_PEER = Path(os.environ.get("IS_C_PEER") or Path(__file__).resolve().parents[2] / "c" / "out" / "peer")
 ROLES = [("controlling", "controlled"), ("controlled", "controlling"), ("controlling", "controlling"), ("controlled", "controlled")]
 
 try:
@@ -14,9 +17,11 @@ except ImportError:
     aioice = None
 
 
-async def start(role: str) -> asyncio.subprocess.Process:
+async def start(role: str, *program: str) -> asyncio.subprocess.Process:
     pipe = asyncio.subprocess.PIPE
-    return await asyncio.create_subprocess_exec(sys.executable, str(PEER), "-m", "hello", "-t", "15", role, stdin=pipe, stdout=pipe)
+    program = program or (sys.executable, str(PEER))
+    return await asyncio.create_subprocess_exec(*program, "-a", "127.0.0.1", "-m", "hello", "-t", "15", role, stdin=pipe, stdout=pipe,
+                                                stderr=asyncio.subprocess.DEVNULL)
 
 
 async def end(peer: asyncio.subprocess.Process) -> tuple[int, str]:
@@ -25,8 +30,8 @@ async def end(peer: asyncio.subprocess.Process) -> tuple[int, str]:
     return await peer.wait(), told
 
 
-async def two_peers(roles: tuple[str, str]) -> list[tuple[int, str]]:
-    peers = [await start(role) for role in roles]
+async def two_peers(roles: tuple[str, str], *second: str) -> list[tuple[int, str]]:
+    peers = [await start(roles[0]), await start(roles[1], *second)]
     signals = [await peer.stdout.readline() for peer in peers if peer.stdout]
     for peer, signal in zip(peers, reversed(signals)):
         assert peer.stdin is not None
@@ -61,6 +66,14 @@ class Peers(unittest.TestCase):
                     self.assertEqual(status, 0, told)
                     self.assertIn("heard hello", told)
                     self.assertIn("state Completed", told)
+
+    @unittest.skipUnless(C_PEER.exists(), "the program of c/examples is not built (IS_C_PEER names it)")
+    def test_with_the_program_in_c(self) -> None:
+        for roles in ROLES:
+            with self.subTest(roles=roles):
+                (status, told), (their_status, _) = asyncio.run(two_peers(roles, str(C_PEER)))
+                self.assertEqual((status, their_status), (0, 0), told)
+                self.assertIn("heard hello", told)
 
     @unittest.skipIf(aioice is None, "aioice is not installed (Debian's python3-aioice)")
     def test_with_aioice(self) -> None:
