@@ -38,7 +38,7 @@ def share_over_time(label: str, times: Sequence[float], sessions: int, end: floa
 
 def write(path: Path, title: str, x: str, y: str, curves: Sequence[Curve], own: bool = False) -> None:
     """Writes a plot; one whose name ends with .svg is the own SVG where that is wanted, or matplotlib is missing."""
-    curves = [Curve(c.label, c.points, c.dashed, c.colour or COLOURS[n % len(COLOURS)]) for n, c in enumerate(curves)]
+    curves = [Curve(c.label, c.points, c.dashed or n >= len(COLOURS), c.colour or COLOURS[n % len(COLOURS)]) for n, c in enumerate(curves)]
     if not own:
         try:
             _write_by_matplotlib(path, title, x, y, curves)
