@@ -9,6 +9,7 @@ mod rounds;
 mod scripts;
 mod stage;
 mod story;
+mod surface;
 mod world;
 
 use is::stun::{Class, StunMessage, TransId};

@@ -1,0 +1,199 @@
+//! The public types of `is`, and the traits that each has: where one of them goes, this does not compile.
+
+use super::*;
+use is::candidate::{HasProtocol, HasRoute, NoProtocol, NoRoute, Tcp, Udp};
+use is::pair::{BindingAttempt, CandidatePair, CheckState, NominationState, PairId};
+use is::stun::{
+    Attributes, Builder, HasClass, HasMethod, Method, NoMethod, StunMessageBuilder, StunPacket,
+    StunTiming,
+};
+use is::{
+    AgentSpec, CandidateBuilder, CandidateKind, Duration, Entry, FnPreference, IceAgentEvent,
+    IceAgentStats, IceConnectionState, IceError, Letter, LocalCandidates, LocalPreference,
+    ParseFault, PreferenceFunction, RemoteCandidates, Sha1HmacProvider, SocketText, StunError,
+    TcpType, Trace, Transmit, TwoAgents, TwoAgentsEvent, World, WorldEntry, WorldEvent, WorldLog,
+};
+use std::error::Error;
+use std::fmt::{Debug, Display};
+use std::hash::Hash;
+
+type Boxed = Box<dyn LocalPreference>;
+
+fn is_dropped<T: Drop>() {}
+
+fn is_told<T: Debug>() {}
+
+fn is_cloned<T: Clone>() {}
+
+fn is_copied<T: Copy + Debug>() {}
+
+fn is_compared<T: Eq + Debug>() {}
+
+fn is_plain<T: Copy + Eq + Debug>() {}
+
+fn is_key<T: Eq + Hash>() {}
+
+fn is_ordered<T: Ord>() {}
+
+fn has_default<T: Default>() {}
+
+fn is_shown<T: Display>() {}
+
+fn is_error<T: Error>() {}
+
+fn is_from<T, U: From<T>>() {}
+
+fn is_preference<P: LocalPreference>() {}
+
+fn is_provider<H: Sha1HmacProvider>() {}
+
+fn lends<'a, I: Iterator<Item = &'a Candidate> + Clone>() {}
+
+/// A function of the caller's is a preference.
+fn of_function<F: PreferenceFunction>() {
+    is_preference::<FnPreference<F>>();
+}
+
+fn plain_types() {
+    is_plain::<Protocol>();
+    is_plain::<TcpType>();
+    is_plain::<Instant>();
+    is_plain::<Duration>();
+    is_plain::<SocketText>();
+    is_compared::<Transmit>();
+    is_cloned::<Text>();
+    is_compared::<Text>();
+    is_from::<Text, String>();
+    is_plain::<DefaultSha1HmacProvider>();
+    is_provider::<DefaultSha1HmacProvider>();
+}
+
+fn errors() {
+    is_plain::<ParseFault>();
+    is_plain::<StunError>();
+    is_error::<StunError>();
+    is_compared::<IceError>();
+    is_error::<IceError>();
+    is_from::<AllocError, IceError>();
+}
+
+fn messages() {
+    is_plain::<Class>();
+    is_plain::<Method>();
+    is_plain::<Attributes<'static>>();
+    is_plain::<TransId>();
+    is_copied::<StunMessage<'static>>();
+    is_copied::<StunPacket<'static>>();
+    is_copied::<NoMethod>();
+    is_copied::<HasMethod>();
+    is_copied::<HasClass>();
+    is_copied::<Builder<'static, HasMethod>>();
+    is_copied::<StunMessageBuilder<'static, HasClass>>();
+    is_told::<StunTiming>();
+}
+
+fn candidates() {
+    is_plain::<CandidateKind>();
+    is_cloned::<Candidate>();
+    is_compared::<Candidate>();
+    is_copied::<NoProtocol>();
+    is_copied::<HasProtocol<Udp>>();
+    is_copied::<HasProtocol<Tcp>>();
+    is_copied::<Udp>();
+    is_copied::<Tcp>();
+    is_copied::<NoRoute>();
+    is_copied::<HasRoute>();
+    is_copied::<CandidateBuilder<NoProtocol, NoRoute>>();
+    is_copied::<CandidateBuilder<HasProtocol<Tcp>, HasRoute>>();
+    is_preference::<Boxed>();
+    lends::<LocalCandidates<'static>>();
+    lends::<RemoteCandidates<'static>>();
+}
+
+fn pairs() {
+    is_plain::<PairId>();
+    is_plain::<CheckState>();
+    is_plain::<NominationState>();
+    is_copied::<BindingAttempt>();
+    is_told::<CandidatePair>();
+}
+
+fn agents() {
+    is_cloned::<IceCreds>();
+    is_compared::<IceCreds>();
+    is_plain::<IceConnectionState>();
+    is_plain::<IceAgentStats>();
+    is_compared::<IceAgentEvent>();
+    is_plain::<Path>();
+    is_plain::<Issued>();
+    is_dropped::<IceAgent<DefaultSha1HmacProvider>>();
+}
+
+fn runs() {
+    is_dropped::<Call>();
+    is_dropped::<AgentCall<Boxed>>();
+    is_compared::<Answer>();
+    is_compared::<Entry>();
+    is_compared::<RunLog>();
+}
+
+fn worlds() {
+    is_plain::<Side>();
+    is_plain::<Trace>();
+    is_told::<Letter>();
+    is_dropped::<AgentSpec<DefaultSha1HmacProvider>>();
+    is_dropped::<WorldEvent>();
+    is_dropped::<TwoAgentsEvent<Boxed>>();
+    is_dropped::<World<DefaultSha1HmacProvider>>();
+    is_dropped::<TwoAgents<DefaultSha1HmacProvider, Boxed>>();
+    is_compared::<WorldEntry>();
+    is_compared::<WorldLog>();
+}
+
+/// Keys of maps, what is ordered, and what has a default.
+fn keys_orders_and_defaults() {
+    is_key::<Protocol>();
+    is_key::<TcpType>();
+    is_key::<TransId>();
+    is_key::<CandidateKind>();
+    is_key::<Candidate>();
+    is_key::<Text>();
+    is_key::<IceCreds>();
+    is_ordered::<Instant>();
+    is_ordered::<Duration>();
+    is_ordered::<TransId>();
+    has_default::<Attributes<'static>>();
+    has_default::<NoMethod>();
+    has_default::<Builder<'static, NoMethod>>();
+    has_default::<StunTiming>();
+    has_default::<CheckState>();
+    has_default::<NominationState>();
+    has_default::<IceAgentStats>();
+}
+
+/// What is written as text.
+fn texts() {
+    is_shown::<Text>();
+    is_shown::<Protocol>();
+    is_shown::<TcpType>();
+    is_shown::<SocketText>();
+    is_shown::<ParseFault>();
+    is_shown::<StunError>();
+    is_shown::<IceError>();
+    is_shown::<CandidateKind>();
+    is_shown::<Candidate>();
+}
+
+#[test]
+fn types_have_their_traits() {
+    plain_types();
+    errors();
+    messages();
+    candidates();
+    pairs();
+    agents();
+    runs();
+    worlds();
+    keys_orders_and_defaults();
+    texts();
+}
