@@ -17,7 +17,7 @@ use Rattle.is_stun.specs.declared.header.Class.{Class}
 use Rattle.is_stun.specs.declared.header.Class.TheVariants as class
 use Rattle.is_stun.specs.Checks.{binding_request, binding_reply}
 use Rattle.is_stun.specs.Integrity.{IsSignedBy}
-use Rattle.is_stun.specs.Laws.{IsPut, IsWrittenPlain, ReadsBack, SameMessage, WrittenIsRead, FitsInto}
+use Rattle.is_stun.specs.Laws.{IsPut, IsWrittenPlain, ReadsBack, SameMessage, WrittenIsRead, FitsInto, LONGEST_CHECK, LONGEST_REPLY}
 use Rattle.is_stun.specs.Message.{AttributesRecord, Message, split_username}
 use Rattle.is_stun.specs.Reading.{Reads, Fault}
 use Rattle.is_stun.specs.Writing.{written}
@@ -33,7 +33,7 @@ use Rattle.is_rules.specs.Accepting.{HandlesPacket, IsAcceptedAs, IsAcceptedOn, 
 use Rattle.is_rules.specs.Answers.{keeps_check_on}
 use Rattle.is_rules.specs.Checking.{username_between}
 use Rattle.is_rules.specs.Delivery.{IsFragment, IsReachedBy, Sends, Delivered, Issued, IsTaken, ChecksAreServed, RepliesAreAccepted, receives, is_gone_at}
-use Rattle.is_rules.specs.Fitting.{are_too_long}
+use Rattle.is_rules.specs.Fitting.{USERNAME_LIMIT, are_too_long}
 use Rattle.is_rules.specs.Issuing.{Says, IsIssued, key_for, way_out}
 use Rattle.is_rules.specs.Places.{is_live, is_reached, is_sender, local_place, place_by, IsRemotePlace, IsGreatestPlace}
 use Rattle.is_rules.specs.Request.{RequestRecord, request_in, rival_in}
@@ -57,10 +57,10 @@ last_same [] x y h = cc
 last_same (z ∷ xs) x y h = last_same xs x y (let same : z ∷ (xs ++ x ∷ []) ≡ z ∷ (xs ++ y ∷ []) = h in cc)
 
 -- the names of two agents fit into a check
-name_fits : (own peer : IceCreds) → are_too_long own (Some peer) ≡ false → length (username_between peer own) ≤ 508
+name_fits : (own peer : IceCreds) → are_too_long own (Some peer) ≡ false → length (username_between peer own) ≤ USERNAME_LIMIT
 name_fits own peer h =
     let long : length (peer.ufrag ++ 58 ∷ own.ufrag) ≡ length peer.ufrag + length (58 ∷ own.ufrag) = length-append peer.ufrag (58 ∷ own.ufrag) in
-    let within : length own.ufrag + 1 + length peer.ufrag ≤ 508 = grind (arith, h) in
+    let within : length own.ufrag + 1 + length peer.ufrag ≤ USERNAME_LIMIT = grind (arith, h) in
     omega (arith, long, within)
 
 -- what two readings of the same bytes are
@@ -113,7 +113,7 @@ module _ {H P : Type 0} (mac : H → List ℕ → List ℕ → List ℕ) (answer
 
   module _ (read : (m : List ℕ → List ℕ → List ℕ) (key : List ℕ) (x : Message) → WrittenIsRead m key x)
       (fits : (key id username : List ℕ) (controlling : Bool) (tie_breaker priority : ℕ) (nominates : Bool)
-      → length username ≤ 508 → FitsInto key 588 (binding_request username id controlling tie_breaker priority nominates)) where
+      → length username ≤ USERNAME_LIMIT → FitsInto key LONGEST_CHECK (binding_request username id controlling tie_breaker priority nominates)) where
     check_reads : (key : List ℕ) (own peer : IceCreds) (id : List ℕ) (controlling uses : Bool) (tie priority : ℕ) (m : List ℕ → List ℕ → List ℕ) (bytes : List ℕ)
         → ((k text : List ℕ) → length (m k text) ≡ 20) → are_too_long own (Some peer) ≡ false → IsFragment own.ufrag → IsFragment peer.ufrag
         → IsPut bytes (binding_request (username_between peer own) id controlling tie priority uses)
@@ -121,7 +121,7 @@ module _ {H P : Type 0} (mac : H → List ℕ → List ℕ → List ℕ) (answer
         (binding_request (username_between peer own) id controlling tie priority uses)
     check_reads key own peer id controlling uses tie priority m bytes twenty short mine its put =
         let x : Message = binding_request (username_between peer own) id controlling tie priority uses in
-        read m key x twenty 588 (fits key id (username_between peer own) controlling tie priority uses (name_fits own peer short) 588 (omega arith))
+        read m key x twenty LONGEST_CHECK (fits key id (username_between peer own) controlling tie priority uses (name_fits own peer short) LONGEST_CHECK (omega arith))
         (record { class = tt; id = put.values.id; values = put.values.values; demands = rw (splits peer.ufrag own.ufrag its.plain mine.some) refl })
 
   -- ---- where a request is served
@@ -212,7 +212,7 @@ module _ {H P : Type 0} (mac : H → List ℕ → List ℕ → List ℕ) (answer
 
   module _ (read : (m : List ℕ → List ℕ → List ℕ) (key : List ℕ) (x : Message) → WrittenIsRead m key x)
       (fits : (key id username : List ℕ) (controlling : Bool) (tie_breaker priority : ℕ) (nominates : Bool)
-      → length username ≤ 508 → FitsInto key 588 (binding_request username id controlling tie_breaker priority nominates)) where
+      → length username ≤ USERNAME_LIMIT → FitsInto key LONGEST_CHECK (binding_request username id controlling tie_breaker priority nominates)) where
     pub checks-are-served : ChecksAreServed mac answers
     checks-are-served a sent b served check id at e sound_a sound_b know apart reached issued delivered =
         let i = issued_packet a sent class.Request id check sound_a issued in
@@ -299,7 +299,7 @@ module _ {H P : Type 0} (mac : H → List ℕ → List ℕ → List ℕ) (answer
 
   module _ (read : (m : List ℕ → List ℕ → List ℕ) (key : List ℕ) (x : Message) → WrittenIsRead m key x)
       (unscoped : (m : List ℕ → List ℕ → List ℕ) (key : Option (List ℕ)) (x : Message) → IsWrittenPlain m key x)
-      (fits : (key id : List ℕ) (address : SocketAddr) → FitsInto key 76 (binding_reply id address)) where
+      (fits : (key id : List ℕ) (address : SocketAddr) → FitsInto key LONGEST_REPLY (binding_reply id address)) where
     pub replies-are-accepted : RepliesAreAccepted mac answers
     replies-are-accepted a taken b served reply id at e sound_b know issued kept delivered =
         let i = issued_packet b served class.Success id reply sound_b issued in
@@ -319,7 +319,7 @@ module _ {H P : Type 0} (mac : H → List ℕ → List ℕ → List ℕ) (answer
               ∙ ap (λ (y : Message). written (mac b.provider) (Some key) y) (plain-reply q.id q.path.source) in
               let twenty : (k text : List ℕ) → length (mac b.provider k text) ≡ 20 = subst (λ (f : List ℕ → List ℕ → List ℕ). (k text : List ℕ) → length (f k text) ≡ 20) know.alike know.twenty in
               let back : ReadsBack (mac b.provider) key (written (mac b.provider) (Some key) x) x =
-              read (mac b.provider) key x twenty 76 (fits key q.id (carried q.path.source) 76 (omega arith))
+              read (mac b.provider) key x twenty LONGEST_REPLY (fits key q.id (carried q.path.source) LONGEST_REPLY (omega arith))
               (record { class = tt; id = put.values.id; values = put.values.values; demands = refl }) in
               let n : Message = back.read in
               let same : SameMessage n x = back.same in

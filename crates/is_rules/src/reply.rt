@@ -2,7 +2,7 @@
 
 ghost use Rattle.std.specs.Prelude.{◌≡◌, IfSome, Some, None, length};
 ghost use Rattle.is_stun.specs.Checks.{binding_reply, binding_role_conflict_reply};
-ghost use Rattle.is_stun.specs.Laws.{IsClass, IsChannelNumber, IsPut, plain};
+ghost use Rattle.is_stun.specs.Laws.{IsClass, IsChannelNumber, IsPut, LONGEST_REPLY, plain};
 ghost use Rattle.is_stun.specs.MessageView.{message_view};
 ghost use Rattle.is_stun.specs.Writing.{written, refusal};
 ghost use Rattle.is_rules.specs.Sending.{carried};
@@ -42,9 +42,10 @@ pub fn write_reply<H: Sha1HmacProvider>(
     password: &str,
     provider: &H,
 )
-    requires { length reply.old.items ≡ 76 }
+    requires { length reply.old.items ≡ LONGEST_REPLY }
     ensures written { reply.new.items ≡ written (H.mac provider.now) (Some password.now) (binding_reply id.0 mapped_address) }
-    ensures put { IsPut (written (H.mac provider.now) (Some password.now) (binding_reply id.0 mapped_address)) (binding_reply id.0 (carried mapped_address)) }
+    ensures put { IsPut (written (H.mac provider.now) (Some password.now) (binding_reply id.0 mapped_address))
+        (binding_reply id.0 (carried mapped_address)) }
 {
     replies_fit();
     let message = StunMessage::binding_reply(id, mapped_address);
@@ -58,7 +59,7 @@ pub fn write_conflict<H: Sha1HmacProvider>(
     password: &str,
     provider: &H,
 )
-    requires { length reply.old.items ≡ 76 }
+    requires { length reply.old.items ≡ LONGEST_REPLY }
     ensures written { reply.new.items ≡ written (H.mac provider.now) (Some password.now) (binding_role_conflict_reply id.0) }
     ensures put { IsPut (written (H.mac provider.now) (Some password.now) (binding_role_conflict_reply id.0)) (binding_role_conflict_reply id.0) }
 {

@@ -13,6 +13,7 @@ use Rattle.is_stun.specs.ErrorCode.{error_value}
 use Rattle.is_stun.specs.Message.{AttributesRecord}
 use Rattle.is_stun.specs.Writing.{Row, rows_of, if_set, channel_value, network_cost_value, is_longer, has_long_value, is_bad_code}
 use Rattle.is_stun.specs.Laws.{IsId, HasReadableValues}
+use Rattle.is_stun.specs.Numbers.{DATA_LIMIT, TEXT_LIMIT, USERNAME_LIMIT, WRITTEN_TEXT_LIMIT, WRITTEN_USERNAME_LIMIT}
 use Rattle.is_stun.specs.Reading.{value_in}
 use Rattle.is_stun.proofs.WalkLemmas.{option_or-none}
 use Rattle.is_stun.proofs.RoundLemmas.{FitsRow, last_row}
@@ -24,12 +25,12 @@ use Rattle.is_stun.proofs.KindLemmas.{Trips, text_trips, u32_trips, u64_trips, c
 
 -- what is known of values that are not refused
 pub record HasShortValues (a : AttributesRecord) : Type 0 where
-  pub username : IfSome a.username (λ t. length t ≤ 508)
-  pub realm : IfSome a.realm (λ t. length t ≤ 128)
-  pub nonce : IfSome a.nonce (λ t. length t ≤ 128)
-  pub software : IfSome a.software (λ t. length t ≤ 128)
-  pub reason : IfSome a.error_code (λ e. length e.1 ≤ 128)
-  pub bytes : IfSome a.«data» (λ v. length v ≤ 65535)
+  pub username : IfSome a.username (λ t. length t ≤ WRITTEN_USERNAME_LIMIT)
+  pub realm : IfSome a.realm (λ t. length t ≤ WRITTEN_TEXT_LIMIT)
+  pub nonce : IfSome a.nonce (λ t. length t ≤ WRITTEN_TEXT_LIMIT)
+  pub software : IfSome a.software (λ t. length t ≤ WRITTEN_TEXT_LIMIT)
+  pub reason : IfSome a.error_code (λ e. length e.1 ≤ WRITTEN_TEXT_LIMIT)
+  pub bytes : IfSome a.«data» (λ v. length v ≤ DATA_LIMIT)
   pub code : IfSome a.error_code (λ e. (300 ≤ e.0) × (e.0 ≤ 699))
 
 or_parts : (b c : Bool) → (b || c) ≡ false → (b ≡ false) × (c ≡ false)
@@ -40,9 +41,9 @@ short_by : (limit : ℕ) (o : Option (List ℕ)) → is_longer limit o ≡ false
 short_by limit None e = tt
 short_by limit (Some v) e = ltb-false limit (length v) e
 
-short_reason : (o : Option (ℕ × List ℕ)) → is_longer 128 (option_map (λ e. e.1) o) ≡ false → IfSome o (λ e. length e.1 ≤ 128)
+short_reason : (o : Option (ℕ × List ℕ)) → is_longer WRITTEN_TEXT_LIMIT (option_map (λ e. e.1) o) ≡ false → IfSome o (λ e. length e.1 ≤ WRITTEN_TEXT_LIMIT)
 short_reason None e = tt
-short_reason (Some x) e = ltb-false 128 (length x.1) e
+short_reason (Some x) e = ltb-false WRITTEN_TEXT_LIMIT (length x.1) e
 
 good_code : (o : Option (ℕ × List ℕ)) → is_bad_code o ≡ false → IfSome o (λ e. (300 ≤ e.0) × (e.0 ≤ 699))
 good_code None e = tt
@@ -56,41 +57,41 @@ short_values a short code =
     let s = or_parts _ _ r.0 in
     let t = or_parts _ _ s.0 in
     record {
-      username = short_by 508 a.username t.0;
-      realm = short_by 128 a.realm t.1;
-      nonce = short_by 128 a.nonce s.1;
-      software = short_by 128 a.software r.1;
+      username = short_by WRITTEN_USERNAME_LIMIT a.username t.0;
+      realm = short_by WRITTEN_TEXT_LIMIT a.realm t.1;
+      nonce = short_by WRITTEN_TEXT_LIMIT a.nonce s.1;
+      software = short_by WRITTEN_TEXT_LIMIT a.software r.1;
       reason = short_reason a.error_code q.1;
-      bytes = short_by 65535 a.«data» p.1;
+      bytes = short_by DATA_LIMIT a.«data» p.1;
       code = good_code a.error_code code;
     }
 
 -- ---- each attribute, written and read
 
 pub record AllTrip (id : List ℕ) (a : AttributesRecord) : Type 0 where
-  pub username : IfSome a.username (λ t. Trips (text 513) t t)
+  pub username : IfSome a.username (λ t. Trips (text USERNAME_LIMIT) t t)
   pub ice_controlled : IfSome a.ice_controlled (λ x. Trips (number w64 ControlledLength) (to_be_bytes w64 x) x)
   pub ice_controlling : IfSome a.ice_controlling (λ x. Trips (number w64 ControllingLength) (to_be_bytes w64 x) x)
   pub priority : IfSome a.priority (λ x. Trips (number w32 PriorityLength) (to_be_bytes w32 x) x)
   pub xor_mapped_address : IfSome a.xor_mapped_address (λ x. Trips (address_in id) (xor_address id x) x)
-  pub bytes : IfSome a.«data» (λ v. length v ≤ 65535)
+  pub bytes : IfSome a.«data» (λ v. length v ≤ DATA_LIMIT)
   pub xor_relayed_address : IfSome a.xor_relayed_address (λ x. Trips (address_in id) (xor_address id x) x)
   pub xor_peer_address : IfSome a.xor_peer_address (λ x. Trips (address_in id) (xor_address id x) x)
   pub channel_number : IfSome a.channel_number (λ x. Trips channel_number (channel_value x) x)
   pub lifetime : IfSome a.lifetime (λ x. Trips (number w32 LifetimeLength) (to_be_bytes w32 x) x)
-  pub realm : IfSome a.realm (λ t. Trips (text 763) t t)
-  pub nonce : IfSome a.nonce (λ t. Trips (text 763) t t)
+  pub realm : IfSome a.realm (λ t. Trips (text TEXT_LIMIT) t t)
+  pub nonce : IfSome a.nonce (λ t. Trips (text TEXT_LIMIT) t t)
   pub error_code : IfSome a.error_code (λ x. Trips error_code (error_value x) x)
-  pub software : IfSome a.software (λ t. Trips (text 763) t t)
+  pub software : IfSome a.software (λ t. Trips (text TEXT_LIMIT) t t)
   pub network_cost : IfSome a.network_cost (λ c. (c.0 < 2 ^ 16) × (c.1 < 2 ^ 16))
 
-error_by : (o : Option (ℕ × List ℕ)) → IfSome o (λ e. (300 ≤ e.0) × (e.0 ≤ 699)) → IfSome o (λ e. length e.1 ≤ 128) → IfSome o (λ e. IsUtf8 e.1) → IfSome o (λ e. Trips error_code (error_value e) e)
+error_by : (o : Option (ℕ × List ℕ)) → IfSome o (λ e. (300 ≤ e.0) × (e.0 ≤ 699)) → IfSome o (λ e. length e.1 ≤ WRITTEN_TEXT_LIMIT) → IfSome o (λ e. IsUtf8 e.1) → IfSome o (λ e. Trips error_code (error_value e) e)
 error_by None code short utf8 = tt
 error_by (Some e) code short utf8 = error_trips e.0 e.1 code short utf8
 
 pub all_trip : (id : List ℕ) (a : AttributesRecord) → IsId id → HasShortValues a → HasReadableValues a → AllTrip id a
 all_trip id a id_is short values = record {
-  username = if_both a.username (λ t short utf8. text_trips 513 t (omega arith) (omega (arith, short)) utf8) short.username values.username;
+  username = if_both a.username (λ t short utf8. text_trips USERNAME_LIMIT t (omega arith) (omega (arith, short)) utf8) short.username values.username;
   ice_controlled = if_all a.ice_controlled (λ n fits. u64_trips ControlledLength n fits) values.ice_controlled;
   ice_controlling = if_all a.ice_controlling (λ n fits. u64_trips ControllingLength n fits) values.ice_controlling;
   priority = if_all a.priority (λ n fits. u32_trips PriorityLength n fits) values.priority;
@@ -100,10 +101,10 @@ all_trip id a id_is short values = record {
   xor_peer_address = if_all a.xor_peer_address (λ x plain. address_trips id x id_is plain) values.xor_peer_address;
   channel_number = if_all a.channel_number (λ n range. channel_trips n range) values.channel_number;
   lifetime = if_all a.lifetime (λ n fits. u32_trips LifetimeLength n fits) values.lifetime;
-  realm = if_both a.realm (λ t short utf8. text_trips 763 t (omega arith) (omega (arith, short)) utf8) short.realm values.realm;
-  nonce = if_both a.nonce (λ t short utf8. text_trips 763 t (omega arith) (omega (arith, short)) utf8) short.nonce values.nonce;
+  realm = if_both a.realm (λ t short utf8. text_trips TEXT_LIMIT t (omega arith) (omega (arith, short)) utf8) short.realm values.realm;
+  nonce = if_both a.nonce (λ t short utf8. text_trips TEXT_LIMIT t (omega arith) (omega (arith, short)) utf8) short.nonce values.nonce;
   error_code = error_by a.error_code short.code short.reason values.error_code;
-  software = if_both a.software (λ t short utf8. text_trips 763 t (omega arith) (omega (arith, short)) utf8) short.software values.software;
+  software = if_both a.software (λ t short utf8. text_trips TEXT_LIMIT t (omega arith) (omega (arith, short)) utf8) short.software values.software;
   network_cost = values.network_cost;
 }
 
@@ -122,7 +123,7 @@ address_fault-is id v = fault_by (is_ipv4_value v) (is_ipv6_value v) _ _
 pub rows_fit : (id : List ℕ) (a : AttributesRecord) → AllTrip id a → AllByRecursion FitsRow (rows_of id a)
 unfolding value_fault
 rows_fit id a trips = (
-  text_fits 6 (text 513) a.username (omega arith) (λ (e : 6 ≡ 8). absurd (omega (arith, e))) (λ v. refl) (λ v. refl) trips.username,
+  text_fits 6 (text USERNAME_LIMIT) a.username (omega arith) (λ (e : 6 ≡ 8). absurd (omega (arith, e))) (λ v. refl) (λ v. refl) trips.username,
   (
     fits_row 0x8029 (number w64 ControlledLength) (to_be_bytes w64) a.ice_controlled (omega arith) (λ (e : 0x8029 ≡ 8). absurd (omega (arith, e))) (λ v. refl) (λ v. refl) trips.ice_controlled,
     (
@@ -144,13 +145,13 @@ rows_fit id a trips = (
                     (
                       fits_row 0x0D (number w32 LifetimeLength) (to_be_bytes w32) a.lifetime (omega arith) (λ (e : 0x0D ≡ 8). absurd (omega (arith, e))) (λ v. refl) (λ v. refl) trips.lifetime,
                       (
-                        text_fits 0x14 (text 763) a.realm (omega arith) (λ (e : 0x14 ≡ 8). absurd (omega (arith, e))) (λ v. refl) (λ v. refl) trips.realm,
+                        text_fits 0x14 (text TEXT_LIMIT) a.realm (omega arith) (λ (e : 0x14 ≡ 8). absurd (omega (arith, e))) (λ v. refl) (λ v. refl) trips.realm,
                         (
-                          text_fits 0x15 (text 763) a.nonce (omega arith) (λ (e : 0x15 ≡ 8). absurd (omega (arith, e))) (λ v. refl) (λ v. refl) trips.nonce,
+                          text_fits 0x15 (text TEXT_LIMIT) a.nonce (omega arith) (λ (e : 0x15 ≡ 8). absurd (omega (arith, e))) (λ v. refl) (λ v. refl) trips.nonce,
                           (
                             fits_row 9 error_code error_value a.error_code (omega arith) (λ (e : 9 ≡ 8). absurd (omega (arith, e))) (λ v. refl) (λ v. refl) trips.error_code,
                             (
-                              text_fits 0x22 (text 763) a.software (omega arith) (λ (e : 0x22 ≡ 8). absurd (omega (arith, e))) (λ v. refl) (λ v. refl) trips.software,
+                              text_fits 0x22 (text TEXT_LIMIT) a.software (omega arith) (λ (e : 0x22 ≡ 8). absurd (omega (arith, e))) (λ v. refl) (λ v. refl) trips.software,
                               (
                                 cost_fits a.network_cost,
                                 tt,
@@ -240,17 +241,17 @@ network_cost_row id a = simp option_or-none
 pub attributes_back : (id : List ℕ) (a : AttributesRecord) → AllTrip id a → row_attributes id (rows_of id a) ≡ record a { fingerprint = None }
 attributes_back id a trips =
     let rows : List Row = rows_of id a in
-    let username_is : value_in (text 513) (last_row 6 rows) ≡ a.username = ap (value_in (text 513)) (username_row id a) ∙ text_back (text 513) a.username trips.username in
+    let username_is : value_in (text USERNAME_LIMIT) (last_row 6 rows) ≡ a.username = ap (value_in (text USERNAME_LIMIT)) (username_row id a) ∙ text_back (text USERNAME_LIMIT) a.username trips.username in
     let error_code_is : value_in error_code (last_row 9 rows) ≡ a.error_code = ap (value_in error_code) (error_code_row id a) ∙ comes_back error_code error_value a.error_code trips.error_code in
     let channel_number_is : value_in channel_number (last_row 0x0C rows) ≡ a.channel_number = ap (value_in channel_number) (channel_number_row id a) ∙ comes_back channel_number channel_value a.channel_number trips.channel_number in
     let lifetime_is : value_in (number w32 LifetimeLength) (last_row 0x0D rows) ≡ a.lifetime = ap (value_in (number w32 LifetimeLength)) (lifetime_row id a) ∙ comes_back (number w32 LifetimeLength) (to_be_bytes w32) a.lifetime trips.lifetime in
     let xor_peer_address_is : value_in (address_in id) (last_row 0x12 rows) ≡ a.xor_peer_address = ap (value_in (address_in id)) (xor_peer_address_row id a) ∙ comes_back (address_in id) (xor_address id) a.xor_peer_address trips.xor_peer_address in
     let bytes_is : last_row 0x13 rows ≡ a.«data» = bytes_row id a in
-    let realm_is : value_in (text 763) (last_row 0x14 rows) ≡ a.realm = ap (value_in (text 763)) (realm_row id a) ∙ text_back (text 763) a.realm trips.realm in
-    let nonce_is : value_in (text 763) (last_row 0x15 rows) ≡ a.nonce = ap (value_in (text 763)) (nonce_row id a) ∙ text_back (text 763) a.nonce trips.nonce in
+    let realm_is : value_in (text TEXT_LIMIT) (last_row 0x14 rows) ≡ a.realm = ap (value_in (text TEXT_LIMIT)) (realm_row id a) ∙ text_back (text TEXT_LIMIT) a.realm trips.realm in
+    let nonce_is : value_in (text TEXT_LIMIT) (last_row 0x15 rows) ≡ a.nonce = ap (value_in (text TEXT_LIMIT)) (nonce_row id a) ∙ text_back (text TEXT_LIMIT) a.nonce trips.nonce in
     let xor_relayed_address_is : value_in (address_in id) (last_row 0x16 rows) ≡ a.xor_relayed_address = ap (value_in (address_in id)) (xor_relayed_address_row id a) ∙ comes_back (address_in id) (xor_address id) a.xor_relayed_address trips.xor_relayed_address in
     let xor_mapped_address_is : value_in (address_in id) (last_row 0x20 rows) ≡ a.xor_mapped_address = ap (value_in (address_in id)) (xor_mapped_address_row id a) ∙ comes_back (address_in id) (xor_address id) a.xor_mapped_address trips.xor_mapped_address in
-    let software_is : value_in (text 763) (last_row 0x22 rows) ≡ a.software = ap (value_in (text 763)) (software_row id a) ∙ text_back (text 763) a.software trips.software in
+    let software_is : value_in (text TEXT_LIMIT) (last_row 0x22 rows) ≡ a.software = ap (value_in (text TEXT_LIMIT)) (software_row id a) ∙ text_back (text TEXT_LIMIT) a.software trips.software in
     let priority_is : value_in (number w32 PriorityLength) (last_row 0x24 rows) ≡ a.priority = ap (value_in (number w32 PriorityLength)) (priority_row id a) ∙ comes_back (number w32 PriorityLength) (to_be_bytes w32) a.priority trips.priority in
     let use_candidate_is : is_some (value_in (bytes_of_len 0 UseCandidateLength) (last_row 0x25 rows)) ≡ a.use_candidate = ap (λ (o : Option (List ℕ)). is_some (value_in (bytes_of_len 0 UseCandidateLength) o)) (use_candidate_row id a) ∙ flag_back a.use_candidate in
     let ice_controlled_is : value_in (number w64 ControlledLength) (last_row 0x8029 rows) ≡ a.ice_controlled = ap (value_in (number w64 ControlledLength)) (ice_controlled_row id a) ∙ comes_back (number w64 ControlledLength) (to_be_bytes w64) a.ice_controlled trips.ice_controlled in

@@ -12,6 +12,7 @@ use Rattle.is_proto.specs.declared.error.ParseFault.TheVariants.{ChannelRange, U
 use Rattle.is_stun.specs.Kinds.{text, number, bytes_of_len, error_code, channel_number, network_cost, fault_in, value_fault}
 use Rattle.is_stun.specs.ErrorCode.{error_value}
 use Rattle.is_stun.specs.Writing.{row, channel_value, network_cost_value, if_set}
+use Rattle.is_stun.specs.Numbers.{DATA_LIMIT, TEXT_LIMIT, WRITTEN_TEXT_LIMIT}
 use Rattle.is_stun.specs.Reading.{is_skipped, value_in}
 use Rattle.is_stun.proofs.TextLemmas.{text_of}
 use Rattle.is_stun.proofs.RoundLemmas.{tlv_of, FitsRow}
@@ -40,7 +41,7 @@ channel_trips n (low, high) =
           ∙ rw (le-ltb n 0x4000 low, le-ltb 0x7FFF n high) refl;
     }
 
-pub error_trips : (code : ℕ) (reason : List ℕ) → (300 ≤ code) × (code ≤ 699) → length reason ≤ 128 → IsUtf8 reason → Trips error_code (error_value (code, reason)) (code, reason)
+pub error_trips : (code : ℕ) (reason : List ℕ) → (300 ≤ code) × (code ≤ 699) → length reason ≤ WRITTEN_TEXT_LIMIT → IsUtf8 reason → Trips error_code (error_value (code, reason)) (code, reason)
 unfolding error_code
 error_trips code reason (low, high) short utf8 =
     let class : ℕ = code / 100 in
@@ -50,7 +51,7 @@ error_trips code reason (low, high) short utf8 =
     let code_is : 100 * class + code % 100 % 100 ≡ code = omega arith in
     record {
       short = omega (arith, short);
-      back = rw (le-ltb (length (error_value (code, reason))) 4 (omega arith), eq-eqb (class / 8) 0 top, le-ltb class 3 at_least, le-ltb 6 class at_most, text_of 763 reason (omega (arith, short)) utf8, code_is) refl;
+      back = rw (le-ltb (length (error_value (code, reason))) 4 (omega arith), eq-eqb (class / 8) 0 top, le-ltb class 3 at_least, le-ltb 6 class at_most, text_of TEXT_LIMIT reason (omega (arith, short)) utf8, code_is) refl;
     }
 
 -- ---- rows
@@ -87,7 +88,7 @@ text_back read None trips = refl
 text_back read (Some t) trips = ap result_ok trips.back
 
 -- data of any bytes
-pub data_fits : (o : Option (List ℕ)) → IfSome o (λ v. length v ≤ 65535) → FitsRow (row 0x13 o)
+pub data_fits : (o : Option (List ℕ)) → IfSome o (λ v. length v ≤ DATA_LIMIT) → FitsRow (row 0x13 o)
 unfolding value_fault
 data_fits None short = (omega arith, (λ (e : 0x13 ≡ 8). absurd (omega (arith, e))), tt)
 data_fits (Some v) short = (omega arith, (λ (e : 0x13 ≡ 8). absurd (omega (arith, e))), record { short = omega (arith, short); sound = refl; counted = refl })

@@ -7,13 +7,13 @@ use Rattle.std.specs.declared.net.socket_addr.SocketAddr.TheVariants.{V4, V6}
 use Rattle.std.proofs.lemmas.Bool.{le-ltb, lt-ltb}
 use Rattle.is_proto.specs.declared.error.StunError.{StunError}
 use Rattle.is_proto.specs.declared.error.StunError.TheVariants.{BufferTooShort}
-use Rattle.is_stun.specs.Numbers.{USERNAME, ICE_CONTROLLED, ICE_CONTROLLING, PRIORITY, USE_CANDIDATE}
+use Rattle.is_stun.specs.Numbers.{USERNAME, ICE_CONTROLLED, ICE_CONTROLLING, PRIORITY, USE_CANDIDATE, WRITTEN_USERNAME_LIMIT}
 use Rattle.is_stun.specs.Address.{xor_address}
 use Rattle.is_stun.specs.Checks.{binding_request, binding_reply, binding_role_conflict_reply}
 use Rattle.is_stun.specs.Message.{Message}
 use Rattle.is_stun.specs.Tlv.{padded_len}
 use Rattle.is_stun.specs.Writing.{Row, attribute, rows_text, rows_of, value_refusal, rows_refusal, refusal}
-use Rattle.is_stun.specs.Laws.{Takes, FitsInto, CheckTakes, reply_len, check_len}
+use Rattle.is_stun.specs.Laws.{Takes, FitsInto, CheckTakes, LONGEST_CHECK, LONGEST_REPLY, reply_len, check_len}
 use Rattle.is_stun.proofs.RowLemmas.{attribute_length}
 
 -- rows of n bytes want n + 52 bytes of room: header, integrity and fingerprint
@@ -44,11 +44,11 @@ unfolding value_refusal rows_text attribute xor_address
 reply_takes key id (V4 a) = takes_by key (binding_reply id (V4 a)) 12 refl refl (omega arith)
 reply_takes key id (V6 a) = takes_by key (binding_reply id (V6 a)) 24 refl refl (omega arith)
 
-pub reply_fits : (key id : List ℕ) (a : SocketAddr) → FitsInto key 76 (binding_reply id a)
+pub reply_fits : (key id : List ℕ) (a : SocketAddr) → FitsInto key LONGEST_REPLY (binding_reply id a)
 reply_fits key id (V4 a) room fits = (reply_takes key id (V4 a)).fits room (omega (arith, fits))
 reply_fits key id (V6 a) room fits = (reply_takes key id (V6 a)).fits room fits
 
-pub conflict_takes : (key id : List ℕ) → Takes key 76 (binding_role_conflict_reply id)
+pub conflict_takes : (key id : List ℕ) → Takes key LONGEST_REPLY (binding_role_conflict_reply id)
 unfolding value_refusal rows_text attribute
 conflict_takes key id = takes_by key (binding_role_conflict_reply id) 24 refl refl (omega arith)
 
@@ -82,9 +82,9 @@ without_flag name code tie prio =
       attribute_length PRIORITY (to_be_bytes w32 prio),
     )
 
-value_fits : (id name : List ℕ) (controlling : Bool) (tie prio : ℕ) (nominates : Bool) → length name ≤ 508 → value_refusal (binding_request name id controlling tie prio nominates) ≡ None
+value_fits : (id name : List ℕ) (controlling : Bool) (tie prio : ℕ) (nominates : Bool) → length name ≤ WRITTEN_USERNAME_LIMIT → value_refusal (binding_request name id controlling tie prio nominates) ≡ None
 unfolding value_refusal
-value_fits id name controlling tie prio nominates short = rw (le-ltb 508 (length name) short) refl
+value_fits id name controlling tie prio nominates short = rw (le-ltb WRITTEN_USERNAME_LIMIT (length name) short) refl
 
 pub check_takes : (key id name : List ℕ) (controlling : Bool) (tie prio : ℕ) (nominates : Bool) → CheckTakes key id name controlling tie prio nominates
 unfolding rows_text
@@ -97,7 +97,8 @@ check_takes key id name false tie prio true short =
 check_takes key id name false tie prio false short =
     as_takes (24 + padded_len (length name)) (omega arith) (takes_by key _ (24 + padded_len (length name)) (value_fits id name false tie prio false short) (without_flag name ICE_CONTROLLED tie prio) (omega (arith, short)))
 
-pub check_fits : (key id name : List ℕ) (controlling : Bool) (tie prio : ℕ) (nominates : Bool) → length name ≤ 508 → FitsInto key 588 (binding_request name id controlling tie prio nominates)
+pub check_fits : (key id name : List ℕ) (controlling : Bool) (tie prio : ℕ) (nominates : Bool) → length name ≤ WRITTEN_USERNAME_LIMIT
+    → FitsInto key LONGEST_CHECK (binding_request name id controlling tie prio nominates)
 check_fits key id name controlling tie prio nominates short room fits =
     (check_takes key id name controlling tie prio nominates short).fits room (within nominates)
   where

@@ -9,7 +9,7 @@ use Rattle.std.proofs.lemmas.Nat.{from_be_bytes-to_be_bytes_2}
 use Rattle.std.specs.Prelude.{is_some, option_and_then}
 use Rattle.is_stun.specs.Address.{address_in}
 use Rattle.is_proto.specs.declared.error.ParseFault.TheVariants.{LifetimeLength, PriorityLength, UseCandidateLength, ControlledLength, ControllingLength}
-use Rattle.is_stun.specs.Numbers.{MAGIC}
+use Rattle.is_stun.specs.Numbers.{MAGIC, TEXT_LIMIT, USERNAME_LIMIT}
 use Rattle.is_stun.specs.Tlv.{Tlv, attribute_len, tlvs_behind, tlvs_of}
 use Rattle.is_stun.specs.Kinds.{value_fault, text, number, bytes_of_len, error_code, channel_number, network_cost}
 use Rattle.is_stun.specs.Message.{AttributesRecord}
@@ -116,17 +116,17 @@ front_is typ len id rows mac fingerprint id_len =
 abbrev pub row_attributes : List ℕ → List Row → AttributesRecord
 row_attributes id rows =
     record {
-      username = value_in (text 513) (last_row 6 rows);
+      username = value_in (text USERNAME_LIMIT) (last_row 6 rows);
       error_code = value_in error_code (last_row 9 rows);
       channel_number = value_in channel_number (last_row 0x0C rows);
       lifetime = value_in (number w32 LifetimeLength) (last_row 0x0D rows);
       xor_peer_address = value_in (address_in id) (last_row 0x12 rows);
       «data» = last_row 0x13 rows;
-      realm = value_in (text 763) (last_row 0x14 rows);
-      nonce = value_in (text 763) (last_row 0x15 rows);
+      realm = value_in (text TEXT_LIMIT) (last_row 0x14 rows);
+      nonce = value_in (text TEXT_LIMIT) (last_row 0x15 rows);
       xor_relayed_address = value_in (address_in id) (last_row 0x16 rows);
       xor_mapped_address = value_in (address_in id) (last_row 0x20 rows);
-      software = value_in (text 763) (last_row 0x22 rows);
+      software = value_in (text TEXT_LIMIT) (last_row 0x22 rows);
       priority = value_in (number w32 PriorityLength) (last_row 0x24 rows);
       use_candidate = is_some (value_in (bytes_of_len 0 UseCandidateLength) (last_row 0x25 rows));
       ice_controlled = value_in (number w64 ControlledLength) (last_row 0x8029 rows);

@@ -154,9 +154,17 @@ abbrev pub reply_len : SocketAddr → ℕ
 reply_len (V4 a) = 64
 reply_len (V6 a) = 76
 
+-- the room in which each reply to a check fits, of success or role conflict
+abbrev pub LONGEST_REPLY : ℕ
+LONGEST_REPLY = 76
+
 -- the length of a check by its user name and whether it nominates
 abbrev pub check_len : List ℕ → Bool → ℕ
 check_len username nominates = 76 + padded_len (length username) + (if nominates then 4 else 0)
+
+-- the room in which each check fits
+abbrev pub LONGEST_CHECK : ℕ
+LONGEST_CHECK = 76 + WRITTEN_USERNAME_LIMIT + 4
 
 abbrev pub CheckTakes : List ℕ → List ℕ → List ℕ → Bool → ℕ → ℕ → Bool → Type 0
 CheckTakes key id username controlling tie_breaker priority nominates =

@@ -4,7 +4,9 @@ ghost use Rattle.std.specs.Prelude.{◌≡◌, ◌↔◌, IsTrue, true, ℕ, ◌
 ghost use Rattle.is_stun.specs.Message.{Message};
 ghost use Rattle.is_stun.specs.Reading.{Reads};
 ghost use Rattle.is_stun.specs.Spells.{Spells};
-ghost use Rattle.is_stun.specs.Laws.{ReadsOrFails, SignedIffAuthentic, WrittenIsRead, WrittenIsReadAlike, WrittenByDefaultIsRead, IsWrittenPlain, PlainReply, Takes, FitsInto, CheckTakes, reply_len};
+ghost use Rattle.is_stun.specs.Laws.{ReadsOrFails, SignedIffAuthentic, WrittenIsRead, WrittenIsReadAlike, WrittenByDefaultIsRead};
+ghost use Rattle.is_stun.specs.Laws.{IsWrittenPlain, PlainReply, Takes, FitsInto, CheckTakes, LONGEST_CHECK, LONGEST_REPLY, reply_len};
+ghost use Rattle.is_stun.specs.Numbers.{WRITTEN_USERNAME_LIMIT};
 ghost use Rattle.is_stun.specs.Checks.{binding_request, binding_reply, binding_role_conflict_reply};
 ghost use Rattle.std.specs.declared.net.socket_addr.SocketAddr.{SocketAddr};
 ghost use Rattle.std.specs.Cmp.{IsTotalOrder};
@@ -61,9 +63,9 @@ pub fn written_by_default_is_read()
 /// role conflict takes 76, whatever the id. So a caller with 76 bytes of room need not look at the refusal.
 pub fn replies_fit()
     ensures takes { (key id : List ℕ) (a : SocketAddr) → Takes key (reply_len a) (binding_reply id a) }
-    ensures fits { (key id : List ℕ) (a : SocketAddr) → FitsInto key 76 (binding_reply id a) }
-    ensures conflict_takes { (key id : List ℕ) → Takes key 76 (binding_role_conflict_reply id) }
-    ensures conflict_fits { (key id : List ℕ) → FitsInto key 76 (binding_role_conflict_reply id) }
+    ensures fits { (key id : List ℕ) (a : SocketAddr) → FitsInto key LONGEST_REPLY (binding_reply id a) }
+    ensures conflict_takes { (key id : List ℕ) → Takes key LONGEST_REPLY (binding_role_conflict_reply id) }
+    ensures conflict_fits { (key id : List ℕ) → FitsInto key LONGEST_REPLY (binding_role_conflict_reply id) }
 {}
 
 /// A signed check takes 76 bytes, its user name with padding, and 4 bytes where it nominates: with a user name of 508
@@ -72,7 +74,8 @@ pub fn checks_fit()
     ensures takes { (key id username : List ℕ) (controlling : Bool) (tie_breaker priority : ℕ) (nominates : Bool)
         → CheckTakes key id username controlling tie_breaker priority nominates }
     ensures fits { (key id username : List ℕ) (controlling : Bool) (tie_breaker priority : ℕ) (nominates : Bool)
-        → length username ≤ 508 → FitsInto key 588 (binding_request username id controlling tie_breaker priority nominates) }
+        → length username ≤ WRITTEN_USERNAME_LIMIT
+        → FitsInto key LONGEST_CHECK (binding_request username id controlling tie_breaker priority nominates) }
 {}
 
 /// Transaction ids are equal where their bytes are, equal ones hash alike, and they are ordered as their bytes are,

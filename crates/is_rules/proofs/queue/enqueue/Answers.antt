@@ -2,11 +2,12 @@ use Rattle.std.proofs.Common.{◌≡◌, ℕ, ◌-◌, [], ◌∷◌, ◌++◌, 
 use Rattle.std.proofs.lemmas.List.{map-append, length-map, drop-map}
 use Rattle.is_rules.specs.declared.request.Waiting.{Waiting}
 use Rattle.is_rules.specs.RequestView.{waiting_view}
-use Rattle.is_rules.specs.Queue.{queued_last}
+use Rattle.is_rules.specs.Queue.{QUEUE_LIMIT, queued_last}
 use Rattle.is_rules.proofs.queue.enqueue.Goals as goal
 
 -- what is dropped of the requests is dropped of their views
-queued-views : (old : List Waiting) (w : Waiting) (beyond : ℕ) (new : List Waiting) → beyond ≡ length (old ++ w ∷ []) - 100 → new ≡ drop beyond (old ++ w ∷ [])
+queued-views : (old : List Waiting) (w : Waiting) (beyond : ℕ) (new : List Waiting) → beyond ≡ length (old ++ w ∷ []) - QUEUE_LIMIT
+    → new ≡ drop beyond (old ++ w ∷ [])
     → map waiting_view new ≡ queued_last (map waiting_view old ++ waiting_view w ∷ [])
 queued-views old w beyond new many is =
     rw (is, many, ← drop-map waiting_view, map-append waiting_view, length-append, length-append, length-map) refl

@@ -1,5 +1,6 @@
 use Rattle.std.proofs.Common.{arith}
+use Rattle.is_stun.specs.Laws.{LONGEST_REPLY}
 use Rattle.is_rules.proofs.reply.write_conflict.Goals as goal
 
 pub write_signed-requires-clause-fits : goal.write_signed-requires-clause-fits
-write_signed-requires-clause-fits g c = rw (c.binding_role_conflict_reply-message.ensures, c.requires) (c.replies_fit.ensures.conflict_fits _ _ 76 (omega arith))
+write_signed-requires-clause-fits g c = rw (c.binding_role_conflict_reply-message.ensures, c.requires) (c.replies_fit.ensures.conflict_fits _ _ LONGEST_REPLY (omega arith))

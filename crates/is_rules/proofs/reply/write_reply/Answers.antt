@@ -1,12 +1,12 @@
 use Rattle.std.proofs.Common.{arith, subst, Some}
 use Rattle.is_stun.specs.Message.{Message}
-use Rattle.is_stun.specs.Laws.{IsPut, plain}
+use Rattle.is_stun.specs.Laws.{IsPut, LONGEST_REPLY, plain}
 use Rattle.is_stun.specs.Writing.{written}
 use Rattle.is_rules.proofs.ReplyLemmas.{plain-reply}
 use Rattle.is_rules.proofs.reply.write_reply.Goals as goal
 
 pub write_signed-requires-clause-fits : goal.write_signed-requires-clause-fits
-write_signed-requires-clause-fits g c = rw (c.binding_reply-message.ensures, c.requires) (c.replies_fit.ensures.fits _ _ _ 76 (omega arith))
+write_signed-requires-clause-fits g c = rw (c.binding_reply-message.ensures, c.requires) (c.replies_fit.ensures.fits _ _ _ LONGEST_REPLY (omega arith))
 
 pub returns-clause-put : goal.returns-clause-put
 returns-clause-put g c =
