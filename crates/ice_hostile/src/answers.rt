@@ -1,7 +1,7 @@
 //! Answers that are not the peer's, answers off their path, and an answer that comes twice.
 use crate::agents::{
     Agent, FAR_LINE, FAR_PASS, NEAR_PASS, Taken, at, events, ms, next_packet, packets, paired,
-    signed, take, take_here, wake,
+    signed, take, wake,
 };
 use crate::broken::Broken;
 use crate::seen::{Seen, look};

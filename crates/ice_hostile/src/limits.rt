@@ -1,6 +1,6 @@
 //! Pair numbers, pair limits and priorities at their ends.
 use crate::agents::{
-    Agent, FAR_LINE, NEAR_PASS, Taken, at, hear_of, lonely, ms, signed, take_here, take_role,
+    Agent, FAR_LINE, NEAR_PASS, Taken, hear_of, lonely, ms, signed, take_here, take_role,
 };
 use crate::broken::Broken;
 use is::Candidate;

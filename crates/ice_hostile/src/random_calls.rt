@@ -1,7 +1,6 @@
 //! One random call of an agent, and whether the agent did it.
 use crate::agents::{
-    Agent, FAR_PASS, Taken, add_host, at, creds, hear_of, make, ms, signed, take, take_role,
-    tell_peer,
+    Agent, FAR_PASS, Taken, add_host, at, creds, make, ms, signed, take, take_role, tell_peer,
 };
 use crate::breeding::{below, breed};
 use crate::broken::Broken;

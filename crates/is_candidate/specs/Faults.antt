@@ -1,9 +1,14 @@
 -- The messages of what is wrong with a line.
 use Rattle.std.specs.Prelude.{◌≡◌, ℕ, List, ◌++◌, codes, Result, Ok, Err, string_bytes}
 use Rattle.is_proto.specs.declared.error.IceError.{IceError}
-use Rattle.is_proto.specs.declared.error.IceError.TheVariants.{BadCandidate, OutOfMemory, PairIdsExhausted, MtuTooSmall, CredentialsTooLong, PriorityTooHigh}
+use Rattle.is_proto.specs.declared.error.IceError.TheVariants.{BadCandidate, OutOfMemory, PairIdsExhausted, MtuTooSmall, CredentialsTooLong}
+use Rattle.is_proto.specs.declared.error.IceError.TheVariants.{PriorityTooHigh}
 use Rattle.is_candidate.specs.declared.parse.fault.Fault.{Fault}
-use Rattle.is_candidate.specs.declared.parse.fault.Fault.TheVariants.{MissingPrefix, MissingFoundation, MissingComponent, BadComponent, MissingProtocol, InvalidProtocol, MissingPriority, BadPriority, MissingAddress, BadAddress, MissingPort, BadPort, ExpectedTyp, MissingKind, UnknownKind, MissingRaddr, BadRaddr, MissingRport, BadRport, MissingTcptype, BadTcptype, MissingUfrag}
+use Rattle.is_candidate.specs.declared.parse.fault.Fault.TheVariants.{MissingPrefix, MissingFoundation, MissingComponent, BadComponent}
+use Rattle.is_candidate.specs.declared.parse.fault.Fault.TheVariants.{MissingProtocol, InvalidProtocol, MissingPriority, BadPriority}
+use Rattle.is_candidate.specs.declared.parse.fault.Fault.TheVariants.{MissingAddress, BadAddress, MissingPort, BadPort, ExpectedTyp}
+use Rattle.is_candidate.specs.declared.parse.fault.Fault.TheVariants.{MissingKind, UnknownKind, MissingRaddr, BadRaddr, MissingRport}
+use Rattle.is_candidate.specs.declared.parse.fault.Fault.TheVariants.{BadRport, MissingTcptype, BadTcptype, MissingUfrag}
 use Rattle.is_candidate.specs.Candidates.{CandidateRecord}
 use Rattle.is_candidate.specs.Lines.{IsLineOf, HasFault}
 

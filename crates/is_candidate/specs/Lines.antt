@@ -1,5 +1,6 @@
 -- What a candidate line says (RFC 5245, section 15.1), word by word: a candidate, or the first fault.
-use Rattle.std.specs.Prelude.{◌≡◌, ℕ, ◌<◌, ◌^◌, ◌⊎◌, List, [], ◌∷◌, ◌++◌, codes, bytes_eq, drop, Option, Some, None, Result, Ok, Err, MatchBool, MatchOption}
+use Rattle.std.specs.Prelude.{◌≡◌, ℕ, ◌<◌, ◌^◌, ◌⊎◌, List, [], ◌∷◌, ◌++◌, codes, bytes_eq, drop, Option, Some, None, Result, Ok, Err}
+use Rattle.std.specs.Prelude.{MatchBool, MatchOption}
 use Rattle.std.specs.Str.Parse.{IsNumeral, digits_value, without_leading_plus}
 use Rattle.std.specs.declared.net.ip_addr.IpAddr.{IpAddr}
 use Rattle.std.specs.declared.net.socket_addr.SocketAddr.{SocketAddr}
@@ -114,7 +115,8 @@ ReadsKey key value k r =
     (MatchBool (bytes_eq key (codes "rport"))
     (Takes value (IsNumberBelow (2 ^ 16)) (codes "missing rport value") (codes "bad rport") r (λ n. record k { rport = Some n }))
     (MatchBool (bytes_eq key (codes "tcptype"))
-    (Takes value (λ w (t : TcpType). Spells w (tcp_type_word t)) (codes "missing tcptype value") (codes "bad tcptype") r (λ t. record k { tcptype = Some t }))
+    (Takes value (λ w (t : TcpType). Spells w (tcp_type_word t)) (codes "missing tcptype value") (codes "bad tcptype") r
+    (λ t. record k { tcptype = Some t }))
     (MatchBool (bytes_eq key (codes "ufrag"))
     (MatchOption value (r ≡ Err (codes "missing ufrag value")) (λ w. r ≡ Ok (record k { ufrag = Some w })))
     (r ≡ Ok k))))

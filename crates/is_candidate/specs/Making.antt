@@ -73,7 +73,8 @@ peer_reflexive_candidate foundation proto priority addr base ufrag = record {
 }
 
 -- a candidate that signalling told of: a line says nothing of its base, and only a host's local address is known
-abbrev pub signalled_candidate : List ℕ → ℕ → Protocol → ℕ → SocketAddr → CandidateKind → Option SocketAddr → Option TcpType → Option (List ℕ) → CandidateRecord
+abbrev pub signalled_candidate : List ℕ → ℕ → Protocol → ℕ → SocketAddr → CandidateKind → Option SocketAddr → Option TcpType
+    → Option (List ℕ) → CandidateRecord
 signalled_candidate foundation component proto priority addr kind raddr tcptype ufrag = record {
   foundation = Some foundation;
   component = component;

@@ -1,6 +1,6 @@
 -- A pair that was checked is due behind the moment of the check, whenever it is asked from then on.
-use Rattle.std.proofs.Common.{◌≡◌, ℕ, zero, suc, ◌+◌, ◌-◌, ◌*◌, ◌/◌, ◌^◌, ◌==◌, ◌<◌, ◌≤◌, Bool, true, false, List, [], ◌∷◌, ◌++◌, length, drop, reverse, position, get_or, min, Option, Some, None, unwrap_or, cond, if◌then◌else◌, refl, ap, sym, ◌∙◌, subst, arith}
-use Rattle.std.specs.Prelude.{slice_get, nat_lt}
+use Rattle.std.proofs.Common.{◌≡◌, ℕ, zero, suc, ◌+◌, ◌-◌, ◌*◌, ◌/◌, ◌^◌, ◌==◌, ◌<◌, ◌≤◌, Bool, true, false, List, [], ◌∷◌, ◌++◌, length, drop, reverse, position, min, Option, Some, None, unwrap_or, if◌then◌else◌, refl, ap, sym, ◌∙◌, subst, arith}
+use Rattle.std.specs.Prelude.{slice_get}
 use Rattle.std.specs.Option.{option_map_or}
 use Rattle.std.proofs.Math.Nat.{one-le-pow, one-le-mul}
 use Rattle.std.proofs.Math.Seq.{get_or-append_seam}
@@ -15,8 +15,8 @@ use Rattle.is_pair.specs.declared.pair.states.NominationState.{NominationState}
 use Rattle.is_pair.specs.declared.pair.states.NominationState.TheVariants.{None as Unnominated, Nominated, Attempt, Success}
 use Rattle.is_pair.specs.States.{nomination_once_sent}
 use Rattle.is_pair.specs.Checks.{Check, is_answered, last_checks, last_check, unanswered_count}
-use Rattle.is_pair.specs.Pairs.{PairRecord, checked, check_of}
-use Rattle.is_pair.specs.Due.{is_silent, delaying_count, next_moment, wanted_moment, due_moment}
+use Rattle.is_pair.specs.Pairs.{check_of}
+use Rattle.is_pair.specs.Due.{is_silent, delaying_count, next_moment, wanted_moment}
 use Rattle.is_pair.specs.Turns.{IsPaced, CheckedIsLater}
 
 -- ---- the delay

@@ -1,5 +1,6 @@
 -- The connectivity checks that a pair keeps (RFC 8445, section 7.2), oldest first.
-use Rattle.std.specs.Prelude.{◌≡◌, ℕ, ◌-◌, Bool, bytes_eq, List, length, drop, find, reverse, position, slice_get, Option, Some, None, option_map, unwrap_or, is_some}
+use Rattle.std.specs.Prelude.{◌≡◌, ℕ, ◌-◌, Bool, bytes_eq, List, length, drop, find, reverse, position, slice_get, Option, Some, None}
+use Rattle.std.specs.Prelude.{option_map, unwrap_or, is_some}
 use Rattle.std.specs.List.{list_any}
 use Rattle.std.specs.Option.{option_map_or}
 

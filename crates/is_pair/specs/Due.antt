@@ -1,5 +1,6 @@
 -- When a pair is due for its next check, and when it is given up.
-use Rattle.std.specs.Prelude.{[], ◌≡◌, ℕ, ◌<◌, ◌≤◌, ◌-◌, ◌*◌, ◌||◌, ◌⊎◌, Bool, true, false, not, nat_lt, nat_le, min, List, length, Option, Some, None, unwrap_or, if◌then◌else◌}
+use Rattle.std.specs.Prelude.{[], ◌≡◌, ℕ, ◌<◌, ◌≤◌, ◌-◌, ◌*◌, ◌||◌, ◌⊎◌, Bool, true, false, not, nat_lt, nat_le, min, List, length, Option}
+use Rattle.std.specs.Prelude.{Some, None, unwrap_or, if◌then◌else◌}
 use Rattle.std.specs.Option.{option_map_or}
 use Rattle.is_proto.specs.Lists.{Has, NonePass}
 use Rattle.is_proto.specs.Moments.{SECOND, later}

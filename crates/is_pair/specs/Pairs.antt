@@ -7,7 +7,8 @@ use Rattle.is_pair.specs.declared.pair.states.CheckState.{CheckState}
 use Rattle.is_pair.specs.declared.pair.states.CheckState.TheVariants.{Waiting, Succeeded}
 use Rattle.is_pair.specs.declared.pair.states.NominationState.{NominationState}
 use Rattle.is_pair.specs.declared.pair.states.NominationState.TheVariants.{None as Unnominated, Nominated, Success}
-use Rattle.is_pair.specs.States.{is_valid_state, is_nominated_state, state_once_sent, state_once_answered, state_from, nomination_once_sent, nomination_once_answered, nomination_from}
+use Rattle.is_pair.specs.States.{is_valid_state, is_nominated_state, state_once_sent, state_once_answered, state_from, nomination_once_sent}
+use Rattle.is_pair.specs.States.{nomination_once_answered, nomination_from}
 use Rattle.is_pair.specs.Checks.{Check, IsCheckAt, answered_at, last_checks}
 
 pub record PairRecord : Type 0 where

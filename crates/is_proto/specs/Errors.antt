@@ -2,11 +2,17 @@
 use Rattle.std.specs.Prelude.{ℕ, List, ◌++◌, codes}
 use Rattle.std.specs.String.{string_bytes}
 use Rattle.is_proto.specs.declared.error.ParseFault.{ParseFault}
-use Rattle.is_proto.specs.declared.error.ParseFault.TheVariants.{TooShort, LengthUneven, LengthMismatch, Magic, AttributeLength, IntegrityLength, ErrorCodeLength, ErrorCodeTop, ErrorClass, ChannelLength, ChannelRange, LifetimeLength, PriorityLength, UseCandidateLength, FingerprintLength, ControlledLength, ControllingLength, XorAddress, TextTooLong, TextNotUtf8, NoIntegrityReply, NoMappedAddress, NoIntegrityRequest, NoUsername, NoPriority}
+use Rattle.is_proto.specs.declared.error.ParseFault.TheVariants.{TooShort, LengthUneven, LengthMismatch, Magic, AttributeLength}
+use Rattle.is_proto.specs.declared.error.ParseFault.TheVariants.{IntegrityLength, ErrorCodeLength, ErrorCodeTop, ErrorClass, ChannelLength}
+use Rattle.is_proto.specs.declared.error.ParseFault.TheVariants.{ChannelRange, LifetimeLength, PriorityLength, UseCandidateLength}
+use Rattle.is_proto.specs.declared.error.ParseFault.TheVariants.{FingerprintLength, ControlledLength, ControllingLength, XorAddress}
+use Rattle.is_proto.specs.declared.error.ParseFault.TheVariants.{TextTooLong, TextNotUtf8, NoIntegrityReply, NoMappedAddress}
+use Rattle.is_proto.specs.declared.error.ParseFault.TheVariants.{NoIntegrityRequest, NoUsername, NoPriority}
 use Rattle.is_proto.specs.declared.error.StunError.{StunError}
 use Rattle.is_proto.specs.declared.error.StunError.TheVariants.{Parse, BufferTooShort, ValueTooLong, MessageTooLong, BadErrorCode, UnknownMethod}
 use Rattle.is_proto.specs.declared.error.IceError.{IceError}
-use Rattle.is_proto.specs.declared.error.IceError.TheVariants.{BadCandidate, OutOfMemory, PairIdsExhausted, MtuTooSmall, CredentialsTooLong, PriorityTooHigh}
+use Rattle.is_proto.specs.declared.error.IceError.TheVariants.{BadCandidate, OutOfMemory, PairIdsExhausted, MtuTooSmall, CredentialsTooLong}
+use Rattle.is_proto.specs.declared.error.IceError.TheVariants.{PriorityTooHigh}
 
 -- what is wrong with the bytes of a message
 abbrev pub parse_fault_text : ParseFault → List ℕ

@@ -2,7 +2,7 @@
 //! a law calls its function.
 
 ghost use Rattle.std.specs.Prelude.{◌≡◌, ◌↔◌, ℕ, List, length, Option, Some, IsTrue, true};
-ghost use Rattle.std.specs.Cmp.{IsEquivalence, IsTotalOrder, Agrees};
+ghost use Rattle.std.specs.Cmp.{IsTotalOrder, Agrees};
 ghost use Rattle.std.specs.Ordering.{nat_cmp, is_eq};
 ghost use Rattle.is_proto.specs.Hmac.{hmac_sha1};
 ghost use Rattle.is_proto.specs.Sockets.{ReadsSocketText, plain_socket_text, IsPlain};

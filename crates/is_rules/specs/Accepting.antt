@@ -1,5 +1,6 @@
 -- Which messages the agent accepts, and what becomes of a packet (RFC 8445, sections 7.2.5 and 7.3).
-use Rattle.std.specs.Prelude.{◌≡◌, ℕ, ◌&&◌, Bool, true, false, List, [], ◌∷◌, ◌++◌, IfSome, IsSomeAnd, Option, Some, None, Result, Ok, Err, if◌then◌else◌}
+use Rattle.std.specs.Prelude.{◌≡◌, ℕ, ◌&&◌, Bool, true, false, List, [], ◌∷◌, ◌++◌, IfSome, IsSomeAnd, Option, Some, None, Result, Ok, Err}
+use Rattle.std.specs.Prelude.{if◌then◌else◌}
 use Rattle.std.specs.List.{list_any}
 use Rattle.is_proto.specs.Moments.{counted}
 use Rattle.is_proto.specs.declared.error.IceError.{IceError}
@@ -90,14 +91,16 @@ module _ {H P : Type 0} where
   MayRefusePacket mac now a way m error = IsAcceptedOn mac a way m × MayRefuseAs m.class a (request_in now way m) error
 
   -- `handle_packet`: what is not accepted changes nothing
-  abbrev pub HandlesPacket : (H → List ℕ → List ℕ → List ℕ) → ℕ → AgentRecord H P → Path → Message → Result Bool IceError → Told → AgentRecord H P → Type 0
+  abbrev pub HandlesPacket : (H → List ℕ → List ℕ → List ℕ) → ℕ → AgentRecord H P → Path → Message → Result Bool IceError → Told
+      → AgentRecord H P → Type 0
   HandlesPacket mac now old way m (Ok false) told new = ¬ IsAcceptedOn mac old way m × (told ≡ nothing_told) × (new ≡ old)
   HandlesPacket mac now old way m (Ok true) told new =
       IsAcceptedOn mac old way m × ((mid : AgentRecord H P) × Takes mac m.class now old way m told mid × (new ≡ source_told way mid))
   HandlesPacket mac now old way m (Err error) told new = MayRefusePacket mac now old way m error × (told ≡ nothing_told) × (new ≡ old)
 
   -- what becomes of a packet of the class, by whether it is accepted
-  abbrev pub Arrives : Type 0 → (H → List ℕ → List ℕ → List ℕ) → Class → ℕ → AgentRecord H P → Path → Message → Result (Option Told) IceError → AgentRecord H P → Type 0
+  abbrev pub Arrives : Type 0 → (H → List ℕ → List ℕ → List ℕ) → Class → ℕ → AgentRecord H P → Path → Message
+      → Result (Option Told) IceError → AgentRecord H P → Type 0
   Arrives Accepted mac class now old way m (Ok None) new = ¬ Accepted × (new ≡ old)
   Arrives Accepted mac class now old way m (Ok (Some told)) new = Accepted × Takes mac class now old way m told new
   Arrives Accepted mac class now old way m (Err error) new = Accepted × MayRefuseAs class old (request_in now way m) error × (new ≡ old)

@@ -20,9 +20,11 @@ use Rattle.is_rules.specs.Sending.{path_of}
 use Rattle.is_rules.specs.Roles.{conflict_of}
 use Rattle.is_rules.specs.Accepting.{IsAcceptedOn}
 use Rattle.is_rules.specs.Answers.{is_role_conflict}
-use Rattle.is_rules.specs.Steps.{Call, SetControlTieBreaker, SetIceLite, SetLocalCredentials, SetRemoteCredentials, RestartIce, RecreateCandidatePairs, ReceivePacket, Step}
+use Rattle.is_rules.specs.Steps.{Call, SetControlTieBreaker, SetIceLite, SetLocalCredentials, SetRemoteCredentials, RestartIce}
+use Rattle.is_rules.specs.Steps.{RecreateCandidatePairs, ReceivePacket, Step}
 use Rattle.is_rules.specs.Sound.{IsSound, GivesBased}
-use Rattle.is_rules.specs.Brought.{role_once, Brings, IsBrought, IsKept, IsValidOn, IsNominatedOn, Continues, IsServing, IsAskedFor, IsServedPastTests, IsAnswered, YieldsTo, IsRefusedBy, IsRoleSet}
+use Rattle.is_rules.specs.Brought.{role_once, Brings, IsBrought, IsKept, IsValidOn, IsNominatedOn, Continues, IsServing, IsAskedFor}
+use Rattle.is_rules.specs.Brought.{IsServedPastTests, IsAnswered, YieldsTo, IsRefusedBy, IsRoleSet}
 use Rattle.is_rules.specs.Owed.{Owes}
 use Rattle.is_rules.specs.Points.{IsNominationPoint, IsTopAnnounced, AnswersAreValid}
 use Rattle.is_rules.specs.Issuing.{way_out, Queues, Waits, IsIssued}

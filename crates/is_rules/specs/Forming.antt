@@ -94,7 +94,8 @@ abbrev pub tried : SidesRecord → Combination → Option PairRecord → Formed 
 tried s at None old = formed_as (old.pairs ++ pair_of s at old.next_number ∷ []) (old.next_number + 1)
 tried s at (Some found) old =
     if nat_lt found.priority (combined_priority s at)
-    then formed_as (without (is_numbered found.number) old.pairs ++ taking_over s.lite found (pair_of s at old.next_number) ∷ []) (old.next_number + 1)
+    then formed_as (without (is_numbered found.number) old.pairs ++ taking_over s.lite found (pair_of s at old.next_number) ∷ [])
+    (old.next_number + 1)
     else old
 
 -- against a redundant pair of greatest priority. Ties are free

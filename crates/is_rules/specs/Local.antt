@@ -1,5 +1,6 @@
 -- Local candidates (RFC 8445, section 5.1; RFC 8838, section 10).
-use Rattle.std.specs.Prelude.{◌≡◌, ℕ, ◌==◌, ◌&&◌, Bool, false, not, nat_lt, List, [], ◌∷◌, ◌++◌, length, position, count_by, slice_get, Option, Some, None, Result, Ok, Err, IsOkAnd, MatchBool}
+use Rattle.std.specs.Prelude.{◌≡◌, ℕ, ◌==◌, ◌&&◌, Bool, false, not, nat_lt, List, [], ◌∷◌, ◌++◌, length, position, count_by, slice_get}
+use Rattle.std.specs.Prelude.{Option, Some, None, Result, Ok, Err, IsOkAnd, MatchBool}
 use Rattle.std.specs.Option.{option_and_then, option_copied}
 use Rattle.std.specs.Borrow.{Bor}
 use Rattle.is_proto.specs.declared.error.IceError.{IceError}
@@ -99,18 +100,21 @@ module _ {H P : Type 0} where
   abbrev pub Prefers : (P → CandidateRecord → ℕ → ℕ → Type 0) → AgentRecord H P → CandidateRecord → ℕ → Type 0
   Prefers answers a c preference = MayPrefer answers a.preference c (count_alike c a.local) preference
 
-  abbrev pub EnrolsPreferred : (P → CandidateRecord → ℕ → ℕ → Type 0) → AgentRecord H P → CandidateRecord → Result (Option ℕ) IceError → AgentRecord H P → Type 0
+  abbrev pub EnrolsPreferred : (P → CandidateRecord → ℕ → ℕ → Type 0) → AgentRecord H P → CandidateRecord → Result (Option ℕ) IceError
+      → AgentRecord H P → Type 0
   EnrolsPreferred answers old c result new = (preference : ℕ) × Prefers answers old c preference × Enrols old (preferred preference c) result new
 
   -- `add_local_candidate`: the place of the candidate, or none. Priorities are looked at before all else
-  abbrev pub AddsLocal : (P → CandidateRecord → ℕ → ℕ → Type 0) → AgentRecord H P → CandidateRecord → Result (Option ℕ) IceError → AgentRecord H P → Type 0
+  abbrev pub AddsLocal : (P → CandidateRecord → ℕ → ℕ → Type 0) → AgentRecord H P → CandidateRecord → Result (Option ℕ) IceError
+      → AgentRecord H P → Type 0
   AddsLocal answers old c result new =
       MatchBool (is_too_high c)
       ((result ≡ Err PriorityTooHigh) × (new ≡ old))
       (MatchBool (is_unwanted old c) (IsNotAdded old result new) (EnrolsPreferred answers old c result new))
 
   -- the candidate that stands at the place is lent
-  abbrev pub LendsLocal : (P → CandidateRecord → ℕ → ℕ → Type 0) → AgentRecord H P → CandidateRecord → Result (Option (Bor CandidateRecord)) IceError → AgentRecord H P → Type 0
+  abbrev pub LendsLocal : (P → CandidateRecord → ℕ → ℕ → Type 0) → AgentRecord H P → CandidateRecord
+      → Result (Option (Bor CandidateRecord)) IceError → AgentRecord H P → Type 0
   LendsLocal answers old c (Ok lent) new =
       (place : Option ℕ) × AddsLocal answers old c (Ok place) new × (option_copied lent ≡ option_and_then (slice_get new.local) place)
   LendsLocal answers old c (Err error) new = AddsLocal answers old c (Err error) new

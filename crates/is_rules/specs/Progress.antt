@@ -137,7 +137,8 @@ module _ {H P : Type 0} where
       abbrev pub Rounds : List Round → AgentRecord H P → AgentRecord H P → Type 0
       Rounds [] old new = new ≡ old
       Rounds (x ∷ rest) old new =
-          (mid asked next : AgentRecord H P) × Passes old x.now x.told mid × MayBeAsked mid asked × Arrives x.arrivals asked next × Rounds rest next new
+          (mid asked next : AgentRecord H P) × Passes old x.now x.told mid × MayBeAsked mid asked × Arrives x.arrivals asked next
+          × Rounds rest next new
 
       -- behind one of the packets, which is an accepted success, a path is announced
       abbrev pub AnnouncesBehind : (arrivals : List Arrival) (old new : AgentRecord H P) → Arrives arrivals old new → Type 0
@@ -206,7 +207,8 @@ module _ {H P : Type 0} (mac : H → List ℕ → List ℕ → List ℕ) (answer
   -- behind an accepted success a controlling agent has announced the path of an eligible pair of greatest stored priority
   abbrev pub SuccessesAnnounce : AgentRecord H P → Stream → List (Logged P) → Type 0
   SuccessesAnnounce first s log =
-      AtEach mac answers first s log (λ before mid x after. (at : ℕ) (by : Path) (m : Message) → Brings x.call x.entry at by m → m.class ≡ class.Success
+      AtEach mac answers first s log (λ before mid x after. (at : ℕ) (by : Path) (m : Message) → Brings x.call x.entry at by m
+      → m.class ≡ class.Success
       → after.controlling ≡ true → IsTopPath mac answers (x ∷ before) after)
 
   -- and behind a moment that serves no request, where a pair is valid and nominated: so a controlled agent has, too

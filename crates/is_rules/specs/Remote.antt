@@ -1,5 +1,6 @@
 -- Remote candidates (RFC 8445, section 5.4; RFC 8838, section 11).
-use Rattle.std.specs.Prelude.{◌≡◌, ℕ, ◌==◌, ◌&&◌, ◌||◌, Bool, false, not, List, [], ◌∷◌, ◌++◌, length, position, slice_get, slice_set, bytes_eq, Option, Some, None, Result, Ok, Err, IsOkAnd, MatchBool}
+use Rattle.std.specs.Prelude.{◌≡◌, ℕ, ◌==◌, ◌&&◌, ◌||◌, Bool, false, not, List, [], ◌∷◌, ◌++◌, length, position, slice_get, slice_set}
+use Rattle.std.specs.Prelude.{bytes_eq, Option, Some, None, Result, Ok, Err, IsOkAnd, MatchBool}
 use Rattle.std.specs.List.{list_any}
 use Rattle.std.specs.Option.{option_map_or}
 use Rattle.is_proto.specs.declared.error.IceError.{IceError}

@@ -91,7 +91,8 @@ module _ {H P : Type 0} (mac : H → List ℕ → List ℕ → List ℕ) (answer
       × (x.number ≡ length (part ++ before)) × GivesBased x.call × Step mac answers mid u x.call x.entry last t
 
   -- the part stands in the log: the log before it led to start, and the part leads on to last
-  pub record Part (first : AgentRecord H P) (s : Stream) (log before : List (Logged P)) (start : AgentRecord H P) (part : List (Logged P)) (last : AgentRecord H P) : Type 0 where
+  pub record Part (first : AgentRecord H P) (s : Stream) (log before : List (Logged P)) (start : AgentRecord H P) (part : List (Logged P))
+      (last : AgentRecord H P) : Type 0 where
     pub rest : List (Logged P)
     pub split : log ≡ rest ++ (part ++ before)
     pub at : Stream
@@ -100,7 +101,8 @@ module _ {H P : Type 0} (mac : H → List ℕ → List ℕ → List ℕ) (answer
     pub run : RunsOn before start at part last behind
 
   -- controlling in each record that the part passes
-  abbrev pub IsControllingIn : (before : List (Logged P)) (start : AgentRecord H P) (s : Stream) (part : List (Logged P)) (last : AgentRecord H P) (t : Stream)
+  abbrev pub IsControllingIn : (before : List (Logged P)) (start : AgentRecord H P) (s : Stream) (part : List (Logged P))
+      (last : AgentRecord H P) (t : Stream)
       → RunsOn before start s part last t → Type 0
   IsControllingIn before start s [] last t run = last.controlling ≡ true
   IsControllingIn before start s (x ∷ part) last t run = (last.controlling ≡ true) × IsControllingIn before start s part run.0 run.1 run.2

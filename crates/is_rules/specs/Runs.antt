@@ -37,7 +37,8 @@ module _ {H P : Type 0} (mac : H → List ℕ → List ℕ → List ℕ) (answer
   -- ---- entries
 
   -- x stands in the log: the log before it led to mid, and x leads on to after
-  pub record Point (first : AgentRecord H P) (s : Stream) (log before : List (Logged P)) (mid : AgentRecord H P) (x : Logged P) (after : AgentRecord H P) : Type 0 where
+  pub record Point (first : AgentRecord H P) (s : Stream) (log before : List (Logged P)) (mid : AgentRecord H P) (x : Logged P)
+      (after : AgentRecord H P) : Type 0 where
     pub rest : List (Logged P)
     pub split : log ≡ rest ++ x ∷ before
     pub at : Stream
@@ -48,7 +49,8 @@ module _ {H P : Type 0} (mac : H → List ℕ → List ℕ → List ℕ) (answer
     pub step : Step mac answers mid at x.call x.entry after behind
 
   -- the run up to an entry
-  abbrev pub run_to : (first : AgentRecord H P) (s : Stream) (log before : List (Logged P)) (mid : AgentRecord H P) (x : Logged P) (after : AgentRecord H P)
+  abbrev pub run_to : (first : AgentRecord H P) (s : Stream) (log before : List (Logged P)) (mid : AgentRecord H P) (x : Logged P)
+      (after : AgentRecord H P)
       → (point : Point first s log before mid x after) → Run first s (x ∷ before) after point.behind
   run_to first s log before mid x after point = (mid, point.at, point.led, point.number, point.given, point.step)
 
@@ -62,10 +64,12 @@ module _ {H P : Type 0} (mac : H → List ℕ → List ℕ → List ℕ) (answer
   -- each announced path is answered
   abbrev pub PathsAreAnswered : AgentRecord H P → Stream → List (Logged P) → Type 0
   PathsAreAnswered first s log =
-      AtEach first s log (λ before mid x after. (path : Path) → Has x.entry.told.announced (Some path) → IsAnsweredBy mac first.provider x before path)
+      AtEach first s log (λ before mid x after. (path : Path) → Has x.entry.told.announced (Some path)
+      → IsAnsweredBy mac first.provider x before path)
 
   -- controlled in every record from the last clear, or the start
-  abbrev pub IsControlledSince : (first : AgentRecord H P) (s : Stream) (log : List (Logged P)) (last : AgentRecord H P) (t : Stream) → Run first s log last t → Type 0
+  abbrev pub IsControlledSince : (first : AgentRecord H P) (s : Stream) (log : List (Logged P)) (last : AgentRecord H P) (t : Stream)
+      → Run first s log last t → Type 0
   IsControlledSince first s [] last t run = last.controlling ≡ false
   IsControlledSince first s (x ∷ before) last t run =
       (last.controlling ≡ false) × ((clears_at x ≡ true) ⊎ IsControlledSince first s before run.0 run.1 run.2)
@@ -134,7 +138,8 @@ module _ {H P : Type 0} (mac : H → List ℕ → List ℕ → List ℕ) (answer
   -- the responses are, as a bag, among the accepted Binding requests
   abbrev pub RepliesAreAmong : Type 0
   RepliesAreAmong =
-      (first last : AgentRecord H P) (s t : Stream) (log : List (Logged P)) → IsFresh first → Run first s log last t → AreAmong (replies log) (requests log)
+      (first last : AgentRecord H P) (s t : Stream) (log : List (Logged P)) → IsFresh first → Run first s log last t
+      → AreAmong (replies log) (requests log)
 
   -- bytes that do not read as a message that is accepted change nothing and tell nothing, and are answered by false or their fault
   abbrev pub UnacceptedChangeNothing : Type 0

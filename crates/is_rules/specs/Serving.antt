@@ -1,6 +1,7 @@
 -- Serving a Binding request (RFC 8445, section 7.3): a definition for each rule, in the order in which they act, each ending
 -- in the next one. `s` is the record as the rule finds it; `told` and `new` are what serving tells and leaves.
-use Rattle.std.specs.Prelude.{◌≡◌, ℕ, ◌==◌, ◌&&◌, Bool, true, false, not, List, [], ◌∷◌, ◌++◌, length, bytes_eq, Option, Some, None, is_some, MatchBool, MatchOption, if◌then◌else◌}
+use Rattle.std.specs.Prelude.{◌≡◌, ℕ, ◌==◌, ◌&&◌, Bool, true, false, not, List, [], ◌∷◌, ◌++◌, length, bytes_eq, Option, Some, None}
+use Rattle.std.specs.Prelude.{is_some, MatchBool, MatchOption, if◌then◌else◌}
 use Rattle.std.specs.Option.{option_map_or}
 use Rattle.is_proto.specs.Moments.{MAX, counted}
 use Rattle.is_proto.specs.declared.error.IceError.{IceError}

@@ -136,7 +136,8 @@ pub record RoleEffect (old : Standing) (d : Deed) (new : Standing) : Type 0 wher
   pub serves : (q : RequestRecord) → d.serves ≡ Some q → Has old.queue q ⊎ IsCarriedIn d q
   -- a check that is kept was kept on its path, or goes out now under the role, which stays
   pub kept : (k : Kept) → Has new.kept k → Has old.kept k
-      ⊎ ((d.issued ≡ Some record { path = k.path; class = class.Request; id = k.id }) × (k.controlling ≡ old.controlling) × (new.controlling ≡ old.controlling))
+      ⊎ ((d.issued ≡ Some record { path = k.path; class = class.Request; id = k.id }) × (k.controlling ≡ old.controlling)
+      × (new.controlling ≡ old.controlling))
   -- a valid path was valid, or is answered now; so was one that is announced
   pub valid : old.lite ≡ false → d.makes_lite ≡ false → (path : Path) → Has new.valid path → Has old.valid path ⊎ MeetsSuccess old d path
   pub announced : old.lite ≡ false → d.makes_lite ≡ false → (path : Path) → Has d.announced path → Has old.valid path ⊎ MeetsSuccess old d path

@@ -5,7 +5,7 @@ ghost use Rattle.std.specs.List.{list_any};
 ghost use Rattle.is_candidate.specs.Priorities.{candidate_priority};
 ghost use Rattle.is_pair.specs.Checks.{is_kept};
 ghost use Rattle.is_pair.specs.Pairs.{PairRecord};
-ghost use Rattle.is_pair.specs.Bag.{is_keeper, keeps, keeps_check, pair_numbered};
+ghost use Rattle.is_pair.specs.Bag.{is_keeper, keeps_check, pair_numbered};
 ghost use Rattle.is_pair.specs.Checklists.{bag_of};
 ghost use Rattle.is_rules.specs.FormingView.{sides_view};
 ghost use Rattle.is_rules.specs.Nominating.{path_in};
@@ -80,7 +80,8 @@ impl PairTest for GoesBack<'_> {
 /// The number of a pair that keeps a check of the id and on whose path the packet came back.
 pub fn keeper_on(pairs: &Checklist, sides: Sides<'_>, way: &Path, id: TransId) -> Option<u64>
     ensures any { list_any (is_keeper id.0 (λ p. goes_back way.now (path_in (sides_view sides.entry) p))) (bag_of pairs.now) ≡ is_some result }
-    ensures kept { IfSome result (λ number. (p : PairRecord) × (pair_numbered number (bag_of pairs.now) ≡ Some p) × (is_keeper id.0 (λ p. goes_back way.now (path_in (sides_view sides.entry) p)) p ≡ true)) }
+    ensures kept { IfSome result (λ number. (p : PairRecord) × (pair_numbered number (bag_of pairs.now) ≡ Some p)
+        × (is_keeper id.0 (λ p. goes_back way.now (path_in (sides_view sides.entry) p)) p ≡ true)) }
 {
     pairs.numbers_rise();
     match pairs.keeper(id, &GoesBack { sides, way }) {

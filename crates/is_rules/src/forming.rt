@@ -9,7 +9,9 @@ ghost use Rattle.is_candidate.specs.Candidates.{candidate_at};
 ghost use Rattle.is_pair.specs.Bag.{are_below, IsGreatest};
 ghost use Rattle.is_pair.specs.Checklists.{bag_of, HasRoom};
 ghost use Rattle.is_rules.specs.Each.{Each};
-ghost use Rattle.is_rules.specs.Forming.{is_alive, is_alive_at, is_partner, is_partner_at, partners, remote_combinations, local_combinations, live_row, live_combinations, is_redundant, combined_priority, pair_of, formed_as, Tries, FormsEach, HasNumbers};
+ghost use Rattle.is_rules.specs.Forming.{is_alive, is_alive_at, is_partner, is_partner_at, partners, remote_combinations};
+ghost use Rattle.is_rules.specs.Forming.{local_combinations, live_row, live_combinations, is_redundant, combined_priority, pair_of};
+ghost use Rattle.is_rules.specs.Forming.{formed_as, Tries, FormsEach, HasNumbers};
 ghost use Rattle.is_rules.specs.FormingView.{sides_view};
 ghost use Rattle.is_rules.specs.Cuts.{EvictionCuts};
 
@@ -141,7 +143,8 @@ fn try_each(
     requires room { HasRoom (length all.now) pairs.old }
     requires numbers { HasNumbers next_number.old (length all.now) }
     requires last { are_below next_number.old (bag_of pairs.old) ≡ true }
-    ensures forms { Each (Tries (sides_view sides.entry)) all.now (formed_as (bag_of pairs.old) next_number.old) (formed_as (bag_of pairs.new) next_number.new) }
+    ensures forms { Each (Tries (sides_view sides.entry)) all.now (formed_as (bag_of pairs.old) next_number.old)
+        (formed_as (bag_of pairs.new) next_number.new) }
     ensures below { are_below next_number.new (bag_of pairs.new) ≡ true }
 {
     for at in all {
@@ -166,7 +169,8 @@ pub fn form_each(
     requires room { HasRoom (length all.now) pairs.old }
     requires numbers { HasNumbers next_number.old (length all.now) }
     requires last { are_below next_number.old (bag_of pairs.old) ≡ true }
-    ensures forms { FormsEach (sides_view sides.entry) limit all.now (formed_as (bag_of pairs.old) next_number.old) (formed_as (bag_of pairs.new) next_number.new) }
+    ensures forms { FormsEach (sides_view sides.entry) limit all.now (formed_as (bag_of pairs.old) next_number.old)
+        (formed_as (bag_of pairs.new) next_number.new) }
     ensures below { are_below next_number.new (bag_of pairs.new) ≡ true }
 {
     try_each(alloc, sides, all, pairs, next_number);

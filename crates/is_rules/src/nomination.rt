@@ -9,7 +9,7 @@ ghost use Rattle.is_rules.specs.FormingView.{sides_view};
 ghost use Rattle.is_pair.specs.Bag.{are_below, change_pair, IsGreatest};
 ghost use Rattle.is_pair.specs.Checklists as checklists;
 ghost use Rattle.is_pair.specs.Checklists.{bag_of, HasRoom};
-ghost use Rattle.is_rules.specs.Nominating.{is_eligible, nominated_by_self, announced_pair, stands_at, selection, path_in, Names, Nominates};
+ghost use Rattle.is_rules.specs.Nominating.{is_eligible, nominated_by_self, announced_pair, stands_at, selection, path_in, Names};
 
 use crate::places::{address_at, base_at, proto_at};
 use crate::sides::Sides;
@@ -105,7 +105,8 @@ pub fn name(sides: Sides<'_>, pairs: &mut Checklist, announced: &mut Option<u64>
     ensures room { (n : ℕ) → HasRoom n pairs.old → HasRoom n pairs.new }
     ensures check_room { checklists.HasCheckRoom pairs.old → checklists.HasCheckRoom pairs.new }
     ensures below { (n : ℕ) → are_below n (bag_of pairs.old) ≡ true → are_below n (bag_of pairs.new) ≡ true }
-    ensures due { (now : ℕ) (t : StunTiming) → list_any (falls_due sides.entry.controlling now t) (bag_of pairs.new) ≡ true → list_any (falls_due sides.entry.controlling now t) (bag_of pairs.old) ≡ true }
+    ensures due { (now : ℕ) (t : StunTiming) → list_any (falls_due sides.entry.controlling now t) (bag_of pairs.new) ≡ true
+        → list_any (falls_due sides.entry.controlling now t) (bag_of pairs.old) ≡ true }
 {
     pairs.numbers_rise();
     let controlling = sides.controlling;

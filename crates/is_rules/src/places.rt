@@ -6,7 +6,8 @@ ghost use Rattle.is_candidate.specs.Candidates.{base_of, candidate_at, nowhere};
 ghost use Rattle.is_candidate.specs.Priorities.{candidate_priority, check_priority};
 ghost use Rattle.is_rules.specs.Kept.{TOO_HIGH, NoneTooHigh};
 ghost use Rattle.is_rules.specs.RequestView.{request_view};
-ghost use Rattle.is_rules.specs.Places.{is_at, is_live, is_reached, local_place, is_sender, IsGreatestBelow, IsGreatestPlace, IsRemotePlace, remote_index};
+ghost use Rattle.is_rules.specs.Places.{is_at, is_live, is_reached, local_place, is_sender, IsGreatestBelow, IsGreatestPlace};
+ghost use Rattle.is_rules.specs.Places.{IsRemotePlace, remote_index};
 
 use crate::request::Request;
 use is_candidate::candidate::address::{same_address, same_protocol};

@@ -39,7 +39,8 @@ pub fn tell_state(
 )
     requires room { deque_len events.old < deque_capacity events.old }
     ensures state { state.new ≡ next }
-    ensures events { events.new.items ≡ (if same_state state.old next then events.old.items else events.old.items ++ IceConnectionStateChange next ∷ []) }
+    ensures events { events.new.items ≡ (if same_state state.old next then events.old.items else events.old.items
+        ++ IceConnectionStateChange next ∷ []) }
     ensures len { deque_len events.new ≤ deque_len events.old + 1 }
     ensures capacity { deque_capacity events.new ≡ deque_capacity events.old }
 {

@@ -1,5 +1,6 @@
 -- The value of an XOR address (RFC 8489, section 14.2).
-use Rattle.std.specs.Prelude.{ℕ, not, ◌&&◌, ◌==◌, Bool, List, ◌∷◌, ◌++◌, length, take, drop, slice_index, nat_lt, bit_xor, Result, Ok, Err, if◌then◌else◌}
+use Rattle.std.specs.Prelude.{ℕ, not, ◌&&◌, ◌==◌, Bool, List, ◌∷◌, ◌++◌, length, take, drop, slice_index, nat_lt, bit_xor, Result, Ok, Err}
+use Rattle.std.specs.Prelude.{if◌then◌else◌}
 use Rattle.std.specs.Int.{w16, w32, w128, from_be_bytes, to_be_bytes}
 use Rattle.std.specs.Net.Addr.{ipv4_bits, ipv6_bits, segments_of}
 use Rattle.std.specs.Net.Socket.{v4_ip, v4_port, v6_ip, v6_port}

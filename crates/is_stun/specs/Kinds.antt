@@ -1,11 +1,17 @@
 -- The kinds of value: how each is read, and what is wrong with one that can't be. A further type of
 -- attribute is a row of value_fault and an attribute of Message.AttributesRecord.
-use Rattle.std.specs.Prelude.{ℕ, ◌+◌, ◌*◌, ◌/◌, ◌%◌, not, ◌&&◌, ◌||◌, List, length, drop, slice_index, Option, Some, None, Result, Ok, Err, nat_lt, ◌==◌, if◌then◌else◌}
+use Rattle.std.specs.Prelude.{ℕ, ◌+◌, ◌*◌, ◌/◌, ◌%◌, not, ◌&&◌, ◌||◌, List, length, drop, slice_index, Option, Some, None, Result, Ok, Err}
+use Rattle.std.specs.Prelude.{nat_lt, ◌==◌, if◌then◌else◌}
 use Rattle.std.specs.Int.{Width, w32, w64, byte_len, from_be_bytes}
 use Rattle.std.specs.Str.{is_utf8}
 use Rattle.is_proto.specs.declared.error.ParseFault.{ParseFault}
-use Rattle.is_proto.specs.declared.error.ParseFault.TheVariants.{TextTooLong, TextNotUtf8, IntegrityLength, ErrorCodeLength, ErrorCodeTop, ErrorClass, ChannelLength, ChannelRange, LifetimeLength, PriorityLength, UseCandidateLength, FingerprintLength, ControlledLength, ControllingLength, XorAddress}
-use Rattle.is_stun.specs.Numbers.{USERNAME, MESSAGE_INTEGRITY, ERROR_CODE, CHANNEL_NUMBER, LIFETIME, XOR_PEER_ADDRESS, REALM, NONCE, XOR_RELAYED_ADDRESS, XOR_MAPPED_ADDRESS, SOFTWARE, PRIORITY, USE_CANDIDATE, FINGERPRINT, ICE_CONTROLLED, ICE_CONTROLLING, USERNAME_LIMIT, TEXT_LIMIT, INTEGRITY_LEN}
+use Rattle.is_proto.specs.declared.error.ParseFault.TheVariants.{TextTooLong, TextNotUtf8, IntegrityLength, ErrorCodeLength, ErrorCodeTop}
+use Rattle.is_proto.specs.declared.error.ParseFault.TheVariants.{ErrorClass, ChannelLength, ChannelRange, LifetimeLength, PriorityLength}
+use Rattle.is_proto.specs.declared.error.ParseFault.TheVariants.{UseCandidateLength, FingerprintLength, ControlledLength, ControllingLength}
+use Rattle.is_proto.specs.declared.error.ParseFault.TheVariants.{XorAddress}
+use Rattle.is_stun.specs.Numbers.{USERNAME, MESSAGE_INTEGRITY, ERROR_CODE, CHANNEL_NUMBER, LIFETIME, XOR_PEER_ADDRESS, REALM, NONCE}
+use Rattle.is_stun.specs.Numbers.{XOR_RELAYED_ADDRESS, XOR_MAPPED_ADDRESS, SOFTWARE, PRIORITY, USE_CANDIDATE, FINGERPRINT, ICE_CONTROLLED}
+use Rattle.is_stun.specs.Numbers.{ICE_CONTROLLING, USERNAME_LIMIT, TEXT_LIMIT, INTEGRITY_LEN}
 use Rattle.is_stun.specs.Tlv.{u16_of}
 use Rattle.is_stun.specs.Address.{is_ipv4_value, is_ipv6_value}
 
@@ -36,7 +42,8 @@ error_code value =
 unfoldable pub channel_number : List ℕ → Result ℕ ParseFault
 channel_number value =
     if not (length value == 4) then Err ChannelLength
-    else if nat_lt (u16_of (slice_index value 0) (slice_index value 1)) 0x4000 || nat_lt 0x7FFF (u16_of (slice_index value 0) (slice_index value 1)) then Err ChannelRange
+    else if nat_lt (u16_of (slice_index value 0) (slice_index value 1)) 0x4000 || nat_lt 0x7FFF (u16_of (slice_index value 0) (slice_index value 1))
+    then Err ChannelRange
     else Ok (u16_of (slice_index value 0) (slice_index value 1))
 
 -- an address that can't be read; whether it can does not depend on the transaction id

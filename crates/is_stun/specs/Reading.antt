@@ -1,13 +1,18 @@
 -- Which message bytes spell, or their first fault (RFC 8489, sections 5, 6.3 and 14).
-use Rattle.std.specs.Prelude.{◌≡◌, ℕ, Bool, true, false, not, ◌&&◌, List, [], ◌∷◌, length, take, drop, Option, Some, None, is_some, is_none, Result, nat_lt, ◌==◌, if◌then◌else◌, option_and_then}
+use Rattle.std.specs.Prelude.{◌≡◌, ℕ, Bool, true, false, not, ◌&&◌, List, [], ◌∷◌, length, take, drop, Option, Some, None, is_some, is_none}
+use Rattle.std.specs.Prelude.{Result, nat_lt, ◌==◌, if◌then◌else◌, option_and_then}
 use Rattle.std.specs.Option.{option_or, option_map}
 use Rattle.std.specs.Result.{result_ok}
 use Rattle.std.specs.Int.{w32, w64}
 use Rattle.is_proto.specs.declared.error.ParseFault.{ParseFault}
-use Rattle.is_proto.specs.declared.error.ParseFault.TheVariants.{AttributeLength, LifetimeLength, PriorityLength, UseCandidateLength, FingerprintLength, ControlledLength, ControllingLength, NoIntegrityReply, NoMappedAddress, NoIntegrityRequest, NoUsername, NoPriority}
+use Rattle.is_proto.specs.declared.error.ParseFault.TheVariants.{AttributeLength, LifetimeLength, PriorityLength, UseCandidateLength}
+use Rattle.is_proto.specs.declared.error.ParseFault.TheVariants.{FingerprintLength, ControlledLength, ControllingLength, NoIntegrityReply}
+use Rattle.is_proto.specs.declared.error.ParseFault.TheVariants.{NoMappedAddress, NoIntegrityRequest, NoUsername, NoPriority}
 use Rattle.is_proto.specs.declared.error.StunError.{StunError}
 use Rattle.is_proto.specs.declared.error.StunError.TheVariants as errors
-use Rattle.is_stun.specs.Numbers.{USERNAME, ERROR_CODE, CHANNEL_NUMBER, LIFETIME, XOR_PEER_ADDRESS, DATA, REALM, NONCE, XOR_RELAYED_ADDRESS, XOR_MAPPED_ADDRESS, SOFTWARE, PRIORITY, USE_CANDIDATE, FINGERPRINT, ICE_CONTROLLED, ICE_CONTROLLING, NETWORK_COST, USERNAME_LIMIT, TEXT_LIMIT}
+use Rattle.is_stun.specs.Numbers.{USERNAME, ERROR_CODE, CHANNEL_NUMBER, LIFETIME, XOR_PEER_ADDRESS, DATA, REALM, NONCE, XOR_RELAYED_ADDRESS}
+use Rattle.is_stun.specs.Numbers.{XOR_MAPPED_ADDRESS, SOFTWARE, PRIORITY, USE_CANDIDATE, FINGERPRINT, ICE_CONTROLLED, ICE_CONTROLLING}
+use Rattle.is_stun.specs.Numbers.{NETWORK_COST, USERNAME_LIMIT, TEXT_LIMIT}
 use Rattle.is_stun.specs.declared.header.Class.{Class}
 use Rattle.is_stun.specs.declared.header.Class.TheVariants.{Request, Success}
 use Rattle.is_stun.specs.declared.header.Method.{Method}

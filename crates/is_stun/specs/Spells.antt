@@ -1,12 +1,16 @@
 -- What bytes spell, part by part: each field is the reading of one attribute, and nothing that is read has a fault. Here no fault is named,
 -- nor their order, which is Reading.Fault (RFC 8489, sections 5, 6.3 and 14).
-use Rattle.std.specs.Prelude.{◌≡◌, ℕ, ◌+◌, ◌%◌, ◌≤◌, Bool, true, false, List, length, Option, Some, None, IsSome, is_some, Result, Ok, MatchOption, option_and_then}
+use Rattle.std.specs.Prelude.{◌≡◌, ℕ, ◌+◌, ◌%◌, ◌≤◌, Bool, true, false, List, length, Option, Some, None, IsSome, is_some, Result, Ok}
+use Rattle.std.specs.Prelude.{MatchOption, option_and_then}
 use Rattle.std.specs.List.{AllByRecursion}
 use Rattle.std.specs.Option.{option_map}
 use Rattle.std.specs.Int.{w32, w64}
 use Rattle.is_proto.specs.declared.error.ParseFault.{ParseFault}
-use Rattle.is_proto.specs.declared.error.ParseFault.TheVariants.{LifetimeLength, PriorityLength, FingerprintLength, ControlledLength, ControllingLength}
-use Rattle.is_stun.specs.Numbers.{USERNAME, ERROR_CODE, CHANNEL_NUMBER, LIFETIME, XOR_PEER_ADDRESS, DATA, REALM, NONCE, XOR_RELAYED_ADDRESS, XOR_MAPPED_ADDRESS, SOFTWARE, PRIORITY, USE_CANDIDATE, FINGERPRINT, ICE_CONTROLLED, ICE_CONTROLLING, NETWORK_COST, USERNAME_LIMIT, TEXT_LIMIT, HEADER_LEN, MAGIC}
+use Rattle.is_proto.specs.declared.error.ParseFault.TheVariants.{LifetimeLength, PriorityLength, FingerprintLength, ControlledLength}
+use Rattle.is_proto.specs.declared.error.ParseFault.TheVariants.{ControllingLength}
+use Rattle.is_stun.specs.Numbers.{USERNAME, ERROR_CODE, CHANNEL_NUMBER, LIFETIME, XOR_PEER_ADDRESS, DATA, REALM, NONCE, XOR_RELAYED_ADDRESS}
+use Rattle.is_stun.specs.Numbers.{XOR_MAPPED_ADDRESS, SOFTWARE, PRIORITY, USE_CANDIDATE, FINGERPRINT, ICE_CONTROLLED, ICE_CONTROLLING}
+use Rattle.is_stun.specs.Numbers.{NETWORK_COST, USERNAME_LIMIT, TEXT_LIMIT, HEADER_LEN, MAGIC}
 use Rattle.is_stun.specs.declared.header.Class.TheVariants.{Request, Success}
 use Rattle.is_stun.specs.declared.header.Method.TheVariants.{Binding}
 use Rattle.is_stun.specs.Tlv.{Tlv, tlvs_of}

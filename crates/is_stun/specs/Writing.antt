@@ -1,9 +1,13 @@
 -- The one way in which a message is written (RFC 8489, sections 5 and 14).
-use Rattle.std.specs.Prelude.{◌≡◌, ℕ, ◌+◌, ◌-◌, ◌<◌, ◌≤◌, Bool, true, false, not, ◌||◌, MatchOption, IfSome, List, [], ◌∷◌, ◌++◌, length, take, drop, Option, Some, None, Result, Ok, Err, replicate, bit_xor, nat_lt, if◌then◌else◌}
+use Rattle.std.specs.Prelude.{◌≡◌, ℕ, ◌+◌, ◌-◌, ◌<◌, ◌≤◌, Bool, true, false, not, ◌||◌, MatchOption, IfSome, List, [], ◌∷◌, ◌++◌, length}
+use Rattle.std.specs.Prelude.{take, drop, Option, Some, None, Result, Ok, Err, replicate, bit_xor, nat_lt, if◌then◌else◌}
 use Rattle.std.specs.List.{flat_map}
 use Rattle.std.specs.Option.{option_map, option_or}
 use Rattle.std.specs.Int.{w16, w32, w64, to_be_bytes}
-use Rattle.is_stun.specs.Numbers.{USERNAME, ICE_CONTROLLED, ICE_CONTROLLING, PRIORITY, XOR_MAPPED_ADDRESS, USE_CANDIDATE, DATA, XOR_RELAYED_ADDRESS, XOR_PEER_ADDRESS, CHANNEL_NUMBER, LIFETIME, REALM, NONCE, ERROR_CODE, SOFTWARE, NETWORK_COST, MESSAGE_INTEGRITY, FINGERPRINT, WRITTEN_USERNAME_LIMIT, WRITTEN_TEXT_LIMIT, DATA_LIMIT, FINGERPRINT_MASK, HEADER_LEN, INTEGRITY_LEN}
+use Rattle.is_stun.specs.Numbers.{USERNAME, ICE_CONTROLLED, ICE_CONTROLLING, PRIORITY, XOR_MAPPED_ADDRESS, USE_CANDIDATE, DATA}
+use Rattle.is_stun.specs.Numbers.{XOR_RELAYED_ADDRESS, XOR_PEER_ADDRESS, CHANNEL_NUMBER, LIFETIME, REALM, NONCE, ERROR_CODE, SOFTWARE}
+use Rattle.is_stun.specs.Numbers.{NETWORK_COST, MESSAGE_INTEGRITY, FINGERPRINT, WRITTEN_USERNAME_LIMIT, WRITTEN_TEXT_LIMIT, DATA_LIMIT}
+use Rattle.is_stun.specs.Numbers.{FINGERPRINT_MASK, HEADER_LEN, INTEGRITY_LEN}
 use Rattle.is_proto.specs.declared.error.StunError.{StunError}
 use Rattle.is_proto.specs.declared.error.StunError.TheVariants.{UnknownMethod, ValueTooLong, BadErrorCode, MessageTooLong, BufferTooShort}
 use Rattle.is_stun.specs.declared.header.Method.{Method}

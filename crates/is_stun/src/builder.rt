@@ -376,7 +376,8 @@ impl<'a> Builder<'a, HasClass> {
 
     /// The message. It carries no integrity until it is written with a password.
     pub fn build(self, trans_id: TransId) -> StunMessage<'a>
-        ensures { message_view result ≡ built (kind_so_far self.entry).method (kind_so_far self.entry).class trans_id.0 (attributes_so_far self.entry) }
+        ensures { message_view result ≡ built (kind_so_far self.entry).method (kind_so_far self.entry).class trans_id.0
+            (attributes_so_far self.entry) }
     {
         StunMessage {
             method: self.state.method,

@@ -1,6 +1,6 @@
 //! The header of a message: class, method, length, magic cookie (RFC 8489, section 5).
 
-ghost use Rattle.std.specs.Prelude.{◌≡◌, ◌≤◌, ◌<◌, ◌^◌, ◌+◌, None, length, drop};
+ghost use Rattle.std.specs.Prelude.{◌≡◌, ◌≤◌, ◌<◌, ◌^◌, ◌+◌, None, length};
 
 use crate::numbers::{HEADER_LEN, MAGIC};
 use is_proto::ParseFault;

@@ -3,7 +3,6 @@
 ghost use Rattle.std.specs.Prelude.{◌≡◌, ◌≤◌, length, drop, Some, None, OnOk, IfErr};
 ghost use Rattle.std.specs.Result.{result_ok};
 ghost use Rattle.std.specs.Int.{w32, w64};
-ghost use Rattle.std.specs.Option.{option_map};
 ghost use Rattle.is_stun.specs.Kinds.{text, number, bytes_of_len, error_code, channel_number, network_cost, fault_in};
 ghost use Rattle.is_stun.specs.ErrorCodeView.{error_view};
 ghost use Rattle.is_stun.specs.Gives.{Gives};

@@ -1,12 +1,11 @@
 //! How messages are written.
 
-ghost use Rattle.std.specs.Prelude.{◌≡◌, length, take, map, IfNone, IfOk, IfSome};
+ghost use Rattle.std.specs.Prelude.{◌≡◌, length, take, IfNone, IfOk, IfSome};
 ghost use Rattle.std.specs.Option.{option_copied, option_map};
 ghost use Rattle.is_stun.specs.Writing.{WritesOr, is_longer, is_bad_code, has_long_value, value_refusal, refusal, written};
 ghost use Rattle.is_stun.specs.Laws.{ReadsAgain};
 ghost use Rattle.is_stun.specs.MessageView.{attributes_view, message_view};
 ghost use Rattle.is_stun.specs.ErrorCodeView.{error_view, WritableError};
-ghost use Rattle.is_stun.specs.RowView.{row_view};
 
 use crate::attributes::Attributes;
 use crate::header::Method;
@@ -101,8 +100,10 @@ impl<'a> StunMessage<'a> {
         buf: &mut [u8],
         provider: &H,
     ) -> Result<usize, StunError>
-        ensures written { WritesOr result buf.old buf.new (refusal (option_copied password.entry) (length buf.old) (message_view self.entry)) (written (H.mac provider.now) (option_copied password.entry) (message_view self.entry)) }
-        ensures read_again { IfOk result (λ len. IfSome (option_copied password.entry) (λ key. ReadsAgain (H.mac provider.now) key (take len buf.new) (message_view self.entry))) }
+        ensures written { WritesOr result buf.old buf.new (refusal (option_copied password.entry) (length buf.old)
+            (message_view self.entry)) (written (H.mac provider.now) (option_copied password.entry) (message_view self.entry)) }
+        ensures read_again { IfOk result (λ len. IfSome (option_copied password.entry)
+            (λ key. ReadsAgain (H.mac provider.now) key (take len buf.new) (message_view self.entry))) }
     {
         // in the ranges of their types, the values are read again as they are
         id_fits(self.trans_id);

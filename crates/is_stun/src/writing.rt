@@ -1,10 +1,11 @@
 //! Writing into a buffer, with no memory taken.
 
-ghost use Rattle.std.specs.Prelude.{◌≡◌, ◌+◌, ◌-◌, ◌≤◌, ◌<◌, ◌^◌, length, map, replicate, take, MatchOption, Some, None, IfOk, OnOk, IfErr};
+ghost use Rattle.std.specs.Prelude.{◌≡◌, ◌+◌, ◌-◌, ◌≤◌, ◌<◌, ◌^◌, length, map, replicate, take, Some, None, IfOk, OnOk, IfErr};
 ghost use Rattle.std.specs.Option.{option_copied};
 ghost use Rattle.std.specs.Int.{w16, w32, to_be_bytes};
 ghost use Rattle.is_stun.specs.Tlv.{padded_len, attribute_len};
-ghost use Rattle.is_stun.specs.Writing.{Puts, attribute, row_text, rows_text, IsLenWithin, integrity_len, body_len, integrity_text, fingerprint_text, rows_refusal, written_rows, WritesOr, HasMacOf, HasMacOfRows};
+ghost use Rattle.is_stun.specs.Writing.{Puts, attribute, row_text, rows_text, IsLenWithin, integrity_len, body_len, integrity_text};
+ghost use Rattle.is_stun.specs.Writing.{fingerprint_text, rows_refusal, written_rows, WritesOr, HasMacOf, HasMacOfRows};
 ghost use Rattle.is_stun.specs.Header.{header};
 ghost use Rattle.is_stun.specs.RowView.{row_view};
 
@@ -206,7 +207,8 @@ fn write_within<H: Sha1HmacProvider>(
     requires is_len { len ≡ body_len (option_copied password) (map row_view draft.now.rows.now) }
     requires short { len < 2 ^ 16 }
     requires room { 20 + len ≤ length buf.old }
-    ensures text { Puts buf.old buf.new 0 result (written_rows (H.mac provider.now) (option_copied password.entry) draft.now.typ draft.now.id.now (map row_view draft.now.rows.now)) }
+    ensures text { Puts buf.old buf.new 0 result (written_rows (H.mac provider.now) (option_copied password.entry) draft.now.typ
+        draft.now.id.now (map row_view draft.now.rows.now)) }
     ensures mac { HasMacOfRows (H.mac provider.now) (option_copied password.entry) draft.now.typ draft.now.id.now (map row_view draft.now.rows.now) }
 {
     let at = put_header(buf, draft.typ, len as u16, draft.id);
@@ -222,8 +224,11 @@ pub(crate) fn write_draft<H: Sha1HmacProvider>(
     buf: &mut [u8],
     provider: &H,
 ) -> Result<usize, StunError>
-    ensures written { WritesOr result buf.old buf.new (rows_refusal (option_copied password.entry) (length buf.old) (map row_view draft.now.rows.now)) (written_rows (H.mac provider.now) (option_copied password.entry) draft.now.typ draft.now.id.now (map row_view draft.now.rows.now)) }
-    ensures mac { OnOk result (HasMacOfRows (H.mac provider.now) (option_copied password.entry) draft.now.typ draft.now.id.now (map row_view draft.now.rows.now)) }
+    ensures written { WritesOr result buf.old buf.new (rows_refusal (option_copied password.entry) (length buf.old)
+        (map row_view draft.now.rows.now)) (written_rows (H.mac provider.now) (option_copied password.entry) draft.now.typ draft.now.id.now
+        (map row_view draft.now.rows.now)) }
+    ensures mac { OnOk result (HasMacOfRows (H.mac provider.now) (option_copied password.entry) draft.now.typ draft.now.id.now
+        (map row_view draft.now.rows.now)) }
 {
     let body_len = body_len_within(draft.rows, password, buf.len())?;
     Ok(write_within(draft, body_len, password, buf, provider))

@@ -1,6 +1,7 @@
 //! Tests of addresses and protocols.
 ghost use Rattle.std.specs.Prelude.{◌≡◌, ◌↔◌, IsTrue};
-ghost use Rattle.is_candidate.specs.Addresses.{protocol_number, same_protocol, same_address, same_version, plain_socket, unspecified_like, is_valid_ip};
+ghost use Rattle.is_candidate.specs.Addresses.{protocol_number, same_protocol, same_address, same_version, plain_socket, unspecified_like};
+ghost use Rattle.is_candidate.specs.Addresses.{is_valid_ip};
 
 use is_proto::Protocol;
 use std::net::{IpAddr, Ipv4Addr, Ipv6Addr, SocketAddr, SocketAddrV4, SocketAddrV6};

@@ -3,7 +3,8 @@ ghost use Rattle.std.specs.Prelude.{◌≡◌, ◌++◌, codes, IsTrue};
 ghost use Rattle.std.specs.Net.Socket.{socket_ip};
 ghost use Rattle.std.specs.Net.Text.{ip_text};
 ghost use Rattle.is_candidate.specs.Kinds.{is_direct};
-ghost use Rattle.is_candidate.specs.Making.{ip_fault, reflexive_fault, gathered, host_candidate, server_reflexive_candidate, relayed_candidate, signalled_candidate, peer_reflexive_candidate};
+ghost use Rattle.is_candidate.specs.Making.{ip_fault, reflexive_fault, gathered, host_candidate, server_reflexive_candidate};
+ghost use Rattle.is_candidate.specs.Making.{relayed_candidate, signalled_candidate, peer_reflexive_candidate};
 ghost use Rattle.is_candidate.specs.Refusals.{RefusesWith, Makes};
 
 use super::Candidate;

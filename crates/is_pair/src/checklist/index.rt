@@ -1,6 +1,7 @@
 //! The index of a checklist: which pairs keep which ids.
 
-ghost use Rattle.std.specs.Prelude.{◌≡◌, ◌<◌, ◌≤◌, ◌==◌, true, false, not, ℕ, List, Bool, ◌||◌, filter, find, get_or, if◌then◌else◌, length, remove, vec_len, vec_capacity};
+ghost use Rattle.std.specs.Prelude.{◌≡◌, ◌<◌, ◌≤◌, ◌==◌, true, false, not, ℕ, List, Bool, ◌||◌, filter, find, get_or, if◌then◌else◌};
+ghost use Rattle.std.specs.Prelude.{length, remove, vec_len, vec_capacity};
 ghost use Rattle.std.specs.List.{list_any};
 ghost use Rattle.std.specs.List.Sorted.{IsPartitionPoint};
 ghost use Rattle.is_pair.specs.Bag.{has_number, rises};
@@ -66,7 +67,8 @@ fn forget_all(index: &mut Vec<Kept>, pair: &CandidatePair)
 /// The entry at the place goes where it is of an id that the pair keeps no more.
 fn forget_at(index: &mut Vec<Kept>, pair: &CandidatePair, place: usize)
     requires within { place < length index.old.items }
-    ensures items { (d : Kept) → index.new.items ≡ (if is_current pair.now (get_or index.old.items place d) then index.old.items else remove index.old.items place) }
+    ensures items { (d : Kept) → index.new.items ≡ (if is_current pair.now (get_or index.old.items place d) then index.old.items
+        else remove index.old.items place) }
     ensures within { vec_len index.new ≤ vec_len index.old }
     ensures capacity { vec_capacity index.new ≡ vec_capacity index.old }
 {

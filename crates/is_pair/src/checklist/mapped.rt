@@ -175,7 +175,8 @@ fn earlier<'a>(
     now: Instant,
     timing: &StunTiming,
 ) -> Option<&'a CandidatePair>
-    ensures { (done : List PairRecord) → IsEarliest now.0 timing.now done (option_copied first.entry) → IsEarliest now.0 timing.now (pair.now ∷ done) (option_copied result) }
+    ensures { (done : List PairRecord) → IsEarliest now.0 timing.now done (option_copied first.entry)
+        → IsEarliest now.0 timing.now (pair.now ∷ done) (option_copied result) }
 {
     match first {
         Some(first) if goes_before(first, pair, now, timing) => Some(first),

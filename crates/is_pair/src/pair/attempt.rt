@@ -22,7 +22,7 @@ pub struct BindingAttempt {
 }
 
 impl Model for BindingAttempt {
-    ghost use Rattle.std.specs.Prelude.{refl, Some, None};
+    ghost use Rattle.std.specs.Prelude.{Some};
     ghost use Rattle.std.specs.Prelude.{option_map};
     ghost use Rattle.is_pair.specs.Checks.{Check};
 

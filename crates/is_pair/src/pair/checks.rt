@@ -1,6 +1,6 @@
 //! Sending checks on a pair, and taking their answers (RFC 8445, section 7.2).
 
-ghost use Rattle.std.specs.Prelude.{◌≡◌, ◌<◌, IfErr, IfOk, IsTrue, find, is_some, length, nat_le};
+ghost use Rattle.std.specs.Prelude.{◌≡◌, ◌<◌, IfErr, IfOk, IsTrue, find, is_some, length};
 ghost use Rattle.std.specs.Option.{option_copied};
 ghost use Rattle.std.specs.VecDeque.{deque_capacity};
 ghost use Rattle.rand_core.specs.Stream.{fill_bytes};

@@ -1,7 +1,8 @@
 //! How far a pair and its nomination have come.
 
 ghost use Rattle.std.specs.Prelude.{◌≡◌};
-ghost use Rattle.is_pair.specs.States.{state_once_sent, state_once_answered, state_from, nomination_once_sent, nomination_once_answered, nomination_from};
+ghost use Rattle.is_pair.specs.States.{state_once_sent, state_once_answered, state_from, nomination_once_sent, nomination_once_answered};
+ghost use Rattle.is_pair.specs.States.{nomination_from};
 
 /// How far the checks of a pair have come (RFC 8445, section 6.1.2.6). There is no frozen state, since every
 /// new pair may be checked, and no failed one, since a pair that fails is given up.
