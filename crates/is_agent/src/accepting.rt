@@ -115,7 +115,8 @@ impl<H: Sha1HmacProvider + Drop, P: LocalPreference> Agent<H, P> {
     /// Refused with `PairIdsExhausted` where a pair must be added and no number is left, and with `OutOfMemory`; the
     /// agent is then as it was.
     pub fn handle_packet(&mut self, now: Instant, packet: StunPacket<'_>) -> Result<bool, IceError>
-        ensures { HandlesPacket H.mac now.0 (record_of self.old) (way_of packet.entry) (message_view packet.entry.message) result (told_of self.new) (record_of self.new) }
+        ensures { HandlesPacket H.mac now.0 (record_of self.old) (way_of packet.entry) (message_view packet.entry.message) result
+            (told_of self.new) (record_of self.new) }
     {
         match self.take_packet(now, &packet) {
             Ok(Some(told)) => {
@@ -140,7 +141,9 @@ impl<H: Sha1HmacProvider + Drop, P: LocalPreference> Agent<H, P> {
         now: Instant,
         packet: &StunPacket<'_>,
     ) -> Result<Option<Told>, IceError>
-        ensures arrives { Arrives (IsAcceptedOn H.mac (record_of self.old) (way_of packet.now) (message_view packet.now.message)) H.mac (message_view packet.now.message).class now.0 (record_of self.old) (way_of packet.now) (message_view packet.now.message) result (record_of self.new) }
+        ensures arrives { Arrives (IsAcceptedOn H.mac (record_of self.old) (way_of packet.now) (message_view packet.now.message)) H.mac
+            (message_view packet.now.message).class now.0 (record_of self.old) (way_of packet.now) (message_view packet.now.message) result
+            (record_of self.new) }
         ensures room { IfOk result (λ taken. IfSome taken (λ _. HasNewsRoom 1 self.new)) }
     {
         if packet.message.method() != Method::Binding {
@@ -159,7 +162,9 @@ impl<H: Sha1HmacProvider + Drop, P: LocalPreference> Agent<H, P> {
         now: Instant,
         packet: &StunPacket<'_>,
     ) -> Result<Option<Told>, IceError>
-        ensures arrives { Arrives (IsAcceptedAs H.mac classes.Request (keeps_check_on (record_of self.old) (way_of packet.now) (message_view packet.now.message).id) (record_of self.old) (message_view packet.now.message)) H.mac classes.Request now.0 (record_of self.old) (way_of packet.now) (message_view packet.now.message) result (record_of self.new) }
+        ensures arrives { Arrives (IsAcceptedAs H.mac classes.Request (keeps_check_on (record_of self.old) (way_of packet.now)
+            (message_view packet.now.message).id) (record_of self.old) (message_view packet.now.message)) H.mac classes.Request now.0
+            (record_of self.old) (way_of packet.now) (message_view packet.now.message) result (record_of self.new) }
         ensures room { IfOk result (λ taken. IfSome taken (λ _. HasNewsRoom 1 self.new)) }
     {
         if !self.accepts_request(&packet.message) {
@@ -173,7 +178,8 @@ impl<H: Sha1HmacProvider + Drop, P: LocalPreference> Agent<H, P> {
     fn take_request(&mut self, request: &Request<'_>) -> Result<Told, IceError>
         ensures taken { IfOk result (λ told. TakesRequest H.mac (request_view request.now) (record_of self.old) told (record_of self.new)) }
         ensures room { OnOk result (HasNewsRoom 1 self.new) }
-        ensures refused { IfErr result (λ error. MayRefuseArrival (record_of self.old) (request_view request.now) error × (record_of self.new ≡ record_of self.old)) }
+        ensures refused { IfErr result (λ error. MayRefuseArrival (record_of self.old) (request_view request.now) error
+            × (record_of self.new ≡ record_of self.old)) }
     {
         match self.remote_creds {
             None => self.queue_request(request),
@@ -186,7 +192,9 @@ impl<H: Sha1HmacProvider + Drop, P: LocalPreference> Agent<H, P> {
         now: Instant,
         packet: &StunPacket<'_>,
     ) -> Result<Option<Told>, IceError>
-        ensures arrives { Arrives (IsAcceptedAs H.mac classes.Success (keeps_check_on (record_of self.old) (way_of packet.now) (message_view packet.now.message).id) (record_of self.old) (message_view packet.now.message)) H.mac classes.Success now.0 (record_of self.old) (way_of packet.now) (message_view packet.now.message) result (record_of self.new) }
+        ensures arrives { Arrives (IsAcceptedAs H.mac classes.Success (keeps_check_on (record_of self.old) (way_of packet.now)
+            (message_view packet.now.message).id) (record_of self.old) (message_view packet.now.message)) H.mac classes.Success now.0
+            (record_of self.old) (way_of packet.now) (message_view packet.now.message) result (record_of self.new) }
         ensures room { IfOk result (λ taken. IfSome taken (λ _. HasNewsRoom 1 self.new)) }
     {
         let way = way_of(packet);
@@ -198,7 +206,9 @@ impl<H: Sha1HmacProvider + Drop, P: LocalPreference> Agent<H, P> {
     }
 
     fn take_failure_packet(&mut self, packet: &StunPacket<'_>) -> Result<Option<Told>, IceError>
-        ensures arrives { (now : ℕ) → Arrives (IsAcceptedAs H.mac classes.Failure (keeps_check_on (record_of self.old) (way_of packet.now) (message_view packet.now.message).id) (record_of self.old) (message_view packet.now.message)) H.mac classes.Failure now (record_of self.old) (way_of packet.now) (message_view packet.now.message) result (record_of self.new) }
+        ensures arrives { (now : ℕ) → Arrives (IsAcceptedAs H.mac classes.Failure (keeps_check_on (record_of self.old) (way_of packet.now)
+            (message_view packet.now.message).id) (record_of self.old) (message_view packet.now.message)) H.mac classes.Failure now
+            (record_of self.old) (way_of packet.now) (message_view packet.now.message) result (record_of self.new) }
         ensures room { IfOk result (λ taken. IfSome taken (λ _. HasNewsRoom 1 self.new)) }
     {
         let way = way_of(packet);

@@ -14,7 +14,8 @@ ghost use Rattle.is_rules.specs.Kept.{TOO_HIGH};
 ghost use Rattle.is_agent.specs.Room.{HasNewsRoom};
 ghost use Rattle.is_rules.specs.Due.{KeepsCheckOn, IsRecorded, IsSentUnder};
 ghost use Rattle.is_rules.specs.Accepting.{IsAwaited};
-ghost use Rattle.is_rules.specs.Answers.{is_known_address, is_role_conflict, keeps_check_on, joined_by, local_with, mapped_candidate, success_counted, Concludes, GivesUpRole, TakesSuccess, TakesFailure};
+ghost use Rattle.is_rules.specs.Answers.{is_known_address, is_role_conflict, keeps_check_on, joined_by, local_with, mapped_candidate};
+ghost use Rattle.is_rules.specs.Answers.{success_counted, Concludes, GivesUpRole, TakesSuccess, TakesFailure};
 
 use crate::agent::Agent;
 use is_candidate::candidate::making::peer_reflexive;
@@ -58,8 +59,10 @@ impl<H: Sha1HmacProvider + Drop, P: LocalPreference> Agent<H, P> {
     /// The number of the pair that the answer is for: it keeps a check of its id, the answer came back on its path, and
     /// the peer signed it.
     pub(crate) fn awaited_pair(&self, way: &Path, message: &StunMessage<'_>) -> Option<u64>
-        ensures awaited { IfSome result (λ _. IsAwaited H.mac (keeps_check_on (record_of self.now) way.now (message_view message.now).id) (record_of self.now) (message_view message.now)) }
-        ensures foreign { IfNone result (¬ IsAwaited H.mac (keeps_check_on (record_of self.now) way.now (message_view message.now).id) (record_of self.now) (message_view message.now)) }
+        ensures awaited { IfSome result (λ _. IsAwaited H.mac (keeps_check_on (record_of self.now) way.now (message_view message.now).id)
+            (record_of self.now) (message_view message.now)) }
+        ensures foreign { IfNone result (¬ IsAwaited H.mac (keeps_check_on (record_of self.now) way.now (message_view message.now).id)
+            (record_of self.now) (message_view message.now)) }
         ensures kept { IfSome result (λ number. KeepsCheckOn (record_of self.now) way.now (message_view message.now).id number) }
     {
         let number = self.keeper_on(way, message.trans_id())?;
@@ -103,7 +106,8 @@ impl<H: Sha1HmacProvider + Drop, P: LocalPreference> Agent<H, P> {
 
     /// The candidate that the mapped address adds, where no local candidate has it.
     fn learnt(&self, l: usize, mapped: Option<SocketAddr>) -> Result<Option<Candidate>, AllocError>
-        ensures learnt { (p : PairRecord) → l ≡ p.local → IfOk result (λ c. joined_by c self.now.local.items ≡ local_with p mapped (success_counted (record_of self.now))) }
+        ensures learnt { (p : PairRecord) → l ≡ p.local → IfOk result (λ c. joined_by c self.now.local.items
+            ≡ local_with p mapped (success_counted (record_of self.now))) }
         ensures low { IfOk result (λ c. IfSome c (λ c. candidate_priority c < TOO_HIGH)) }
     {
         let Some(mapped) = mapped else {

@@ -56,8 +56,11 @@ impl<H: Sha1HmacProvider + Drop, P: LocalPreference> Agent<H, P> {
     pub(crate) fn check_bytes(&self, mut contents: Vec<u8>, id: TransId, draft: Draft) -> Vec<u8>
         requires username { HasUsername self.now }
         requires contents { IfSome self.now.remote_creds (λ _. length contents.items ≡ MTU_FLOOR) }
-        ensures put { (peer : model.IceCreds) (p : PairRecord) → self.now.remote_creds ≡ Some peer → Drafts (record_of self.now) p draft → IsPut (written (H.mac self.now.provider) (Some peer.pass) (check_message (record_of self.now) peer p id.0)) (check_message (record_of self.now) peer p id.0) }
-        ensures written { (peer : model.IceCreds) (p : PairRecord) → self.now.remote_creds ≡ Some peer → Drafts (record_of self.now) p draft → result.items ≡ written (H.mac self.now.provider) (Some peer.pass) (check_message (record_of self.now) peer p id.0) }
+        ensures put { (peer : model.IceCreds) (p : PairRecord) → self.now.remote_creds ≡ Some peer → Drafts (record_of self.now) p draft
+            → IsPut (written (H.mac self.now.provider) (Some peer.pass) (check_message (record_of self.now) peer p id.0))
+            (check_message (record_of self.now) peer p id.0) }
+        ensures written { (peer : model.IceCreds) (p : PairRecord) → self.now.remote_creds ≡ Some peer → Drafts (record_of self.now) p draft
+            → result.items ≡ written (H.mac self.now.provider) (Some peer.pass) (check_message (record_of self.now) peer p id.0) }
     {
         if let Some(peer) = &self.remote_creds {
             let username = self.username.as_str();

@@ -12,7 +12,8 @@ ghost use Rattle.is_agent.specs.Lends.{EndsAs};
 ghost use Rattle.is_agent.specs.Room.{HasLocalRoom};
 ghost use Rattle.is_rules.specs.Discarding.{local_discarded};
 ghost use Rattle.is_rules.specs.Forming.{HasNumbers, FormsAll, local_combinations};
-ghost use Rattle.is_rules.specs.Local.{Prefers, comes_again, enabled, preferred, as_own, appended, is_unwanted, HasNumbersAt, EntersAgain, EntersNew, Enrols, EnrolsPreferred, AddsLocal, LendsLocal, widened};
+ghost use Rattle.is_rules.specs.Local.{Prefers, comes_again, preferred, as_own, appended, is_unwanted, HasNumbersAt, EntersAgain};
+ghost use Rattle.is_rules.specs.Local.{EntersNew, Enrols, EnrolsPreferred, AddsLocal, LendsLocal, widened};
 
 use crate::agent::Agent;
 use is_candidate::candidate::equality::is_same_place;
@@ -118,7 +119,8 @@ impl<H: Sha1HmacProvider + Drop, P: LocalPreference> Agent<H, P> {
     fn combinations_again(&self, place: usize) -> Result<Vec<(usize, usize)>, AllocError>
         requires { place < length self.now.local.items }
         ensures all { IfOk result (λ all. all.items ≡ local_combinations (candidate_at self.now.local.items place) place self.now.remote.items) }
-        ensures numbers { HasNumbersAt (record_of self.now) (candidate_at self.now.local.items place) → IfOk result (λ all. HasNumbers self.now.next_number (length all.items)) }
+        ensures numbers { HasNumbersAt (record_of self.now) (candidate_at self.now.local.items place)
+            → IfOk result (λ all. HasNumbers self.now.next_number (length all.items)) }
     {
         let alloc = *self.local.allocator();
         local_combinations(alloc, candidate_at(&self.local, place), place, &self.remote)
@@ -227,7 +229,8 @@ impl<H: Sha1HmacProvider + Drop, P: LocalPreference> Agent<H, P> {
 
     /// Adds a local candidate and lends it; see `add_local_candidate`. The refusals own no memory.
     pub(crate) fn lend_local(&mut self, candidate: Candidate) -> Result<Option<&Candidate>, Refusal>
-        ensures* step { sem 𝓛 (EndsAs (the_row H.row P.row) self.entry (λ after. LendsLocal P.answers (record_of self.old) candidate (widened result) (record_of after))) }
+        ensures* step { sem 𝓛 (EndsAs (the_row H.row P.row) self.entry (λ after. LendsLocal P.answers (record_of self.old) candidate
+            (widened result) (record_of after))) }
     {
         let place = self.add_local(candidate)?;
         Ok(lent_at(&self.local, place))
@@ -247,7 +250,8 @@ impl<H: Sha1HmacProvider + Drop, P: LocalPreference> Agent<H, P> {
         &mut self,
         candidate: Candidate,
     ) -> Result<Option<&Candidate>, IceError>
-        ensures* step { sem 𝓛 (EndsAs (the_row H.row P.row) self.entry (λ after. LendsLocal P.answers (record_of self.old) candidate result (record_of after))) }
+        ensures* step { sem 𝓛 (EndsAs (the_row H.row P.row) self.entry (λ after. LendsLocal P.answers (record_of self.old) candidate result
+            (record_of after))) }
     {
         widen(self.lend_local(candidate))
     }

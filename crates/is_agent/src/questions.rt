@@ -4,7 +4,8 @@ ghost use Rattle.std.specs.Prelude.{◌≡◌, option_map};
 ghost use Rattle.std.specs.Option.{option_copied};
 ghost use Rattle.is_agent.specs.View.{record_of};
 ghost use Rattle.is_agent.specs.Listed.{local_left, remote_left};
-ghost use Rattle.is_rules.specs.Questions.{live, is_viable_at, has_viable_remote, FindsEquivalent, nominated_pair, nominated_rtt, nominated_total_rtt, nominated_responses};
+ghost use Rattle.is_rules.specs.Questions.{live, is_viable_at, has_viable_remote, FindsEquivalent, nominated_pair, nominated_rtt};
+ghost use Rattle.is_rules.specs.Questions.{nominated_total_rtt, nominated_responses};
 
 use crate::agent::Agent;
 use is_candidate::candidate::address::same_address;

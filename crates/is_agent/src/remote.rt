@@ -6,7 +6,8 @@ ghost use Rattle.is_pair.specs.Checklists.{HasRoom};
 ghost use Rattle.is_agent.specs.View.{record_of};
 ghost use Rattle.is_agent.specs.Room.{HasFormingRoom};
 ghost use Rattle.is_rules.specs.Forming.{HasNumbers, FormsAll, remote_combinations};
-ghost use Rattle.is_rules.specs.Remote.{has_other_ufrag, has_equivalent, is_placeholder, as_remote, place_or_end, is_ignored, StoresAt, JoinsRemote, AddsRemote};
+ghost use Rattle.is_rules.specs.Remote.{has_other_ufrag, has_equivalent, is_placeholder, as_remote, place_or_end, is_ignored, StoresAt};
+ghost use Rattle.is_rules.specs.Remote.{JoinsRemote, AddsRemote};
 
 use crate::agent::Agent;
 use is_candidate::candidate::internals::component;

@@ -11,12 +11,14 @@ ghost use Rattle.is_pair.specs.Bag.{is_valid_at};
 ghost use Rattle.is_pair.specs.Checklists.{HasRoom};
 ghost use Rattle.is_rules.specs.Forming.{formed, with_pair};
 ghost use Rattle.is_stun.specs.Checks.{binding_reply};
-ghost use Rattle.is_stun.specs.Laws.{IsPut};
+ghost use Rattle.is_stun.specs.Laws.{IsPut, LONGEST_REPLY};
 ghost use Rattle.is_stun.specs.Writing.{written};
 ghost use Rattle.is_rules.specs.Sending.{carried, with_packet};
 ghost use Rattle.is_rules.specs.Roles.{switched};
 ghost use Rattle.is_agent.specs.Ready.{IsReady};
-ghost use Rattle.is_rules.specs.Serving.{names_another, is_misled, is_admitted, sender_at, pair_served, replied, ServesPair, AddsPair, TakesAt, JoinsAt, Admits, InsistsOnRole, Settles, Serves, Chooses, wants_pair_at, wants_pair, lacks_number, MayRefuseRequest};
+ghost use Rattle.is_rules.specs.Serving.{names_another, is_misled, is_admitted, sender_at, pair_served, replied, ServesPair, AddsPair};
+ghost use Rattle.is_rules.specs.Serving.{TakesAt, JoinsAt, Admits, InsistsOnRole, Settles, Serves, Chooses, wants_pair_at, wants_pair};
+ghost use Rattle.is_rules.specs.Serving.{lacks_number, MayRefuseRequest};
 
 use crate::agent::Agent;
 use is_candidate::candidate::equality::TEMPORARY_FOUNDATION;
@@ -76,7 +78,8 @@ impl<H: Sha1HmacProvider + Drop, P: LocalPreference> Agent<H, P> {
     /// A pair must be added, and no number is left.
     pub(crate) fn lacks_number(&self, request: &Request<'_>, at: Places) -> bool
         ensures lacks { result ≡ lacks_number (record_of self.now) (request_view request.now) at }
-        ensures left { result ≡ false → wants_pair (record_of self.now) (request_view request.now) at ≡ true → self.now.next_number < 18446744073709551615 }
+        ensures left { result ≡ false → wants_pair (record_of self.now) (request_view request.now) at ≡ true
+            → self.now.next_number < 18446744073709551615 }
     {
         self.next_number == u64::MAX && self.wants_pair(request, at)
     }
@@ -142,7 +145,7 @@ impl<H: Sha1HmacProvider + Drop, P: LocalPreference> Agent<H, P> {
         request: &Request<'_>,
         at: Places,
     ) -> Result<Supplies, AllocError>
-        ensures reply { IfOk result (λ supplies. length supplies.reply.items ≡ 76) }
+        ensures reply { IfOk result (λ supplies. length supplies.reply.items ≡ LONGEST_REPLY) }
         ensures sender { IfOk result (λ supplies. supplies.sender ≡ sender_at (record_of self.now) (request_view request.now) at.remote) }
     {
         let sender = self.sender_at(request, at.remote)?;
@@ -173,8 +176,9 @@ impl<H: Sha1HmacProvider + Drop, P: LocalPreference> Agent<H, P> {
     fn reply(&mut self, request: &Request<'_>, path: Path, mut reply: Vec<u8>)
         requires packets { HasPacketRoom self.old }
         requires news { HasNewsRoom 1 self.old }
-        requires reply { length reply.items ≡ 76 }
-        ensures put { IsPut (written (H.mac self.old.provider) (Some self.old.local_creds.pass) (binding_reply request.now.id.0 request.now.path.source)) (binding_reply request.now.id.0 (carried request.now.path.source)) }
+        requires reply { length reply.items ≡ LONGEST_REPLY }
+        ensures put { IsPut (written (H.mac self.old.provider) (Some self.old.local_creds.pass)
+            (binding_reply request.now.id.0 request.now.path.source)) (binding_reply request.now.id.0 (carried request.now.path.source)) }
         ensures replied { record_of self.new ≡ replied H.mac (request_view request.now) path (record_of self.old) }
         ensures news { HasNewsRoom 1 self.new }
     {
@@ -222,7 +226,7 @@ impl<H: Sha1HmacProvider + Drop, P: LocalPreference> Agent<H, P> {
     ) -> Told
         requires packets { HasPacketRoom self.old }
         requires news { HasNewsRoom 2 self.old }
-        requires reply { length reply.items ≡ 76 }
+        requires reply { length reply.items ≡ LONGEST_REPLY }
         ensures served { ServesPair H.mac (request_view request.now) l r number (record_of self.old) result (record_of self.new) }
         ensures news { HasNewsRoom 1 self.new }
     {
@@ -268,7 +272,7 @@ impl<H: Sha1HmacProvider + Drop, P: LocalPreference> Agent<H, P> {
         requires pairs { HasRoom 1 self.old.pairs }
         requires packets { HasPacketRoom self.old }
         requires news { HasNewsRoom 2 self.old }
-        requires reply { length reply.items ≡ 76 }
+        requires reply { length reply.items ≡ LONGEST_REPLY }
         requires number { self.old.next_number < 18446744073709551615 }
         ensures served { AddsPair H.mac (request_view request.now) l r (record_of self.old) result (record_of self.new) }
         ensures news { HasNewsRoom 1 self.new }
@@ -291,7 +295,7 @@ impl<H: Sha1HmacProvider + Drop, P: LocalPreference> Agent<H, P> {
         requires pairs { HasRoom 1 self.old.pairs }
         requires packets { HasPacketRoom self.old }
         requires news { HasNewsRoom 2 self.old }
-        requires reply { length reply.items ≡ 76 }
+        requires reply { length reply.items ≡ LONGEST_REPLY }
         requires number { pair ≡ None → (candidate_at self.old.local.items l).discarded ≡ false → self.old.next_number < 18446744073709551615 }
         ensures served { TakesAt H.mac (request_view request.now) l r pair (record_of self.old) result (record_of self.new) }
         ensures news { HasNewsRoom 1 self.new }
@@ -310,7 +314,8 @@ impl<H: Sha1HmacProvider + Drop, P: LocalPreference> Agent<H, P> {
     /// Serving goes on at a remote place: an unknown sender is appended (RFC 8445, section 7.3.1.3), and discarded candidates
     /// alone drop it.
     fn join_at(&mut self, request: &Request<'_>, at: Places, supplies: Supplies) -> Told
-        requires { IsReady (wants_pair_at at.remote at.pair (candidate_at self.old.local.items at.local).discarded) self.old (request_view request.now) at supplies }
+        requires { IsReady (wants_pair_at at.remote at.pair (candidate_at self.old.local.items at.local).discarded) self.old
+            (request_view request.now) at supplies }
         ensures served { JoinsAt H.mac (request_view request.now) at.local at.remote (record_of self.old) result (record_of self.new) }
         ensures news { HasNewsRoom 1 self.new }
     {
@@ -329,7 +334,8 @@ impl<H: Sha1HmacProvider + Drop, P: LocalPreference> Agent<H, P> {
     /// USE-CANDIDATE while controlling is dropped, since the controlling agent alone nominates (RFC 8445, section 8.1.1); any
     /// other request counts, and serving goes on.
     fn admit(&mut self, request: &Request<'_>, at: Places, supplies: Supplies) -> Told
-        requires { IsReady (not (is_misled self.old.controlling (request_view request.now)) && wants_pair_at at.remote at.pair (candidate_at self.old.local.items at.local).discarded) self.old (request_view request.now) at supplies }
+        requires { IsReady (not (is_misled self.old.controlling (request_view request.now)) && wants_pair_at at.remote at.pair
+            (candidate_at self.old.local.items at.local).discarded) self.old (request_view request.now) at supplies }
         ensures served { Admits H.mac (request_view request.now) at.local (record_of self.old) result (record_of self.new) }
         ensures news { HasNewsRoom 1 self.new }
     {
@@ -344,7 +350,7 @@ impl<H: Sha1HmacProvider + Drop, P: LocalPreference> Agent<H, P> {
     fn insist(&mut self, request: &Request<'_>, supplies: Supplies) -> Told
         requires packets { HasPacketRoom self.old }
         requires news { HasNewsRoom 2 self.old }
-        requires reply { length supplies.reply.items ≡ 76 }
+        requires reply { length supplies.reply.items ≡ LONGEST_REPLY }
         ensures insisted { InsistsOnRole H.mac (request_view request.now) (record_of self.old) result (record_of self.new) }
         ensures news { HasNewsRoom 1 self.new }
     {
@@ -358,7 +364,8 @@ impl<H: Sha1HmacProvider + Drop, P: LocalPreference> Agent<H, P> {
 
     /// The role switches, and serving goes on.
     fn yield_role(&mut self, request: &Request<'_>, at: Places, supplies: Supplies) -> Told
-        requires { IsReady (not (is_misled (not self.old.controlling) (request_view request.now)) && wants_pair_at at.remote at.pair (candidate_at self.old.local.items at.local).discarded) self.old (request_view request.now) at supplies }
+        requires { IsReady (not (is_misled (not self.old.controlling) (request_view request.now)) && wants_pair_at at.remote at.pair
+            (candidate_at self.old.local.items at.local).discarded) self.old (request_view request.now) at supplies }
         ensures served { Admits H.mac (request_view request.now) at.local (switched (record_of self.old)) result (record_of self.new) }
         ensures news { HasNewsRoom 1 self.new }
     {
@@ -383,7 +390,8 @@ impl<H: Sha1HmacProvider + Drop, P: LocalPreference> Agent<H, P> {
     pub(crate) fn serve(&mut self, request: &Request<'_>) -> Result<Told, IceError>
         ensures served { IfOk result (λ told. Serves H.mac (request_view request.now) (record_of self.old) told (record_of self.new)) }
         ensures room { OnOk result (HasNewsRoom 1 self.new) }
-        ensures refused { IfErr result (λ error. MayRefuseRequest (record_of self.old) (request_view request.now) error × (record_of self.new ≡ record_of self.old)) }
+        ensures refused { IfErr result (λ error. MayRefuseRequest (record_of self.old) (request_view request.now) error
+            × (record_of self.new ≡ record_of self.old)) }
     {
         let Some(at) = self.places_of(request) else {
             self.take_source_room()?;

@@ -29,7 +29,8 @@ impl<H: Sha1HmacProvider + Drop, P: LocalPreference> Agent<H, P> {
 
     /// What the state is when it is evaluated at this moment.
     pub(crate) fn state_at(&self, now: Instant) -> IceConnectionState
-        ensures { result ≡ next_state (record_of self.now).state (has_selected (record_of self.now)) (has_possible now.0 (record_of self.now)) (record_of self.now).lite }
+        ensures { result ≡ next_state (record_of self.now).state (has_selected (record_of self.now))
+            (has_possible now.0 (record_of self.now)) (record_of self.now).lite }
     {
         next_state(
             self.state,

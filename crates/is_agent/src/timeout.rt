@@ -95,8 +95,12 @@ impl<H: Sha1HmacProvider + Drop, P: LocalPreference> Agent<H, P> {
         requires packets { HasPacketRoom self.old }
         requires prepared { IsPrepared self.old }
         ensures issued { result ≡ issued_as draft.path classes.Request id.0 }
-        ensures put { (peer : model.IceCreds) (p : PairRecord) → self.old.remote_creds ≡ Some peer → Drafts (record_of self.old) p draft → IsPut (written (H.mac self.old.provider) (Some peer.pass) (check_message (record_of self.old) peer p id.0)) (check_message (record_of self.old) peer p id.0) }
-        ensures sent { (peer : model.IceCreds) (p : PairRecord) → self.old.remote_creds ≡ Some peer → Drafts (record_of self.old) p draft → record_of self.new ≡ with_packet draft.path (written (H.mac self.old.provider) (Some peer.pass) (check_message (record_of self.old) peer p id.0)) (check_counted (record_of self.old)) }
+        ensures put { (peer : model.IceCreds) (p : PairRecord) → self.old.remote_creds ≡ Some peer → Drafts (record_of self.old) p draft
+            → IsPut (written (H.mac self.old.provider) (Some peer.pass) (check_message (record_of self.old) peer p id.0))
+            (check_message (record_of self.old) peer p id.0) }
+        ensures sent { (peer : model.IceCreds) (p : PairRecord) → self.old.remote_creds ≡ Some peer → Drafts (record_of self.old) p draft
+            → record_of self.new ≡ with_packet draft.path (written (H.mac self.old.provider) (Some peer.pass)
+            (check_message (record_of self.old) peer p id.0)) (check_counted (record_of self.old)) }
     {
         let empty = Vec::new(*self.packets.allocator());
         let contents = std::mem::replace(&mut self.contents, empty);
@@ -116,7 +120,9 @@ impl<H: Sha1HmacProvider + Drop, P: LocalPreference> Agent<H, P> {
     fn check<R: Rng>(&mut self, number: u64, draft: Draft, now: Instant, rng: &mut R) -> Issued
         requires has { has_number number (record_of self.old).pairs ≡ true }
         requires room { HasCheckRoom self.old }
-        ensures { (peer : model.IceCreds) (p : PairRecord) → self.old.remote_creds ≡ Some peer → p.number ≡ number → Drafts (record_of self.old) p draft → ChecksPair H.mac now.0 peer p (record_of self.old) (R.stream rng.old) (Some result) (record_of self.new) (R.stream rng.new) }
+        ensures { (peer : model.IceCreds) (p : PairRecord) → self.old.remote_creds ≡ Some peer → p.number ≡ number
+            → Drafts (record_of self.old) p draft → ChecksPair H.mac now.0 peer p (record_of self.old) (R.stream rng.old) (Some result)
+            (record_of self.new) (R.stream rng.new) }
     {
         let controlling = self.controlling;
         let id = self
@@ -127,7 +133,8 @@ impl<H: Sha1HmacProvider + Drop, P: LocalPreference> Agent<H, P> {
 
     /// The number of the pair that is due first, and what its check says.
     fn next_check(&self, now: Instant) -> Option<(u64, Draft)>
-        ensures { (next : Option PairRecord) × IsNextDue now.0 self.now.timing (record_of self.now).pairs next × DraftsNext (record_of self.now) next result }
+        ensures { (next : Option PairRecord) × IsNextDue now.0 self.now.timing (record_of self.now).pairs next
+            × DraftsNext (record_of self.now) next result }
     {
         match self.pairs.next_due(now, &self.timing) {
             None => None,
@@ -138,7 +145,8 @@ impl<H: Sha1HmacProvider + Drop, P: LocalPreference> Agent<H, P> {
     /// The pair that is due first is checked.
     fn check_next<R: Rng>(&mut self, now: Instant, rng: &mut R) -> Option<Issued>
         requires room { list_any (is_due now.0 self.old.timing) (record_of self.old).pairs ≡ true → HasCheckRoom self.old }
-        ensures { (peer : model.IceCreds) → self.old.remote_creds ≡ Some peer → ChecksNext H.mac now.0 peer (record_of self.old) (R.stream rng.old) result (record_of self.new) (R.stream rng.new) }
+        ensures { (peer : model.IceCreds) → self.old.remote_creds ≡ Some peer → ChecksNext H.mac now.0 peer (record_of self.old)
+            (R.stream rng.old) result (record_of self.new) (R.stream rng.new) }
     {
         match self.next_check(now) {
             None => None,
@@ -149,7 +157,8 @@ impl<H: Sha1HmacProvider + Drop, P: LocalPreference> Agent<H, P> {
     /// The same, where the peer is known: each pair is asked for its due moment first. A lite agent sends no check.
     fn may_check<R: Rng>(&mut self, now: Instant, rng: &mut R) -> Option<Issued>
         requires { HasCheckRoomAt now.0 self.old }
-        ensures { MayCheck H.mac now.0 (record_of self.old).remote_creds (record_of self.old) (R.stream rng.old) result (record_of self.new) (R.stream rng.new) }
+        ensures { MayCheck H.mac now.0 (record_of self.old).remote_creds (record_of self.old) (R.stream rng.old) result (record_of self.new)
+            (R.stream rng.new) }
     {
         match self.remote_creds {
             None => None,

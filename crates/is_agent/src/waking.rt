@@ -88,7 +88,8 @@ impl<H: Sha1HmacProvider + Drop, P: LocalPreference> Agent<H, P> {
     fn late_at(&self, place: usize) -> Result<Option<Waiting>, IceError>
         ensures copy { IfOk result (λ copy. option_map waiting_view copy ≡ option_map waiting_view (slice_get self.now.queue.items place)) }
         ensures has { IfOk result (λ copy. IfSome copy (λ q. ¬ AlwaysLacksNumber (record_of self.now) (waiting_view q))) }
-        ensures refused { IfErr result (λ error. MatchOption (option_map waiting_view (slice_get self.now.queue.items place)) (error ≡ errors.OutOfMemory) (λ q. MayRefuseRequest (record_of self.now) q error)) }
+        ensures refused { IfErr result (λ error. MatchOption (option_map waiting_view (slice_get self.now.queue.items place))
+            (error ≡ errors.OutOfMemory) (λ q. MayRefuseRequest (record_of self.now) q error)) }
     {
         match waiting_at(&self.queue, place) {
             None => Ok(None),
@@ -124,8 +125,10 @@ impl<H: Sha1HmacProvider + Drop, P: LocalPreference> Agent<H, P> {
         waiting: &Waiting,
     ) -> Result<Told, IceError>
         requires has { ¬ AlwaysLacksNumber (record_of self.old) (waiting_view waiting.now) }
-        ensures served { IfOk result (λ told. Serves H.mac (waiting_view waiting.now) (first_taken (awake now.0 (record_of self.old))) told (record_of self.new)) }
-        ensures refused { IfErr result (λ error. MayRefuseRequest (record_of self.old) (waiting_view waiting.now) error × (record_of self.new ≡ record_of self.old)) }
+        ensures served { IfOk result (λ told. Serves H.mac (waiting_view waiting.now) (first_taken (awake now.0 (record_of self.old))) told
+            (record_of self.new)) }
+        ensures refused { IfErr result (λ error. MayRefuseRequest (record_of self.old) (waiting_view waiting.now) error
+            × (record_of self.new ≡ record_of self.old)) }
     {
         let waking = self.waking(now)?;
         let request = waiting.request();
@@ -175,8 +178,10 @@ impl<H: Sha1HmacProvider + Drop, P: LocalPreference> Agent<H, P> {
         request: &Request<'_>,
     ) -> Result<Told, IceError>
         requires waking { IsWaking now.0 (record_of self.old) waking }
-        ensures served { IfOk result (λ told. Serves H.mac (request_view request.now) (first_taken (awake now.0 (record_of self.old))) told (record_of self.new)) }
-        ensures refused { IfErr result (λ error. MayRefuseRequest (record_of self.old) (request_view request.now) error × (record_of self.new ≡ record_of self.old)) }
+        ensures served { IfOk result (λ told. Serves H.mac (request_view request.now) (first_taken (awake now.0 (record_of self.old))) told
+            (record_of self.new)) }
+        ensures refused { IfErr result (λ error. MayRefuseRequest (record_of self.old) (request_view request.now) error
+            × (record_of self.new ≡ record_of self.old)) }
     {
         let Some(at) = self.places_of(request) else {
             self.take_waking_room()?;
