@@ -38,7 +38,7 @@ use Rattle.is.specs.World.{WorldRecord, LetterRecord, Event, Outcome, Logged, ot
 use Rattle.is.specs.WorldRoles.{Makes}
 use Rattle.is.specs.Traces.{StaysFull, IsNeverLite}
 use Rattle.is.proofs.Seen as seen
-use Rattle.is.proofs.Seen.{Letter, Seen, Roles, Moved, Told, Kind, Still, Move, Moves, IsDelivered, IsAwaited, Happening, told_of, NeverLite}
+use Rattle.is.proofs.Seen.{Letter, Seen, Roles, Moved, Told, Kind, Still, Move, Moves, IsAwaited, Happening, told_of, NeverLite}
 
 -- ---- lists
 

@@ -1,5 +1,5 @@
 -- What calls issue, and in which order it is polled.
-use Rattle.std.proofs.Common.{◌≡◌, ℕ, Bool, true, false, List, None, Result, ap, ◌∙◌, refl}
+use Rattle.std.proofs.Common.{◌≡◌, ℕ, Bool, true, false, List, None, ap}
 use Rattle.std.specs.Prelude.{◌==◌, MatchBool}
 use Rattle.rand_core.specs.Stream.{Stream}
 use Rattle.is_candidate.specs.Candidates.{CandidateRecord}

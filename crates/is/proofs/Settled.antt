@@ -32,7 +32,7 @@ use Rattle.is.specs.World.{WorldRecord, Logged, other}
 use Rattle.is.specs.WorldRoles.{IsNewAgent, HaveDistinctIds, IsFairWorld, role_at, role_in, changes, GreaterKeeps, LesserYieldsOnce, Makes, Point, RolesDifferOnceMet}
 use Rattle.is.specs.Traces.{StaysFull, IsNeverLite}
 use Rattle.is.proofs.Seen as seen
-use Rattle.is.proofs.Seen.{Seen, Roles, Told, Kind, Move, Happening, told_of, roles_along, NeverLite}
+use Rattle.is.proofs.Seen.{Seen, Told, Kind, Move, Happening, told_of, roles_along, NeverLite}
 use Rattle.is.proofs.SeenRuns as runs
 use Rattle.is.proofs.Following.{seen_of, letter_as, roles_as, told_at, AreSound, follow, event}
 

@@ -29,7 +29,7 @@ use Rattle.is.specs.World.{WorldRecord, Event, Logged, logged_as, logged, other,
 use Rattle.is.specs.WorldRoles.{HaveDistinctIds, IsFairWorld, Point, role_in, changes, GreaterKeeps, LesserYieldsOnce}
 use Rattle.is.specs.Traces.{Issues, Takes, Announces, IsAt, IsUncleared, IsTrace, IsNeverLite, ComesBack, AnnouncedAreTraced}
 use Rattle.is.proofs.Seen as seen
-use Rattle.is.proofs.Seen.{Moved, Told, Happening, told_of}
+use Rattle.is.proofs.Seen.{Moved, Told, told_of}
 use Rattle.is.proofs.SeenRuns as runs
 use Rattle.is.proofs.Following.{seen_of, moved_as, is_yes, way_in, told_at}
 use Rattle.is.proofs.Settled.{get-map_back, issued_back, premises_seen, sound_first, Sight, sight, greater_keeps, lesser_yields_once}

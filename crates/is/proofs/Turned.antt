@@ -1,22 +1,20 @@
 -- What a method leaves is what its event says.
-use Rattle.std.proofs.Common.{◌≡◌, ℕ, zero, suc, Bool, true, false, List, [], ◌∷◌, ◌++◌, map, Option, Some, None, inl, inr, refl, ap, sym, ◌∙◌, subst}
+use Rattle.std.proofs.Common.{◌≡◌, ℕ, zero, suc, Bool, true, false, List, [], ◌∷◌, map, Option, Some, None, refl, ap, sym, ◌∙◌, subst}
 use Rattle.std.specs.Prelude.{slice_get, option_map}
 use Rattle.rand_core.specs.Stream.{Stream}
-use Rattle.is_proto.specs.Packets.{Packet}
 use Rattle.is_candidate.specs.Candidates.{CandidateRecord}
 use Rattle.is_rules.specs.declared.told.Path.{Path}
 use Rattle.is_rules.specs.Agent.{AgentRecord}
 use Rattle.is_rules.specs.Steps as agent
-use Rattle.is_rules.specs.Steps.{Step, Receives, quiet, Answer, NoSuchPacket}
+use Rattle.is_rules.specs.Steps.{Step, Receives, Answer, NoSuchPacket}
 use Rattle.is.specs.declared.world.Side.{Side}
 use Rattle.is.specs.declared.world.Side.TheVariants.{A, B}
-use Rattle.is.specs.declared.world.Letter as code
 use Rattle.is_rules.specs.Sound.{GivesBased}
 use Rattle.is_stun.specs.declared.header.Class.{Class}
 use Rattle.is_stun.specs.declared.trans_id.TransId.{TransId}
 use Rattle.is_stun.specs.Reading.{fault_of, message_of}
 use Rattle.is_rules.specs.Effects.{clears}
-use Rattle.is.specs.World.{WorldRecord, LetterRecord, letter_of, Outcome, plain, in_world, moved_by, read_unless, Poll, Deliver, PolledInto, Turns, Polls, Delivers, Happens, at, put, other, roles_of}
+use Rattle.is.specs.World.{WorldRecord, LetterRecord, Outcome, plain, in_world, moved_by, read_unless, Poll, Deliver, PolledInto, Turns, Delivers, Happens, at, put, other, roles_of}
 
 pub get-map : {X Y : Type 0} (f : X → Y) (xs : List X) (n : ℕ) (o : Option X) → slice_get xs n ≡ o → slice_get (map f xs) n ≡ option_map f o
 get-map f [] n o is = ap (option_map f) is

@@ -26,4 +26,5 @@ module _ {H P : Type 0} (mac : H → List ℕ → List ℕ → List ℕ) (answer
   -- what is issued stands at the end of its queue, a poll hands out the first, and a restart leaves its own events alone
   abbrev pub QueuesAreKept : AgentRecord H P → Stream → List (Logged P) → Type 0
   QueuesAreKept first s log =
-      AtEach mac answers first s log (λ before mid x after. Queues x.call x.entry mid.packets after.packets × Reports x.call x.entry mid.events after.events)
+      AtEach mac answers first s log (λ before mid x after.
+      Queues x.call x.entry mid.packets after.packets × Reports x.call x.entry mid.events after.events)

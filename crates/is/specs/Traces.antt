@@ -68,7 +68,8 @@ IsTraceOf es n place t = (side : Side) × (path : Path) × IsAt es n (Announces 
 -- the first trace, and none only where there is none
 abbrev pub IsFirstTrace : List WorldEntry → ℕ → ℕ → Option Trace → Type 0
 IsFirstTrace es n place result =
-    MatchOption result ((t : Trace) → ¬ IsTraceOf es n place t) (λ first. IsTraceOf es n place first × ((t : Trace) → IsTraceOf es n place t → IsNoLater first t))
+    MatchOption result ((t : Trace) → ¬ IsTraceOf es n place t)
+    (λ first. IsTraceOf es n place first × ((t : Trace) → IsTraceOf es n place t → IsNoLater first t))
 
 -- ---- the promise
 

@@ -4,9 +4,15 @@ use Rattle.std.specs.Range.{range_inclusive_start, range_inclusive_end}
 use Rattle.is_proto.specs.Packets.{packet_of}
 use Rattle.is_rules.specs.Steps as agent
 use Rattle.is.specs.declared.calls.AgentCall.{AgentCall}
-use Rattle.is.specs.declared.calls.AgentCall.TheVariants.{SetMtu, SetControlTieBreaker, SetMaxCandidatePairs, SetIceLite, SetTimingAdvance, SetInitialStunRto, SetMaxStunRto, SetMaxStunRetransmits, SetLocalPreference, SetControlling, SetLocalCredentials, SetRemoteCredentials, SkipPairIds, AddLocalCandidate, AddRemoteCandidate, InvalidateCandidate, RestartIce, RecreateCandidatePairs, Packet, HandleTimeout, PollTransmit, PollTimeout, PollEvent}
+use Rattle.is.specs.declared.calls.AgentCall.TheVariants.{SetMtu, SetControlTieBreaker, SetMaxCandidatePairs, SetIceLite, SetTimingAdvance}
+use Rattle.is.specs.declared.calls.AgentCall.TheVariants.{SetInitialStunRto, SetMaxStunRto, SetMaxStunRetransmits, SetLocalPreference}
+use Rattle.is.specs.declared.calls.AgentCall.TheVariants.{SetControlling, SetLocalCredentials, SetRemoteCredentials, SkipPairIds}
+use Rattle.is.specs.declared.calls.AgentCall.TheVariants.{AddLocalCandidate, AddRemoteCandidate, InvalidateCandidate, RestartIce}
+use Rattle.is.specs.declared.calls.AgentCall.TheVariants.{RecreateCandidatePairs, Packet, HandleTimeout, PollTransmit, PollTimeout}
+use Rattle.is.specs.declared.calls.AgentCall.TheVariants.{PollEvent}
 use Rattle.is.specs.declared.calls.Answer.{Answer}
-use Rattle.is.specs.declared.calls.Answer.TheVariants.{Done, Added, NotAdded, Flag, Transmit, Event, Wake, Unparsed, Refused, NotCalled, NotInWorld, NoSuchPacket}
+use Rattle.is.specs.declared.calls.Answer.TheVariants.{Done, Added, NotAdded, Flag, Transmit, Event, Wake, Unparsed, Refused, NotCalled}
+use Rattle.is.specs.declared.calls.Answer.TheVariants.{NotInWorld, NoSuchPacket}
 use Rattle.is.specs.declared.calls.Entry.{Entry}
 
 abbrev pub call_view : {P : Type 0} → AgentCall P → agent.Call P

@@ -1,5 +1,6 @@
 -- Two agents and the bag of packets between them.
-use Rattle.std.specs.Prelude.{◌≡◌, ℕ, Bool, true, false, MatchBool, List, [], ◌∷◌, ◌++◌, map, suc, Option, Some, None, ◌⊎◌, slice_get, length, Result, Ok, Err}
+use Rattle.std.specs.Prelude.{◌≡◌, ℕ, Bool, true, false, MatchBool, List, [], ◌∷◌, ◌++◌, map, suc, Option, Some, None, ◌⊎◌, slice_get}
+use Rattle.std.specs.Prelude.{length, Result, Ok, Err}
 use Rattle.rand_core.specs.Stream.{Stream}
 use Rattle.is_proto.specs.Packets.{Packet, packet_of}
 use Rattle.is_proto.specs.declared.error.IceError.{IceError}
@@ -150,7 +151,8 @@ module _ {H P : Type 0} (mac : H → List ℕ → List ℕ → List ℕ) (answer
   Stands w s answer side e w' t = (w' ≡ w) × (t ≡ s) × (e ≡ plain answer side (roles_of w))
 
   -- one agent makes a call
-  pub record Turns (w : WorldRecord H P) (s : Stream) (side : Side) (c : agent.Call P) (e : Outcome) (w' : WorldRecord H P) (t : Stream) : Type 0 where
+  pub record Turns (w : WorldRecord H P) (s : Stream) (side : Side) (c : agent.Call P) (e : Outcome) (w' : WorldRecord H P) (t : Stream)
+      : Type 0 where
     pub new : AgentRecord H P
     pub step : Step mac answers (at side w) s c e.entry new t
     pub given : GivesBased c

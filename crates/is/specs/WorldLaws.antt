@@ -11,12 +11,14 @@ use Rattle.is.specs.Traces.{AnnouncedAreTraced}
 module _ {H P : Type 0} (mac : H → List ℕ → List ℕ → List ℕ) (answers : P → CandidateRecord → ℕ → ℕ → Type 0) where
   abbrev pub KeepsLaw : Type 0
   KeepsLaw =
-      (first last : WorldRecord H P) (s t : Stream) (events : List (TwoAgentsEvent P)) (log : WorldLog) → IsWorldLog mac answers first s events log last t
+      (first last : WorldRecord H P) (s t : Stream) (events : List (TwoAgentsEvent P)) (log : WorldLog)
+      → IsWorldLog mac answers first s events log last t
       → GreaterKeeps first (logged events log.entries.items)
 
   abbrev pub YieldsLaw : Type 0
   YieldsLaw =
-      (first last : WorldRecord H P) (s t : Stream) (events : List (TwoAgentsEvent P)) (log : WorldLog) → IsWorldLog mac answers first s events log last t
+      (first last : WorldRecord H P) (s t : Stream) (events : List (TwoAgentsEvent P)) (log : WorldLog)
+      → IsWorldLog mac answers first s events log last t
       → LesserYieldsOnce first (logged events log.entries.items)
 
   abbrev pub DiffersLaw : Type 0
@@ -24,5 +26,6 @@ module _ {H P : Type 0} (mac : H → List ℕ → List ℕ → List ℕ) (answer
 
   abbrev pub TracedLaw : Type 0
   TracedLaw =
-      (first last : WorldRecord H P) (s t : Stream) (events : List (TwoAgentsEvent P)) (log : WorldLog) → IsWorldLog mac answers first s events log last t
+      (first last : WorldRecord H P) (s t : Stream) (events : List (TwoAgentsEvent P)) (log : WorldLog)
+      → IsWorldLog mac answers first s events log last t
       → AnnouncedAreTraced first (logged events log.entries.items) log.entries.items

@@ -17,7 +17,7 @@ use Rattle.is_rules.specs.Told.{issued_as}
 use Rattle.is.specs.declared.world.Side.{Side}
 use Rattle.is.specs.declared.world.Side.TheVariants.{A, B}
 use Rattle.is.specs.World as world
-use Rattle.is.specs.World.{WorldRecord, LetterRecord, Outcome, Logged, Event, at, other, in_world}
+use Rattle.is.specs.World.{WorldRecord, LetterRecord, Logged, Event, at, other, in_world}
 
 -- ---- the premises
 
@@ -86,7 +86,8 @@ module _ {H P : Type 0} where
 
 module _ {H P : Type 0} (mac : H → List ℕ → List ℕ → List ℕ) (answers : P → CandidateRecord → ℕ → ℕ → Type 0) where
   -- x stands in the log, with the world before it
-  pub record Point (first : WorldRecord H P) (s : Stream) (log : List (Logged P)) (mid : WorldRecord H P) (x : Logged P) (rest : List (Logged P)) : Type 0 where
+  pub record Point (first : WorldRecord H P) (s : Stream) (log : List (Logged P)) (mid : WorldRecord H P) (x : Logged P)
+      (rest : List (Logged P)) : Type 0 where
     pub before : List (Logged P)
     pub split : log ≡ before ++ x ∷ rest
     pub after : WorldRecord H P
@@ -102,5 +103,6 @@ module _ {H P : Type 0} (mac : H → List ℕ → List ℕ → List ℕ) (answer
   -- from the event on at which the lesser met the greater's role the roles differ
   abbrev pub RolesDifferOnceMet : WorldRecord H P → Stream → List (Logged P) → Type 0
   RolesDifferOnceMet first s log =
-      (greater : Side) → IsFairWorld first greater log → (mid : WorldRecord H P) (x : Logged P) (rest : List (Logged P)) → Point first s log mid x rest
+      (greater : Side) → IsFairWorld first greater log → (mid : WorldRecord H P) (x : Logged P) (rest : List (Logged P))
+      → Point first s log mid x rest
       → Meets (other greater) mid x → AllByRecursion (λ y. role_in A y ≢ role_in B y) (x ∷ rest)

@@ -1,5 +1,4 @@
 //! Runs of calls on an agent, with a log of what became of each.
-ghost use Rattle.std.specs.Prelude.{◌≡◌};
 ghost use Rattle.is_agent.specs.View.{record_of};
 ghost use Rattle.is_rules.specs.Logs.{NeverLite, replies, requests};
 ghost use Rattle.is_rules.specs.Owed.{AreAmong};

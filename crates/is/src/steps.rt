@@ -107,7 +107,8 @@ fn take_moment<H: Sha1HmacProvider + Drop, P: LocalPreference, R: Rng>(
     now: Instant,
     rng: &mut R,
 ) -> Entry
-    ensures did { Step H.mac P.answers (record_of agent.old) (R.stream rng.old) (steps.HandleTimeout now.0) (entry_view result) (record_of agent.new) (R.stream rng.new) }
+    ensures did { Step H.mac P.answers (record_of agent.old) (R.stream rng.old) (steps.HandleTimeout now.0) (entry_view result)
+        (record_of agent.new) (R.stream rng.new) }
     ensures numbered { result.number ≡ number }
 {
     let answer = done_or_refused(agent.handle_timeout(now, rng));
@@ -137,7 +138,8 @@ pub(crate) fn step<H: Sha1HmacProvider + Drop, P: LocalPreference, R: Rng>(
     call: AgentCall<P>,
     rng: &mut R,
 ) -> Entry
-    ensures did { Step H.mac P.answers (record_of agent.old) (R.stream rng.old) (call_view call) (entry_view result) (record_of agent.new) (R.stream rng.new) }
+    ensures did { Step H.mac P.answers (record_of agent.old) (R.stream rng.old) (call_view call) (entry_view result) (record_of agent.new)
+        (R.stream rng.new) }
     ensures numbered { result.number ≡ number }
     ensures given { GivesBased (call_view call) }
 {

@@ -4,7 +4,7 @@ ghost use Rattle.std.specs.Prelude.{◌≡◌, ◌<◌, ◌≤◌, ◌↔◌, So
 ghost use Rattle.is_stun.specs.declared.header.Class.TheVariants as classes;
 ghost use Rattle.is.specs.declared.calls.Answer.TheVariants as answers;
 ghost use Rattle.is.specs.World.{other};
-ghost use Rattle.is.specs.Traces.{Issues, IsFirstTrace, HasAnswer, IsTrace};
+ghost use Rattle.is.specs.Traces.{IsFirstTrace, HasAnswer, IsTrace};
 ghost use Rattle.is.specs.Marks.{IsMarked, IsFirstMarked, IsAnnounced, IsCheckAt, IsFirstFrom, IsFirst};
 
 use crate::calls::Answer;

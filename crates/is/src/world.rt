@@ -9,7 +9,8 @@ ghost use Rattle.is_rules.specs.Steps.{is_done};
 ghost use Rattle.is_rules.specs.Effects.{is_clearing};
 ghost use Rattle.is.specs.Views.{call_view, answer_view, entry_view};
 ghost use Rattle.is.specs.World as world;
-ghost use Rattle.is.specs.World.{WorldRecord, world_of, letter_of, event_view, outcome_of, read_unless, roles_of, Happens, Turns, PolledInto, Delivers, MakesMember, MakesWorld, made_world, logged, IsWorldLog};
+ghost use Rattle.is.specs.World.{world_of, letter_of, event_view, outcome_of, read_unless, roles_of, Happens, Turns};
+ghost use Rattle.is.specs.World.{PolledInto, MakesMember, MakesWorld, made_world, logged, IsWorldLog};
 ghost use Rattle.is_agent.specs.View.{made};
 ghost use Rattle.is.specs.WorldRoles.{GreaterKeeps, LesserYieldsOnce, RolesDifferOnceMet};
 ghost use Rattle.is.specs.Traces.{AnnouncedAreTraced};
@@ -190,7 +191,8 @@ fn poll_into<H: Sha1HmacProvider + Drop, P: LocalPreference>(
     bag: &mut Vec<Letter>,
     sender: Side,
 ) -> Answer
-    ensures { PolledInto (record_of agent.old) (map letter_of bag.old.items) sender (answer_view result) (record_of agent.new) (map letter_of bag.new.items) }
+    ensures { PolledInto (record_of agent.old) (map letter_of bag.old.items) sender (answer_view result) (record_of agent.new)
+        (map letter_of bag.new.items) }
 {
     if bag.reserve(1).is_err() {
         return Answer::Refused(IceError::OutOfMemory);
@@ -252,7 +254,13 @@ impl<H: Sha1HmacProvider + Drop, P: LocalPreference> TwoAgents<H, P> {
         clear: bool,
         moved: Option<(Class, TransId)>,
     ) -> WorldEntry
-        ensures told { outcome_of result ≡ record { entry = entry_view entry; controlling = roles_of (world_of self.now); side = side; clear = clear; moved = moved } }
+        ensures told { outcome_of result ≡ record {
+          entry = entry_view entry;
+          controlling = roles_of (world_of self.now);
+          side = side;
+          clear = clear;
+          moved = moved;
+        } }
         ensures numbered { result.number ≡ entry.number }
     {
         told_as(entry, self.roles(), side, clear, moved)
@@ -260,7 +268,13 @@ impl<H: Sha1HmacProvider + Drop, P: LocalPreference> TwoAgents<H, P> {
 
     /// The entry of a call that an agent made.
     fn told_call(&self, entry: Entry, side: Side, clearing: bool) -> WorldEntry
-        ensures told { outcome_of result ≡ record { entry = entry_view entry; controlling = roles_of (world_of self.now); side = Some side; clear = if clearing then is_done (answer_view entry.answer) else false; moved = None } }
+        ensures told { outcome_of result ≡ record {
+          entry = entry_view entry;
+          controlling = roles_of (world_of self.now);
+          side = Some side;
+          clear = if clearing then is_done (answer_view entry.answer) else false;
+          moved = None;
+        } }
         ensures numbered { result.number ≡ entry.number }
     {
         let clear = clearing && is_done(&entry.answer);
@@ -276,7 +290,8 @@ impl<H: Sha1HmacProvider + Drop, P: LocalPreference> TwoAgents<H, P> {
         rng: &mut R,
     ) -> WorldEntry
         requires { world.in_world (call_view call) ≡ true }
-        ensures did { Turns H.mac P.answers (world_of self.old) (R.stream rng.old) side (call_view call) (outcome_of result) (world_of self.new) (R.stream rng.new) }
+        ensures did { Turns H.mac P.answers (world_of self.old) (R.stream rng.old) side (call_view call) (outcome_of result)
+            (world_of self.new) (R.stream rng.new) }
         ensures numbered { result.number ≡ number }
     {
         let clearing = is_clearing(&call);
@@ -319,7 +334,8 @@ impl<H: Sha1HmacProvider + Drop, P: LocalPreference> TwoAgents<H, P> {
 
     /// A packet of the bag is given to the agent that did not send it.
     fn deliver(&mut self, number: usize, place: usize, now: Instant, path: Path) -> WorldEntry
-        ensures did { (s : Stream) → Happens H.mac P.answers (world_of self.old) s (world.Deliver place now.0 path) (outcome_of result) (world_of self.new) s }
+        ensures did { (s : Stream) → Happens H.mac P.answers (world_of self.old) s (world.Deliver place now.0 path) (outcome_of result)
+            (world_of self.new) s }
         ensures numbered { result.number ≡ number }
     {
         match letter_at(&self.bag, place) {
@@ -343,7 +359,8 @@ impl<H: Sha1HmacProvider + Drop, P: LocalPreference> TwoAgents<H, P> {
 
     /// One event.
     fn happen<R: Rng>(&mut self, number: usize, event: TwoAgentsEvent<P>, rng: &mut R) -> WorldEntry
-        ensures did { Happens H.mac P.answers (world_of self.old) (R.stream rng.old) (event_view event) (outcome_of result) (world_of self.new) (R.stream rng.new) }
+        ensures did { Happens H.mac P.answers (world_of self.old) (R.stream rng.old) (event_view event) (outcome_of result)
+            (world_of self.new) (R.stream rng.new) }
         ensures numbered { result.number ≡ number }
     {
         match event {

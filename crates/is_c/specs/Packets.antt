@@ -1,5 +1,6 @@
 -- Packets, moments, and sessions begun anew.
-use Rattle.std.specs.Prelude.{◌≡◌, ◌≢◌, ℕ, List, ◌∷◌, length, take, nat_lt, ◌⊎◌, Bool, Option, Some, None, option_map, MatchBool, MatchOption, MatchResult, Result, Ok, Err, ℤ}
+use Rattle.std.specs.Prelude.{◌≡◌, ◌≢◌, ℕ, List, ◌∷◌, length, take, nat_lt, ◌⊎◌, Bool, Option, Some, None, option_map, MatchBool}
+use Rattle.std.specs.Prelude.{MatchOption, MatchResult, Result, Ok, Err, ℤ}
 use Rattle.std.specs.Option.{option_and_then}
 use Rattle.rand_core.specs.Stream.{Stream}
 use Rattle.rand_core.specs.Steps.{stream_of}
@@ -125,4 +126,5 @@ Restarted keep creds old r new = Restarts old.agent creds keep r new.agent × (n
 abbrev pub RestartsWith : Bool → List ℕ → List ℕ → HomeRecord → ℤ → HomeRecord → Type 0
 RestartsWith keep ufrag pass old code new =
     (made : Result IceCreds ℤ) × MakesCreds ufrag pass made
-    × MatchResult made (λ creds. (r : Result (Unit {0}) IceError) × Restarted keep creds old r new × (code ≡ done_code r)) (λ why. Refuses why old code new)
+    × MatchResult made (λ creds. (r : Result (Unit {0}) IceError) × Restarted keep creds old r new × (code ≡ done_code r))
+    (λ why. Refuses why old code new)

@@ -1,5 +1,5 @@
 -- What C is told of an agent, which stays as it is.
-use Rattle.std.specs.Prelude.{◌≡◌, ℕ, Bool, true, false, List, Option, Some, None, MatchOption, slice_get, unwrap_or, ◌⊎◌, ℤ}
+use Rattle.std.specs.Prelude.{◌≡◌, ℕ, true, false, List, Option, Some, None, MatchOption, slice_get, unwrap_or, ◌⊎◌, ℤ}
 use Rattle.is_candidate.specs.Candidates.{CandidateRecord}
 use Rattle.is_candidate.specs.Sdp.{sdp_text}
 use Rattle.is_rules.specs.declared.event.IceAgentStats.{IceAgentStats}
@@ -46,7 +46,8 @@ abbrev pub TellsNominated : Nominated → Nominated → HomeRecord → ℤ → H
 TellsNominated before after old code new =
     MatchOption (nominated_total_rtt old.agent)
     ((code ≡ NOTHING) × (after ≡ before))
-    (λ total. (code ≡ OK) × (after.total_rtt ≡ total) × (after.responses ≡ unwrap_or (nominated_responses old.agent) 0) × IsRtt (nominated_rtt old.agent) after)
+    (λ total. (code ≡ OK) × (after.total_rtt ≡ total) × (after.responses ≡ unwrap_or (nominated_responses old.agent) 0)
+    × IsRtt (nominated_rtt old.agent) after)
     × (new ≡ old)
 
 -- the line of a candidate, in the caller's buffer

@@ -1,10 +1,8 @@
 //! Which datagrams are for an agent, asked before one is handed in: as where several agents share a socket.
-
-ghost use Rattle.std.specs.Prelude.{◌≡◌};
 ghost use Rattle.is_rules.specs.Accepting.{IsAccepted, IsAcceptedOn};
 ghost use Rattle.is_agent.specs.View.{record_of};
 ghost use Rattle.is_c.specs.Accepting.{AnswersWhether, AsksOn, AsksWay, AsksMessage};
-ghost use Rattle.is_c.specs.Held.{home_of, held_by, At};
+ghost use Rattle.is_c.specs.Held.{held_by, At};
 ghost use Rattle.is_c.specs.Packets.{way_of};
 
 use crate::address::Address;
@@ -53,7 +51,8 @@ pub extern "C" fn is_agent_accepts_packet(
     destination: &Address,
     bytes: &[u8],
 ) -> i32
-    ensures { At (AsksWay ⟦<DefaultSha1HmacProvider as Sha1HmacProvider>⟧.mac (way_of protocol source.now destination.now) bytes.now) (held_by slot.old) result (held_by slot.new) }
+    ensures { At (AsksWay ⟦<DefaultSha1HmacProvider as Sha1HmacProvider>⟧.mac (way_of protocol source.now destination.now) bytes.now)
+        (held_by slot.old) result (held_by slot.new) }
 {
     let Some(home) = slot.take(alloc) else {
         return codes::NO_AGENT;

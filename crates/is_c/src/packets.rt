@@ -66,8 +66,10 @@ fn receive(
     destination: &Address,
     bytes: &[u8],
 ) -> i32
-    ensures step { Receives ⟦<DefaultSha1HmacProvider as Sha1HmacProvider>⟧.mac now (way_of protocol source.now destination.now) bytes.now (home_of home.old) result (home_of home.new) }
-    ensures settled { IsSettled ⟦<DefaultSha1HmacProvider as Sha1HmacProvider>⟧.mac (way_of protocol source.now destination.now) bytes.now (home_of home.old) result (home_of home.new) }
+    ensures step { Receives ⟦<DefaultSha1HmacProvider as Sha1HmacProvider>⟧.mac now (way_of protocol source.now destination.now) bytes.now
+        (home_of home.old) result (home_of home.new) }
+    ensures settled { IsSettled ⟦<DefaultSha1HmacProvider as Sha1HmacProvider>⟧.mac (way_of protocol source.now destination.now) bytes.now
+        (home_of home.old) result (home_of home.new) }
 {
     match way_of(protocol, source, destination) {
         Some(way) => take_bytes(home, now, way, bytes),
@@ -86,8 +88,10 @@ pub extern "C" fn is_agent_handle_packet(
     destination: &Address,
     bytes: &[u8],
 ) -> i32
-    ensures step { At (Receives ⟦<DefaultSha1HmacProvider as Sha1HmacProvider>⟧.mac now (way_of protocol source.now destination.now) bytes.now) (held_by slot.old) result (held_by slot.new) }
-    ensures settled { At (IsSettled ⟦<DefaultSha1HmacProvider as Sha1HmacProvider>⟧.mac (way_of protocol source.now destination.now) bytes.now) (held_by slot.old) result (held_by slot.new) }
+    ensures step { At (Receives ⟦<DefaultSha1HmacProvider as Sha1HmacProvider>⟧.mac now (way_of protocol source.now destination.now)
+        bytes.now) (held_by slot.old) result (held_by slot.new) }
+    ensures settled { At (IsSettled ⟦<DefaultSha1HmacProvider as Sha1HmacProvider>⟧.mac (way_of protocol source.now destination.now)
+        bytes.now) (held_by slot.old) result (held_by slot.new) }
 {
     let Some(mut home) = slot.take(alloc) else {
         return codes::NO_AGENT;

@@ -5,7 +5,8 @@ ghost use Rattle.std.specs.Option.{option_copied};
 ghost use Rattle.is_rules.specs.Questions.{live};
 ghost use Rattle.is_agent.specs.View.{record_of};
 ghost use Rattle.is_c.specs.Held.{home_of, held_by, At};
-ghost use Rattle.is_c.specs.Questions.{IsStatus, TellsStatus, stats_of, TellsStats, TellsNominated, PutsLine, TellsLine, PutsOf, TellsRemote, AnswersViable, TellsViable};
+ghost use Rattle.is_c.specs.Questions.{IsStatus, TellsStatus, stats_of, TellsStats, TellsNominated, PutsLine, TellsLine, PutsOf};
+ghost use Rattle.is_c.specs.Questions.{TellsRemote, AnswersViable, TellsViable};
 
 use crate::address::{Address, socket_of};
 use crate::codes;

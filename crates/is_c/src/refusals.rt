@@ -1,6 +1,4 @@
 //! The messages of refused candidates, which a code alone does not tell.
-
-ghost use Rattle.std.specs.Prelude.{◌≡◌};
 ghost use Rattle.is_c.specs.Refusals.{PutsMessage, PutsRefusal, TellsOfLine, TellsOfCandidate};
 
 use crate::candidate::{LocalCandidate, line_candidate, local_candidate};

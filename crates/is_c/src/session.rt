@@ -1,6 +1,4 @@
 //! Sessions begun anew.
-
-ghost use Rattle.std.specs.Prelude.{◌≡◌};
 ghost use Rattle.is_rules.specs.Restarting.{Recreates};
 ghost use Rattle.is_c.specs.Codes.{done_code};
 ghost use Rattle.is_c.specs.Held.{home_of, held_by, At, Calls};

@@ -1,6 +1,6 @@
 //! What the caller may set.
 
-ghost use Rattle.std.specs.Prelude.{◌≡◌, ◌==◌, Some, MatchBool};
+ghost use Rattle.std.specs.Prelude.{◌==◌, Some, MatchBool};
 ghost use Rattle.is_rules.specs.Settings.{SetsMtu, with_rtos, with_retransmits, numbers_skipped};
 ghost use Rattle.is_c.specs.Codes.{BAD_LIMIT, done_code};
 ghost use Rattle.is_c.specs.Held.{home_of, held_by, At, Becomes, Calls, Refuses};
@@ -184,7 +184,8 @@ pub extern "C" fn is_agent_reset_local_preference(alloc: Global, slot: &mut Slot
 
 /// Sets how many checks a pair sends that go unanswered.
 fn limit_retransmits(home: &mut Home, limit: usize) -> i32
-    ensures { MatchBool (limit == 0) (Refuses BAD_LIMIT (home_of home.old) result (home_of home.new)) (Becomes (with_retransmits limit) (home_of home.old) result (home_of home.new)) }
+    ensures { MatchBool (limit == 0) (Refuses BAD_LIMIT (home_of home.old) result (home_of home.new))
+        (Becomes (with_retransmits limit) (home_of home.old) result (home_of home.new)) }
 {
     if limit == 0 {
         return codes::BAD_LIMIT;
@@ -196,7 +197,8 @@ fn limit_retransmits(home: &mut Home, limit: usize) -> i32
 /// Sets how many checks a pair sends that go unanswered, before it is given up: one at least.
 #[unsafe(no_mangle)]
 pub extern "C" fn is_agent_set_max_retransmits(alloc: Global, slot: &mut Slot, limit: usize) -> i32
-    ensures { At (λ old code new. MatchBool (limit == 0) (Refuses BAD_LIMIT old code new) (Becomes (with_retransmits limit) old code new)) (held_by slot.old) result (held_by slot.new) }
+    ensures { At (λ old code new. MatchBool (limit == 0) (Refuses BAD_LIMIT old code new) (Becomes (with_retransmits limit) old code new))
+        (held_by slot.old) result (held_by slot.new) }
 {
     let Some(mut home) = slot.take(alloc) else {
         return codes::NO_AGENT;
