@@ -1,8 +1,8 @@
 //! HMAC over SHA-1 (RFC 2104).
 
-ghost use Rattle.std.specs.Prelude.{◌≡◌, ◌++◌};
-ghost use Rattle.sha1.specs.Sha1.{sha1};
-ghost use Rattle.is_proto.specs.Hmac.{key_block, xor_each, hmac_sha1};
+ghost use Rattle.std.specs.Prelude.{◌≡◌, ◌++◌, ℕ, List};
+ghost use Rattle.sha1.specs.Sha1.{sha1, Holds};
+ghost use Rattle.is_proto.specs.Hmac.{key_block, xor_each, hmac_sha1, IsBehind};
 ghost use Rattle.is_proto.specs.Macs.{joined};
 
 use crate::proto::Sha1HmacProvider;
@@ -25,6 +25,79 @@ impl Sha1HmacProvider for DefaultSha1HmacProvider {
         let block = block_of_key(key);
         let inner = padded_digest(&block, INNER_PAD, payloads);
         padded_digest(&block, OUTER_PAD, &[&inner])
+    }
+
+    fn sha1_hmac_kept(&self, kept: &HmacKey, key: &[u8], payloads: &[&[u8]]) -> [u8; 20] {
+        kept.mac(key, payloads)
+    }
+}
+
+/// What HMAC-SHA1 computes of a key alone: the key as a block, and SHA-1 behind that block with each pad in it (RFC 2104,
+/// section 4). Where it is kept, a MAC takes two blocks of SHA-1 less. It is as secret as the key.
+#[derive(Drop)]
+pub struct HmacKey {
+    block: [u8; BLOCK_LEN],
+    inner: Sha1,
+    outer: Sha1,
+    ghost inner_holds: { IsBehind inner 0x36 block },
+    ghost outer_holds: { IsBehind outer 0x5C block },
+}
+
+impl HmacKey {
+    /// What is kept of this key.
+    #[tactic(auto, unfolding(sha1::specs::Sha1::Holds))]
+    pub fn new(key: &[u8]) -> HmacKey
+        ensures { result.block ≡ key_block key.now }
+    {
+        let block = block_of_key(key);
+        HmacKey {
+            block,
+            inner: padded(&block, INNER_PAD),
+            outer: padded(&block, OUTER_PAD),
+        }
+    }
+
+    /// The digest of the text behind the inner pad.
+    #[tactic(auto, unfolding(sha1::specs::Sha1::Holds))]
+    fn inner_digest(&self, payloads: &[&[u8]]) -> [u8; 20]
+        ensures { result ≡ sha1 (xor_each 0x36 self.now.block ++ joined payloads.now) }
+    {
+        digest_behind(copy_of(&self.inner), payloads)
+    }
+
+    /// The digest of a text behind the outer pad.
+    #[tactic(auto, unfolding(sha1::specs::Sha1::Holds))]
+    fn outer_digest(&self, payloads: &[&[u8]]) -> [u8; 20]
+        ensures { result ≡ sha1 (xor_each 0x5C self.now.block ++ joined payloads.now) }
+    {
+        digest_behind(copy_of(&self.outer), payloads)
+    }
+
+    /// HMAC-SHA1 under any key. Only under the key that was kept it takes less: what was kept of another one is not used.
+    pub fn mac(&self, key: &[u8], payloads: &[&[u8]]) -> [u8; 20]
+        ensures { result ≡ hmac_sha1 key.now (joined payloads.now) }
+    {
+        let block = block_of_key(key);
+        if block != self.block {
+            return DefaultSha1HmacProvider.sha1_hmac(key, payloads);
+        }
+        let inner = self.inner_digest(payloads);
+        self.outer_digest(&[&inner])
+    }
+}
+
+/// A provider with what was kept of a key: a provider of the same function, which need not begin that key anew.
+#[derive(Drop)]
+pub struct KeptProvider<'a, H> {
+    pub provider: &'a H,
+    pub kept: &'a HmacKey,
+}
+
+impl<H: Sha1HmacProvider> Sha1HmacProvider for KeptProvider<'_, H> {
+    ghost mac = { λ k key text. H.mac k.provider.now key text };
+
+    fn sha1_hmac(&self, key: &[u8], payloads: &[&[u8]]) -> [u8; 20] {
+        self.provider.sha1_hmac_kept(self.kept, key, payloads)
     }
 }
 
@@ -51,14 +124,38 @@ fn xor_each_byte(block: &[u8; BLOCK_LEN], pad: u8) -> [u8; BLOCK_LEN]
     bytes
 }
 
-/// The digest of the block with the pad in it and of the pieces behind it.
-fn padded_digest(block: &[u8; BLOCK_LEN], pad: u8, pieces: &[&[u8]]) -> [u8; 20]
-    ensures { result ≡ sha1 (xor_each pad block.now ++ joined pieces.now) }
+/// SHA-1 behind the block with the pad in it.
+fn padded(block: &[u8; BLOCK_LEN], pad: u8) -> Sha1
+    ensures { Holds result (xor_each pad block.now) }
 {
     let mut hasher = Sha1::new();
     hasher.update(&xor_each_byte(block, pad));
+    hasher
+}
+
+/// The same state once more.
+fn copy_of(hashed: &Sha1) -> Sha1
+    ensures { result ≡ hashed.now }
+{
+    match hashed.clone() {
+        Ok(copy) => copy,
+        Err(_) => unreachable!(),
+    }
+}
+
+/// The digest of what was hashed and of the pieces behind it.
+fn digest_behind(mut hasher: Sha1, pieces: &[&[u8]]) -> [u8; 20]
+    ensures { (m : List ℕ) → Holds hasher m → result ≡ sha1 (m ++ joined pieces.now) }
+{
     for piece in pieces {
         hasher.update(piece);
     }
     hasher.finalize()
+}
+
+/// The digest of the block with the pad in it and of the pieces behind it.
+fn padded_digest(block: &[u8; BLOCK_LEN], pad: u8, pieces: &[&[u8]]) -> [u8; 20]
+    ensures { result ≡ sha1 (xor_each pad block.now ++ joined pieces.now) }
+{
+    digest_behind(padded(block, pad), pieces)
 }

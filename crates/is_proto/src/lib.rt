@@ -8,6 +8,6 @@ pub mod proto;
 pub mod text;
 
 pub use error::{IceError, ParseFault, StunError};
-pub use hmac_provider::DefaultSha1HmacProvider;
+pub use hmac_provider::{DefaultSha1HmacProvider, HmacKey, KeptProvider};
 pub use proto::{Duration, Instant, Protocol, Sha1HmacProvider, SocketText, TcpType, Transmit};
 pub use text::Text;

@@ -6,6 +6,7 @@ ghost use Rattle.is_proto.specs.Moments.{MAX, MILLISECOND, later};
 ghost use Rattle.is_proto.specs.Sockets.{ReadsSocketText, plain_socket_text};
 ghost use Rattle.is_proto.specs.Words.{protocol_word, tcp_type_word, ReadsProtocol, ReadsTcpType};
 
+use crate::hmac_provider::HmacKey;
 use std::fmt;
 use std::net::SocketAddr;
 
@@ -234,4 +235,12 @@ pub trait Sha1HmacProvider {
     /// The stated function of the key and of the payloads joined.
     fn sha1_hmac(&self, key: &[u8], payloads: &[&[u8]]) -> [u8; 20]
         ensures { result ≡ mac self.now key.now (joined payloads.now) };
+
+    /// The same function, beside what was kept of a key: of this one or of any other. A provider that computes HMAC-SHA1 may
+    /// save that work; one that does not say leaves it aside.
+    fn sha1_hmac_kept(&self, _kept: &HmacKey, key: &[u8], payloads: &[&[u8]]) -> [u8; 20]
+        ensures { result ≡ mac self.now key.now (joined payloads.now) }
+    {
+        self.sha1_hmac(key, payloads)
+    }
 }

@@ -1,14 +1,27 @@
 //! HMAC-SHA1 against published vectors.
 
-use is_proto::{DefaultSha1HmacProvider, Sha1HmacProvider};
+use is_proto::{DefaultSha1HmacProvider, HmacKey, KeptProvider, Sha1HmacProvider};
 use std::alloc::{AllocError, Global};
 use std::fmt::Write;
 use std::test::Fail;
 
 /// The digest of the text under the key, in hexadecimal.
 fn mac(alloc: Global, key: &[u8], payloads: &[&[u8]]) -> Result<String, Fail> {
+    hexadecimal(alloc, DefaultSha1HmacProvider.sha1_hmac(key, payloads))
+}
+
+/// The same, by a provider that has what was kept of a key.
+fn kept_mac(alloc: Global, kept: &HmacKey, key: &[u8], payloads: &[&[u8]]) -> Result<String, Fail> {
+    let provider = KeptProvider {
+        provider: &DefaultSha1HmacProvider,
+        kept,
+    };
+    hexadecimal(alloc, provider.sha1_hmac(key, payloads))
+}
+
+fn hexadecimal(alloc: Global, digest: [u8; 20]) -> Result<String, Fail> {
     let mut text = String::new(alloc);
-    for byte in DefaultSha1HmacProvider.sha1_hmac(key, payloads) {
+    for byte in digest {
         write!(text, "{byte:02x}")?;
     }
     Ok(text)
@@ -84,5 +97,31 @@ fn payloads_are_joined(rt: HostRuntime) -> Result<(), Fail> {
         &[b"what do ", b"ya want", b"", b" for nothing?"],
     )?;
     assert!(rt; cut.as_str() == "effcdf6ae5eb2fa2d27416d5f184df9c259a7c79");
+    Ok(())
+}
+
+/// RFC 2202, section 3, cases 2 and 7: what was kept of a key serves under that key, and under another one it is not used.
+#[test]
+fn kept_keys(rt: HostRuntime) -> Result<(), Fail> {
+    let short: &[u8] = b"Jefe";
+    let long: &[u8] = &[0xaa; 80];
+    let cases: [(&[u8], &[u8], &str); 2] = [
+        (
+            short,
+            b"what do ya want for nothing?",
+            "effcdf6ae5eb2fa2d27416d5f184df9c259a7c79",
+        ),
+        (
+            long,
+            b"Test Using Larger Than Block-Size Key and Larger Than One Block-Size Data",
+            "e8e99d0f45237d786d6bbaa7965c7808bbff1a91",
+        ),
+    ];
+    let of_short = HmacKey::new(short);
+    let of_long = HmacKey::new(long);
+    for (key, text, want) in cases {
+        assert!(rt; kept_mac(rt.alloc(), &of_short, key, &[text])?.as_str() == want);
+        assert!(rt; kept_mac(rt.alloc(), &of_long, key, &[text])?.as_str() == want);
+    }
     Ok(())
 }
