@@ -48,7 +48,7 @@ impl<H: Sha1HmacProvider + Drop, P: LocalPreference> Agent<H, P> {
         ensures { IsTrue result ↔ (IsAddressed (record_of self.now) (message_view message.now) × IsSignedBy (H.mac (record_of self.now).provider) (message_view message.now) (record_of self.now).local_creds.pass) }
     {
         let password = self.local_creds.pass.as_str().as_bytes();
-        self.is_addressed(message) && message.verify(password, &self.provider)
+        self.is_addressed(message) && message.verify(password, &self.by_local_key())
     }
 
     /// Whether the agent takes the message, as far as the message tells: a Binding request whose user name is the agent's own

@@ -8,7 +8,9 @@ ghost use Rattle.is_pair.specs.Checklists.{bag_of};
 
 use is_candidate::{Candidate, LocalPreference};
 use is_pair::checklist::Checklist;
-use is_proto::{DefaultSha1HmacProvider, Duration, IceError, Instant, Sha1HmacProvider, Transmit};
+use is_proto::{
+    DefaultSha1HmacProvider, Duration, HmacKey, IceError, Instant, Sha1HmacProvider, Transmit,
+};
 use is_rules::accepting::Source;
 use is_rules::credentials::{IceCreds, are_too_long};
 use is_rules::event::{IceAgentEvent, IceAgentStats, IceConnectionState};
@@ -47,6 +49,10 @@ pub struct Agent<H, P> {
     pub(crate) mtu_warn: usize,
     pub(crate) local_creds: IceCreds,
     pub(crate) remote_creds: Option<IceCreds>,
+    /// What is kept of the agent's own password as a key. No fact ties it to the password: it is looked at with each use.
+    pub(crate) local_key: HmacKey,
+    /// The same of the peer's password, and of an empty one where there is none.
+    pub(crate) remote_key: HmacKey,
     pub(crate) controlling: bool,
     pub(crate) tie_breaker: u64,
     pub(crate) local: Vec<Candidate>,
@@ -117,6 +123,7 @@ impl<H: Sha1HmacProvider + Drop, P: LocalPreference> Agent<H, P> {
         if are_too_long(&creds, &None) {
             return Err(IceError::CredentialsTooLong);
         }
+        let local_key = HmacKey::new(creds.pass.as_str().as_bytes());
         Ok(Agent {
             provider,
             preference: None,
@@ -128,6 +135,8 @@ impl<H: Sha1HmacProvider + Drop, P: LocalPreference> Agent<H, P> {
             mtu_warn: DEFAULT_MTU_WARN,
             local_creds: creds,
             remote_creds: None,
+            local_key,
+            remote_key: HmacKey::new(&[]),
             controlling: false,
             tie_breaker,
             local: Vec::new(alloc),

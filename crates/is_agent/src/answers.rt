@@ -51,7 +51,7 @@ impl<H: Sha1HmacProvider + Drop, P: LocalPreference> Agent<H, P> {
         ensures { IsTrue result ↔ IsSomeAnd (record_of self.now).remote_creds (λ peer. IsSignedBy (H.mac (record_of self.now).provider) (message_view message.now) peer.pass) }
     {
         match &self.remote_creds {
-            Some(peer) => message.verify(peer.pass.as_str().as_bytes(), &self.provider),
+            Some(peer) => message.verify(peer.pass.as_str().as_bytes(), &self.by_remote_key()),
             None => false,
         }
     }

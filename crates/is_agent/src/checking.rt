@@ -74,7 +74,12 @@ impl<H: Sha1HmacProvider + Drop, P: LocalPreference> Agent<H, P> {
                 draft.priority,
                 nominates,
             );
-            write_signed(&mut contents, request, peer.pass.as_str(), &self.provider);
+            write_signed(
+                &mut contents,
+                request,
+                peer.pass.as_str(),
+                &self.by_remote_key(),
+            );
         }
         contents
     }

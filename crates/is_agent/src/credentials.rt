@@ -6,7 +6,7 @@ ghost use Rattle.is_rules.specs.Fitting.{are_too_long};
 
 use crate::agent::Agent;
 use is_candidate::LocalPreference;
-use is_proto::{IceError, Sha1HmacProvider};
+use is_proto::{HmacKey, IceError, KeptProvider, Sha1HmacProvider};
 use is_rules::credentials::{IceCreds, are_too_long};
 
 impl<H: Sha1HmacProvider + Drop, P: LocalPreference> Agent<H, P> {
@@ -27,6 +27,26 @@ impl<H: Sha1HmacProvider + Drop, P: LocalPreference> Agent<H, P> {
         self.remote_creds.as_ref()
     }
 
+    /// The provider with what is kept of the agent's own password: it signs replies and verifies requests.
+    pub(crate) fn by_local_key(&self) -> KeptProvider<'_, H>
+        ensures { H.mac result.provider.now ≡ H.mac self.now.provider }
+    {
+        KeptProvider {
+            provider: &self.provider,
+            kept: &self.local_key,
+        }
+    }
+
+    /// The provider with what is kept of the peer's password: it signs checks and verifies their answers.
+    pub(crate) fn by_remote_key(&self) -> KeptProvider<'_, H>
+        ensures { H.mac result.provider.now ≡ H.mac self.now.provider }
+    {
+        KeptProvider {
+            provider: &self.provider,
+            kept: &self.remote_key,
+        }
+    }
+
     /// Sets the agent's own credentials. They are in use from now on; candidates keep their user fragments.
     ///
     /// Refused with `CredentialsTooLong` where both user fragments and a colon are longer than 508 bytes.
@@ -36,6 +56,7 @@ impl<H: Sha1HmacProvider + Drop, P: LocalPreference> Agent<H, P> {
         if are_too_long(&creds, &self.remote_creds) {
             return Err(IceError::CredentialsTooLong);
         }
+        self.local_key = HmacKey::new(creds.pass.as_str().as_bytes());
         self.local_creds = creds;
         Ok(())
     }
@@ -46,10 +67,12 @@ impl<H: Sha1HmacProvider + Drop, P: LocalPreference> Agent<H, P> {
     pub fn set_remote_credentials(&mut self, creds: IceCreds) -> Result<(), IceError>
         ensures { SetsRemote (record_of self.old) creds result (record_of self.new) }
     {
+        let key = HmacKey::new(creds.pass.as_str().as_bytes());
         let creds = Some(creds);
         if are_too_long(&self.local_creds, &creds) {
             return Err(IceError::CredentialsTooLong);
         }
+        self.remote_key = key;
         self.remote_creds = creds;
         Ok(())
     }

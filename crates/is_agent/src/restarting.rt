@@ -10,7 +10,7 @@ ghost use Rattle.is_rules.specs.Restarting.{kept_local, restarted, Restarts, Has
 
 use crate::agent::Agent;
 use is_candidate::{Candidate, LocalPreference};
-use is_proto::{IceError, Sha1HmacProvider};
+use is_proto::{HmacKey, IceError, Sha1HmacProvider};
 use is_rules::credentials::{IceCreds, are_too_long};
 use is_rules::event::{IceAgentEvent, IceAgentStats, IceConnectionState};
 use is_rules::forming::{has_numbers_for_all, live_combinations};
@@ -53,6 +53,8 @@ impl<H: Sha1HmacProvider + Drop, P: LocalPreference> Agent<H, P> {
         ensures { record_of self.new ≡ restarted creds keep (record_of self.old) }
     {
         let Beginning { local, creds: told } = beginning;
+        self.local_key = HmacKey::new(creds.pass.as_str().as_bytes());
+        self.remote_key = HmacKey::new(&[]);
         self.local_creds = creds;
         self.remote_creds = None;
         self.local = local;

@@ -188,7 +188,7 @@ impl<H: Sha1HmacProvider + Drop, P: LocalPreference> Agent<H, P> {
             request.id,
             request.path.source,
             password,
-            &self.provider,
+            &self.by_local_key(),
         );
         self.send_reply(path, reply);
     }
@@ -356,7 +356,7 @@ impl<H: Sha1HmacProvider + Drop, P: LocalPreference> Agent<H, P> {
     {
         let Supplies { mut reply, .. } = supplies;
         let password = self.local_creds.pass.as_str();
-        write_conflict(&mut reply, request.id, password, &self.provider);
+        write_conflict(&mut reply, request.id, password, &self.by_local_key());
         let path = request.path.turned();
         self.send_reply(path, reply);
         Told::issued_alone(path, Class::Failure, request.id)
