@@ -14,7 +14,7 @@ ghost use Rattle.is_pair.specs.Entries.{pairs_of, are_keyed};
 use super::pair_change::PairChange;
 use super::pair_test::PairTest;
 use super::rule::PairPriority;
-use crate::pair::attempts::reserve_spare;
+use crate::pair::attempts::reserve_beyond;
 use crate::pair::{BindingAttempt, CandidatePair};
 use indexmap::IndexMap;
 use is_proto::Instant;
@@ -207,9 +207,9 @@ pub(crate) fn reserve_beyond_all(
     ensures some { OnOk result (0 < deque_capacity spare.new) }
     ensures fewer { OnOk result (keep_fewer (deque_capacity spare.new) (pairs_of pairs.now.entries) ≡ true) }
 {
-    spare.reserve(1)?;
+    let mut most = 0;
     for pair in pairs.values() {
-        reserve_spare(spare, pair)?;
+        most = pair.kept_count().max(most);
     }
-    Ok(())
+    reserve_beyond(spare, most)
 }

@@ -5,7 +5,6 @@ ghost use Rattle.std.specs.Option.{option_copied};
 ghost use Rattle.std.specs.VecDeque.{deque_len, deque_capacity};
 ghost use Rattle.is_pair.specs.Checks.{first_unanswered, has_id, is_answered, last_check, last_checks, unanswered_count};
 
-use super::CandidatePair;
 use super::attempt::BindingAttempt;
 use is_stun::stun::TransId;
 use std::alloc::AllocError;
@@ -97,28 +96,16 @@ pub(crate) fn make_room(
     }
 }
 
-/// Makes the spare queue longer than this one.
+/// Makes the spare queue longer than so many checks, for `new_attempt_reserved`.
 pub(crate) fn reserve_beyond(
     spare: &mut VecDeque<BindingAttempt>,
-    attempts: &VecDeque<BindingAttempt>,
+    most: usize,
 ) -> Result<(), AllocError>
-    ensures room { OnOk result (length attempts.now.items < deque_capacity spare.new) }
-    ensures grows { deque_capacity spare.old ≤ deque_capacity spare.new }
+    ensures { OnOk result (most < deque_capacity spare.new) }
 {
     spare.clear();
-    match attempts.len().checked_add(1) {
+    match most.checked_add(1) {
         Some(len) => spare.reserve(len),
         None => Err(AllocError),
     }
-}
-
-/// Makes a spare queue of checks longer than the pair's own, for `new_attempt_reserved`.
-pub(crate) fn reserve_spare(
-    spare: &mut VecDeque<BindingAttempt>,
-    pair: &CandidatePair,
-) -> Result<(), AllocError>
-    ensures room { OnOk result (length pair.now.checks < deque_capacity spare.new) }
-    ensures grows { deque_capacity spare.old ≤ deque_capacity spare.new }
-{
-    reserve_beyond(spare, &pair.binding_attempts)
 }

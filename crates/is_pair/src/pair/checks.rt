@@ -104,6 +104,13 @@ impl CandidatePair {
         trans_id
     }
 
+    /// How many checks it keeps.
+    pub(crate) fn kept_count(&self) -> usize
+        ensures { result ≡ length self.now.checks }
+    {
+        self.binding_attempts.len()
+    }
+
     /// The kept check of this transaction id, if there is one: the first, where several have it.
     pub fn binding_attempt(&self, trans_id: TransId) -> Option<&BindingAttempt>
         ensures kept { is_some result ≡ is_kept trans_id.0 self.now.checks }

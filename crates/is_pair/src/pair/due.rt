@@ -1,8 +1,9 @@
 //! When a pair is due for its next check, and when it is given up.
 
-ghost use Rattle.std.specs.Prelude.{◌≡◌, ◌<◌, is_some};
+ghost use Rattle.std.specs.Prelude.{◌≡◌, ◌<◌, is_some, min};
+ghost use Rattle.is_proto.specs.Moments.{later};
 ghost use Rattle.is_pair.specs.Pairs.{undue};
-ghost use Rattle.is_pair.specs.Due.{asked, delaying_count, due_moment, is_heard, is_in_time, is_possible, long_before, next_moment};
+ghost use Rattle.is_pair.specs.Due.{asked, delaying_count, due_moment, is_heard, is_in_time, is_possible, long_before, next_moment, wanted_moment};
 
 use super::attempt::BindingAttempt;
 use super::requests::is_recent;
@@ -40,12 +41,21 @@ impl CandidatePair {
     }
 
     /// The moment that asking now would tell, and fix.
+    #[inline(always)]
     pub(crate) fn due_moment(&self, now: Instant, timing_config: &StunTiming) -> Instant
         ensures { result.0 ≡ due_moment now.0 timing_config.now self.now }
     {
-        if let Some(fixed) = self.cached_next_attempt_time {
-            return fixed;
+        match self.cached_next_attempt_time {
+            Some(fixed) => fixed,
+            None => self.unfixed_moment(now, timing_config),
         }
+    }
+
+    /// The moment that asking now would fix, where none stands fixed.
+    #[inline(never)]
+    fn unfixed_moment(&self, now: Instant, timing_config: &StunTiming) -> Instant
+        ensures { result.0 ≡ min (wanted_moment self.now.nomination now.0 timing_config.now self.now.checks) (later now.0 timing_config.now.max_rto.0) }
+    {
         let next = match self.nomination_state {
             NominationState::Nominated => long_before(now),
             _ => next_moment(&self.binding_attempts, now, timing_config),
