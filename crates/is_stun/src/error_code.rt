@@ -16,6 +16,7 @@ impl ErrorValue {
     ghost use Rattle.is_stun.specs.ErrorCode.{error_value};
     ghost use Rattle.is_stun.specs.ErrorCodeView.{error_bytes};
 
+    #[inline(never)]
     pub(crate) fn new(code: u16, reason: &str) -> ErrorValue
         requires code { code < 700 }
         requires reason { length reason.now ≤ 128 }

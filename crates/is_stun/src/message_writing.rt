@@ -11,7 +11,7 @@ use crate::attributes::Attributes;
 use crate::header::Method;
 use crate::message::StunMessage;
 use crate::numbers::{DATA_LIMIT, WRITTEN_TEXT_LIMIT, WRITTEN_USERNAME_LIMIT};
-use crate::rows::{Values, rows_of};
+use crate::rows::{Values, error_bytes, rows_of};
 use crate::values::{id_fits, values_fit};
 use crate::writing::{Draft, write_draft};
 use is_proto::{Sha1HmacProvider, StunError};
@@ -112,7 +112,8 @@ impl<'a> StunMessage<'a> {
             return Err(error);
         }
         let values = Values::of(&self.attrs, &self.trans_id.0);
-        let rows = rows_of(&self.attrs, &values);
+        let error = error_bytes(self.attrs.error_code);
+        let rows = rows_of(&self.attrs, &values, &error);
         let draft = Draft {
             typ: self.class.to_u16() + self.method.to_u16(),
             id: &self.trans_id.0,

@@ -32,7 +32,6 @@ pub(crate) struct Values {
     peer_address: Option<XorAddress>,
     channel_number: Option<[u8; 4]>,
     lifetime: Option<[u8; 4]>,
-    error_code: Option<ErrorValue>,
     network_cost: Option<[u8; 4]>,
 }
 
@@ -54,6 +53,7 @@ fn u32_bytes(number: Option<u32>) -> Option<[u8; 4]>
     }
 }
 
+#[inline(always)]
 fn address_bytes(address: Option<SocketAddr>, id: &[u8; 12]) -> Option<XorAddress>
     ensures { option_map xor_bytes result ≡ option_map (xor_address id.now) address }
 {
@@ -88,7 +88,9 @@ fn cost_bytes(network_cost: Option<(u16, u16)>) -> Option<[u8; 4]>
     }
 }
 
-fn error_bytes(error: Option<(u16, &str)>) -> Option<ErrorValue>
+/// The value of an error code. It is long and rare, so it stands apart from the others, which are then moved cheaply.
+#[inline(never)]
+pub(crate) fn error_bytes(error: Option<(u16, &str)>) -> Option<ErrorValue>
     requires { WritableError error }
     ensures { option_map error_bytes result ≡ option_map error_value (error_view error.entry) }
 {
@@ -99,8 +101,8 @@ fn error_bytes(error: Option<(u16, &str)>) -> Option<ErrorValue>
 }
 
 impl Values {
+    #[inline(always)]
     pub(crate) fn of(attrs: &Attributes<'_>, id: &[u8; 12]) -> Values
-        requires { WritableError attrs.now.error_code }
         ensures controlled { result.controlled ≡ option_map (to_be_bytes w64) attrs.now.ice_controlled }
         ensures controlling { result.controlling ≡ option_map (to_be_bytes w64) attrs.now.ice_controlling }
         ensures priority { result.priority ≡ option_map (to_be_bytes w32) attrs.now.priority }
@@ -109,7 +111,6 @@ impl Values {
         ensures peer { option_map xor_bytes result.peer_address ≡ option_map (xor_address id.now) attrs.now.xor_peer_address }
         ensures channel { result.channel_number ≡ option_map channel_value attrs.now.channel_number }
         ensures lifetime { result.lifetime ≡ option_map (to_be_bytes w32) attrs.now.lifetime }
-        ensures error { option_map error_bytes result.error_code ≡ option_map error_value (error_view attrs.now.error_code) }
         ensures cost { result.network_cost ≡ option_map network_cost_value attrs.now.network_cost }
     {
         Values {
@@ -121,7 +122,6 @@ impl Values {
             peer_address: address_bytes(attrs.xor_peer_address, id),
             channel_number: channel_bytes(attrs.channel_number),
             lifetime: u32_bytes(attrs.lifetime),
-            error_code: error_bytes(attrs.error_code),
             network_cost: cost_bytes(attrs.network_cost),
         }
     }
@@ -191,7 +191,12 @@ fn flag_row<'a>(code: u16, is_set: bool) -> Row<'a>
 }
 
 /// The attributes in their order.
-pub(crate) fn rows_of<'a>(attrs: &Attributes<'a>, values: &'a Values) -> [Row<'a>; 16]
+#[inline(always)]
+pub(crate) fn rows_of<'a>(
+    attrs: &Attributes<'a>,
+    values: &'a Values,
+    error: &'a Option<ErrorValue>,
+) -> [Row<'a>; 16]
     ensures { map row_view result
         ≡ row USERNAME (option_copied attrs.now.username)
         ∷ row ICE_CONTROLLED values.now.controlled
@@ -206,7 +211,7 @@ pub(crate) fn rows_of<'a>(attrs: &Attributes<'a>, values: &'a Values) -> [Row<'a
         ∷ row LIFETIME values.now.lifetime
         ∷ row REALM (option_copied attrs.now.realm)
         ∷ row NONCE (option_copied attrs.now.nonce)
-        ∷ row ERROR_CODE (option_map error_bytes values.now.error_code)
+        ∷ row ERROR_CODE (option_map error_bytes error.now)
         ∷ row SOFTWARE (option_copied attrs.now.software)
         ∷ row NETWORK_COST values.now.network_cost
         ∷ [] }
@@ -225,7 +230,7 @@ pub(crate) fn rows_of<'a>(attrs: &Attributes<'a>, values: &'a Values) -> [Row<'a
         array_row(LIFETIME, &values.lifetime),
         text_row(REALM, attrs.realm),
         text_row(NONCE, attrs.nonce),
-        error_row(&values.error_code),
+        error_row(error),
         text_row(SOFTWARE, attrs.software),
         array_row(NETWORK_COST, &values.network_cost),
     ]

@@ -47,6 +47,8 @@ fn put_padding(buf: &mut [u8], at: usize, len: usize) -> usize
     put(buf, at, &[0; 3][..(len + 3) / 4 * 4 - len])
 }
 
+/// An attribute and its padding. It stands apart, so that the walks over the rows are unrolled, and a row that is absent costs next to nothing.
+#[inline(never)]
 fn put_attribute(buf: &mut [u8], at: usize, code: u16, value: &[u8]) -> usize
     requires room { at + attribute_len (length value.now) ≤ length buf.old }
     requires short { length value.now < 2 ^ 16 }
@@ -79,6 +81,7 @@ pub(crate) struct Row<'a> {
 }
 
 /// The length of a row, where it is within the room.
+#[inline(always)]
 #[tactic(auto, using(crate::proofs::RowLemmas::row_length))]
 fn row_len(row: &Row<'_>, room: usize) -> Option<usize>
     requires { room < 2 ^ 16 }
@@ -94,6 +97,7 @@ fn row_len(row: &Row<'_>, room: usize) -> Option<usize>
     if len > room { None } else { Some(len) }
 }
 
+#[inline(always)]
 fn rows_len(rows: &[Row<'_>], room: usize) -> Option<usize>
     requires { room < 2 ^ 16 }
     ensures { IsLenWithin result room (rows_text (map row_view rows.now)) }
@@ -105,6 +109,7 @@ fn rows_len(rows: &[Row<'_>], room: usize) -> Option<usize>
     Some(len)
 }
 
+#[inline(always)]
 #[tactic(auto, using(crate::proofs::RowLemmas::row_length))]
 fn put_row(buf: &mut [u8], at: usize, row: &Row<'_>) -> usize
     requires room { at + length (row_text (row_view row.now)) ≤ length buf.old }
@@ -117,6 +122,7 @@ fn put_row(buf: &mut [u8], at: usize, row: &Row<'_>) -> usize
     }
 }
 
+#[inline(always)]
 fn put_rows(buf: &mut [u8], at: usize, rows: &[Row<'_>]) -> usize
     requires room { at + length (rows_text (map row_view rows.now)) ≤ length buf.old }
     requires short { length (rows_text (map row_view rows.now)) < 2 ^ 16 }

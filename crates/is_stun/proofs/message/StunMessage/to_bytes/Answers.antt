@@ -14,7 +14,7 @@ returns-clause-written g c =
     let v = c.of-values.ensures in
     writes_message c.write_draft.result c.args.buf.now c.write_draft.new.buf (g.H.Sha1HmacProvider.mac c.args.provider.now) (option_copied c.args.password) (message_view c.args.self)
     (c.to_u16.result + c.to_u16-2.result) (map row_view c.rows_of-rows.result) c.in_default.ensures.refusal
-    (rw (c.rows_of-rows.ensures, v.controlled, v.controlling, v.priority, v.mapped, v.relayed, v.peer, v.channel, v.lifetime, v.error, v.cost) refl)
+    (rw (c.rows_of-rows.ensures, v.controlled, v.controlling, v.priority, v.mapped, v.relayed, v.peer, v.channel, v.lifetime, c.error_bytes-error.ensures, v.cost) refl)
     (rw (c.to_u16.ensures, c.to_u16-2.ensures) refl) c.write_draft.ensures.written
 
 pub returns-clause-read_again : goal.returns-clause-read_again
@@ -23,5 +23,5 @@ returns-clause-read_again g c =
     let mac = g.H.Sha1HmacProvider.mac c.args.provider.now in
     bytes_read_again c.write_draft.result c.args.buf.now c.write_draft.new.buf mac (option_copied c.args.password) (message_view c.args.self)
     (c.to_u16.result + c.to_u16-2.result) (map row_view c.rows_of-rows.result) c.in_default.ensures.refusal
-    (rw (c.rows_of-rows.ensures, v.controlled, v.controlling, v.priority, v.mapped, v.relayed, v.peer, v.channel, v.lifetime, v.error, v.cost) refl)
+    (rw (c.rows_of-rows.ensures, v.controlled, v.controlling, v.priority, v.mapped, v.relayed, v.peer, v.channel, v.lifetime, c.error_bytes-error.ensures, v.cost) refl)
     (rw (c.to_u16.ensures, c.to_u16-2.ensures) refl) c.write_draft.ensures.written c.write_draft.ensures.mac c.id_fits.ensures c.values_fit.ensures
