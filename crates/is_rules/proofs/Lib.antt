@@ -50,3 +50,5 @@ pub mod Announced
 pub mod LoggedRounds
 pub mod Delivered
 pub mod KeptChecks
+pub mod Staying
+pub mod Exchanged

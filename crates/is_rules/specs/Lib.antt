@@ -45,3 +45,4 @@ pub mod RoleView
 pub mod Progress
 pub mod Rounds
 pub mod Delivery
+pub mod Exchange

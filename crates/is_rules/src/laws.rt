@@ -7,6 +7,7 @@ ghost use Rattle.is_rules.specs.Reporting.{QueuesLaw};
 ghost use Rattle.is_rules.specs.RoleView.{FreshIsNew, RoleLaw};
 ghost use Rattle.is_rules.specs.Progress.{AnsweredAnnounce, AnswersAnnounce, MomentsAnnounce, NoPairStarves, WakesAhead, WakesAreOfUse, WakesInTime};
 ghost use Rattle.is_rules.specs.Delivery.{ChecksAreServed, ChecksAreKept, RepliesAreAccepted};
+ghost use Rattle.is_rules.specs.Exchange.{ChecksStay, ExchangesSucceed};
 ghost use Rattle.is_rules.specs.Rounds.{AnsweredRoundsAnnounce, PartsAreRuns, TurnsAreOfUse};
 
 use is_candidate::LocalPreference;
@@ -157,4 +158,17 @@ pub fn checks_are_answered<H: Sha1HmacProvider, P: LocalPreference>()
     addresses_are_written_plain();
     checks_fit();
     replies_fit();
+}
+
+/// Packets and polls leave each check that an agent keeps, on its path.
+pub fn checks_stay<H: Sha1HmacProvider, P: LocalPreference>()
+    ensures { ChecksStay H.mac P.answers }
+{}
+
+/// A check that one of two agents that know each other sends at a moment, delivered to the other while their roles differ, is accepted, and
+/// its success, delivered before the first one's next moment, is accepted too. Whatever packets and polls come between.
+pub fn exchanges_succeed<H: Sha1HmacProvider, P: LocalPreference>()
+    ensures { ExchangesSucceed H.mac P.answers }
+{
+    checks_are_answered::<H, P>();
 }

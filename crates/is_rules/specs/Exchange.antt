@@ -1,0 +1,47 @@
+-- A check that goes out at a moment, its answer, and what may come between: whatever packets and polls there are, the check is kept.
+use Rattle.std.specs.Prelude.{◌≡◌, ℕ, true, not, List, [], ◌∷◌}
+use Rattle.std.specs.List.{list_any}
+use Rattle.rand_core.specs.Stream.{Stream}
+use Rattle.is_proto.specs.Lists.{Has}
+use Rattle.is_proto.specs.Packets.{Packet}
+use Rattle.is_candidate.specs.Candidates.{CandidateRecord}
+use Rattle.is_stun.specs.declared.header.Class.TheVariants.{Request, Success}
+use Rattle.is_rules.specs.declared.told.Path.{Path}
+use Rattle.is_rules.specs.Agent.{AgentRecord}
+use Rattle.is_rules.specs.Answers.{keeps_check_on}
+use Rattle.is_rules.specs.Delivery.{KnowEachOther, IsReachedBy, Sends, Delivered, IsTaken}
+use Rattle.is_rules.specs.Issuing.{way_out}
+use Rattle.is_rules.specs.Rounds.{is_between}
+use Rattle.is_rules.specs.Sound.{IsSound, GivesBased}
+use Rattle.is_rules.specs.Steps.{Call, Entry, HandleTimeout, Step}
+use Rattle.is_rules.specs.Told.{turned}
+
+-- polls, and packets that come
+abbrev pub AreBetween : {P : Type 0} → List (Call P × Entry) → Type 0
+AreBetween xs = (x : Call _ × Entry) → Has xs x → is_between x.0 ≡ true
+
+module _ {H P : Type 0} (mac : H → List ℕ → List ℕ → List ℕ) (answers : P → CandidateRecord → ℕ → ℕ → Type 0) where
+  -- calls one after another with what became of each, oldest first. Their random words may come from anywhere, as where two agents
+  -- draw from one source
+  abbrev pub Course : List (Call P × Entry) → AgentRecord H P → AgentRecord H P → Type 0
+  Course [] old new = new ≡ old
+  Course (x ∷ rest) old new = (mid : AgentRecord H P) × (s t : Stream) × GivesBased x.0 × Step mac answers old s x.0 x.1 mid t × Course rest mid new
+
+  -- Polls and packets leave each check that is kept, on its path: an answer marks it alone, and is accepted where it comes again.
+  abbrev pub ChecksStay : Type 0
+  ChecksStay =
+      (old new : AgentRecord H P) (xs : List (Call P × Entry)) (way : Path) (id : List ℕ) → IsSound old → AreBetween xs → Course xs old new
+      → list_any (keeps_check_on old way id) old.pairs ≡ true → list_any (keeps_check_on new way id) new.pairs ≡ true
+
+  -- One of two agents that know each other sends a check at a moment, which is delivered to the other while its role differs from the one
+  -- that the check was sent under. Then it is accepted, and its success, delivered before the first one's next moment, is accepted too.
+  abbrev pub ExchangesSucceed : Type 0
+  ExchangesSucceed =
+      (a sent near b served : AgentRecord H P) (s t : Stream) (now at : ℕ) (check : Packet) (id : List ℕ) (moment handed : Entry) (xs : List (Call P × Entry))
+      → IsSound a → IsSound b → Step mac answers a s (HandleTimeout now) moment sent t → Sends a moment Request id check sent
+      → AreBetween xs → Course xs sent near
+      → KnowEachOther mac near b → b.controlling ≡ not a.controlling → IsReachedBy b (way_out check) → Delivered mac answers check at b handed served
+      → IsTaken mac answers check at handed Request
+      × ((reply : Packet) × (way_out reply ≡ turned (way_out check)) × Sends b handed Success id reply served
+      × ((mid taken : AgentRecord H P) (ys : List (Call P × Entry)) (back : ℕ) (returned : Entry) → AreBetween ys → Course ys near mid
+      → Delivered mac answers reply back mid returned taken → IsTaken mac answers reply back returned Success))
