@@ -52,3 +52,4 @@ pub mod Delivered
 pub mod KeptChecks
 pub mod Staying
 pub mod Exchanged
+pub mod Coursing

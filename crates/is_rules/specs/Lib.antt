@@ -46,3 +46,4 @@ pub mod Progress
 pub mod Rounds
 pub mod Delivery
 pub mod Exchange
+pub mod Courses

@@ -8,6 +8,7 @@ ghost use Rattle.is_rules.specs.RoleView.{FreshIsNew, RoleLaw};
 ghost use Rattle.is_rules.specs.Progress.{AnsweredAnnounce, AnswersAnnounce, MomentsAnnounce, NoPairStarves, WakesAhead, WakesAreOfUse, WakesInTime};
 ghost use Rattle.is_rules.specs.Delivery.{ChecksAreServed, ChecksAreKept, RepliesAreAccepted};
 ghost use Rattle.is_rules.specs.Exchange.{ChecksStay, ExchangesSucceed};
+ghost use Rattle.is_rules.specs.Courses.{CoursesAnnounce};
 ghost use Rattle.is_rules.specs.Rounds.{AnsweredRoundsAnnounce, PartsAreRuns, TurnsAreOfUse};
 
 use is_candidate::LocalPreference;
@@ -172,3 +173,9 @@ pub fn exchanges_succeed<H: Sha1HmacProvider, P: LocalPreference>()
 {
     checks_are_answered::<H, P>();
 }
+
+/// The same of an agent that shares its random source: a controlling agent announces a path in one of n rounds in which the checks of one of
+/// n pairs are answered.
+pub fn courses_announce<H: Sha1HmacProvider, P: LocalPreference>()
+    ensures { CoursesAnnounce H.mac P.answers }
+{}
