@@ -38,6 +38,7 @@ pub fn parse_candidate(alloc: Global, text: &str) -> Result<Candidate, IceError>
 }
 
 /// The refusal of a text, or want of memory for its message.
+#[cold]
 fn refusal(alloc: Global, text: &str, fault: Fault<'_>) -> IceError
     ensures { RefusesWith (text.now ++ codes ": " ++ fault_text fault.entry) result }
 {

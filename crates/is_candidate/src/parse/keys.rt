@@ -18,7 +18,8 @@ pub(crate) struct Keys<'a> {
     pub(crate) ufrag: Option<&'a str>,
 }
 
-/// The keys with one more, whose value may be missing.
+/// The keys with one more, whose value may be missing. It stands apart, so that lines without keys cost nothing for it.
+#[inline(never)]
 fn with_key<'a>(keys: Keys<'a>, key: &str, value: Option<&'a str>) -> Result<Keys<'a>, Fault<'a>>
     ensures { ReadsKey key.now (option_copied value.entry) (keys_of keys.entry) (keys_answer result) }
 {
