@@ -229,49 +229,56 @@ impl<H: Sha1HmacProvider + Drop, P: LocalPreference> Agent<H, P> {
 // ---- the moment
 
 impl<H: Sha1HmacProvider + Drop, P: LocalPreference> Agent<H, P> {
-    /// All that the moment does behind waking, with room for it.
-    fn proceed<R: Rng>(&mut self, now: Instant, rng: &mut R) -> Told
+    /// All that the moment does behind waking, with room for it. What it tells is written where it is kept.
+    fn proceed<R: Rng>(&mut self, now: Instant, rng: &mut R)
         requires events { HasEventRoom 3 self.old }
         requires checks { HasCheckRoomAt now.0 self.old }
-        ensures { Proceeds H.mac now.0 (record_of self.old) (R.stream rng.old) result (record_of self.new) (R.stream rng.new) }
+        ensures { Proceeds H.mac now.0 (record_of self.old) (R.stream rng.old) (told_of self.new) (record_of self.new) (R.stream rng.new) }
     {
         self.last_moment = Some(now);
         let first = self.evaluate_nomination();
         let second = self.give_up(now);
         let issued = self.may_check(now, rng);
-        Told::by(issued, first, second)
+        self.told = Told::by(issued, first, second);
     }
 
     /// The moment begins, and all follows, with room for both.
-    fn wake_and_proceed<R: Rng>(&mut self, now: Instant, rng: &mut R, waking: Waking) -> Told
+    fn wake_and_proceed<R: Rng>(&mut self, now: Instant, rng: &mut R, waking: Waking)
         requires waking { IsWaking now.0 (record_of self.old) waking }
         requires events { HasEventRoom 5 self.old }
         requires checks { HasCheckRoomAt now.0 self.old }
-        ensures { Proceeds H.mac now.0 (awake now.0 (record_of self.old)) (R.stream rng.old) result (record_of self.new) (R.stream rng.new) }
+        ensures { Proceeds H.mac now.0 (awake now.0 (record_of self.old)) (R.stream rng.old) (told_of self.new) (record_of self.new) (R.stream rng.new) }
     {
         self.wake(now, waking);
-        self.proceed(now, rng)
+        self.proceed(now, rng);
     }
 
     /// All that this moment does where it serves no request.
-    fn advance<R: Rng>(&mut self, now: Instant, rng: &mut R) -> Result<Told, IceError>
-        ensures advanced { IfOk result (λ told. Proceeds H.mac now.0 (awake now.0 (record_of self.old)) (R.stream rng.old) told (record_of self.new) (R.stream rng.new)) }
+    fn advance<R: Rng>(&mut self, now: Instant, rng: &mut R) -> Result<(), IceError>
+        ensures advanced { OnOk result (Proceeds H.mac now.0 (awake now.0 (record_of self.old)) (R.stream rng.old) (told_of self.new) (record_of self.new) (R.stream rng.new)) }
         ensures refused { IsOkUnless result errors.OutOfMemory }
         ensures unchanged { IfErr result (λ _. (record_of self.new ≡ record_of self.old) × (R.stream rng.new ≡ R.stream rng.old)) }
     {
         let waking = self.waking(now)?;
         self.take_round_room(now)?;
-        Ok(self.wake_and_proceed(now, rng, waking))
+        self.wake_and_proceed(now, rng, waking);
+        Ok(())
     }
 
     /// The request that waited is served; where there is none, the agent advances.
-    fn pass<R: Rng>(&mut self, now: Instant, rng: &mut R) -> Result<Told, IceError>
-        ensures passed { IfOk result (λ told. MatchOption (request_at now.0 (record_of self.old)) (Proceeds H.mac now.0 (awake now.0 (record_of self.old)) (R.stream rng.old) told (record_of self.new) (R.stream rng.new)) (λ q. ServesQueued H.mac q (awake now.0 (record_of self.old)) (R.stream rng.old) told (record_of self.new) (R.stream rng.new))) }
+    fn pass<R: Rng>(&mut self, now: Instant, rng: &mut R) -> Result<(), IceError>
+        ensures passed { OnOk result (MatchOption (request_at now.0 (record_of self.old)) (Proceeds H.mac now.0 (awake now.0 (record_of self.old)) (R.stream rng.old) (told_of self.new) (record_of self.new) (R.stream rng.new)) (λ q. ServesQueued H.mac q (awake now.0 (record_of self.old)) (R.stream rng.old) (told_of self.new) (record_of self.new) (R.stream rng.new))) }
         ensures refused { IfErr result (λ error. MayRefuseMoment now.0 (record_of self.old) error) }
         ensures unchanged { IfErr result (λ _. (record_of self.new ≡ record_of self.old) × (R.stream rng.new ≡ R.stream rng.old)) }
     {
+        if self.queue.is_empty() {
+            return self.advance(now, rng);
+        }
         match self.late_request(now)? {
-            Some(waiting) => self.serve_waiting(now, &waiting),
+            Some(waiting) => {
+                self.told = self.serve_waiting(now, &waiting)?;
+                Ok(())
+            }
             None => self.advance(now, rng),
         }
     }
@@ -288,10 +295,7 @@ impl<H: Sha1HmacProvider + Drop, P: LocalPreference> Agent<H, P> {
         ensures { TimesOut H.mac now.0 (record_of self.old) (R.stream rng.old) result (told_of self.new) (record_of self.new) (R.stream rng.new) }
     {
         match self.pass(now, rng) {
-            Ok(told) => {
-                self.told = told;
-                Ok(())
-            }
+            Ok(()) => Ok(()),
             Err(error) => {
                 self.told = Told::nothing();
                 Err(error)
