@@ -1,8 +1,9 @@
 //! What a check of the agent's own says, and where it goes (RFC 8445, section 7.2).
 
-ghost use Rattle.std.specs.Prelude.{◌≡◌, Some, IfSome, length};
-ghost use Rattle.is_stun.specs.Laws.{IsPut};
-ghost use Rattle.is_stun.specs.Writing.{written};
+ghost use Rattle.std.specs.Prelude.{◌≡◌, Some, None, IfSome, length};
+ghost use Rattle.is_stun.specs.Laws.{IsClass, IsChannelNumber, IsPut, plain};
+ghost use Rattle.is_stun.specs.MessageView.{message_view};
+ghost use Rattle.is_stun.specs.Writing.{written, refusal};
 ghost use Rattle.is_pair.specs.Pairs.{PairRecord};
 ghost use Rattle.is_rules.specs.declared.credentials.IceCreds as model;
 ghost use Rattle.is_rules.specs.Fitting.{MTU_FLOOR};
@@ -52,6 +53,17 @@ impl<H: Sha1HmacProvider + Drop, P: LocalPreference> Agent<H, P> {
         }
     }
 
+    /// Writes a check, signed with the peer's password, over the front of the bytes, and cuts them to its length.
+    fn write_check(&self, contents: &mut Vec<u8>, check: StunMessage<'_>, password: &str)
+        requires fits { refusal (Some password.now) (length contents.old.items) (message_view check) ≡ None }
+        requires class { IsClass (message_view check).class }
+        requires channel { IfSome (message_view check).attributes.channel_number IsChannelNumber }
+        ensures written { contents.new.items ≡ written (H.mac self.now.provider) (Some password.now) (message_view check.entry) }
+        ensures put { IsPut (written (H.mac self.now.provider) (Some password.now) (message_view check.entry)) (plain (message_view check.entry)) }
+    {
+        write_signed(contents, check, password, &self.by_remote_key());
+    }
+
     /// The bytes of the check, written over these.
     pub(crate) fn check_bytes(&self, mut contents: Vec<u8>, id: TransId, draft: Draft) -> Vec<u8>
         requires username { HasUsername self.now }
@@ -74,12 +86,7 @@ impl<H: Sha1HmacProvider + Drop, P: LocalPreference> Agent<H, P> {
                 draft.priority,
                 nominates,
             );
-            write_signed(
-                &mut contents,
-                request,
-                peer.pass.as_str(),
-                &self.by_remote_key(),
-            );
+            self.write_check(&mut contents, request, peer.pass.as_str());
         }
         contents
     }

@@ -4,8 +4,8 @@ use Rattle.is_rules.specs.Checking.{username_between}
 use Rattle.is_agent.proofs.RequestLemmas.{username-short}
 use Rattle.is_agent.proofs.agent.Agent.check_bytes.Goals as goal
 
-pub write_signed-requires-clause-fits : goal.write_signed-requires-clause-fits
-write_signed-requires-clause-fits g c =
+pub write_check-requires-clause-fits : goal.write_check-requires-clause-fits
+write_check-requires-clause-fits g c =
     let self = c.args.self.now in
     let fits : are_too_long self.local_creds (Some c.in-Some.peer) ≡ false = rw c.in-Some.is at self.credentials_fit in
     let is : string_bytes self.username ≡ username_between c.in-Some.peer self.local_creds = rw c.in-Some.is at c.requires.username in

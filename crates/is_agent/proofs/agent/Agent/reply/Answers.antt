@@ -1,0 +1,14 @@
+use Rattle.std.proofs.Common.{Some, List, ℕ, subst}
+use Rattle.is_stun.specs.Checks.{binding_reply}
+use Rattle.is_stun.specs.Laws.{IsPut}
+use Rattle.is_stun.specs.Writing.{written}
+use Rattle.is_rules.specs.Sending.{carried}
+use Rattle.is_agent.proofs.agent.Agent.reply.Goals as goal
+
+-- the provider with the kept key has the function of the agent's provider
+pub returns-clause-put : goal.returns-clause-put
+returns-clause-put g c =
+    let request = c.args.request.now in let mac = g.H.Sha1HmacProvider.mac in
+    let message = binding_reply request.id.0 request.path.source in let told = binding_reply request.id.0 (carried request.path.source) in
+    let put = subst (λ (pass : List ℕ). IsPut (written (mac c.by_local_key.result.provider.now) (Some pass) message) told) c.as_str-password.ensures c.write_reply.ensures.put in
+    subst (λ (signs : List ℕ → List ℕ → List ℕ). IsPut (written signs (Some c.args.self.now.local_creds.pass) message) told) c.by_local_key.ensures put
