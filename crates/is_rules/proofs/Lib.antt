@@ -53,3 +53,6 @@ pub mod KeptChecks
 pub mod Staying
 pub mod Exchanged
 pub mod Coursing
+pub mod Stays
+pub mod StayLaws
+pub mod AskedLaws

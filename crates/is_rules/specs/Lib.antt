@@ -47,3 +47,5 @@ pub mod Rounds
 pub mod Delivery
 pub mod Exchange
 pub mod Courses
+pub mod Staying
+pub mod Asked

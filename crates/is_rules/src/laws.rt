@@ -10,6 +10,8 @@ ghost use Rattle.is_rules.specs.Delivery.{ChecksAreServed, ChecksAreKept, Replie
 ghost use Rattle.is_rules.specs.Exchange.{ChecksStay, ExchangesSucceed};
 ghost use Rattle.is_rules.specs.Courses.{CoursesAnnounce};
 ghost use Rattle.is_rules.specs.Rounds.{AnsweredRoundsAnnounce, PartsAreRuns, TurnsAreOfUse};
+ghost use Rattle.is_rules.specs.Staying.{PairsStay, PairsStayOn};
+ghost use Rattle.is_rules.specs.Asked.{AskedAreAnnounced};
 
 use is_candidate::LocalPreference;
 use is_proto::Sha1HmacProvider;
@@ -178,4 +180,20 @@ pub fn exchanges_succeed<H: Sha1HmacProvider, P: LocalPreference>()
 /// n pairs are answered.
 pub fn courses_announce<H: Sha1HmacProvider, P: LocalPreference>()
     ensures { CoursesAnnounce H.mac P.answers }
+{}
+
+/// A pair stands, on its path and as valid and nominated as it was, over each step that does not take it away.
+pub fn pairs_stay<H: Sha1HmacProvider, P: LocalPreference>()
+    ensures { PairsStay H.mac P.answers }
+{}
+
+/// From a fresh agent, a pair stands over each part of the log at no entry of which it may go.
+pub fn pairs_stay_in_logs<H: Sha1HmacProvider, P: LocalPreference>()
+    ensures { PairsStayOn H.mac P.answers }
+{}
+
+/// From a fresh agent, wherever a controlled one was asked for a path and had an answer on it, in whichever order, the next moment
+/// announces a path, where one pair alone joins this one and none that does may have gone.
+pub fn asked_are_announced<H: Sha1HmacProvider, P: LocalPreference>()
+    ensures { AskedAreAnnounced H.mac P.answers }
 {}

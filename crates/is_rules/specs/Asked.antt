@@ -1,0 +1,71 @@
+-- A controlled agent: a path that the peer asked for, and that was answered, is announced at the next moment, whichever came first.
+use Rattle.std.specs.Prelude.{◌≡◌, ℕ, ◌⊎◌, true, false, List, [], ◌∷◌, ◌++◌, Some, None}
+use Rattle.rand_core.specs.Stream.{Stream}
+use Rattle.is_proto.specs.Lists.{Has}
+use Rattle.is_candidate.specs.Candidates.{CandidateRecord}
+use Rattle.is_pair.specs.Pairs.{PairRecord}
+use Rattle.is_stun.specs.declared.header.Class.TheVariants as class
+use Rattle.is_stun.specs.Message.{Message}
+use Rattle.is_rules.specs.Agent.{AgentRecord}
+use Rattle.is_rules.specs.Answers.{goes_back}
+use Rattle.is_rules.specs.Brought.{Brings, IsServing}
+use Rattle.is_rules.specs.declared.told.Path.{Path}
+use Rattle.is_rules.specs.Logs.{Logged}
+use Rattle.is_rules.specs.Queue.{request_at}
+use Rattle.is_rules.specs.Request.{RequestRecord}
+use Rattle.is_rules.specs.Rounds.{Part, RunsOn}
+use Rattle.is_rules.specs.Runs.{IsFresh, Point, IsTopPath}
+use Rattle.is_rules.specs.Sending.{path_of}
+use Rattle.is_rules.specs.Staying.{MayEnd}
+use Rattle.is_rules.specs.Steps.{HandleTimeout, Done}
+use Rattle.is_rules.specs.Told.{issued_as}
+
+-- an accepted success came back on the path
+abbrev pub IsAnsweredOn : {P : Type 0} → Logged P → Path → Type 0
+IsAnsweredOn x path = (at : ℕ) × (by : Path) × (m : Message) × Brings x.call x.entry at by m × (m.class ≡ class.Success) × (goes_back by path ≡ true)
+
+abbrev pub IsAnsweredIn : {P : Type 0} → List (Logged P) → Path → Type 0
+IsAnsweredIn part path = (x : Logged _) × Has part x × IsAnsweredOn x path
+
+module _ {H P : Type 0} where
+  -- the pair goes from the path's source to its destination
+  abbrev pub Joins : AgentRecord H P → Path → PairRecord → Type 0
+  Joins a path p = ((path_of a p).source ≡ path.source) × ((path_of a p).destination ≡ path.destination)
+
+  -- at most one pair does
+  abbrev pub IsAlone : AgentRecord H P → Path → Type 0
+  IsAlone a path = (p q : PairRecord) → Has a.pairs p → Has a.pairs q → Joins a path p → Joins a path q → p ≡ q
+
+  -- a request with USE-CANDIDATE is answered with success on the path, and the agent is controlled
+  abbrev pub IsAskedOn : AgentRecord H P → Logged P → AgentRecord H P → Path → Type 0
+  IsAskedOn old x new path =
+      (q : RequestRecord) × (id : List ℕ) × IsServing old x.call x.entry q × (q.use_candidate ≡ true)
+      × (x.entry.told.issued ≡ Some (issued_as path class.Success id)) × (new.controlling ≡ false)
+
+  module _ (mac : H → List ℕ → List ℕ → List ℕ) (answers : P → CandidateRecord → ℕ → ℕ → Type 0) where
+    -- an entry of the part asks for the path
+    abbrev pub IsAskedIn : (before : List (Logged P)) (start : AgentRecord H P) (s : Stream) (part : List (Logged P)) (last : AgentRecord H P) (t : Stream)
+        → RunsOn mac answers before start s part last t → Path → Type 0
+    IsAskedIn before start s [] last t run path = ⊥
+    IsAskedIn before start s (x ∷ part) last t run path =
+        IsAskedOn run.0 x last path ⊎ IsAskedIn before start s part run.0 run.1 run.2 path
+
+    module _ (first : AgentRecord H P) (s : Stream) (log : List (Logged P)) where
+      -- at an entry of the part a pair that joins the path may go
+      abbrev pub MayEndIn : List (Logged P) → Path → Type 0
+      MayEndIn part path =
+          (before : List (Logged P)) × (mid after : AgentRecord H P) × (x : Logged P) × (p : PairRecord)
+          × Point mac answers first s log before mid x after × Has part x × Has mid.pairs p × Joins mid path p × MayEnd mid x.call x.entry p
+
+      -- Wherever a part of the log asked for a path and answered it, in whichever order, and a moment comes that serves no request, a
+      -- path is announced, where one pair alone joins this one, unless a pair that joins it may have gone.
+      abbrev pub AskedPathsAnnounce : Type 0
+      AskedPathsAnnounce =
+          (before part : List (Logged P)) (start last : AgentRecord H P) (moment : Logged P) (now : ℕ) (path : Path)
+          → (found : Part mac answers first s log before start (moment ∷ part) last)
+          → moment.call ≡ HandleTimeout now → moment.entry.answer ≡ Done → request_at now found.run.0 ≡ None
+          → IsAskedIn before start found.at part found.run.0 found.run.1 found.run.2 path → IsAnsweredIn part path → IsAlone last path
+          → IsTopPath mac answers (moment ∷ (part ++ before)) last ⊎ MayEndIn (moment ∷ part) path
+
+    abbrev pub AskedAreAnnounced : Type 0
+    AskedAreAnnounced = (first : AgentRecord H P) (s : Stream) (log : List (Logged P)) → IsFresh first → AskedPathsAnnounce first s log

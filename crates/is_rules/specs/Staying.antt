@@ -1,0 +1,68 @@
+-- How long a pair stands: valid, it stays valid, and nominated, it stays nominated, until it goes.
+use Rattle.std.specs.Prelude.{◌≡◌, ℕ, ◌⊎◌, true, List, Some, None}
+use Rattle.rand_core.specs.Stream.{Stream}
+use Rattle.is_proto.specs.Lists.{Has}
+use Rattle.is_candidate.specs.Candidates.{CandidateRecord}
+use Rattle.is_pair.specs.Pairs.{PairRecord, is_valid, is_nominated}
+use Rattle.is_rules.specs.Agent.{AgentRecord}
+use Rattle.is_rules.specs.declared.told.Path.{Path}
+use Rattle.is_rules.specs.Discarding.{place_to_discard}
+use Rattle.is_rules.specs.Logs.{Logged}
+use Rattle.is_rules.specs.Queue.{request_at}
+use Rattle.is_rules.specs.Rounds.{Part}
+use Rattle.is_rules.specs.Runs.{IsFresh, Point}
+use Rattle.is_rules.specs.Sending.{path_of}
+use Rattle.is_rules.specs.Sound.{IsSound, GivesBased}
+use Rattle.is_rules.specs.Steps.{Call, AddLocalCandidate, AddRemoteCandidate, InvalidateCandidate, RestartIce, RecreateCandidatePairs, HandleTimeout, Added, Done, Flag, Entry, Step}
+use Rattle.is_rules.specs.Timeouts.{is_given_up}
+
+module _ {H P : Type 0} where
+  -- the pair stands, on its path, and is as valid and as nominated as it was
+  pub record Stays (old : AgentRecord H P) (p : PairRecord) (new : AgentRecord H P) : Type 0 where
+    pub pair : PairRecord
+    pub there : Has new.pairs pair
+    pub number : pair.number ≡ p.number
+    pub path : path_of new pair ≡ path_of old p
+    pub valid : is_valid p ≡ true → is_valid pair ≡ true
+    pub nominated : is_nominated p ≡ true → is_nominated pair ≡ true
+
+  -- its local candidate is discarded, or its remote one
+  abbrev pub IsOfDiscarded : AgentRecord H P → CandidateRecord → PairRecord → Type 0
+  IsOfDiscarded old c p =
+      (place_to_discard c old.local ≡ Some p.local) ⊎ ((place_to_discard c old.local ≡ None) × (place_to_discard c old.remote ≡ Some p.remote))
+
+  -- The step may take it away: a pair of another candidate is formed, which may replace or evict it, its candidate is discarded,
+  -- a clear comes, or its checks were not answered in time (RFC 7675).
+  abbrev pub MayEnd : AgentRecord H P → Call P → Entry → PairRecord → Type 0
+  MayEnd old (AddLocalCandidate c) e p = e.answer ≡ Added
+  MayEnd old (AddRemoteCandidate c) e p = e.answer ≡ Done
+  MayEnd old (InvalidateCandidate c) e p = (e.answer ≡ Flag true) × IsOfDiscarded old c p
+  MayEnd old (RestartIce creds keep) e p = e.answer ≡ Done
+  MayEnd old RecreateCandidatePairs e p = e.answer ≡ Done
+  MayEnd old (HandleTimeout now) e p = (e.answer ≡ Done) × (request_at now old ≡ None) × (is_given_up now old p ≡ true)
+  MayEnd old _ e p = ⊥
+
+  module _ (mac : H → List ℕ → List ℕ → List ℕ) (answers : P → CandidateRecord → ℕ → ℕ → Type 0) where
+    -- whatever else the step does: requests, answers, role conflicts, and settings leave each pair
+    abbrev pub PairsStay : Type 0
+    PairsStay =
+        (old new : AgentRecord H P) (s t : Stream) (call : Call P) (e : Entry) (p : PairRecord)
+        → IsSound old → GivesBased call → Step mac answers old s call e new t → Has old.pairs p → Stays old p new ⊎ MayEnd old call e p
+
+    -- ---- in a log
+
+    -- at an entry of the part the pair of the number, which is on the path, may go
+    abbrev pub EndsIn : AgentRecord H P → Stream → List (Logged P) → List (Logged P) → ℕ → Path → Type 0
+    EndsIn first s log part number path =
+        (before : List (Logged P)) × (mid after : AgentRecord H P) × (x : Logged P) × (p : PairRecord)
+        × Point mac answers first s log before mid x after × Has part x × Has mid.pairs p × (p.number ≡ number) × (path_of mid p ≡ path)
+        × MayEnd mid x.call x.entry p
+
+    -- so over each part of the log
+    abbrev pub PairsStayIn : AgentRecord H P → Stream → List (Logged P) → Type 0
+    PairsStayIn first s log =
+        (before : List (Logged P)) (start last : AgentRecord H P) (part : List (Logged P)) (p : PairRecord)
+        → Part mac answers first s log before start part last → Has start.pairs p → Stays start p last ⊎ EndsIn first s log part p.number (path_of start p)
+
+    abbrev pub PairsStayOn : Type 0
+    PairsStayOn = (first : AgentRecord H P) (s : Stream) (log : List (Logged P)) → IsFresh first → PairsStayIn first s log
