@@ -60,6 +60,8 @@ fn sum_of(alloc: Global, name: &str, rounds: u64) -> Result<Option<u64>, IceErro
         "hmac" => messages::hmac(rounds, &mut sum),
         "read_line" => candidates::read_line(alloc, rounds, &mut sum)?,
         "print_line" => candidates::print_line(alloc, rounds, &mut sum)?,
+        "read_json" => candidates::read_json(alloc, rounds, &mut sum)?,
+        "print_json" => candidates::print_json(alloc, rounds, &mut sum)?,
         "pair" => pairs::pair(alloc, rounds, &mut sum)?,
         _ => match agents::case_of(name) {
             Some((turn, pairs)) => agents::turns(alloc, turn, pairs, rounds, &mut sum)?,

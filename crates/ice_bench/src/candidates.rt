@@ -1,11 +1,16 @@
-//! Candidate lines.
+//! Candidates as lines and as JSON texts.
 
 use crate::checksum::Checksum;
 use is_candidate::Candidate;
 use is_proto::IceError;
+use serde_json::Value;
 use std::alloc::Global;
 
 const LINE: &str = "candidate:1 1 udp 2113929471 203.0.113.100 10100 typ host";
+
+/// The line as a browser signals it.
+const INFO: &str =
+    "{\"candidate\":\"candidate:1 1 udp 2113929471 203.0.113.100 10100 typ host\",\"sdpMid\":null,\"sdpMLineIndex\":0,\"usernameFragment\":null}";
 
 pub fn read_line(alloc: Global, rounds: u64, sum: &mut Checksum) -> Result<(), IceError> {
     for _ in 0..rounds {
@@ -19,6 +24,25 @@ pub fn print_line(alloc: Global, rounds: u64, sum: &mut Checksum) -> Result<(), 
     let candidate = Candidate::from_sdp_string(alloc, LINE)?;
     for _ in 0..rounds {
         let text = candidate.to_sdp_string(alloc)?;
+        sum.add_bytes(text.as_bytes());
+    }
+    Ok(())
+}
+
+pub fn read_json(alloc: Global, rounds: u64, sum: &mut Checksum) -> Result<(), IceError> {
+    for _ in 0..rounds {
+        if let Ok(value) = Value::from_str(alloc, INFO) {
+            let candidate = Candidate::from_json(alloc, &value)?;
+            sum.add(u64::from(candidate.prio()));
+        }
+    }
+    Ok(())
+}
+
+pub fn print_json(alloc: Global, rounds: u64, sum: &mut Checksum) -> Result<(), IceError> {
+    let candidate = Candidate::from_sdp_string(alloc, LINE)?;
+    for _ in 0..rounds {
+        let text = candidate.to_json(alloc)?.to_string(alloc)?;
         sum.add_bytes(text.as_bytes());
     }
     Ok(())
