@@ -52,12 +52,12 @@ Has-mapped f [] x h = absurd h
 Has-mapped f (y ∷ xs) x (inl e) = inl (ap f e)
 Has-mapped f (y ∷ xs) x (inr h) = inr (Has-mapped f xs x h)
 
-Has-front : {X : Type 0} (xs ys : List X) (x : X) → Has xs x → Has (xs ++ ys) x
+pub Has-front : {X : Type 0} (xs ys : List X) (x : X) → Has xs x → Has (xs ++ ys) x
 Has-front [] ys x h = absurd h
 Has-front (y ∷ xs) ys x (inl e) = inl e
 Has-front (y ∷ xs) ys x (inr h) = inr (Has-front xs ys x h)
 
-Has-rear : {X : Type 0} (xs ys : List X) (x : X) → Has ys x → Has (xs ++ ys) x
+pub Has-rear : {X : Type 0} (xs ys : List X) (x : X) → Has ys x → Has (xs ++ ys) x
 Has-rear [] ys x h = h
 Has-rear (y ∷ xs) ys x h = inr (Has-rear xs ys x h)
 

@@ -11,4 +11,6 @@ mod SeenRuns
 mod Following
 mod Settled
 mod Traced
+mod Owning
+mod Connected
 mod MarkLemmas

@@ -68,7 +68,7 @@ new_seen : {H P : Type 0} (a : AgentRecord H P) → IsNewAgent a → IsNew (stan
 new_seen a (creds, tie, role, is) = subst (λ (x : AgentRecord _ _). IsNew (standing_of x)) (sym is)
     (record { lite = refl; queue = refl; packets = refl; kept = refl; valid = refl })
 
-sound_new : {H P : Type 0} → FreshIsSound H P → (a : AgentRecord H P) → IsNewAgent a → IsSound a
+pub sound_new : {H P : Type 0} → FreshIsSound H P → (a : AgentRecord H P) → IsNewAgent a → IsSound a
 sound_new sound a (creds, tie, role, is) =
     let s = sound a.provider creds tie in
     subst (λ (x : AgentRecord _ _). IsSound x) (sym is) (record {

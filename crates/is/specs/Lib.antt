@@ -7,6 +7,7 @@ pub mod World
 pub mod WorldRoles
 pub mod Traces
 pub mod Marks
+pub mod Deliveries
 pub mod WorldLaws
 pub use Rattle.is_proto.specs.Moments
 pub use Rattle.is_proto.specs.Packets

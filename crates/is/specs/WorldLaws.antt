@@ -7,6 +7,7 @@ use Rattle.is.specs.declared.world.WorldLog.{WorldLog}
 use Rattle.is.specs.World.{WorldRecord, Logged, logged, IsWorldLog}
 use Rattle.is.specs.WorldRoles.{GreaterKeeps, LesserYieldsOnce, RolesDifferOnceMet}
 use Rattle.is.specs.Traces.{AnnouncedAreTraced}
+use Rattle.is.specs.Deliveries.{DeliveredRoundsAnnounce}
 
 module _ {H P : Type 0} (mac : H → List ℕ → List ℕ → List ℕ) (answers : P → CandidateRecord → ℕ → ℕ → Type 0) where
   abbrev pub KeepsLaw : Type 0
@@ -29,3 +30,6 @@ module _ {H P : Type 0} (mac : H → List ℕ → List ℕ → List ℕ) (answer
       (first last : WorldRecord H P) (s t : Stream) (events : List (TwoAgentsEvent P)) (log : WorldLog)
       → IsWorldLog mac answers first s events log last t
       → AnnouncedAreTraced first (logged events log.entries.items) log.entries.items
+
+  abbrev pub DeliveriesLaw : Type 0
+  DeliveriesLaw = (first : WorldRecord H P) (s : Stream) (log : List (Logged P)) → DeliveredRoundsAnnounce mac answers first s log

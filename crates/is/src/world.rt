@@ -14,11 +14,13 @@ ghost use Rattle.is.specs.World.{PolledInto, MakesMember, MakesWorld, made_world
 ghost use Rattle.is_agent.specs.View.{made};
 ghost use Rattle.is.specs.WorldRoles.{GreaterKeeps, LesserYieldsOnce, RolesDifferOnceMet};
 ghost use Rattle.is.specs.Traces.{AnnouncedAreTraced};
+ghost use Rattle.is.specs.Deliveries.{DeliveredRoundsAnnounce};
 
 use crate::calls::{AgentCall, Answer, Entry};
 use crate::steps::{quiet, step, take_packet};
 use crate::world_laws::{
-    announced_are_traced, greater_keeps, lesser_yields_once, roles_differ_once_met,
+    announced_are_traced, delivered_rounds_announce, greater_keeps, lesser_yields_once,
+    roles_differ_once_met,
 };
 use is_agent::{Agent, IceCreds};
 use is_candidate::LocalPreference;
@@ -429,11 +431,17 @@ impl<H: Sha1HmacProvider + Drop, P: LocalPreference> TwoAgents<H, P> {
 
         // Each path that an agent announced which is never lite was answered by the other agent, and the answer came back on it.
         ensures traced { AnnouncedAreTraced (world_of self.old) (logged events.items result.entries.items) result.entries.items }
+
+        // Progress: where n pairs of the controlling agent, asked at a moment, are due by an earlier one, and in each of the n rounds from this
+        // moment on in which a check goes out on the path of one of them the network delivers it and its success, that agent announces a path
+        // in one of the rounds. Both know each other, their roles differ, and the path reaches the other one; whatever else happens.
+        ensures rounds { DeliveredRoundsAnnounce H.mac P.answers (world_of self.old) (R.stream rng.old) (logged events.items result.entries.items) }
     {
         greater_keeps::<H, P>();
         lesser_yields_once::<H, P>();
         roles_differ_once_met::<H, P>();
         announced_are_traced::<H, P>();
+        delivered_rounds_announce::<H, P>();
         self.run_events(events, rng)
     }
 }

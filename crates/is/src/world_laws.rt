@@ -1,10 +1,12 @@
 //! What holds of each run of a world. Each law is the contract of a function that does nothing.
 
-ghost use Rattle.is.specs.WorldLaws.{KeepsLaw, YieldsLaw, DiffersLaw, TracedLaw};
+ghost use Rattle.is.specs.WorldLaws.{KeepsLaw, YieldsLaw, DiffersLaw, TracedLaw, DeliveriesLaw};
 
 use is_candidate::LocalPreference;
 use is_proto::Sha1HmacProvider;
-use is_rules::laws::{fresh_is_sound, path_effect, role_effect};
+use is_rules::laws::{
+    courses_announce, exchanges_succeed, fresh_is_sound, path_effect, role_effect, trade_effect,
+};
 
 /// Between two agents over any network the greater tie-breaker keeps its role.
 pub(crate) fn greater_keeps<H: Sha1HmacProvider, P: LocalPreference>()
@@ -40,4 +42,16 @@ pub(crate) fn announced_are_traced<H: Sha1HmacProvider, P: LocalPreference>()
     path_effect::<H, P>();
     role_effect::<H, P>();
     fresh_is_sound::<H, P>();
+}
+
+/// Where the network delivers what goes out on a path, and its answers, a controlling agent announces a path within as many rounds as
+/// there are pairs that are due no later than the one of the path.
+pub(crate) fn delivered_rounds_announce<H: Sha1HmacProvider, P: LocalPreference>()
+    ensures { DeliveriesLaw H.mac P.answers }
+{
+    path_effect::<H, P>();
+    trade_effect::<H, P>();
+    fresh_is_sound::<H, P>();
+    exchanges_succeed::<H, P>();
+    courses_announce::<H, P>();
 }

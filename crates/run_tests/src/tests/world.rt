@@ -2,6 +2,7 @@
 
 mod repeats;
 mod roles;
+mod rounds;
 mod traces;
 
 use super::*;
@@ -214,6 +215,11 @@ fn begins_with(log: &WorldLog, table: &[(Answer, Option<Side>)]) -> bool {
     }
     !log.stopped
 }
+
+const A_CONTROLS: Start = Start {
+    tie_breakers: [10, 5],
+    controlling: [true, false],
+};
 
 const BOTH_CONTROLLING: Start = Start {
     tie_breakers: [10, 5],

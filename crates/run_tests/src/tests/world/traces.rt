@@ -3,11 +3,6 @@
 use super::*;
 use is::Trace;
 
-const A_CONTROLS: Start = Start {
-    tie_breakers: [10, 5],
-    controlling: [true, false],
-};
-
 /// Which announced paths have a trace.
 struct Traces;
 

@@ -11,3 +11,6 @@ returns-clause-differ g c = c.roles_differ_once_met.ensures _ _ _
 
 pub returns-clause-traced : goal.returns-clause-traced
 returns-clause-traced g c = c.announced_are_traced.ensures _ _ _ _ _ c.run_events.result c.run_events.ensures
+
+pub returns-clause-rounds : goal.returns-clause-rounds
+returns-clause-rounds g c = c.delivered_rounds_announce.ensures _ _ _

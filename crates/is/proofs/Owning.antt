@@ -1,0 +1,293 @@
+-- What one agent of a world does is a course of it.
+use Rattle.std.proofs.Common.{◌≡◌, ℕ, suc, Bool, true, false, List, [], ◌∷◌, ◌++◌, Option, Some, None, is_some, inl, inr, ◌⊎◌, refl, ap, sym, ◌∙◌, subst, if◌then◌else◌}
+use Rattle.std.specs.Prelude.{MatchBool, slice_get}
+use Rattle.rand_core.specs.Stream.{Stream}
+use Rattle.is_proto.specs.Lists.{Has}
+use Rattle.is_proto.specs.Packets.{Packet}
+use Rattle.is_candidate.specs.Candidates.{CandidateRecord}
+use Rattle.is_rules.specs.declared.told.Path.{Path}
+use Rattle.is_rules.specs.Agent.{AgentRecord}
+use Rattle.is_rules.specs.Courses.{ControlsAlong}
+use Rattle.is_rules.specs.Effects.{PathLaw, last_of}
+use Rattle.is_rules.specs.Exchange.{AreBetween, Course}
+use Rattle.is_rules.specs.Polls.{PollsTransmit, IsPolled}
+use Rattle.is_rules.specs.Rounds.{is_between, is_poll}
+use Rattle.is_rules.specs.Sound.{IsSound}
+use Rattle.is_rules.specs.Steps as agent
+use Rattle.is_rules.specs.Steps.{Answer, Entry, Polled, Refused, quiet, Step}
+use Rattle.is.specs.declared.world.Side.{Side}
+use Rattle.is.specs.declared.world.Side.TheVariants.{A, B}
+use Rattle.is.specs.Deliveries.{MakesPolls, Announces}
+use Rattle.is.specs.World as world
+use Rattle.is.specs.World.{WorldRecord, LetterRecord, Event, Outcome, Logged, PolledInto, Turns, Stands, Happens, Run, at, other, in_world, roles_of}
+use Rattle.is.specs.WorldRoles.{role_at, role_in}
+use Rattle.is.proofs.Following.{AreSound}
+
+-- ---- lists
+
+pub either_has : {X : Type 0} (xs ys : List X) (x : X) → Has (xs ++ ys) x → Has xs x ⊎ Has ys x
+either_has [] ys x has = inr has
+either_has (y ∷ xs) ys x (inl e) = inl (inl e)
+either_has (y ∷ xs) ys x (inr h) = elim (either_has xs ys x h) [ inl k ↦ inl (inr k) | inr k ↦ inr k ]
+
+-- ---- sides
+
+abbrev pub only : {X : Type 0} → Side → Side → List X → List X
+only A A xs = xs
+only B B xs = xs
+only A B xs = []
+only B A xs = []
+
+pub only_none : {X : Type 0} (side s : Side) → only {X = X} side s [] ≡ []
+only_none A A = refl
+only_none A B = refl
+only_none B A = refl
+only_none B B = refl
+
+only_own : {X : Type 0} (side s : Side) (xs : List X) (y : X) → Has (only side s xs) y → Has xs y × (s ≡ side)
+only_own A A xs y has = (has, refl)
+only_own B B xs y has = (has, refl)
+only_own A B xs y has = absurd has
+only_own B A xs y has = absurd has
+
+pub twice : (side : Side) → other (other side) ≡ side
+twice A = refl
+twice B = refl
+
+-- ---- calls
+
+poll_between : {P : Type 0} (c : agent.Call P) → is_poll c ≡ true → is_between c ≡ true
+poll_between (agent.ReceivePacket now way bytes) is = refl
+poll_between _ is = is
+
+pub between_both : {P : Type 0} (xs ys : List (agent.Call P × Entry)) → AreBetween xs → AreBetween ys → AreBetween (xs ++ ys)
+between_both xs ys one two y has = elim (either_has xs ys y has) [ inl k ↦ one y k | inr k ↦ two y k ]
+
+-- ---- what a side does at an event
+
+abbrev first_of : List Packet → Option Packet
+first_of [] = None
+first_of (p ∷ ps) = Some p
+
+abbrev polled_as : {P : Type 0} → Answer → List Packet → List (agent.Call P × Entry)
+polled_as (Refused error) ps = []
+polled_as _ ps = (agent.PollTransmit, quiet (Polled (first_of ps))) ∷ []
+
+abbrev pub handed_as : {P : Type 0} → Side → ℕ → Path → Entry → Option LetterRecord → List (agent.Call P × Entry)
+handed_as side now way e None = []
+handed_as side now way e (Some l) = only side (other l.sender) ((agent.ReceivePacket now way l.packet.contents, e) ∷ [])
+
+poll_told : {P : Type 0} (answer : Answer) (ps : List Packet) (y : agent.Call P × Entry) → Has (polled_as answer ps) y → is_some (last_of y.1.told.announced) ≡ true → ⊥
+poll_told (Refused error) ps y has told = has
+poll_told _ ps y (inl is) told = let no : false ≡ true = ap (λ (z : agent.Call _ × Entry). is_some (last_of z.1.told.announced)) is ∙ told in cc
+poll_told _ ps y (inr none) told = none
+
+polled_between : {P : Type 0} (answer : Answer) (ps : List Packet) → AreBetween {P = P} (polled_as answer ps)
+polled_between (Refused error) ps y has = absurd has
+polled_between _ ps y (inl is) = ap (λ (z : agent.Call _ × Entry). is_between z.0) (sym is)
+polled_between _ ps y (inr none) = absurd none
+
+module _ {H P : Type 0} where
+  abbrev pub acts : Side → WorldRecord H P → Event P → Entry → List (agent.Call P × Entry)
+  acts side w (world.Call s c) e = only side s (if in_world c then (c, e) ∷ [] else [])
+  acts side w (world.Poll s) e = only side s (polled_as e.answer (at side w).packets)
+  acts side w (world.Deliver place now way) e = handed_as side now way e (slice_get w.bag place)
+
+  pub acts_between : (side : Side) (w : WorldRecord H P) (v : Event P) (e : Entry) → MakesPolls side v → AreBetween (acts side w v e)
+  acts_between side w (world.Call s c) e polls y has = by (in_world c) has where
+    by : (b : Bool) → Has (only side s (if b then (c, e) ∷ [] else [])) y → is_between y.0 ≡ true
+    by true k = let o = only_own side s ((c, e) ∷ []) y k in elim o.0 [
+      | inl is ↦ ap (λ (z : agent.Call P × Entry). is_between z.0) (sym is) ∙ poll_between c (polls o.1)
+      | inr none ↦ absurd none
+    ]
+    by false k = absurd (only_own side s [] y k).0
+  acts_between side w (world.Poll s) e polls y has = polled_between e.answer (at side w).packets y (only_own side s (polled_as e.answer (at side w).packets) y has).0
+  acts_between side w (world.Deliver place now way) e polls y has = by (slice_get w.bag place) has where
+    by : (o : Option LetterRecord) → Has (handed_as side now way e o) y → is_between y.0 ≡ true
+    by None k = absurd k
+    by (Some l) k = elim (only_own side (other l.sender) ((agent.ReceivePacket now way l.packet.contents, e) ∷ []) y k).0 [
+      | inl is ↦ ap (λ (z : agent.Call P × Entry). is_between z.0) (sym is)
+      | inr none ↦ absurd none
+    ]
+
+  module _ (mac : H → List ℕ → List ℕ → List ℕ) (answers : P → CandidateRecord → ℕ → ℕ → Type 0) where
+    -- ---- courses
+
+    pub course_on : (xs ys : List (agent.Call P × Entry)) (a b c : AgentRecord H P) → Course mac answers xs a b → Course mac answers ys b c → Course mac answers (xs ++ ys) a c
+    course_on [] ys a b c is more = subst (λ (z : AgentRecord H P). Course mac answers ys z c) is more
+    course_on (x ∷ xs) ys a b c (mid, s, t, based, step, on) more = (mid, s, t, based, step, course_on xs ys mid b c on more)
+
+    -- controlling behind each call
+    abbrev pub Steered : List (agent.Call P × Entry) → AgentRecord H P → AgentRecord H P → Type 0
+    Steered xs a b = (course : Course mac answers xs a b) × ControlsAlong mac answers xs a b course
+
+    steered_on : (xs ys : List (agent.Call P × Entry)) (a b c : AgentRecord H P) → Steered xs a b → Steered ys b c → Steered (xs ++ ys) a c
+    steered_on [] ys a b c (is, along) more = subst (λ (z : AgentRecord H P). Steered ys z c) is more
+    steered_on (x ∷ xs) ys a b c ((mid, s, t, based, step, on), (role, along)) more =
+        let k = steered_on xs ys mid b c (on, along) more in ((mid, s, t, based, step, k.0), (role, k.1))
+
+    pub sound_course : PathLaw {H = H} {P = P} mac answers → (xs : List (agent.Call P × Entry)) (a b : AgentRecord H P) → IsSound a → Course mac answers xs a b → IsSound b
+    sound_course paths [] a b sound is = subst (λ (z : AgentRecord H P). IsSound z) (sym is) sound
+    sound_course paths (x ∷ xs) a b sound (mid, s, t, based, step, more) = sound_course paths xs mid b (paths a mid s t x.0 x.1 sound based step).1 more
+
+    -- ---- one event
+
+    -- a course, and a controlling one where the agent is controlling behind it
+    abbrev Acts : List (agent.Call P × Entry) → AgentRecord H P → AgentRecord H P → Type 0
+    Acts xs a b = (course : Course mac answers xs a b) × (b.controlling ≡ true → ControlsAlong mac answers xs a b course)
+
+    pub turn_new : (w w' : WorldRecord H P) (s t : Stream) (side : Side) (c : agent.Call P) (e : Outcome) → (k : Turns mac answers w s side c e w' t) → at side w' ≡ k.new
+    turn_new w w' s t A c e k = ap (λ (v : WorldRecord H P). at A v) k.world
+    turn_new w w' s t B c e k = ap (λ (v : WorldRecord H P). at B v) k.world
+
+    pub turn_other : (w w' : WorldRecord H P) (s t : Stream) (side : Side) (c : agent.Call P) (e : Outcome) → Turns mac answers w s side c e w' t → at (other side) w' ≡ at (other side) w
+    turn_other w w' s t A c e k = ap (λ (v : WorldRecord H P). at B v) k.world
+    turn_other w w' s t B c e k = ap (λ (v : WorldRecord H P). at A v) k.world
+
+    pub turn_step : (w w' : WorldRecord H P) (s t : Stream) (side : Side) (c : agent.Call P) (e : Outcome) → (k : Turns mac answers w s side c e w' t) → Step mac answers (at side w) s c e.entry (at side w') t
+    turn_step w w' s t side c e k = subst (λ (a : AgentRecord H P). Step mac answers (at side w) s c e.entry a t) (sym (turn_new w w' s t side c e k)) k.step
+
+    one : (w w' : WorldRecord H P) (s t : Stream) (side : Side) (c : agent.Call P) (e : Outcome) → Turns mac answers w s side c e w' t → Acts ((c, e.entry) ∷ []) (at side w) (at side w')
+    one w w' s t side c e k = ((at side w', s, t, k.given, turn_step w w' s t side c e k, refl), λ role. (role, tt))
+
+    turn : (w w' : WorldRecord H P) (s t : Stream) (side z : Side) (c : agent.Call P) (e : Outcome) → Turns mac answers w s z c e w' t
+        → Acts (only side z ((c, e.entry) ∷ [])) (at side w) (at side w')
+    turn w w' s t A A c e k = one w w' s t A c e k
+    turn w w' s t B B c e k = one w w' s t B c e k
+    turn w w' s t A B c e k = (turn_other w w' s t B c e k, λ role. tt)
+    turn w w' s t B A c e k = (turn_other w w' s t A c e k, λ role. tt)
+
+    still : (w w' : WorldRecord H P) (side : Side) → w' ≡ w → Acts [] (at side w) (at side w')
+    still w w' side is = (ap (λ (v : WorldRecord H P). at side v) is, λ role. tt)
+
+    first_is : (given : Option Packet) (old new : List Packet) → IsPolled old given new → first_of old ≡ given
+    first_is None old new h = ap first_of h.0
+    first_is (Some p) old new h = ap first_of h
+
+    hands_out : (old new : AgentRecord H P) (given : Option Packet) (s : Stream) → PollsTransmit old given new
+        → Acts ((agent.PollTransmit, quiet (Polled (first_of old.packets))) ∷ []) old new
+    hands_out old new given s polled =
+        ((new, s, s, tt, (given, ap (λ o. quiet (Polled o)) (first_is given old.packets new.packets polled.0), polled, refl), refl), λ role. (role, tt))
+
+    polls_so : (old new : AgentRecord H P) (bag bag' : List LetterRecord) (side : Side) (answer : Answer) (s : Stream) → PolledInto old bag side answer new bag'
+        → Acts (polled_as answer old.packets) old new
+    polls_so old new bag bag' side answer s (inl (is, same, kept)) = subst (λ a. Acts (polled_as a old.packets) old new) (sym is) (same, λ role. tt)
+    polls_so old new bag bag' side answer s (inr (inl (is, polled, kept))) = subst (λ a. Acts (polled_as a old.packets) old new) (sym is) (hands_out old new None s polled)
+    polls_so old new bag bag' side answer s (inr (inr (p, polled, is, grown))) = subst (λ a. Acts (polled_as a old.packets) old new) (sym is) (hands_out old new (Some p) s polled)
+
+    poll : (w w' : WorldRecord H P) (s t : Stream) (side z : Side) (e : Outcome) → world.Polls mac answers w s z e w' t → Acts (only side z (polled_as e.entry.answer (at side w).packets)) (at side w) (at side w')
+    poll w w' s t A A e k =
+        subst (λ (a : AgentRecord H P). Acts (polled_as e.entry.answer w.a.packets) w.a a) (sym (ap (λ (v : WorldRecord H P). at A v) k.world))
+        (subst (λ x. Acts (polled_as x w.a.packets) w.a k.new) (sym (ap (λ (o : Outcome). o.entry.answer) k.told)) (polls_so w.a k.new w.bag k.bag A k.answer s k.polled))
+    poll w w' s t B B e k =
+        subst (λ (a : AgentRecord H P). Acts (polled_as e.entry.answer w.b.packets) w.b a) (sym (ap (λ (v : WorldRecord H P). at B v) k.world))
+        (subst (λ x. Acts (polled_as x w.b.packets) w.b k.new) (sym (ap (λ (o : Outcome). o.entry.answer) k.told)) (polls_so w.b k.new w.bag k.bag B k.answer s k.polled))
+    poll w w' s t A B e k = (ap (λ (v : WorldRecord H P). at A v) k.world, λ role. tt)
+    poll w w' s t B A e k = (ap (λ (v : WorldRecord H P). at B v) k.world, λ role. tt)
+
+    act : (w w' : WorldRecord H P) (s t : Stream) (side : Side) (v : Event P) (e : Outcome) → Happens mac answers w s v e w' t → Acts (acts side w v e.entry) (at side w) (at side w')
+    act w w' s t side (world.Call z c) e h = by (in_world c) h where
+      by : (b : Bool) → MatchBool b (Turns mac answers w s z c e w' t) (Stands mac answers w s agent.NotInWorld (Some z) e w' t)
+          → Acts (only side z (if b then (c, e.entry) ∷ [] else [])) (at side w) (at side w')
+      by true k = turn w w' s t side z c e k
+      by false k = subst (λ xs. Acts xs (at side w) (at side w')) (sym (only_none side z)) (still w w' side k.0)
+    act w w' s t side (world.Poll z) e k = poll w w' s t side z e k
+    act w w' s t side (world.Deliver place now way) e h = by (slice_get w.bag place) h where
+      by : (o : Option LetterRecord) → world.Delivers mac answers w s o now way e w' t → Acts (handed_as side now way e.entry o) (at side w) (at side w')
+      by None k = still w w' side k.0
+      by (Some l) k = turn w w' s t side (other l.sender) (agent.ReceivePacket now way l.packet.contents) e k
+
+    -- ---- what the entry tells
+
+    turn_told : (w w' : WorldRecord H P) (s t : Stream) (side z : Side) (c : agent.Call P) (x : Logged P) (y : agent.Call P × Entry) → Turns mac answers w s z c x.outcome w' t
+        → Has (only side z ((c, x.outcome.entry) ∷ [])) y → is_some (last_of y.1.told.announced) ≡ true → Announces side x
+    turn_told w w' s t side z c x y k has told = let o = only_own side z ((c, x.outcome.entry) ∷ []) y has in elim o.0 [
+      | inl is ↦ (k.side_is ∙ ap Some o.1, ap (λ (u : agent.Call P × Entry). is_some (last_of u.1.told.announced)) is ∙ told)
+      | inr none ↦ absurd none
+    ]
+
+    acts_told : (w w' : WorldRecord H P) (s t : Stream) (side : Side) (x : Logged P) (y : agent.Call P × Entry) (v : Event P) → Happens mac answers w s v x.outcome w' t
+        → Has (acts side w v x.outcome.entry) y → is_some (last_of y.1.told.announced) ≡ true → Announces side x
+    acts_told w w' s t side x y (world.Call z c) h has told = by (in_world c) h has where
+      by : (b : Bool) → MatchBool b (Turns mac answers w s z c x.outcome w' t) (Stands mac answers w s agent.NotInWorld (Some z) x.outcome w' t)
+          → Has (only side z (if b then (c, x.outcome.entry) ∷ [] else [])) y → Announces side x
+      by true k there = turn_told w w' s t side z c x y k there told
+      by false k there = absurd (only_own side z [] y there).0
+    acts_told w w' s t side x y (world.Poll z) k has told =
+        absurd (poll_told x.outcome.entry.answer (at side w).packets y (only_own side z (polled_as x.outcome.entry.answer (at side w).packets) y has).0 told)
+    acts_told w w' s t side x y (world.Deliver place now way) h has told = by (slice_get w.bag place) h has where
+      by : (o : Option LetterRecord) → world.Delivers mac answers w s o now way x.outcome w' t → Has (handed_as side now way x.outcome.entry o) y → Announces side x
+      by None k there = absurd there
+      by (Some l) k there = turn_told w w' s t side (other l.sender) (agent.ReceivePacket now way l.packet.contents) x y k there told
+
+    roles_told : (w w' : WorldRecord H P) (s t : Stream) (v : Event P) (e : Outcome) → Happens mac answers w s v e w' t → e.controlling ≡ roles_of w'
+    roles_told w w' s t (world.Call z c) e h = by (in_world c) h where
+      by : (b : Bool) → MatchBool b (Turns mac answers w s z c e w' t) (Stands mac answers w s agent.NotInWorld (Some z) e w' t) → e.controlling ≡ roles_of w'
+      by true k = k.roles
+      by false k = ap (λ (o : Outcome). o.controlling) k.2 ∙ ap (λ (u : WorldRecord H P). roles_of u) (sym k.0)
+    roles_told w w' s t (world.Poll z) e k = ap (λ (o : Outcome). o.controlling) k.told
+    roles_told w w' s t (world.Deliver place now way) e h = by (slice_get w.bag place) h where
+      by : (o : Option LetterRecord) → world.Delivers mac answers w s o now way e w' t → e.controlling ≡ roles_of w'
+      by None k = ap (λ (o : Outcome). o.controlling) k.2 ∙ ap (λ (u : WorldRecord H P). roles_of u) (sym k.0)
+      by (Some l) k = k.roles
+
+    role_is : (side : Side) (w : WorldRecord H P) → role_at side (roles_of w) ≡ (at side w).controlling
+    role_is A w = refl
+    role_is B w = refl
+
+    pub role_behind : (w w' : WorldRecord H P) (s t : Stream) (side : Side) (x : Logged P) (role : Bool) → Happens mac answers w s x.event x.outcome w' t → role_in side x ≡ role → (at side w').controlling ≡ role
+    role_behind w w' s t side x role h is = sym (role_is side w') ∙ (ap (λ rs. role_at side rs) (sym (roles_told w w' s t x.event x.outcome h)) ∙ is)
+
+    -- ---- a run
+
+    pub sound_on : PathLaw {H = H} {P = P} mac answers → (w w' : WorldRecord H P) (s t : Stream) (x : Logged P) → AreSound w → Happens mac answers w s x.event x.outcome w' t → AreSound w'
+    sound_on paths w w' s t x sound h z = sound_course paths (acts z w x.event x.outcome.entry) (at z w) (at z w') (sound z) (act w w' s t z x.event x.outcome h).0
+
+    abbrev pub own : Side → (w : WorldRecord H P) (s : Stream) (n : ℕ) (log : List (Logged P)) (last : WorldRecord H P) (t : Stream) → Run mac answers w s n log last t
+        → List (agent.Call P × Entry)
+    own side w s n [] last t run = []
+    own side w s n (x ∷ rest) last t run = acts side w x.event x.outcome.entry ++ own side run.0 run.1 (suc n) rest last t run.4
+
+    pub acts_course : (w w' : WorldRecord H P) (s t : Stream) (side : Side) (x : Logged P) → Happens mac answers w s x.event x.outcome w' t
+        → Course mac answers (acts side w x.event x.outcome.entry) (at side w) (at side w')
+    acts_course w w' s t side x h = (act w w' s t side x.event x.outcome h).0
+
+    pub owns : (side : Side) (w last : WorldRecord H P) (s t : Stream) (n : ℕ) (log : List (Logged P)) → (run : Run mac answers w s n log last t)
+        → Course mac answers (own side w s n log last t run) (at side w) (at side last)
+    owns side w last s t n [] run = ap (λ (v : WorldRecord H P). at side v) run.0
+    owns side w last s t n (x ∷ rest) (mid, u, number, happens, run) =
+        course_on (acts side w x.event x.outcome.entry) (own side mid u (suc n) rest last t run) (at side w) (at side mid) (at side last)
+        (acts_course w mid s u side x happens) (owns side mid last u t (suc n) rest run)
+
+    pub steers : (side : Side) (w last : WorldRecord H P) (s t : Stream) (n : ℕ) (log : List (Logged P)) → (run : Run mac answers w s n log last t)
+        → ((x : Logged P) → Has log x → role_in side x ≡ true) → Steered (own side w s n log last t run) (at side w) (at side last)
+    steers side w last s t n [] run roles = (ap (λ (v : WorldRecord H P). at side v) run.0, tt)
+    steers side w last s t n (x ∷ rest) (mid, u, number, happens, run) roles =
+        let a = act w mid s u side x.event x.outcome happens in
+        steered_on (acts side w x.event x.outcome.entry) (own side mid u (suc n) rest last t run) (at side w) (at side mid) (at side last)
+        (a.0, a.1 (role_behind w mid s u side x true happens (roles x (inl refl)))) (steers side mid last u t (suc n) rest run (λ y has. roles y (inr has)))
+
+    pub own_between : (side : Side) (w last : WorldRecord H P) (s t : Stream) (n : ℕ) (log : List (Logged P)) → (run : Run mac answers w s n log last t)
+        → ((x : Logged P) → Has log x → MakesPolls side x.event) → AreBetween (own side w s n log last t run)
+    own_between side w last s t n [] run polls y has = absurd has
+    own_between side w last s t n (x ∷ rest) (mid, u, number, happens, run) polls y has =
+        between_both (acts side w x.event x.outcome.entry) (own side mid u (suc n) rest last t run)
+        (acts_between side w x.event x.outcome.entry (polls x (inl refl))) (own_between side mid last u t (suc n) rest run (λ z there. polls z (inr there))) y has
+
+    pub own_told : (side : Side) (w last : WorldRecord H P) (s t : Stream) (n : ℕ) (log : List (Logged P)) → (run : Run mac answers w s n log last t) → (y : agent.Call P × Entry)
+        → Has (own side w s n log last t run) y → is_some (last_of y.1.told.announced) ≡ true → (x : Logged P) × Has log x × Announces side x
+    own_told side w last s t n [] run y has told = absurd has
+    own_told side w last s t n (x ∷ rest) (mid, u, number, happens, run) y has told =
+        elim (either_has (acts side w x.event x.outcome.entry) (own side mid u (suc n) rest last t run) y has) [
+          | inl k ↦ (x, inl refl, acts_told w mid s u side x y x.event happens k told)
+          | inr k ↦ (let m = own_told side mid last u t (suc n) rest run y k told in (m.0, inr m.1, m.2))
+        ]
+
+    pub sound_run : PathLaw {H = H} {P = P} mac answers → (w last : WorldRecord H P) (s t : Stream) (n : ℕ) (log : List (Logged P)) → Run mac answers w s n log last t → AreSound w → AreSound last
+    sound_run paths w last s t n log run sound z = sound_course paths (own z w s n log last t run) (at z w) (at z last) (sound z) (owns z w last s t n log run)
+
+    pub role_run : (side : Side) (role : Bool) (w last : WorldRecord H P) (s t : Stream) (n : ℕ) (log : List (Logged P)) → Run mac answers w s n log last t
+        → ((x : Logged P) → Has log x → role_in side x ≡ role) → (at side w).controlling ≡ role → (at side last).controlling ≡ role
+    role_run side role w last s t n [] run roles is = ap (λ (v : WorldRecord H P). (at side v).controlling) run.0 ∙ is
+    role_run side role w last s t n (x ∷ rest) (mid, u, number, happens, run) roles is =
+        role_run side role mid last u t (suc n) rest run (λ y has. roles y (inr has)) (role_behind w mid s u side x role happens (roles x (inl refl)))

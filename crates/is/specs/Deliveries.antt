@@ -1,0 +1,106 @@
+-- Rounds of a world in which the network delivers: a check that goes out on a path comes to the other agent, and its success comes back
+-- before the next round.
+use Rattle.std.specs.Prelude.{◌≡◌, ℕ, suc, ◌+◌, ◌<◌, ◌≤◌, true, false, List, [], ◌∷◌, ◌++◌, length, Some, is_some, ◌⊎◌, slice_get}
+use Rattle.rand_core.specs.Stream.{Stream}
+use Rattle.is_proto.specs.Lists.{Has}
+use Rattle.is_proto.specs.Moments.{MAX}
+use Rattle.is_proto.specs.Packets.{Packet}
+use Rattle.is_candidate.specs.Candidates.{CandidateRecord}
+use Rattle.is_pair.specs.Pairs.{PairRecord}
+use Rattle.is_pair.specs.Turns.{due_by}
+use Rattle.is_stun.specs.declared.header.Class.TheVariants.{Request, Success}
+use Rattle.is_rules.specs.declared.told.Path.{Path}
+use Rattle.is_rules.specs.Delivery.{KnowEachOther, IsReachedBy, Sends}
+use Rattle.is_rules.specs.Effects.{last_of}
+use Rattle.is_rules.specs.Issuing.{way_out}
+use Rattle.is_rules.specs.Progress.{Awaits, IsUnanswered}
+use Rattle.is_rules.specs.Rounds.{is_poll}
+use Rattle.is_rules.specs.Sending.{path_of}
+use Rattle.is_rules.specs.Steps as agent
+use Rattle.is_rules.specs.Steps.{is_refusal}
+use Rattle.is.specs.declared.world.Side.{Side}
+use Rattle.is.specs.World.{WorldRecord, Event, Call, Deliver, Logged, Happens, Run, at, other}
+use Rattle.is.specs.WorldRoles.{IsNewAgent, role_in}
+
+-- a moment of a side, and what happens behind it, oldest first
+pub record WorldRound (P : Type 0) : Type 0 where
+  pub now : ℕ
+  pub moment : Logged P
+  pub behind : List (Logged P)
+
+abbrev pub entries_of : {P : Type 0} → List (WorldRound P) → List (Logged P)
+entries_of [] = []
+entries_of (r ∷ later) = r.moment ∷ (r.behind ++ entries_of later)
+
+-- the side makes no call but polls; whatever comes to it, and whatever the other one does
+abbrev pub MakesPolls : {P : Type 0} → Side → Event P → Type 0
+MakesPolls side (Call s c) = s ≡ side → is_poll c ≡ true
+MakesPolls side _ = Unit {0}
+
+-- the side is controlling behind the entry, and the other one is not
+abbrev pub AreApart : {P : Type 0} → Side → Logged P → Type 0
+AreApart side x = (role_in side x ≡ true) × (role_in (other side) x ≡ false)
+
+-- the side announced a path
+abbrev pub Announces : {P : Type 0} → Side → Logged P → Type 0
+Announces side x = (x.outcome.side ≡ Some side) × (is_some (last_of x.outcome.entry.told.announced) ≡ true)
+
+module _ {H P : Type 0} where
+  -- the event brings the packet to the side, as the other one sent it off, and the call is not refused
+  pub record Hands (side : Side) (packet : Packet) (w : WorldRecord H P) (x : Logged P) : Type 0 where
+    pub place : ℕ
+    pub now : ℕ
+    pub event : x.event ≡ Deliver place now (way_out packet)
+    pub sent : slice_get w.bag place ≡ Some record { sender = other side; packet = packet }
+    pub granted : is_refusal x.outcome.entry.answer ≡ false
+
+  module _ (mac : H → List ℕ → List ℕ → List ℕ) (answers : P → CandidateRecord → ℕ → ℕ → Type 0) (side : Side) where
+    -- one of the events brings the packet to the side
+    abbrev pub Returns : Packet → (w : WorldRecord H P) (s : Stream) (n : ℕ) (log : List (Logged P)) (last : WorldRecord H P) (t : Stream)
+        → Run mac answers w s n log last t → Type 0
+    Returns packet w s n [] last t run = ⊥
+    Returns packet w s n (x ∷ rest) last t run = Hands side packet w x ⊎ Returns packet run.0 run.1 (suc n) rest last t run.4
+
+    -- one brings the check to the other side, which it reaches, while both know each other; and a later one brings its success back
+    abbrev pub Exchanges : Packet → List ℕ → (w : WorldRecord H P) (s : Stream) (n : ℕ) (log : List (Logged P)) (last : WorldRecord H P) (t : Stream)
+        → Run mac answers w s n log last t → Type 0
+    Exchanges check id w s n [] last t run = ⊥
+    Exchanges check id w s n (x ∷ rest) last t run =
+        (Hands (other side) check w x × KnowEachOther mac (at side w) (at (other side) w) × IsReachedBy (at (other side) w) (way_out check)
+        × ((reply : Packet) → Sends (at (other side) w) x.outcome.entry Success id reply (at (other side) run.0)
+        → Returns reply run.0 run.1 (suc n) rest last t run.4))
+        ⊎ Exchanges check id run.0 run.1 (suc n) rest last t run.4
+
+    -- a round of the side: a moment that is done, and what happens behind it; a check that goes out on the path is exchanged for its success
+    pub record IsDelivered (by : ℕ) (path : Path) (r : WorldRound P) (w : WorldRecord H P) (s : Stream) (n : ℕ) (next : WorldRecord H P) (t : Stream) : Type 0 where
+      pub mid : WorldRecord H P
+      pub u : Stream
+      pub happens : Happens mac answers w s r.moment.event r.moment.outcome mid u
+      pub run : Run mac answers mid u (suc n) r.behind next t
+      pub comes : r.moment.event ≡ Call side (agent.HandleTimeout r.now)
+      pub done : r.moment.outcome.entry.answer ≡ agent.Done
+      pub late : by < r.now
+      pub early : r.now < MAX
+      pub polls : (x : Logged P) → Has r.behind x → MakesPolls side x.event
+      pub apart : (x : Logged P) → Has (r.moment ∷ r.behind) x → AreApart side x
+      pub exchanged : (check : Packet) (id : List ℕ) → way_out check ≡ path → Sends (at side w) r.moment.outcome.entry Request id check (at side mid)
+          → Exchanges check id mid u (suc n) r.behind next t run
+
+    -- round after round
+    abbrev pub AreDelivered : ℕ → Path → List (WorldRound P) → WorldRecord H P → Stream → ℕ → WorldRecord H P → Stream → Type 0
+    AreDelivered by path [] w s n last t = (last ≡ w) × (t ≡ s)
+    AreDelivered by path (r ∷ later) w s n last t =
+        (next : WorldRecord H P) × (v : Stream) × IsDelivered by path r w s n next v × AreDelivered by path later next v (suc n + length r.behind) last t
+
+  module _ (mac : H → List ℕ → List ℕ → List ℕ) (answers : P → CandidateRecord → ℕ → ℕ → Type 0) where
+    -- Between two agents as they are made, wherever n rounds stand in the log that are delivered for a pair of the controlling side: where n
+    -- pairs, asked at the first moment, are due by an earlier one, by which this pair is due, and none is valid yet, the side announces a path in
+    -- one of the rounds. Whatever else happens.
+    abbrev pub DeliveredRoundsAnnounce : WorldRecord H P → Stream → List (Logged P) → Type 0
+    DeliveredRoundsAnnounce first s log =
+        (before rest : List (Logged P)) (start last : WorldRecord H P) (u t : Stream) (side : Side) (r : WorldRound P) (rounds : List (WorldRound P)) (p : PairRecord) (by : ℕ)
+        → ((x : Side) → IsNewAgent (at x first)) → log ≡ before ++ (entries_of (r ∷ rounds) ++ rest) → Run mac answers first s 0 before start u
+        → (at side start).controlling ≡ true → Awaits r.now by (at side start) p → IsUnanswered (at side start) p
+        → AreDelivered mac answers side by (path_of (at side start) p) (r ∷ rounds) start u (length before) last t
+        → length (due_by by r.now (at side start).timing (at side start).pairs) ≤ length (r ∷ rounds)
+        → (x : Logged P) × Has (entries_of (r ∷ rounds)) x × Announces side x
