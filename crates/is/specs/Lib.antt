@@ -30,3 +30,4 @@ pub use Rattle.is_rules.specs.Logs
 pub use Rattle.is_rules.specs.Runs
 pub use Rattle.is_rules.specs.Progress
 pub use Rattle.is_rules.specs.Rounds
+pub use Rattle.is_rules.specs.Delivery
