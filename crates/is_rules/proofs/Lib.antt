@@ -56,3 +56,8 @@ pub mod Coursing
 pub mod Stays
 pub mod StayLaws
 pub mod AskedLaws
+pub mod Leads
+pub mod Mild
+pub mod MildSteps
+pub mod Reaching
+pub mod ReachLaws

@@ -159,7 +159,7 @@ possible true b u i is = refl
 possible false true u i is = refl
 possible false false u i is = absurd (cc)
 
-stays-young : (lite : Bool) (now : ℕ) (t : StunTiming) (p : PairRecord) → lite ≡ false → nat_lt (length p.checks) t.max_retransmits ≡ true → not (due.is_given_up lite now t p) ≡ true
+pub stays-young : (lite : Bool) (now : ℕ) (t : StunTiming) (p : PairRecord) → lite ≡ false → nat_lt (length p.checks) t.max_retransmits ≡ true → not (due.is_given_up lite now t p) ≡ true
 stays-young true now t p full young = absurd (cc)
 stays-young false now t p full young =
     ap (λ b. not (not b)) (possible (due.is_heard now p) (nat_lt (length p.checks) t.max_retransmits) (nat_lt (unanswered_count p.checks) t.max_retransmits) (due.is_in_time now t p.checks) young)

@@ -49,3 +49,4 @@ pub mod Exchange
 pub mod Courses
 pub mod Staying
 pub mod Asked
+pub mod Reached

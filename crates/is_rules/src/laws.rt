@@ -12,6 +12,7 @@ ghost use Rattle.is_rules.specs.Courses.{CoursesAnnounce};
 ghost use Rattle.is_rules.specs.Rounds.{AnsweredRoundsAnnounce, PartsAreRuns, TurnsAreOfUse};
 ghost use Rattle.is_rules.specs.Staying.{PairsStay, PairsStayOn};
 ghost use Rattle.is_rules.specs.Asked.{AskedAreAnnounced};
+ghost use Rattle.is_rules.specs.Reached.{PairsAreReached, AskedRoundsAnnounce};
 
 use is_candidate::LocalPreference;
 use is_proto::Sha1HmacProvider;
@@ -196,4 +197,16 @@ pub fn pairs_stay_in_logs<H: Sha1HmacProvider, P: LocalPreference>()
 /// announces a path, where one pair alone joins this one and none that does may have gone.
 pub fn asked_are_announced<H: Sha1HmacProvider, P: LocalPreference>()
     ensures { AskedAreAnnounced H.mac P.answers }
+{}
+
+/// From a fresh agent, wherever one of n pairs is due, a check goes out on its path in one of 2n - 1 rounds, and one more for each pair that
+/// is added in them, unless the path was answered in one. In either role, whatever comes and is nominated.
+pub fn pairs_are_reached<H: Sha1HmacProvider, P: LocalPreference>()
+    ensures { PairsAreReached H.mac P.answers }
+{}
+
+/// Where in such rounds the checks on the pair's path are answered, and a controlled agent is asked for the path, the next moment announces
+/// a path, where one pair alone joins this one and none that does may have gone.
+pub fn asked_rounds_announce<H: Sha1HmacProvider, P: LocalPreference>()
+    ensures { AskedRoundsAnnounce H.mac P.answers }
 {}

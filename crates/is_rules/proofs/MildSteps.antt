@@ -1,0 +1,187 @@
+-- Whatever comes between two moments leaves no more checks of others ahead of a pair, but for one by each pair that is added, unless the
+-- pair itself is answered.
+use Rattle.std.proofs.Common.{◌≡◌, ℕ, ◌≤◌, ◌&&◌, ◌||◌, Bool, true, false, List, Option, Some, None, is_some, Ok, Err, inl, inr, ◌⊎◌, refl, ap, sym, ◌∙◌, subst}
+use Rattle.std.specs.Prelude.{MatchOption}
+use Rattle.std.proofs.lemmas.Bool.{eq-eqb, eqb-true}
+use Rattle.is_proto.specs.Lists.{Has, same}
+use Rattle.is_candidate.specs.Candidates.{CandidateRecord, candidate_at}
+use Rattle.is_pair.specs.Bag.{is_numbered, change_at, is_valid_at, keeps_check}
+use Rattle.is_pair.specs.Pairs.{PairRecord, is_nominated}
+use Rattle.is_stun.specs.declared.header.Class.{Class}
+use Rattle.is_stun.specs.declared.header.Class.TheVariants as class
+use Rattle.is_stun.specs.declared.timing.StunTiming.{StunTiming}
+use Rattle.is_stun.specs.Message.{Message}
+use Rattle.is_rules.specs.Accepting.{source_told, Takes}
+use Rattle.is_rules.specs.Agent.{AgentRecord}
+use Rattle.is_rules.specs.Answers.{goes_back, is_role_conflict, TakesSuccess, GivesUpRole, TakesFailure}
+use Rattle.is_rules.specs.declared.credentials.IceCreds.{IceCreds}
+use Rattle.is_rules.specs.declared.places.RemotePlace.{RemotePlace}
+use Rattle.is_rules.specs.declared.places.RemotePlace.TheVariants.{Known, Barred, Unknown}
+use Rattle.is_rules.specs.declared.roles.Conflict.{Conflict}
+use Rattle.is_rules.specs.declared.roles.Conflict.TheVariants.{Absent, Insists, Yields}
+use Rattle.is_rules.specs.declared.told.Path.{Path}
+use Rattle.is_rules.specs.declared.told.Told.{Told}
+use Rattle.is_rules.specs.Forming.{formed, with_pair, priority_between}
+use Rattle.is_rules.specs.Nominating.{nominated_by_self, stands_at, Nominates}
+use Rattle.is_rules.specs.Places.{local_place}
+use Rattle.is_rules.specs.Request.{RequestRecord, request_in}
+use Rattle.is_rules.specs.Roles.{conflict_of, switched, switched_sides, with_priority_in}
+use Rattle.is_rules.specs.Sending.{path_of}
+use Rattle.is_rules.specs.Serving.{served, is_misled, names_another, pair_served, request_counted, with_sender, Drops, Queues, ServesPair, TakesAt, JoinsAt, Admits, SettlesBy, Settles, Serves}
+use Rattle.is_rules.specs.States.{evaluated}
+use Rattle.is_rules.specs.Steps.{Entry, Flag, Receives}
+use Rattle.is_stun.specs.Reading.{Reads}
+use Rattle.is_rules.proofs.Addresses.{both}
+use Rattle.is_rules.proofs.Checks.{Has-get}
+use Rattle.is_rules.proofs.Frames.{either}
+use Rattle.is_rules.proofs.Leads.{lead, own-le, lead-answered}
+use Rattle.is_rules.proofs.Mild.{self-mild, served-mild, at-mild, Onward, onward-same, onward-on, onward-each, onward-adds, onward-set}
+use Rattle.is_rules.proofs.Nominations.{Announces, announces}
+
+-- what stays of the agent, whichever role it takes
+pub record Ground : Type 0 where
+  pub lite : Bool
+  pub remote_creds : Option IceCreds
+  pub timing : StunTiming
+  pub queue : List RequestRecord
+  pub last_moment : Option ℕ
+
+module _ {H P : Type 0} where
+  abbrev pub ground_of : AgentRecord H P → Ground
+  ground_of a = record { lite = a.lite; remote_creds = a.remote_creds; timing = a.timing; queue = a.queue; last_moment = a.last_moment }
+
+  module _ (n by : ℕ) where
+    abbrev pub Goes : AgentRecord H P → AgentRecord H P → Type 0
+    Goes old new = (ground_of new ≡ ground_of old) × Onward n by old.pairs old.next_number new.pairs new.next_number
+
+    pub goes-to : (old wanted new : AgentRecord H P) → Goes old wanted → new ≡ wanted → Goes old new
+    goes-to old wanted new h made = subst (λ (a : AgentRecord H P). Goes old a) (sym made) h
+
+    pub goes-same : (old new : AgentRecord H P) → new ≡ old → Goes old new
+    goes-same old new made = goes-to old old new (refl, onward-same n by old.pairs old.next_number) made
+
+    pub goes-on : (x y z : AgentRecord H P) → Goes x y → Goes y z → Goes x z
+    goes-on x y z a b = (b.0 ∙ a.0, onward-on n by x.pairs y.pairs z.pairs x.next_number y.next_number z.next_number a.1 b.1)
+
+    -- ---- nomination
+
+    pub nominates-goes : (old new : AgentRecord H P) (path : Option Path) → Nominates old path new → Goes old new
+    nominates-goes old new path h = from (announces old new path h) where
+      from : Announces old path new → Goes old new
+      from (None, greatest, (is, made)) = goes-same old new made
+      from (Some top, greatest, k) = either (stands_at old.announced top.priority old.pairs) k
+          (λ _ l. goes-same old new l.1)
+          (λ _ l. goes-to old _ new (
+            refl,
+            onward-each n by (change_at top.number (nominated_by_self old.controlling old.lite)) old.pairs old.next_number
+                (λ p. at-mild top.number (nominated_by_self old.controlling old.lite) p (self-mild (old.controlling || old.lite) old.lite (is_nominated p) p refl)),
+          ) l.1)
+
+    -- ---- roles
+
+    switches : (s : AgentRecord H P) → Goes s (switched s)
+    switches s = (
+      refl,
+      onward-each n by (with_priority_in (switched_sides s)) s.pairs s.next_number
+          (λ p. record { number = refl; due = refl; checks = refl; nomination = inl refl }),
+    )
+
+    failure : (old new : AgentRecord H P) (way : Path) (m : Message) (told : Told) → TakesFailure old way m told new → Goes old new
+    failure old new way m told h = either (is_role_conflict m) h
+        (λ _ k. given_up k)
+        (λ _ k. goes-same old new k.1) where
+          given_up : GivesUpRole old way m told new → Goes old new
+          given_up (p, c, has, keeps, kept, is, acts) = either (same c.controlling old.controlling) acts
+              (λ _ k. goes-to old (switched old) new (switches old) k.1)
+              (λ _ k. goes-same old new k.1)
+
+    -- ---- answers
+
+    success : (now : ℕ) (old new : AgentRecord H P) (way path : Path) (m : Message) (told : Told) → ((q : PairRecord) → Has old.pairs q → q.number ≡ n → path_of old q ≡ path)
+        → TakesSuccess now old way m told new → (goes_back way path ≡ true) ⊎ Goes old new
+    success now old new way path m told on (recorded, (place, p, after, at, keeps, (i, c, (c_at, c_id), is), made), (named, mid, nominates, told_is, done)) = whose (is_numbered n p) refl where
+      whose : (b : Bool) → is_numbered n p ≡ b → (goes_back way path ≡ true) ⊎ Goes old new
+      whose true numbered =
+          inl (subst (λ w. goes_back way w ≡ true) (on p (Has-get old.pairs place p at) (eqb-true p.number n numbered))
+          (both (keeps_check m.id p) (goes_back way (path_of old p)) keeps).1)
+      whose false numbered =
+          inr (goes-on old recorded new
+          (goes-to old _ recorded (
+            refl,
+            onward-set n by old.pairs old.next_number place p after at (λ one. (let no : true ≡ false = sym (eq-eqb p.number n one) ∙ numbered in cc))
+                (own-le n by p after (ap (λ (x : PairRecord). x.number) is) (subst (λ (x : PairRecord). lead by x ≤ lead by p) (sym is) (lead-answered by now i c p c_at))),
+          ) made)
+          (goes-to recorded (evaluated now mid) new (let k = nominates-goes recorded mid named nominates in (k.0, k.1)) done))
+
+    -- ---- requests
+
+    module _ (mac : H → List ℕ → List ℕ → List ℕ) where
+      module _ (q : RequestRecord) where
+        pair : (l r number : ℕ) (s new : AgentRecord H P) (told : Told) → ServesPair mac q l r number s told new → Goes s new
+        pair l r number s new told (path, mid, nominates, (values, is, made)) =
+            goes-to s _ new
+            (let k = goes-on s (pair_served q number s) mid (
+              refl,
+              onward-each n by (change_at number (served s.controlling s.lite q)) s.pairs s.next_number
+                  (λ p. at-mild number (served s.controlling s.lite q) p (served-mild s.controlling s.lite q p)),
+            )
+            (either (s.controlling && is_valid_at number s.pairs) nominates
+            (λ _ k. nominates-goes (pair_served q number s) mid path k)
+            (λ _ k. goes-same (pair_served q number s) mid k.1)) in (k.0, k.1)) made
+
+        takes : (l r : ℕ) (number : Option ℕ) (s new : AgentRecord H P) (told : Told) → TakesAt mac q l r number s told new → Goes s new
+        takes l r (Some number) s new told h = pair l r number s new told h
+        takes l r None s new told h = either (candidate_at s.local l).discarded h
+            (λ _ k. goes-same s new k.1)
+            (λ _ k. goes-on s (with_pair (formed s l r) s) new (refl, onward-adds n by s.pairs s.next_number l r (priority_between s l r))
+            (pair l r s.next_number (with_pair (formed s l r) s) new told k.1))
+
+        joins : (l : ℕ) (place : RemotePlace) (s new : AgentRecord H P) (told : Told) → JoinsAt mac q l place s told new → Goes s new
+        joins l (Known r) s new told (number, between, h) = takes l r number s new told h
+        joins l Barred s new told h = goes-same s new h.1
+        joins l Unknown s new told (number, between, h) = let k = takes l _ number (with_sender q s) new told h in (k.0, k.1)
+
+        admitted : (l : ℕ) (s new : AgentRecord H P) (told : Told) → Admits mac q l s told new → Goes s new
+        admitted l s new told h = either (is_misled s.controlling q) h
+            (λ _ k. goes-same s new k.1)
+            (λ _ k. (let g = joins l k.0 (request_counted s) new told k.2 in (g.0, g.1)))
+
+        settles : (conflict : Conflict) (l : ℕ) (s new : AgentRecord H P) (told : Told) → SettlesBy mac conflict q l s told new → Goes s new
+        settles Absent l s new told h = admitted l s new told h
+        settles Insists l s new told (values, is, made) = goes-to s _ new (refl, onward-same n by s.pairs s.next_number) made
+        settles Yields l s new told h = goes-on s (switched s) new (switches s) (admitted l (switched s) new told h)
+
+        here : (place : Option ℕ) (s new : AgentRecord H P) (told : Told) → MatchOption place (Drops s told new) (λ l. Settles mac q l s told new) → Goes s new
+        here None s new told h = goes-same s new h.1
+        here (Some l) s new told h = settles (conflict_of s q) l s new told h
+
+        requested : (remote : Option IceCreds) (s new : AgentRecord H P) (told : Told) → is_some remote ≡ true
+            → MatchOption remote (Queues q s told new) (λ _. Serves mac q s told new) → Goes s new
+        requested None s new told known h = absurd (cc)
+        requested (Some peer) s new told known h = either (names_another s q) h
+            (λ _ k. goes-same s new k.1)
+            (λ _ k. here (local_place s.local q) s new told k)
+
+      -- ---- packets
+
+      by-class : (c : Class) (now : ℕ) (old mid : AgentRecord H P) (way path : Path) (m : Message) (told : Told) → is_some old.remote_creds ≡ true
+          → ((q : PairRecord) → Has old.pairs q → q.number ≡ n → path_of old q ≡ path)
+          → Takes mac c now old way m told mid → ((c ≡ class.Success) × (goes_back way path ≡ true)) ⊎ Goes old mid
+      by-class class.Request now old mid way path m told known on h = inr (requested (request_in now way m) old.remote_creds old mid told known h)
+      by-class class.Success now old mid way path m told known on h = elim (success now old mid way path m told on h) [ inl back ↦ inl (refl, back) | inr k ↦ inr k ]
+      by-class class.Failure now old mid way path m told known on h = inr (failure old mid way m told h)
+      by-class class.Indication now old mid way path m told known on h = absurd h
+      by-class class.Unknown now old mid way path m told known on h = absurd h
+
+      -- raw bytes that came: the pair's path is answered, or no more go ahead
+      pub receives-goes : (answers : P → CandidateRecord → ℕ → ℕ → Type 0) (now : ℕ) (old new : AgentRecord H P) (way path : Path) (bytes : List ℕ) (e : Entry) → is_some old.remote_creds ≡ true
+          → ((q : PairRecord) → Has old.pairs q → q.number ≡ n → path_of old q ≡ path) → Receives mac answers now old way bytes e new
+          → ((m : Message) × Reads bytes m × (e.answer ≡ Flag true) × (m.class ≡ class.Success) × (goes_back way path ≡ true)) ⊎ Goes old new
+      receives-goes answers now old new way path bytes e known on (inl (fault, has_fault, is, made)) = inr (goes-same old new made)
+      receives-goes answers now old new way path bytes e known on (inr (m, reads, (Ok true, told, is, (accepted, (mid, takes_it, made))))) =
+          elim (by-class m.class now old mid way path m told known on takes_it) [
+            | inl (success_came, back) ↦ inl (m, reads, ap (λ (x : Entry). x.answer) is, success_came, back)
+            | inr k ↦ inr (goes-to old (source_told way mid) new (k.0, k.1) made)
+          ]
+      receives-goes answers now old new way path bytes e known on (inr (m, reads, (Ok false, told, is, (no_one, nothing, made)))) = inr (goes-same old new made)
+      receives-goes answers now old new way path bytes e known on (inr (m, reads, (Err error, told, is, (may, nothing, made)))) = inr (goes-same old new made)

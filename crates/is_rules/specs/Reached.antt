@@ -1,0 +1,85 @@
+-- How soon a pair that is due is checked, in either role and whatever comes: others may go before it, each twice at most. So a controlled
+-- agent that is asked for the pair's path announces a path, where the checks on it are answered.
+use Rattle.std.specs.Prelude.{◌≡◌, ℕ, ◌+◌, ◌*◌, ◌<◌, ◌≤◌, ◌⊎◌, true, false, List, [], ◌∷◌, ◌++◌, length, Some, None}
+use Rattle.rand_core.specs.Stream.{Stream}
+use Rattle.is_proto.specs.Lists.{Has}
+use Rattle.is_proto.specs.Moments.{MAX}
+use Rattle.is_candidate.specs.Candidates.{CandidateRecord}
+use Rattle.is_pair.specs.Due.{due_moment}
+use Rattle.is_pair.specs.Pairs.{PairRecord, is_valid}
+use Rattle.is_stun.specs.declared.header.Class.TheVariants as class
+use Rattle.is_rules.specs.Agent.{AgentRecord}
+use Rattle.is_rules.specs.Asked.{IsAlone, IsAnsweredIn, IsAskedIn, MayEndIn}
+use Rattle.is_rules.specs.declared.told.Path.{Path}
+use Rattle.is_rules.specs.Logs.{Logged}
+use Rattle.is_rules.specs.Progress.{IsChecking}
+use Rattle.is_rules.specs.Queue.{request_at}
+use Rattle.is_rules.specs.Rounds.{LoggedRound, entries_of, began_at, is_between, Part}
+use Rattle.is_rules.specs.Runs.{IsFresh, IsTopPath}
+use Rattle.is_rules.specs.Sending.{path_of}
+use Rattle.is_rules.specs.Steps.{HandleTimeout, Done}
+use Rattle.is_rules.specs.Told.{issued_as}
+
+-- a moment behind this one, and then packets and polls
+pub record IsPassing {P : Type 0} (by : ℕ) (r : LoggedRound P) : Type 0 where
+  pub comes : r.moment.call ≡ HandleTimeout r.now
+  pub done : r.moment.entry.answer ≡ Done
+  pub late : by < r.now
+  pub early : r.now < MAX
+  pub between : (x : Logged P) → Has r.behind x → is_between x.call ≡ true
+
+-- the moment of one of the rounds sends a check on the path
+abbrev pub ChecksIn : {P : Type 0} → List (LoggedRound P) → Path → Type 0
+ChecksIn rounds path =
+    (r : LoggedRound _) × (id : List ℕ) × Has rounds r × (r.moment.entry.told.issued ≡ Some (issued_as path class.Request id))
+
+-- where a check goes out on the path, it is answered on it in the same round
+abbrev pub IsMetOn : {P : Type 0} → Path → LoggedRound P → Type 0
+IsMetOn path r = (id : List ℕ) → r.moment.entry.told.issued ≡ Some (issued_as path class.Request id) → IsAnsweredIn r.behind path
+
+module _ {H P : Type 0} where
+  -- a pair that is not valid waits for its check: asked at the moment, it is due by the other one, and it will not be given up before
+  pub record IsInLine (at by : ℕ) (a : AgentRecord H P) (p : PairRecord) : Type 0 where
+    pub checking : IsChecking a
+    pub queue : a.queue ≡ []
+    pub there : Has a.pairs p
+    pub due : due_moment at a.timing p ≤ by
+    pub invalid : is_valid p ≡ false
+    pub young : length p.checks < a.timing.max_retransmits
+
+  -- The rounds suffice for a pair that is due by a moment when they begin: they lie behind it, and are 2n - 1 where there are n pairs, and
+  -- one more for each pair that is added in them.
+  pub record Suffice (by : ℕ) (start : AgentRecord H P) (rounds : List (LoggedRound P)) (last : AgentRecord H P) (p : PairRecord) : Type 0 where
+    pub at : ℕ
+    pub began : began_at rounds ≡ Some at
+    pub line : IsInLine at by start p
+    pub passing : (r : LoggedRound P) → Has rounds r → IsPassing by r
+    pub enough : 2 * length start.pairs + last.next_number ≤ length rounds + 1 + start.next_number
+
+  module _ (mac : H → List ℕ → List ℕ → List ℕ) (answers : P → CandidateRecord → ℕ → ℕ → Type 0) where
+    -- Wherever rounds in the log suffice for a pair, a check goes out on its path in one of them, unless it was answered in one: in either
+    -- role, and whatever comes and is nominated.
+    abbrev pub RoundsReach : AgentRecord H P → Stream → List (Logged P) → Type 0
+    RoundsReach first s log =
+        (before : List (Logged P)) (start last : AgentRecord H P) (rounds : List (LoggedRound P)) (p : PairRecord) (by : ℕ)
+        → Part mac answers first s log before start (entries_of rounds) last → Suffice by start rounds last p
+        → ChecksIn rounds (path_of start p) ⊎ IsAnsweredIn (entries_of rounds) (path_of start p)
+
+    -- And where the checks that go out on its path are answered in their rounds, and a controlled agent is asked for the path in one of
+    -- them, the next moment that serves no request announces a path, where one pair alone joins this one and none that does may have gone.
+    abbrev pub AskedRoundsAnnounceIn : AgentRecord H P → Stream → List (Logged P) → Type 0
+    AskedRoundsAnnounceIn first s log =
+        (before : List (Logged P)) (start last : AgentRecord H P) (rounds : List (LoggedRound P)) (moment : Logged P) (now : ℕ)
+        (p : PairRecord) (by : ℕ)
+        → (found : Part mac answers first s log before start (moment ∷ entries_of rounds) last) → Suffice by start rounds found.run.0 p
+        → ((r : LoggedRound P) → Has rounds r → IsMetOn (path_of start p) r)
+        → IsAskedIn mac answers before start found.at (entries_of rounds) found.run.0 found.run.1 found.run.2 (path_of start p)
+        → moment.call ≡ HandleTimeout now → moment.entry.answer ≡ Done → request_at now found.run.0 ≡ None → IsAlone last (path_of start p)
+        → IsTopPath mac answers (moment ∷ (entries_of rounds ++ before)) last
+        ⊎ MayEndIn mac answers first s log (moment ∷ entries_of rounds) (path_of start p)
+
+    abbrev pub PairsAreReached : Type 0
+    PairsAreReached = (first : AgentRecord H P) (s : Stream) (log : List (Logged P)) → IsFresh first → RoundsReach first s log
+
+    abbrev pub AskedRoundsAnnounce : Type 0
+    AskedRoundsAnnounce = (first : AgentRecord H P) (s : Stream) (log : List (Logged P)) → IsFresh first → AskedRoundsAnnounceIn first s log
