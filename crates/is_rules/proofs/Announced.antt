@@ -35,7 +35,7 @@ found-in : (test : PairRecord → Bool) (ps : List PairRecord) (p : PairRecord) 
 found-in test [] p is = let no : None ≡ Some p = is in absurd (cc)
 found-in test (x ∷ xs) p is = found-by test x p xs (test x) refl (λ k. found-in test xs p k) is
 
-named-at : (announced : Option ℕ) (priority : ℕ) (pairs : List PairRecord) → stands_at announced priority pairs ≡ true
+pub named-at : (announced : Option ℕ) (priority : ℕ) (pairs : List PairRecord) → stands_at announced priority pairs ≡ true
     → (p : PairRecord) × Has pairs p × (announced ≡ Some p.number)
 named-at None priority pairs h = no-case h
 named-at (Some n) priority pairs h = by (pair_numbered n pairs) refl h where

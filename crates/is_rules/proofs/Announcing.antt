@@ -23,7 +23,7 @@ pub eligible : (c : Bool) (p : PairRecord) → c ≡ true → is_valid p ≡ tru
 eligible true p h valid = both (is_valid p) true valid refl
 eligible false p h valid = absurd (cc)
 
-nominated-eligible : (c : Bool) (p : PairRecord) → is_valid p ≡ true → is_nominated p ≡ true → is_eligible c p ≡ true
+pub nominated-eligible : (c : Bool) (p : PairRecord) → is_valid p ≡ true → is_nominated p ≡ true → is_eligible c p ≡ true
 nominated-eligible true p valid nominated = both (is_valid p) true valid refl
 nominated-eligible false p valid nominated = both (is_valid p) (is_nominated p) valid nominated
 

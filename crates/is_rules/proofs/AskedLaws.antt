@@ -33,7 +33,7 @@ use Rattle.is_rules.proofs.StayLaws.{pairs-stay}
 use Rattle.is_rules.proofs.Tells.{some_is}
 
 -- what comes back on a path comes back between its addresses
-back-on : (by a b : Path) → goes_back by a ≡ true → goes_back by b ≡ true → (a.source ≡ b.source) × (a.destination ≡ b.destination)
+pub back-on : (by a b : Path) → goes_back by a ≡ true → goes_back by b ≡ true → (a.source ≡ b.source) × (a.destination ≡ b.destination)
 back-on by a b on_a on_b =
     let x = both _ _ on_a in
     let y = both _ _ on_b in
@@ -41,7 +41,7 @@ back-on by a b on_a on_b =
 
 module _ {H P : Type 0} where
   -- a step serves one request
-  uses-too : (old : AgentRecord H P) (call : Call P) (e : Entry) (q r : RequestRecord) → IsServing old call e q → IsServing old call e r → q.use_candidate ≡ true → r.use_candidate ≡ true
+  pub uses-too : (old : AgentRecord H P) (call : Call P) (e : Entry) (q r : RequestRecord) → IsServing old call e q → IsServing old call e r → q.use_candidate ≡ true → r.use_candidate ≡ true
   uses-too old (HandleTimeout now) e q r (is_q, done_q) (is_r, done_r) uses = ap (λ (x : RequestRecord). x.use_candidate) (some_is r q (sym is_r ∙ is_q)) ∙ uses
   uses-too old (ReceivePacket now way bytes) e q r (at, by, m, brings, request, known, is) (at2, by2, n, brings2, request2, known2, is2) uses =
       ap (λ (x : RequestRecord). x.use_candidate) is2

@@ -64,13 +64,13 @@ name_fits own peer h =
     omega (arith, long, within)
 
 -- what two readings of the same bytes are
-same_reading : (bytes : List ℕ) (m n : Message) → Reads bytes m → Reads bytes n → n ≡ m
+pub same_reading : (bytes : List ℕ) (m n : Message) → Reads bytes m → Reads bytes n → n ≡ m
 same_reading bytes m n r s = s.spelled ∙ sym r.spelled
 
 faultless : {A : Type 0} (bytes : List ℕ) (m : Message) (fault : ParseFault) → Reads bytes m → Fault bytes fault → A
 faultless bytes m fault r is = absurd (let no : None ≡ Some fault = sym r.faultless ∙ is in cc)
 
-told_as : (way path : Path) (c d : Class) (i j : List ℕ) → Some (issued_as way c i) ≡ Some (issued_as path d j) → (way ≡ path) × (c ≡ d) × (i ≡ j)
+pub told_as : (way path : Path) (c d : Class) (i j : List ℕ) → Some (issued_as way c i) ≡ Some (issued_as path d j) → (way ≡ path) × (c ≡ d) × (i ≡ j)
 told_as way path c d i j h =
     let same : issued_as way c i ≡ issued_as path d j = some_is _ _ h in
     (ap (λ (x : code.Issued). x.path) same, ap (λ (x : code.Issued). x.class) same, ap (λ (x : code.Issued). x.id.0) same)
@@ -100,7 +100,7 @@ not_misled false false leads = refl
 module _ {H P : Type 0} (mac : H → List ℕ → List ℕ → List ℕ) (answers : P → CandidateRecord → ℕ → ℕ → Type 0) where
   -- ---- what a step issued
 
-  issued_packet : (a sent : AgentRecord H P) (class : Class) (id : List ℕ) (packet : Packet) → IsSound a → (i : Issued mac answers class id packet a sent)
+  pub issued_packet : (a sent : AgentRecord H P) (class : Class) (id : List ℕ) (packet : Packet) → IsSound a → (i : Issued mac answers class id packet a sent)
       → IsIssued mac a i.call i.entry packet sent.controlling
   issued_packet a sent c id packet sound i =
       let posted = (path_effect mac answers a sent i.before i.behind i.entry i.call sound i.step).2 in
@@ -114,7 +114,7 @@ module _ {H P : Type 0} (mac : H → List ℕ → List ℕ → List ℕ) (answer
   module _ (read : (m : List ℕ → List ℕ → List ℕ) (key : List ℕ) (x : Message) → WrittenIsRead m key x)
       (fits : (key id username : List ℕ) (controlling : Bool) (tie_breaker priority : ℕ) (nominates : Bool)
       → length username ≤ USERNAME_LIMIT → FitsInto key LONGEST_CHECK (binding_request username id controlling tie_breaker priority nominates)) where
-    check_reads : (key : List ℕ) (own peer : IceCreds) (id : List ℕ) (controlling uses : Bool) (tie priority : ℕ) (m : List ℕ → List ℕ → List ℕ) (bytes : List ℕ)
+    pub check_reads : (key : List ℕ) (own peer : IceCreds) (id : List ℕ) (controlling uses : Bool) (tie priority : ℕ) (m : List ℕ → List ℕ → List ℕ) (bytes : List ℕ)
         → ((k text : List ℕ) → length (m k text) ≡ 20) → are_too_long own (Some peer) ≡ false → IsFragment own.ufrag → IsFragment peer.ufrag
         → IsPut bytes (binding_request (username_between peer own) id controlling tie priority uses)
         → ReadsBack m key (written m (Some key) (binding_request (username_between peer own) id controlling tie priority uses))

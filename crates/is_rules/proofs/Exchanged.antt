@@ -20,13 +20,13 @@ use Rattle.is_rules.proofs.LogParts.{no-case}
 use Rattle.is_rules.proofs.Staying.{sound-course, checks-stay}
 
 -- what an agent signs by, and both passwords
-record Keys (H : Type 0) : Type 0 where
+pub record Keys (H : Type 0) : Type 0 where
   pub provider : H
   pub local : IceCreds
   pub remote : Option IceCreds
 
 module _ {H P : Type 0} where
-  abbrev keys_of : AgentRecord H P → Keys H
+  abbrev pub keys_of : AgentRecord H P → Keys H
   keys_of a = record { provider = a.provider; local = a.local_creds; remote = a.remote_creds }
 
   -- who has the same keys is known as well

@@ -20,6 +20,8 @@ use Rattle.is_pair.specs.Due.{IsNextDue}
 use Rattle.is_pair.specs.Pairs.{PairRecord, check_of, checked}
 use Rattle.is_stun.specs.declared.header.Class.{Class}
 use Rattle.is_stun.specs.declared.header.Class.TheVariants as class
+use Rattle.is_stun.specs.Laws.{IsPut}
+use Rattle.is_stun.specs.Writing.{written}
 use Rattle.is_rules.specs.declared.credentials.IceCreds.{IceCreds}
 use Rattle.is_rules.specs.declared.places.RemotePlace.{RemotePlace}
 use Rattle.is_rules.specs.declared.places.RemotePlace.TheVariants.{Known, Barred, Unknown}
@@ -30,7 +32,7 @@ use Rattle.is_rules.specs.declared.told.Path.{Path}
 use Rattle.is_rules.specs.declared.told.Told.{Told}
 use Rattle.is_rules.specs.Agent.{AgentRecord}
 use Rattle.is_rules.specs.Answers.{goes_back, keeps_check_on}
-use Rattle.is_rules.specs.Checking.{all_asked, check_sent, ChecksPair, ChecksTop, MayCheck}
+use Rattle.is_rules.specs.Checking.{all_asked, check_message, check_sent, ChecksPair, ChecksTop, MayCheck}
 use Rattle.is_rules.specs.Delivery.{ChecksAreKept}
 use Rattle.is_rules.specs.Forming.{formed, with_pair}
 use Rattle.is_rules.specs.Issuing.{way_out}
@@ -40,7 +42,7 @@ use Rattle.is_rules.specs.Request.{RequestRecord}
 use Rattle.is_rules.specs.Roles.{conflict_of, switched}
 use Rattle.is_rules.specs.Sending.{path_of}
 use Rattle.is_rules.specs.Serving.{is_misled, names_another, request_counted, with_sender, Drops, ServesPair, TakesAt, JoinsAt, Admits, SettlesBy, Settles, Serves}
-use Rattle.is_rules.specs.Steps.{Entry, HandleTimeout}
+use Rattle.is_rules.specs.Steps.{Entry, HandleTimeout, Step}
 use Rattle.is_rules.specs.Timeouts.{awake, Proceeds, ServesQueued, TimesOut}
 use Rattle.is_rules.specs.Told.{issued_alone, issued_as, turned}
 use Rattle.is_rules.proofs.EffectLaws.{path_law}
@@ -52,7 +54,7 @@ use Rattle.is_rules.proofs.Tells.{some_is}
 bytes_same : (a : List ℕ) → bytes_eq a a ≡ true
 bytes_same a = (bytes_eq-Decides a a).1 refl
 
-number_same : (n : ℕ) → (n == n) ≡ true
+pub number_same : (n : ℕ) → (n == n) ≡ true
 number_same n = eq-eqb n n refl
 
 -- an address is itself
@@ -60,7 +62,7 @@ same_self : (a : SocketAddr) → same_address a a ≡ true
 same_self (V4 a) = rw (bytes_same (ipv4_octets (v4_ip a)), number_same (v4_port a)) refl
 same_self (V6 a) = rw (bytes_same (ipv6_segments (v6_ip a)), number_same (v6_port a), number_same (v6_flowinfo a), number_same (v6_scope_id a)) refl
 
-back_again : (way : Path) → goes_back (turned way) way ≡ true
+pub back_again : (way : Path) → goes_back (turned way) way ≡ true
 back_again way = rw (same_self way.destination, same_self way.source) refl
 
 -- the last one is among the last n, where n is not 0
@@ -192,3 +194,53 @@ module _ {H P : Type 0} (mac : H → List ℕ → List ℕ → List ℕ) (answer
         by some (Ok done) told is h = moment some told is (request_at now a) h
         by some (Err error) told is h =
             none_out e.told.issued (way_out check) id (ap (λ (x : Told). x.issued) (is ∙ h.1)) sends.told
+
+  -- what it says
+  pub record Checks (now : ℕ) (way : Path) (id : List ℕ) (sent : AgentRecord H P) : Type 0 where
+    pub old : AgentRecord H P
+    pub remote : IceCreds
+    pub pair : PairRecord
+    pub has : Has old.pairs pair
+    pub known : old.remote_creds ≡ Some remote
+    pub path : path_of old pair ≡ way
+    pub put : IsPut (written (mac old.provider) (Some remote.pass) (check_message old remote pair id)) (check_message old remote pair id)
+    pub made : sent ≡ check_sent mac now remote pair id old
+
+  pub checks-as : (a sent : AgentRecord H P) (s t : Stream) (now : ℕ) (way : Path) (id : List ℕ) (e : Entry) → e.told.issued ≡ Some (issued_as way class.Request id)
+      → Step mac answers a s (HandleTimeout now) e sent t → Checks now way id sent
+  checks-as a sent s t now way id e out step = by step.0 step.1 (ap (λ (x : Entry). x.told) step.2) step.3 where
+    pair_checked : (remote : IceCreds) (p : PairRecord) (old : AgentRecord H P) (issued : Option code.Issued) → Has old.pairs p → old.remote_creds ≡ Some remote
+        → issued ≡ Some (issued_as way class.Request id) → ChecksPair mac now remote p old s issued sent t → Checks now way id sent
+    pair_checked remote p old issued has known told (own, drawn, put, is, made) =
+        let same = told_as way (path_of old p) id own (sym told ∙ is) in
+        record {
+          old = old;
+          remote = remote;
+          pair = p;
+          has = has;
+          known = known;
+          path = sym same.0;
+          put = subst (λ i. IsPut (written (mac old.provider) (Some remote.pass) (check_message old remote p i)) (check_message old remote p i)) (sym same.1) put;
+          made = made ∙ ap (λ i. check_sent mac now remote p i old) (sym same.1);
+        }
+
+    checked : (remote : Option IceCreds) (old : AgentRecord H P) (issued : Option code.Issued) → old.remote_creds ≡ remote → issued ≡ Some (issued_as way class.Request id)
+        → MayCheck mac now remote old s issued sent t → Checks now way id sent
+    checked None old issued known told h = none_out issued way id h.0 told
+    checked (Some remote) old issued known told h = either old.lite h
+        (λ _ k. none_out issued way id k.0 told)
+        (λ _ k. next k.0 k.1 k.2) where
+          next : (top : Option PairRecord) → IsNextDue now old.timing (all_asked now old).pairs top → ChecksTop mac now remote top (all_asked now old) s issued sent t → Checks now way id sent
+          next None due k = none_out issued way id k.0 told
+          next (Some p) due k = pair_checked remote p (all_asked now old) issued due.0.0 known told k
+
+    moment : (told : Told) → e.told ≡ told → (o : Option RequestRecord)
+        → MatchOption o (Proceeds mac now (awake now a) s told sent t) (λ q. ServesQueued mac q (awake now a) s told sent t) → Checks now way id sent
+    moment told is None (first, second, issued, named, kept, nominating, giving, checking, told_is) =
+        checked kept.remote_creds kept issued refl (sym (ap (λ (x : Told). x.issued) told_is) ∙ sym (ap (λ (x : Told). x.issued) is) ∙ out) checking
+    moment told is (Some q) (serving, drawn) =
+        absurd (serves q (first_taken (awake now a)) sent told serving way id (sym (ap (λ (x : Told). x.issued) is) ∙ out))
+
+    by : (r : Result (Unit {0}) IceError) (told : Told) → e.told ≡ told → TimesOut mac now a s r told sent t → Checks now way id sent
+    by (Ok done) told is h = moment told is (request_at now a) h
+    by (Err error) told is h = none_out e.told.issued way id (ap (λ (x : Told). x.issued) (is ∙ h.1)) out

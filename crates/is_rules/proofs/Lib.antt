@@ -53,6 +53,8 @@ pub mod KeptChecks
 pub mod Staying
 pub mod Exchanged
 pub mod Coursing
+pub mod Asking
+pub mod AskedCourses
 pub mod Stays
 pub mod StayLaws
 pub mod AskedLaws

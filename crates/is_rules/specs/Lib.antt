@@ -47,6 +47,8 @@ pub mod Rounds
 pub mod Delivery
 pub mod Exchange
 pub mod Courses
+pub mod Asking
+pub mod AskedCourses
 pub mod Staying
 pub mod Asked
 pub mod Reached

@@ -9,6 +9,8 @@ ghost use Rattle.is_rules.specs.Progress.{AnsweredAnnounce, AnswersAnnounce, Mom
 ghost use Rattle.is_rules.specs.Delivery.{ChecksAreServed, ChecksAreKept, RepliesAreAccepted};
 ghost use Rattle.is_rules.specs.Exchange.{ChecksStay, ExchangesSucceed};
 ghost use Rattle.is_rules.specs.Courses.{CoursesAnnounce};
+ghost use Rattle.is_rules.specs.Asking.{ChecksAsk};
+ghost use Rattle.is_rules.specs.AskedCourses.{GrantedAreAnnounced};
 ghost use Rattle.is_rules.specs.Rounds.{AnsweredRoundsAnnounce, PartsAreRuns, TurnsAreOfUse};
 ghost use Rattle.is_rules.specs.Staying.{PairsStay, PairsStayOn};
 ghost use Rattle.is_rules.specs.Asked.{AskedAreAnnounced};
@@ -209,4 +211,20 @@ pub fn pairs_are_reached<H: Sha1HmacProvider, P: LocalPreference>()
 /// a path, where one pair alone joins this one and none that does may have gone.
 pub fn asked_rounds_announce<H: Sha1HmacProvider, P: LocalPreference>()
     ensures { AskedRoundsAnnounce H.mac P.answers }
+{}
+
+/// A check that a controlling agent sends at a moment on a path whose pairs are nominated, delivered to the controlled one before the next
+/// moment, asks for the way back, and is answered with success.
+pub fn checks_ask<H: Sha1HmacProvider, P: LocalPreference>()
+    ensures { ChecksAsk H.mac P.answers }
+{
+    written_is_read();
+    checks_fit();
+    checks_are_answered::<H, P>();
+}
+
+/// Where a controlled agent, which may share its random source, granted a path and had an answer on it, the next moment that serves no
+/// request finds a path announced, unless a pair of the path may have gone.
+pub fn granted_are_announced<H: Sha1HmacProvider, P: LocalPreference>()
+    ensures { GrantedAreAnnounced H.mac P.answers }
 {}

@@ -1,0 +1,142 @@
+-- A path that was granted and answered in a course is announced at the next moment.
+use Rattle.std.proofs.Common.{◌≡◌, ℕ, Bool, true, false, List, [], ◌∷◌, ◌++◌, Option, Some, None, is_some, inl, inr, ◌⊎◌, refl, ap, sym, ◌∙◌, subst}
+use Rattle.rand_core.specs.Stream.{Stream}
+use Rattle.is_proto.specs.Lists.{Has}
+use Rattle.is_candidate.specs.Candidates.{CandidateRecord}
+use Rattle.is_pair.specs.Bag.{keeps_check}
+use Rattle.is_pair.specs.Pairs.{PairRecord, is_valid, is_nominated}
+use Rattle.is_stun.specs.declared.header.Class.TheVariants as class
+use Rattle.is_rules.specs.declared.told.Issued.{Issued}
+use Rattle.is_rules.specs.declared.told.Path.{Path}
+use Rattle.is_rules.specs.Agent.{AgentRecord}
+use Rattle.is_rules.specs.Answers.{goes_back}
+use Rattle.is_rules.specs.Asked.{Joins}
+use Rattle.is_rules.specs.AskedCourses.{AcceptsSuccessOn, AnnouncesAlong, Ends, EndsAlong, GrantsAlong, GrantedAreAnnounced}
+use Rattle.is_rules.specs.Asking.{Grants}
+use Rattle.is_rules.specs.Effects.{PathEffect, last_of}
+use Rattle.is_rules.specs.Exchange.{Course}
+use Rattle.is_rules.specs.Nominating.{is_eligible}
+use Rattle.is_rules.specs.Points.{IsTopAnnounced}
+use Rattle.is_rules.specs.Sending.{path_of}
+use Rattle.is_rules.specs.Sound.{IsSound, GivesBased}
+use Rattle.is_rules.specs.Staying.{Stays}
+use Rattle.is_rules.specs.Steps.{Call, Entry, HandleTimeout, Step}
+use Rattle.is_rules.specs.Told.{issued_as}
+use Rattle.is_rules.proofs.Addresses.{both}
+use Rattle.is_rules.proofs.Announced.{named-at}
+use Rattle.is_rules.proofs.Announcing.{nominated-eligible}
+use Rattle.is_rules.proofs.AskedLaws.{back-on, uses-too}
+use Rattle.is_rules.proofs.EffectLaws.{path_law}
+use Rattle.is_rules.proofs.LogLaws.{none_pass}
+use Rattle.is_rules.proofs.RefusalLaws.{fresh_sound}
+use Rattle.is_rules.proofs.StayLaws.{pairs-stay}
+use Rattle.is_rules.proofs.Staying.{sound-course}
+
+module _ {H P : Type 0} where
+  -- the announced number names a pair, where one is eligible
+  named : (a : AgentRecord H P) (q : PairRecord) → Has a.pairs q → is_eligible a.controlling q ≡ true → IsTopAnnounced a → (n : ℕ) × (a.announced ≡ Some n)
+  named a q has able (None, none, stands) = absurd (none_pass (is_eligible a.controlling) a.pairs q none has able)
+  named a q has able (Some best, greatest, stands) = let k = named-at a.announced best.priority a.pairs stands in (k.0.number, k.2)
+
+  -- a pair of the path passes
+  abbrev Marked : Path → (PairRecord → Bool) → AgentRecord H P → Type 0
+  Marked path test a = (p : PairRecord) × Has a.pairs p × (test p ≡ true) × Joins a path p
+
+  module _ (mac : H → List ℕ → List ℕ → List ℕ) (answers : P → CandidateRecord → ℕ → ℕ → Type 0) where
+    course_on : (xs ys : List (Call P × Entry)) (a b c : AgentRecord H P) → Course mac answers xs a b → Course mac answers ys b c → Course mac answers (xs ++ ys) a c
+    course_on [] ys a b c is more = subst (λ (z : AgentRecord H P). Course mac answers ys z c) is more
+    course_on (x ∷ xs) ys a b c (mid, s, t, based, step, on) more = (mid, s, t, based, step, course_on xs ys mid b c on more)
+
+    -- a number that is announced was told of
+    told_along : (xs : List (Call P × Entry)) (old new : AgentRecord H P) (n : ℕ) → IsSound old → Course mac answers xs old new → old.announced ≡ None → new.announced ≡ Some n → AnnouncesAlong xs
+    told_along [] old new n sound is none some =
+        absurd (let wrong : None ≡ Some n = sym none ∙ (sym (ap (λ (a : AgentRecord H P). a.announced) is) ∙ some) in cc)
+    told_along (x ∷ rest) old new n sound (mid, s, t, based, step, more) none some =
+        let law = path_law mac answers old mid s t x.0 x.1 sound based step in
+        by (last_of x.1.told.announced) refl law.0.number_stays (λ (quiet : mid.announced ≡ None). told_along rest mid new n law.1 more quiet some) where
+          by : (o : Option Path) → last_of x.1.told.announced ≡ o → (last_of x.1.told.announced ≡ None → mid.announced ≡ old.announced)
+              → (mid.announced ≡ None → AnnouncesAlong rest) → AnnouncesAlong (x ∷ rest)
+          by (Some path) is stays later = (x, inl refl, ap (λ (o : Option Path). is_some o) is)
+          by None is stays later = let k = later (stays is ∙ none) in (k.0, inr k.1, k.2)
+
+    module _ (path : Path) where
+      next : (test : PairRecord → Bool) (old new : AgentRecord H P) (s t : Stream) (call : Call P) (e : Entry) → ((p : PairRecord) (k : Stays old p new) → test p ≡ true → test k.pair ≡ true)
+          → IsSound old → GivesBased call → Step mac answers old s call e new t → Marked path test old → Marked path test new ⊎ Ends old call e path
+      next test old new s t call e keeps sound based step (p, has, is, joins) = elim (pairs-stay mac answers old new s t call e p sound based step has) [
+        | inl k ↦ inl (k.pair, k.there, keeps p k is, (ap (λ (w : Path). w.source) k.path ∙ joins.0, ap (λ (w : Path). w.destination) k.path ∙ joins.1))
+        | inr ends ↦ inr (p, has, joins, ends)
+      ]
+
+      along : (test : PairRecord → Bool) → ((old new : AgentRecord H P) (p : PairRecord) (k : Stays old p new) → test p ≡ true → test k.pair ≡ true)
+          → (xs : List (Call P × Entry)) (old new : AgentRecord H P) → IsSound old → (course : Course mac answers xs old new) → Marked path test old
+          → Marked path test new ⊎ EndsAlong mac answers xs old new course path
+      along test keeps [] old new sound is marked = inl (subst (λ (a : AgentRecord H P). Marked path test a) (sym is) marked)
+      along test keeps (x ∷ rest) old new sound (mid, s, t, based, step, more) marked =
+          elim (next test old mid s t x.0 x.1 (keeps old mid) sound based step marked) [
+            | inl k ↦ elim (along test keeps rest mid new (path_law mac answers old mid s t x.0 x.1 sound based step).1 more k) [ inl m ↦ inl m | inr ends ↦ inr (inr ends) ]
+            | inr ends ↦ inr (inl ends)
+          ]
+
+      nominated_now : (old new : AgentRecord H P) (call : Call P) (e : Entry) → PathEffect mac old call e new → Grants old call e path → new.controlling ≡ false → Marked path is_nominated new
+      nominated_now old new call e f (q, id, serving, uses, out) controlled =
+          let k = f.replied (issued_as path class.Success id) out refl in
+          let on = k.3 (uses-too old call e q k.0 serving k.1 uses) controlled in
+          let same : path_of new on.0 ≡ path = on.3 ∙ sym (ap (λ (i : Issued). i.path) k.2) in
+          (on.0, on.1, on.2, (ap (λ (w : Path). w.source) same, ap (λ (w : Path). w.destination) same))
+
+      valid_now : (old new : AgentRecord H P) (call : Call P) (e : Entry) → PathEffect mac old call e new → AcceptsSuccessOn call e path → Marked path is_valid new
+      valid_now old new call e f (at, by, m, brings, success, back) =
+          let k = f.taken at by m brings success in
+          let on = both (keeps_check m.id k.0) (goes_back by (path_of new k.0)) k.2 in
+          (k.0, k.1, k.3, back-on by (path_of new k.0) path on.1 back)
+
+      granted : (xs : List (Call P × Entry)) (old new : AgentRecord H P) → IsSound old → (course : Course mac answers xs old new) → GrantsAlong mac answers xs old new course path
+          → Marked path is_nominated new ⊎ EndsAlong mac answers xs old new course path
+      granted [] old new sound course asks = absurd asks
+      granted (x ∷ rest) old new sound (mid, s, t, based, step, more) (inl (grants, controlled)) =
+          let law = path_law mac answers old mid s t x.0 x.1 sound based step in
+          elim (along is_nominated (λ a b p k is. k.nominated is) rest mid new law.1 more (nominated_now old mid x.0 x.1 law.0 grants controlled)) [ inl m ↦ inl m | inr ends ↦ inr (inr ends) ]
+      granted (x ∷ rest) old new sound (mid, s, t, based, step, more) (inr asks) =
+          elim (granted rest mid new (path_law mac answers old mid s t x.0 x.1 sound based step).1 more asks) [ inl m ↦ inl m | inr ends ↦ inr (inr ends) ]
+
+      answered : (xs : List (Call P × Entry)) (old new : AgentRecord H P) → IsSound old → (course : Course mac answers xs old new)
+          → (y : Call P × Entry) → Has xs y → AcceptsSuccessOn y.0 y.1 path → Marked path is_valid new ⊎ EndsAlong mac answers xs old new course path
+      answered [] old new sound course y has is = absurd has
+      answered (x ∷ rest) old new sound (mid, s, t, based, step, more) y (inl same) is =
+          let law = path_law mac answers old mid s t x.0 x.1 sound based step in
+          let now : AcceptsSuccessOn x.0 x.1 path = subst (λ (z : Call P × Entry). AcceptsSuccessOn z.0 z.1 path) (sym same) is in
+          elim (along is_valid (λ a b p k valid. k.valid valid) rest mid new law.1 more (valid_now old mid x.0 x.1 law.0 now)) [ inl m ↦ inl m | inr ends ↦ inr (inr ends) ]
+      answered (x ∷ rest) old new sound (mid, s, t, based, step, more) y (inr has) is =
+          elim (answered rest mid new (path_law mac answers old mid s t x.0 x.1 sound based step).1 more y has is) [ inl m ↦ inl m | inr ends ↦ inr (inr ends) ]
+
+    pub granted-are-announced : GrantedAreAnnounced mac answers
+    granted-are-announced first start near last before xs s t now moment path fresh led course step done none asks (y, has, is) alone =
+        let sound_first : IsSound first = subst (λ (a : AgentRecord H P). IsSound a) (sym fresh.2) (fresh_sound H P first.provider fresh.0 fresh.1) in
+        let sound_start = sound-course mac answers before first start sound_first led in
+        let sound_near = sound-course mac answers xs start near sound_start course in
+        let whole = course_on before (xs ++ (HandleTimeout now, moment) ∷ []) first start last led
+        (course_on xs ((HandleTimeout now, moment) ∷ []) start near last course (last, s, t, tt, step, refl)) in
+        by sound_first sound_near whole (granted path xs start near sound_start course asks) (answered path xs start near sound_start course y has is) where
+          Said : Type 0
+          Said = AnnouncesAlong (before ++ (xs ++ (HandleTimeout now, moment) ∷ [])) ⊎ (EndsAlong mac answers xs start near course path ⊎ Ends near (HandleTimeout now) moment path)
+
+          at_last : IsSound first → IsSound near → Course mac answers (before ++ (xs ++ (HandleTimeout now, moment) ∷ [])) first last → Marked path is_nominated last → Marked path is_valid last → Said
+          at_last sound_first sound_near whole n w =
+              let one : w.0 ≡ n.0 = alone w.0 n.0 w.1 n.1 w.3 n.3 in
+              let valid : is_valid n.0 ≡ true = subst (λ (p : PairRecord). is_valid p ≡ true) one w.2 in
+              let effect = (path_law mac answers near last s t (HandleTimeout now) moment sound_near tt step).0 in
+              let number = named last n.0 n.1 (nominated-eligible last.controlling n.0 valid n.2) (effect.points (done, none)) in
+              inl (told_along (before ++ (xs ++ (HandleTimeout now, moment) ∷ [])) first last number.0 sound_first whole (ap (λ (a : AgentRecord H P). a.announced) fresh.2) number.1)
+
+          by : IsSound first → IsSound near → Course mac answers (before ++ (xs ++ (HandleTimeout now, moment) ∷ [])) first last
+              → Marked path is_nominated near ⊎ EndsAlong mac answers xs start near course path → Marked path is_valid near ⊎ EndsAlong mac answers xs start near course path → Said
+          by sound_first sound_near whole (inr ends) v = inr (inl ends)
+          by sound_first sound_near whole (inl n) (inr ends) = inr (inl ends)
+          by sound_first sound_near whole (inl n) (inl v) =
+              elim (next path is_nominated near last s t (HandleTimeout now) moment (λ p k is. k.nominated is) sound_near tt step n) [
+                | inr ends ↦ inr (inr ends)
+                | inl m ↦ elim (next path is_valid near last s t (HandleTimeout now) moment (λ p k is. k.valid is) sound_near tt step v) [
+                  | inr ends ↦ inr (inr ends)
+                  | inl u ↦ at_last sound_first sound_near whole m u
+                ]
+              ]

@@ -1,0 +1,107 @@
+-- A check on a nominated path asks for it.
+use Rattle.std.proofs.Common.{◌≡◌, ℕ, ◌≤◌, ◌&&◌, Bool, true, false, not, List, [], ◌∷◌, ◌++◌, length, Some, is_some, refl, ap, sym, ◌∙◌, subst, if◌then◌else◌}
+use Rattle.is_proto.specs.Lists.{Has}
+use Rattle.is_proto.specs.Packets.{Packet}
+use Rattle.is_candidate.specs.Candidates.{CandidateRecord, candidate_at}
+use Rattle.is_candidate.specs.Priorities.{check_priority}
+use Rattle.is_pair.specs.Bag.{change_at, change_pair}
+use Rattle.is_pair.specs.Pairs.{PairRecord, checked, is_nominated}
+use Rattle.is_stun.specs.declared.header.Class.TheVariants as class
+use Rattle.is_stun.specs.Checks.{binding_request}
+use Rattle.is_stun.specs.Laws.{ReadsBack, WrittenIsRead, FitsInto}
+use Rattle.is_stun.specs.Message.{AttributesRecord, Message}
+use Rattle.is_stun.specs.Reading.{Reads}
+use Rattle.is_stun.specs.Writing.{written}
+use Rattle.is_rules.specs.declared.credentials.IceCreds.{IceCreds}
+use Rattle.is_rules.specs.declared.told.Path.{Path}
+use Rattle.is_rules.specs.Agent.{AgentRecord}
+use Rattle.is_rules.specs.Asking.{AreNominatedOn, ChecksAsk}
+use Rattle.is_rules.specs.Checking.{check_message, check_sent}
+use Rattle.is_rules.specs.Delivery.{IsFragment, KnowEachOther, ChecksAreServed}
+use Rattle.is_rules.specs.Fitting.{are_too_long}
+use Rattle.is_rules.specs.Issuing.{Says, way_out}
+use Rattle.is_rules.specs.Request.{request_in}
+use Rattle.is_rules.specs.Sending.{path_of}
+use Rattle.is_rules.specs.Steps.{HandleTimeout}
+use Rattle.is_rules.specs.Told.{issued_as}
+use Rattle.is_rules.proofs.Checks.{sent_nominated}
+use Rattle.is_rules.proofs.Delivered.{same_reading, told_as, issued_packet, check_reads}
+use Rattle.is_rules.proofs.EffectLaws.{path_law}
+use Rattle.is_rules.proofs.Exchanged.{keys_of, known-on, keys-moment, keys-between}
+use Rattle.is_rules.proofs.KeptChecks.{Checks, checks-as, number_same}
+use Rattle.is_rules.proofs.Serves.{Has-mapped}
+use Rattle.is_rules.proofs.Tells.{some_is}
+
+-- what stands last in two lists that are equal
+last_alike : {X : Type 0} (xs ys : List X) (x y : X) → xs ++ x ∷ [] ≡ ys ++ y ∷ [] → x ≡ y
+last_alike [] [] x y h = cc
+last_alike [] (z ∷ []) x y h = cc
+last_alike [] (z ∷ w ∷ ys) x y h = cc
+last_alike (z ∷ []) [] x y h = cc
+last_alike (z ∷ w ∷ xs) [] x y h = cc
+last_alike (z ∷ xs) (w ∷ ys) x y h = last_alike xs ys x y (let same : z ∷ (xs ++ x ∷ []) ≡ w ∷ (ys ++ y ∷ []) = h in cc)
+
+module _ {H P : Type 0} (mac : H → List ℕ → List ℕ → List ℕ) (answers : P → CandidateRecord → ℕ → ℕ → Type 0) where
+  -- the check asks for its path
+  leads : (now : ℕ) (way : Path) (id : List ℕ) (sent : AgentRecord H P) → (c : Checks mac answers now way id sent) → sent.controlling ≡ true → AreNominatedOn sent way
+      → (c.old.controlling && is_nominated c.pair) ≡ true
+  leads now way id sent c role nominated =
+      let after : PairRecord = checked now c.old.timing c.old.controlling id c.pair in
+      let made : AgentRecord H P = check_sent mac now c.remote c.pair id c.old in
+      let own : change_at c.pair.number (checked now c.old.timing c.old.controlling id) c.pair ≡ after = ap (λ b. if b then after else c.pair) (number_same c.pair.number) in
+      let there : Has made.pairs after =
+      subst (λ (x : PairRecord). Has (change_pair c.pair.number (checked now c.old.timing c.old.controlling id) c.old.pairs) x) own
+      (Has-mapped (change_at c.pair.number (checked now c.old.timing c.old.controlling id)) c.old.pairs c.pair c.has) in
+      let each : AreNominatedOn made way = subst (λ (a : AgentRecord H P). AreNominatedOn a way) c.made nominated in
+      let asks : is_nominated c.pair ≡ true = sym (sent_nominated c.pair.nomination) ∙ each after there c.path in
+      ap (λ b. b && is_nominated c.pair) (ap (λ (a : AgentRecord H P). a.controlling) (sym c.made) ∙ role) ∙ asks
+
+  module _ (read : (m : List ℕ → List ℕ → List ℕ) (key : List ℕ) (x : Message) → WrittenIsRead m key x)
+      (fits : (key id username : List ℕ) (controlling : Bool) (tie_breaker priority : ℕ) (nominates : Bool)
+      → length username ≤ 508 → FitsInto key 588 (binding_request username id controlling tie_breaker priority nominates)) where
+    pub checks-ask : ChecksAreServed mac answers → ChecksAsk mac answers
+    checks-ask served_law a sent near b served s t now at check id moment handed xs sound_a sound_b step sends role nominated between gone know other reached delivered =
+        let sound_sent = (path_law mac answers a sent s t (HandleTimeout now) moment sound_a tt step).1 in
+        let keys_near : keys_of near ≡ keys_of sent = keys-between mac answers xs sent near sound_sent between gone in
+        let keys_a : keys_of a ≡ keys_of near = sym (keys_near ∙ keys-moment mac answers now moment a sent s t sound_a step) in
+        let know_a : KnowEachOther mac a b = known-on mac near a b keys_a know in
+        let taken = served_law a sent b served check id at handed sound_a sound_b know_a (other ∙ ap not (sym role)) reached
+        (record { call = HandleTimeout now; entry = moment; before = s; behind = t; step = step; sends = sends }) delivered in
+        let c = checks-as mac answers a sent s t now (way_out check) id moment sends.told step in
+        let know_old : KnowEachOther mac c.old b =
+        known-on mac near c.old b (ap (λ (x : AgentRecord H P). keys_of x) (sym c.made) ∙ sym keys_near) know in (
+          (request_in at (way_out check) taken.0.0),
+          id,
+          (at, way_out check, taken.0.0, taken.0.1, taken.0.2, ap (λ o. is_some o) know.its, refl),
+          asks c know_old taken.0.0 taken.0.1.2,
+          taken.1.2.told ∙ ap (λ w. Some (issued_as w class.Success id)) taken.1.1,
+        ) where
+          stays : sent.controlling ≡ a.controlling
+          stays =
+              let i = issued_packet mac answers a sent class.Request id check sound_a
+              (record { call = HandleTimeout now; entry = moment; before = s; behind = t; step = step; sends = sends }) in
+              let same = told_as (way_out check) (way_out check) class.Request i.0.class id i.0.id (sym sends.told ∙ i.2) in
+              let says : Says class.Request a (HandleTimeout now) moment check.contents i.0 (way_out check) sent.controlling =
+              subst (λ k. Says k a (HandleTimeout now) moment check.contents i.0 (way_out check) sent.controlling) (sym same.1) i.3 in
+              says.7
+
+          asks : (c : Checks mac answers now (way_out check) id sent) → KnowEachOther mac c.old b → (m : Message) → Reads check.contents m → m.attributes.use_candidate ≡ true
+          asks c know_old m reads =
+              let x : Message = check_message c.old c.remote c.pair id in
+              let it : c.remote ≡ b.local_creds = some_is c.remote b.local_creds (sym c.known ∙ know_old.mine) in
+              let back : ReadsBack (mac c.old.provider) c.remote.pass (written (mac c.old.provider) (Some c.remote.pass) x) x =
+              check_reads mac answers read fits c.remote.pass c.old.local_creds c.remote id c.old.controlling (c.old.controlling && is_nominated c.pair) c.old.tie_breaker
+              (check_priority (candidate_at c.old.local c.pair.local)) (mac c.old.provider) (written (mac c.old.provider) (Some c.remote.pass) x) know_old.twenty
+              (subst (λ (y : IceCreds). are_too_long c.old.local_creds (Some y) ≡ false) (sym it) know_old.fit) know_old.own
+              (subst (λ (y : IceCreds). IsFragment y.ufrag) (sym it) know_old.other) c.put in
+              let packet : Packet = record {
+                proto = (path_of c.old c.pair).proto;
+                source = (path_of c.old c.pair).source;
+                destination = (path_of c.old c.pair).destination;
+                contents = written (mac c.old.provider) (Some c.remote.pass) x;
+              } in
+              let same : check ≡ packet = last_alike a.packets c.old.packets check packet (sym sends.put ∙ ap (λ (y : AgentRecord H P). y.packets) c.made) in
+              let bytes : Reads (written (mac c.old.provider) (Some c.remote.pass) x) m = subst (λ (y : Packet). Reads y.contents m) same reads in
+              let is : m ≡ back.read = same_reading (written (mac c.old.provider) (Some c.remote.pass) x) back.read m back.reads bytes in
+              ap (λ (y : Message). y.attributes.use_candidate) is ∙ (ap (λ (r : AttributesRecord). r.use_candidate) back.same.attributes
+              ∙ leads now (way_out check) id sent c (stays ∙ role) nominated)

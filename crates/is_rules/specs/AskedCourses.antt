@@ -1,0 +1,57 @@
+-- A controlled agent in a course: a path that it granted to its peer, and that was answered, is announced at the next moment.
+use Rattle.std.specs.Prelude.{◌≡◌, ℕ, ◌⊎◌, true, false, List, [], ◌∷◌, ◌++◌, None, is_some}
+use Rattle.rand_core.specs.Stream.{Stream}
+use Rattle.is_proto.specs.Lists.{Has}
+use Rattle.is_candidate.specs.Candidates.{CandidateRecord}
+use Rattle.is_pair.specs.Pairs.{PairRecord}
+use Rattle.is_stun.specs.declared.header.Class.TheVariants as class
+use Rattle.is_stun.specs.Message.{Message}
+use Rattle.is_rules.specs.declared.told.Path.{Path}
+use Rattle.is_rules.specs.Agent.{AgentRecord}
+use Rattle.is_rules.specs.Answers.{goes_back}
+use Rattle.is_rules.specs.Asked.{Joins, IsAlone}
+use Rattle.is_rules.specs.Asking.{Grants}
+use Rattle.is_rules.specs.Brought.{Brings}
+use Rattle.is_rules.specs.Effects.{last_of}
+use Rattle.is_rules.specs.Exchange.{Course}
+use Rattle.is_rules.specs.Queue.{request_at}
+use Rattle.is_rules.specs.Runs.{IsFresh}
+use Rattle.is_rules.specs.Staying.{MayEnd}
+use Rattle.is_rules.specs.Steps.{Call, Entry, HandleTimeout, Done, Step}
+
+-- an accepted success came back on the path
+abbrev pub AcceptsSuccessOn : {P : Type 0} → Call P → Entry → Path → Type 0
+AcceptsSuccessOn call e path =
+    (at : ℕ) × (by : Path) × (m : Message) × Brings call e at by m × (m.class ≡ class.Success) × (goes_back by path ≡ true)
+
+abbrev pub IsAnsweredAlong : {P : Type 0} → List (Call P × Entry) → Path → Type 0
+IsAnsweredAlong xs path = (x : Call _ × Entry) × Has xs x × AcceptsSuccessOn x.0 x.1 path
+
+abbrev pub AnnouncesAlong : {P : Type 0} → List (Call P × Entry) → Type 0
+AnnouncesAlong xs = (x : Call _ × Entry) × Has xs x × (is_some (last_of x.1.told.announced) ≡ true)
+
+module _ {H P : Type 0} where
+  -- the step may take away a pair that joins the path
+  abbrev pub Ends : AgentRecord H P → Call P → Entry → Path → Type 0
+  Ends a call e path = (p : PairRecord) × Has a.pairs p × Joins a path p × MayEnd a call e p
+
+  module _ (mac : H → List ℕ → List ℕ → List ℕ) (answers : P → CandidateRecord → ℕ → ℕ → Type 0) where
+    abbrev pub EndsAlong : (xs : List (Call P × Entry)) (old new : AgentRecord H P) → Course mac answers xs old new → Path → Type 0
+    EndsAlong [] old new course path = ⊥
+    EndsAlong (x ∷ rest) old new course path = Ends old x.0 x.1 path ⊎ EndsAlong rest course.0 new course.5 path
+
+    -- a call grants the path, and the agent is controlled behind it
+    abbrev pub GrantsAlong : (xs : List (Call P × Entry)) (old new : AgentRecord H P) → Course mac answers xs old new → Path → Type 0
+    GrantsAlong [] old new course path = ⊥
+    GrantsAlong (x ∷ rest) old new course path =
+        (Grants old x.0 x.1 path × (course.0.controlling ≡ false)) ⊎ GrantsAlong rest course.0 new course.5 path
+
+    -- Wherever a part of a course granted a path and had an answer on it, in whichever order, and a moment comes that serves no request, a
+    -- path was announced, where one pair alone joins this one, unless a pair that joins it may have gone.
+    abbrev pub GrantedAreAnnounced : Type 0
+    GrantedAreAnnounced =
+        (first start near last : AgentRecord H P) (before xs : List (Call P × Entry)) (s t : Stream) (now : ℕ) (moment : Entry) (path : Path)
+        → IsFresh first → Course mac answers before first start → (course : Course mac answers xs start near)
+        → Step mac answers near s (HandleTimeout now) moment last t → moment.answer ≡ Done → request_at now near ≡ None
+        → GrantsAlong xs start near course path → IsAnsweredAlong xs path → IsAlone last path
+        → AnnouncesAlong (before ++ (xs ++ (HandleTimeout now, moment) ∷ [])) ⊎ (EndsAlong xs start near course path ⊎ Ends near (HandleTimeout now) moment path)
