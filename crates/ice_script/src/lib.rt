@@ -2,7 +2,6 @@
 //! wake-ups.
 #![tactic(auto)]
 
-mod counter;
 mod fault;
 mod fields;
 mod playing;

@@ -1,8 +1,8 @@
 //! A script over any reader and two writers.
-use crate::counter::Counter;
 use crate::fault::{Fault, Stop};
 use crate::print::{AnswerText, EventText, HexText, WakeText};
 use crate::script::{ScriptCall, ScriptLine, Sent, Side, read_script};
+use ice_counter::Counter;
 use is::{Answer, Call, DefaultSha1HmacProvider, IceAgent, IceCreds, IceError, SocketText, run};
 use std::alloc::Global;
 use std::io::{Read, Write};

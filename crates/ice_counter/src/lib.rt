@@ -1,4 +1,6 @@
 //! The random source of a script: words that count up from zero, so that every run prints the same.
+#![tactic(auto)]
+
 ghost use Rattle.std.specs.Prelude.{◌≡◌, ◌+◌, ◌%◌, ◌^◌, ℕ};
 ghost use Rattle.rand_core.specs.Steps.{stream_of, steps_u32};
 
