@@ -1,5 +1,5 @@
-//! The agents that are played against, and what is done to them: each call in a function of its own that promises nothing, as
-//! the program prints what came of it.
+//! The agent that is played against, and what is done to it: each call in a function of its own that promises nothing, as the
+//! program prints what came of it. An attack puts a new agent in the place of the last one, which its caller lends it.
 use crate::broken::Broken;
 use crate::request::{PASSWORD, PEER, UFRAG};
 use is::stun::{StunMessage, StunPacket};
@@ -61,6 +61,12 @@ pub fn make(alloc: Global, ufrag: &str, pass: &str) -> Result<Agent, Broken> {
     Ok(Agent::new(alloc, creds(alloc, ufrag, pass)?, 1)?)
 }
 
+/// Puts such an agent in the place of the last one.
+pub fn renew(agent: &mut Agent, alloc: Global, ufrag: &str, pass: &str) -> Result<(), Broken> {
+    *agent = make(alloc, ufrag, pass)?;
+    Ok(())
+}
+
 pub fn tell_peer(agent: &mut Agent, alloc: Global, ufrag: &str, pass: &str) -> Result<(), Broken> {
     Ok(agent.set_remote_credentials(creds(alloc, ufrag, pass)?)?)
 }
@@ -81,28 +87,26 @@ pub fn hear_of(agent: &mut Agent, alloc: Global, line: &str) -> Result<bool, Bro
     }
 }
 
-/// The agent that the seen request is for.
-pub fn asked(alloc: Global) -> Result<Agent, Broken> {
-    let mut agent = make(alloc, UFRAG, PASSWORD)?;
-    tell_peer(&mut agent, alloc, PEER, "x")?;
-    add_host(&mut agent, alloc, at(1, 1000))?;
-    Ok(agent)
+/// A new agent that the seen request is for.
+pub fn renew_asked(agent: &mut Agent, alloc: Global) -> Result<(), Broken> {
+    renew(agent, alloc, UFRAG, PASSWORD)?;
+    tell_peer(agent, alloc, PEER, "x")?;
+    add_host(agent, alloc, at(1, 1000))
 }
 
-/// A controlling agent with host 10.0.0.1:1000 that knows the peer's credentials.
-pub fn lonely(alloc: Global) -> Result<Agent, Broken> {
-    let mut agent = make(alloc, NEAR, NEAR_PASS)?;
-    tell_peer(&mut agent, alloc, FAR, FAR_PASS)?;
-    take_role(&mut agent, true);
-    add_host(&mut agent, alloc, at(1, 1000))?;
-    Ok(agent)
+/// A new controlling agent with host 10.0.0.1:1000 that knows the peer's credentials.
+pub fn renew_lonely(agent: &mut Agent, alloc: Global) -> Result<(), Broken> {
+    renew(agent, alloc, NEAR, NEAR_PASS)?;
+    tell_peer(agent, alloc, FAR, FAR_PASS)?;
+    take_role(agent, true);
+    add_host(agent, alloc, at(1, 1000))
 }
 
-/// The same agent, which knows the peer's candidate 10.0.0.2:2000 too.
-pub fn paired(alloc: Global) -> Result<Agent, Broken> {
-    let mut agent = lonely(alloc)?;
-    if hear_of(&mut agent, alloc, FAR_LINE)? {
-        Ok(agent)
+/// The same, which knows the peer's candidate 10.0.0.2:2000 too.
+pub fn renew_paired(agent: &mut Agent, alloc: Global) -> Result<(), Broken> {
+    renew_lonely(agent, alloc)?;
+    if hear_of(agent, alloc, FAR_LINE)? {
+        Ok(())
     } else {
         Err(Broken)
     }

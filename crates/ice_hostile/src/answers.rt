@@ -1,7 +1,7 @@
 //! Answers that are not the peer's, answers off their path, and an answer that comes twice.
 use crate::agents::{
-    Agent, FAR_LINE, FAR_PASS, NEAR_PASS, Taken, at, events, ms, next_packet, packets, paired,
-    signed, take, wake,
+    Agent, FAR_LINE, FAR_PASS, NEAR_PASS, Taken, at, events, ms, next_packet, packets,
+    renew_paired, signed, take, wake,
 };
 use crate::broken::Broken;
 use crate::seen::{Seen, look};
@@ -86,22 +86,19 @@ const FORGERIES: [Forgery; 9] = [
     },
 ];
 
-/// An agent that has sent its check, the id of the check, and the peer that it was sent to.
-#[derive(Drop)]
-struct Checking {
-    agent: Agent,
+/// The id of the check that the agent has sent, and the peer that it was sent to.
+#[derive(Clone, Copy)]
+struct Check<'a> {
     id: TransId,
-    peer: Candidate,
+    peer: &'a Candidate,
 }
 
-/// The check is sent at 0, and the events until then are gone.
-fn begin(alloc: Global) -> Result<Checking, Broken> {
-    let mut agent = paired(alloc)?;
-    wake(&mut agent, ms(0), 1)?;
-    let _ = events(&mut agent, alloc)?;
-    let id = check_id(&mut agent)?;
-    let peer = Candidate::from_sdp_string(alloc, FAR_LINE)?;
-    Ok(Checking { agent, id, peer })
+/// A new agent sends its check at 0, whose id is answered, and the events until then are gone.
+fn begin(agent: &mut Agent, alloc: Global) -> Result<TransId, Broken> {
+    renew_paired(agent, alloc)?;
+    wake(agent, ms(0), 1)?;
+    let _ = events(agent, alloc)?;
+    check_id(agent)
 }
 
 fn check_id(agent: &mut Agent) -> Result<TransId, Broken> {
@@ -129,31 +126,43 @@ fn forge(alloc: Global, forgery: &Forgery, id: TransId) -> Result<Vec<u8>, Broke
 }
 
 /// Whether the agent is as it was seen, with nothing to send and nothing to tell.
-fn is_as(play: &mut Checking, alloc: Global, before: &Seen) -> Result<bool, Broken> {
-    let same = look(&mut play.agent, &play.peer) == *before;
-    let told = events(&mut play.agent, alloc)?;
-    Ok(same && packets(&mut play.agent) == 0 && told.as_str() == "-")
+fn is_as(
+    agent: &mut Agent,
+    alloc: Global,
+    peer: &Candidate,
+    before: &Seen,
+) -> Result<bool, Broken> {
+    let same = look(agent, peer) == *before;
+    let told = events(agent, alloc)?;
+    Ok(same && packets(agent) == 0 && told.as_str() == "-")
 }
 
-fn give(play: &mut Checking, alloc: Global, now: u64, forgery: &Forgery) -> Result<Taken, Broken> {
-    let bytes = forge(alloc, forgery, play.id)?;
+fn give(
+    agent: &mut Agent,
+    alloc: Global,
+    id: TransId,
+    now: u64,
+    forgery: &Forgery,
+) -> Result<Taken, Broken> {
+    let bytes = forge(alloc, forgery, id)?;
     let (from, from_port) = forgery.source;
     let (to, to_port) = forgery.destination;
     let source = at(from, from_port);
     let destination = at(to, to_port);
-    take(&mut play.agent, ms(now), source, destination, &bytes)
+    take(agent, ms(now), source, destination, &bytes)
 }
 
 /// The answer comes at 50 ms.
 fn write_forgery<W: Write>(
-    play: &mut Checking,
+    agent: &mut Agent,
     alloc: Global,
+    check: Check<'_>,
     forgery: &Forgery,
     output: &mut W,
 ) -> Result<(), Broken> {
-    let before = look(&mut play.agent, &play.peer);
-    let taken = give(play, alloc, 50, forgery)?;
-    let same = is_as(play, alloc, &before)?;
+    let before = look(agent, check.peer);
+    let taken = give(agent, alloc, check.id, 50, forgery)?;
+    let same = is_as(agent, alloc, check.peer, &before)?;
     writeln!(
         output,
         "answer {}: {taken:?}, unchanged {same}",
@@ -163,14 +172,15 @@ fn write_forgery<W: Write>(
 }
 
 fn write_true<W: Write>(
-    play: &mut Checking,
+    agent: &mut Agent,
     alloc: Global,
+    id: TransId,
     now: u64,
     output: &mut W,
 ) -> Result<(), Broken> {
-    let taken = give(play, alloc, now, &TRUE)?;
-    let told = events(&mut play.agent, alloc)?;
-    let sent = packets(&mut play.agent);
+    let taken = give(agent, alloc, id, now, &TRUE)?;
+    let told = events(agent, alloc)?;
+    let sent = packets(agent);
     writeln!(
         output,
         "    the true one at {now} ms: {taken:?}, events {told}, {sent} packets"
@@ -179,10 +189,16 @@ fn write_true<W: Write>(
 }
 
 /// The answer comes, and the true one behind it.
-fn try_forgery<W: Write>(alloc: Global, forgery: &Forgery, output: &mut W) -> Result<(), Broken> {
-    let mut play = begin(alloc)?;
-    write_forgery(&mut play, alloc, forgery, output)?;
-    write_true(&mut play, alloc, 50, output)
+fn try_forgery<W: Write>(
+    agent: &mut Agent,
+    alloc: Global,
+    peer: &Candidate,
+    forgery: &Forgery,
+    output: &mut W,
+) -> Result<(), Broken> {
+    let id = begin(agent, alloc)?;
+    write_forgery(agent, alloc, Check { id, peer }, forgery, output)?;
+    write_true(agent, alloc, id, 50, output)
 }
 
 /// Prints the figures of the announced pair.
@@ -200,19 +216,20 @@ fn write_figures<W: Write>(agent: &Agent, output: &mut W) -> Result<(), Broken> 
 }
 
 /// The true answer comes at 50 ms, and once more at 60 ms.
-fn try_again<W: Write>(alloc: Global, output: &mut W) -> Result<(), Broken> {
-    let mut play = begin(alloc)?;
+fn try_again<W: Write>(agent: &mut Agent, alloc: Global, output: &mut W) -> Result<(), Broken> {
+    let id = begin(agent, alloc)?;
     writeln!(output, "answer given twice:")?;
     for now in [50, 60] {
-        write_true(&mut play, alloc, now, output)?;
-        write_figures(&play.agent, output)?;
+        write_true(agent, alloc, id, now, output)?;
+        write_figures(agent, output)?;
     }
     Ok(())
 }
 
-pub fn play<W: Write>(alloc: Global, output: &mut W) -> Result<(), Broken> {
+pub fn play<W: Write>(agent: &mut Agent, alloc: Global, output: &mut W) -> Result<(), Broken> {
+    let peer = Candidate::from_sdp_string(alloc, FAR_LINE)?;
     for forgery in FORGERIES {
-        try_forgery(alloc, &forgery, output)?;
+        try_forgery(agent, alloc, &peer, &forgery, output)?;
     }
-    try_again(alloc, output)
+    try_again(agent, alloc, output)
 }

@@ -25,11 +25,6 @@ fn spec(
     })
 }
 
-/// The greater tie-breaker is A's.
-fn make_pair(alloc: Global) -> Result<Pair, Broken> {
-    Ok(World::new(alloc, spec(alloc, "aaaa", 10)?, spec(alloc, "bbbb", 5)?)?)
-}
-
 /// The number of an agent's host: 10.0.0.1 for A, 10.0.0.2 for B.
 fn host_of(side: Side) -> u8 {
     match side {
@@ -162,10 +157,19 @@ fn write_roles<W: Write>(name: &str, log: &WorldLog, output: &mut W) -> Result<(
     Ok(())
 }
 
-fn run(alloc: Global, events: Vec<WorldEvent>) -> Result<WorldLog, Broken> {
-    let mut pair = make_pair(alloc)?;
+fn run(pair: &mut Pair, events: Vec<WorldEvent>) -> WorldLog {
     let mut random = Pcg32::seed_from_u64(1);
-    Ok(pair.run(events, &mut random))
+    pair.run(events, &mut random)
+}
+
+/// Runs the events with a pair of their own, of which the greater tie-breaker is A's.
+fn run_anew(alloc: Global, events: Vec<WorldEvent>) -> Result<WorldLog, Broken> {
+    let a = spec(alloc, "aaaa", 10)?;
+    let b = spec(alloc, "bbbb", 5)?;
+    match World::new(alloc, a, b) {
+        Ok(mut pair) => Ok(run(&mut pair, events)),
+        Err(_) => Err(Broken),
+    }
 }
 
 /// The 487 arrives behind the 50 events, three times. A's check arrives at B before them, or not at all.
@@ -179,7 +183,7 @@ fn keep_back(alloc: Global, met: bool) -> Result<WorldLog, Broken> {
     for now in [2600, 2610, 2620] {
         events.push(arrival(2, Side::A, now))?;
     }
-    run(alloc, events)
+    run_anew(alloc, events)
 }
 
 pub fn play<W: Write>(alloc: Global, output: &mut W) -> Result<(), Broken> {

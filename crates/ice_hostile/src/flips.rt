@@ -1,5 +1,5 @@
 //! Each byte of the request changed to each other value.
-use crate::agents::{Agent, Taken, asked, next_event, next_packet, take_here};
+use crate::agents::{Agent, Taken, at, next_event, next_packet, renew_asked, take_here};
 use crate::broken::Broken;
 use crate::request::{REPLY, REQUEST};
 use crate::seen::look;
@@ -75,29 +75,31 @@ fn is_idle(agent: &mut Agent) -> bool {
     next_packet(agent).is_none() && next_event(agent).is_none()
 }
 
-/// An agent is given the changed request: it answers as it does the request, or nothing changes and it answers the request then.
+/// A new agent is given the changed request: it answers as it does the request, or nothing changes and it answers the request then.
 fn try_flip(
+    agent: &mut Agent,
     alloc: Global,
     peer: &Candidate,
     bytes: &[u8],
     tally: &mut Tally,
 ) -> Result<(), Broken> {
-    let mut agent = asked(alloc)?;
-    let before = look(&mut agent, peer);
-    let taken = take_here(&mut agent, Instant(0), bytes)?;
+    renew_asked(agent, alloc)?;
+    let before = look(agent, peer);
+    let taken = take_here(agent, Instant(0), bytes)?;
     let fits = if taken == Taken::True {
-        answers(&mut agent)
+        answers(agent)
     } else {
-        look(&mut agent, peer) == before
-            && is_idle(&mut agent)
-            && take_here(&mut agent, Instant(0), &REQUEST)? == Taken::True
-            && answers(&mut agent)
+        look(agent, peer) == before
+            && is_idle(agent)
+            && take_here(agent, Instant(0), &REQUEST)? == Taken::True
+            && answers(agent)
     };
     tally.count(taken, fits);
     Ok(())
 }
 
 fn try_place(
+    agent: &mut Agent,
     alloc: Global,
     peer: &Candidate,
     place: usize,
@@ -108,7 +110,7 @@ fn try_place(
         if let Some(byte) = bytes.get_mut(place) {
             *byte ^= change;
         }
-        try_flip(alloc, peer, &bytes, tally)?;
+        try_flip(agent, alloc, peer, &bytes, tally)?;
         if let Some(byte) = bytes.get_mut(place) {
             *byte ^= change;
         }
@@ -116,18 +118,18 @@ fn try_place(
     Ok(())
 }
 
-fn try_part(alloc: Global, first: usize, last: usize) -> Result<Tally, Broken> {
-    let peer = Candidate::host(alloc, crate::agents::at(2, 2000), Protocol::Udp)?;
+fn try_part(agent: &mut Agent, alloc: Global, first: usize, last: usize) -> Result<Tally, Broken> {
+    let peer = Candidate::host(alloc, at(2, 2000), Protocol::Udp)?;
     let mut tally = NOTHING;
     for place in first..=last {
-        try_place(alloc, &peer, place, &mut tally)?;
+        try_place(agent, alloc, &peer, place, &mut tally)?;
     }
     Ok(tally)
 }
 
-pub fn play<W: Write>(alloc: Global, output: &mut W) -> Result<(), Broken> {
+pub fn play<W: Write>(agent: &mut Agent, alloc: Global, output: &mut W) -> Result<(), Broken> {
     for (name, first, last) in PARTS {
-        let tally = try_part(alloc, first, last)?;
+        let tally = try_part(agent, alloc, first, last)?;
         let Tally {
             unparsed,
             refused,

@@ -1,7 +1,7 @@
 //! More requests than an agent keeps, before it knows its peer.
 use crate::agents::{
-    Agent, FAR, FAR_PASS, NEAR, NEAR_PASS, Taken, add_host, at, events, make, ms, next_packet,
-    next_wake, packets, signed, take_here, tell_peer, wake,
+    Agent, FAR, FAR_PASS, NEAR, NEAR_PASS, Taken, add_host, at, events, ms, next_packet, next_wake,
+    packets, renew, signed, take_here, tell_peer, wake,
 };
 use crate::broken::Broken;
 use is::stun::{StunMessage, TransId};
@@ -21,18 +21,18 @@ fn request(alloc: Global, number: u8) -> Result<Vec<u8>, Broken> {
     signed(alloc, message, NEAR_PASS)
 }
 
-/// A controlled agent that does not know its peer yet takes requests 1 to 101.
-fn flooded(alloc: Global) -> Result<(Agent, u32), Broken> {
-    let mut agent = make(alloc, NEAR, NEAR_PASS)?;
-    add_host(&mut agent, alloc, at(1, 1000))?;
+/// A new controlled agent that does not know its peer yet is given requests 1 to 101. How many it takes is answered.
+fn flood(agent: &mut Agent, alloc: Global) -> Result<u32, Broken> {
+    renew(agent, alloc, NEAR, NEAR_PASS)?;
+    add_host(agent, alloc, at(1, 1000))?;
     let mut taken = 0u32;
     for number in 1..=101u8 {
         let bytes = request(alloc, number)?;
-        if take_here(&mut agent, ms(0), &bytes)? == Taken::True {
+        if take_here(agent, ms(0), &bytes)? == Taken::True {
             taken = taken.saturating_add(1);
         }
     }
-    Ok((agent, taken))
+    Ok(taken)
 }
 
 /// The packet is a success reply to the request of this number.
@@ -116,10 +116,10 @@ fn answer<W: Write>(agent: &mut Agent, alloc: Global, output: &mut W) -> Result<
     Ok(())
 }
 
-pub fn play<W: Write>(alloc: Global, output: &mut W) -> Result<(), Broken> {
-    let (mut agent, taken) = flooded(alloc)?;
-    let sent = packets(&mut agent);
+pub fn play<W: Write>(agent: &mut Agent, alloc: Global, output: &mut W) -> Result<(), Broken> {
+    let taken = flood(agent, alloc)?;
+    let sent = packets(agent);
     writeln!(output, "flood: 101 requests, {taken} taken, {sent} packets")?;
-    write_events(&mut agent, alloc, output)?;
-    answer(&mut agent, alloc, output)
+    write_events(agent, alloc, output)?;
+    answer(agent, alloc, output)
 }

@@ -1,6 +1,6 @@
 //! Pair numbers, pair limits and priorities at their ends.
 use crate::agents::{
-    Agent, FAR_LINE, NEAR_PASS, Taken, hear_of, lonely, ms, signed, take_here, take_role,
+    Agent, FAR_LINE, NEAR_PASS, Taken, hear_of, ms, renew_lonely, signed, take_here, take_role,
 };
 use crate::broken::Broken;
 use is::Candidate;
@@ -83,26 +83,30 @@ fn try_candidate<W: Write>(
 }
 
 /// No pair number is left: a UDP candidate can't be paired, and a TCP one need not be.
-fn write_used_up<W: Write>(alloc: Global, output: &mut W) -> Result<(), Broken> {
-    let mut agent = lonely(alloc)?;
-    skip(&mut agent, 18446744073709551615);
+fn write_used_up<W: Write>(agent: &mut Agent, alloc: Global, output: &mut W) -> Result<(), Broken> {
+    renew_lonely(agent, alloc)?;
+    skip(agent, 18446744073709551615);
     let name = "no pair number left, a UDP host";
-    try_candidate(&mut agent, alloc, name, FAR_LINE, output)?;
+    try_candidate(agent, alloc, name, FAR_LINE, output)?;
     let name = "no pair number left, a TCP host";
-    try_candidate(&mut agent, alloc, name, TCP_LINE, output)
+    try_candidate(agent, alloc, name, TCP_LINE, output)
 }
 
 /// One pair number is left. Skipping back changes nothing.
-fn write_last_number<W: Write>(alloc: Global, output: &mut W) -> Result<(), Broken> {
-    let mut agent = lonely(alloc)?;
-    skip(&mut agent, 18446744073709551614);
+fn write_last_number<W: Write>(
+    agent: &mut Agent,
+    alloc: Global,
+    output: &mut W,
+) -> Result<(), Broken> {
+    renew_lonely(agent, alloc)?;
+    skip(agent, 18446744073709551614);
     let name = "one pair number left, a UDP host";
-    try_candidate(&mut agent, alloc, name, FAR_LINE, output)?;
+    try_candidate(agent, alloc, name, FAR_LINE, output)?;
     let name = "one pair number left, another";
-    try_candidate(&mut agent, alloc, name, THIRD_LINE, output)?;
-    skip(&mut agent, 7);
+    try_candidate(agent, alloc, name, THIRD_LINE, output)?;
+    skip(agent, 7);
     let name = "one pair number left, another behind a smaller skip";
-    try_candidate(&mut agent, alloc, name, THIRD_LINE, output)
+    try_candidate(agent, alloc, name, THIRD_LINE, output)
 }
 
 /// The peer's request, signed.
@@ -124,32 +128,40 @@ fn try_request<W: Write>(
 }
 
 /// No pair is allowed: forming leaves none, and a request adds one until pairs are formed next.
-fn write_no_pairs<W: Write>(alloc: Global, output: &mut W) -> Result<(), Broken> {
-    let mut agent = lonely(alloc)?;
-    allow_pairs(&mut agent, 0);
+fn write_no_pairs<W: Write>(
+    agent: &mut Agent,
+    alloc: Global,
+    output: &mut W,
+) -> Result<(), Broken> {
+    renew_lonely(agent, alloc)?;
+    allow_pairs(agent, 0);
     let name = "no pair allowed, a UDP host";
-    try_candidate(&mut agent, alloc, name, FAR_LINE, output)?;
-    try_request(&mut agent, alloc, "no pair allowed, its request", output)?;
+    try_candidate(agent, alloc, name, FAR_LINE, output)?;
+    try_request(agent, alloc, "no pair allowed, its request", output)?;
     let name = "no pair allowed, another";
-    try_candidate(&mut agent, alloc, name, THIRD_LINE, output)
+    try_candidate(agent, alloc, name, THIRD_LINE, output)
 }
 
 /// The priority of a pair with a remote candidate of priority 0.
-fn least(alloc: Global, controlling: bool) -> Result<u64, Broken> {
-    let mut agent = lonely(alloc)?;
-    take_role(&mut agent, controlling);
-    let _ = hear_of(&mut agent, alloc, LEAST_LINE)?;
-    match pair_prio(&agent, alloc, LEAST_LINE)? {
+fn least(agent: &mut Agent, alloc: Global, controlling: bool) -> Result<u64, Broken> {
+    renew_lonely(agent, alloc)?;
+    take_role(agent, controlling);
+    let _ = hear_of(agent, alloc, LEAST_LINE)?;
+    match pair_prio(agent, alloc, LEAST_LINE)? {
         Some(prio) => Ok(prio),
         None => Err(Broken),
     }
 }
 
-fn write_priorities<W: Write>(alloc: Global, output: &mut W) -> Result<(), Broken> {
+fn write_priorities<W: Write>(
+    agent: &mut Agent,
+    alloc: Global,
+    output: &mut W,
+) -> Result<(), Broken> {
     let greatest = CandidatePair::calculate_prio(false, 4294967295, 4294967294);
     writeln!(output, "greatest priorities: a pair of {greatest}")?;
-    let controlled = least(alloc, false)?;
-    let controlling = least(alloc, true)?;
+    let controlled = least(agent, alloc, false)?;
+    let controlling = least(agent, alloc, true)?;
     writeln!(
         output,
         "remote priority 0: a pair of {controlled} where controlled, of {controlling} where controlling"
@@ -157,9 +169,9 @@ fn write_priorities<W: Write>(alloc: Global, output: &mut W) -> Result<(), Broke
     Ok(())
 }
 
-pub fn play<W: Write>(alloc: Global, output: &mut W) -> Result<(), Broken> {
-    write_used_up(alloc, output)?;
-    write_last_number(alloc, output)?;
-    write_no_pairs(alloc, output)?;
-    write_priorities(alloc, output)
+pub fn play<W: Write>(agent: &mut Agent, alloc: Global, output: &mut W) -> Result<(), Broken> {
+    write_used_up(agent, alloc, output)?;
+    write_last_number(agent, alloc, output)?;
+    write_no_pairs(agent, alloc, output)?;
+    write_priorities(agent, alloc, output)
 }

@@ -16,6 +16,7 @@ mod request;
 mod seeds;
 mod seen;
 
+use agents::{Agent, NEAR, NEAR_PASS, make};
 use broken::Broken;
 use std::alloc::Global;
 use std::io;
@@ -23,20 +24,28 @@ use std::io::Write;
 use std::process::ExitCode;
 
 /// Tries everything, a subject behind another.
-fn play<W: Write>(alloc: Global, output: &mut W) -> Result<(), Broken> {
+fn play<W: Write>(agent: &mut Agent, alloc: Global, output: &mut W) -> Result<(), Broken> {
     cuts::play(output)?;
-    flips::play(alloc, output)?;
-    answers::play(alloc, output)?;
-    flood::play(alloc, output)?;
+    flips::play(agent, alloc, output)?;
+    answers::play(agent, alloc, output)?;
+    flood::play(agent, alloc, output)?;
     conflict::play(alloc, output)?;
-    limits::play(alloc, output)?;
-    moments::play(alloc, output)?;
-    seeds::play(alloc, output)
+    limits::play(agent, alloc, output)?;
+    moments::play(agent, alloc, output)?;
+    seeds::play(agent, alloc, output)
+}
+
+/// Makes the agent that all others borrow.
+fn begin<W: Write>(alloc: Global, output: &mut W) -> Result<(), Broken> {
+    match make(alloc, NEAR, NEAR_PASS) {
+        Ok(mut agent) => play(&mut agent, alloc, output),
+        Err(Broken) => Err(Broken),
+    }
 }
 
 fn main(rt: HostRuntime) -> ExitCode {
     let mut output = io::writer(&rt);
-    match play(rt.alloc(), &mut output) {
+    match begin(rt.alloc(), &mut output) {
         Ok(()) => ExitCode::from(0),
         Err(Broken) => ExitCode::from(2),
     }

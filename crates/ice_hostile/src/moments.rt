@@ -1,6 +1,6 @@
 //! Moments and delays at their ends.
 use crate::agents::{
-    Agent, FAR_LINE, events, lonely, ms, next_packet, next_wake, packets, paired, wake,
+    Agent, FAR_LINE, events, ms, next_packet, next_wake, packets, renew_lonely, renew_paired, wake,
 };
 use crate::broken::Broken;
 use crate::limits::pair_prio;
@@ -70,33 +70,45 @@ fn set_rto(agent: &mut Agent, nanoseconds: u64) {
 }
 
 /// With a first delay of 0 no check waits for its answer.
-fn write_no_delay<W: Write>(alloc: Global, output: &mut W) -> Result<(), Broken> {
-    let mut agent = paired(alloc)?;
-    set_rto(&mut agent, 0);
+fn write_no_delay<W: Write>(
+    agent: &mut Agent,
+    alloc: Global,
+    output: &mut W,
+) -> Result<(), Broken> {
+    renew_paired(agent, alloc)?;
+    set_rto(agent, 0);
     let Duration(timeout) = agent.ice_timeout();
     writeln!(output, "first delay 0: given up behind {timeout} ns")?;
-    let ten = ten_times(&mut agent, alloc, Instant(0))?;
-    let told = events(&mut agent, alloc)?;
+    let ten = ten_times(agent, alloc, Instant(0))?;
+    let told = events(agent, alloc)?;
     write_ten(ten, told.as_str(), output)
 }
 
 /// At the last moment of all there is none to wait for.
-fn write_last_moment<W: Write>(alloc: Global, output: &mut W) -> Result<(), Broken> {
-    let mut agent = paired(alloc)?;
+fn write_last_moment<W: Write>(
+    agent: &mut Agent,
+    alloc: Global,
+    output: &mut W,
+) -> Result<(), Broken> {
+    renew_paired(agent, alloc)?;
     writeln!(output, "moment 18446744073709551615:")?;
-    let ten = ten_times(&mut agent, alloc, Instant(18446744073709551615))?;
-    let told = events(&mut agent, alloc)?;
+    let ten = ten_times(agent, alloc, Instant(18446744073709551615))?;
+    let told = events(agent, alloc)?;
     write_ten(ten, told.as_str(), output)
 }
 
 /// A moment before the last one: the pair stays due behind its check.
-fn write_back_in_time<W: Write>(alloc: Global, output: &mut W) -> Result<(), Broken> {
-    let mut agent = paired(alloc)?;
-    wake(&mut agent, ms(1000), 1)?;
-    let checks = packets(&mut agent);
-    wake(&mut agent, ms(0), 1)?;
-    let more = packets(&mut agent);
-    let Some(Instant(due)) = next_wake(&mut agent) else {
+fn write_back_in_time<W: Write>(
+    agent: &mut Agent,
+    alloc: Global,
+    output: &mut W,
+) -> Result<(), Broken> {
+    renew_paired(agent, alloc)?;
+    wake(agent, ms(1000), 1)?;
+    let checks = packets(agent);
+    wake(agent, ms(0), 1)?;
+    let more = packets(agent);
+    let Some(Instant(due)) = next_wake(agent) else {
         return Err(Broken);
     };
     writeln!(
@@ -106,13 +118,17 @@ fn write_back_in_time<W: Write>(alloc: Global, output: &mut W) -> Result<(), Bro
     Ok(())
 }
 
-fn write_retransmits<W: Write>(alloc: Global, output: &mut W) -> Result<(), Broken> {
-    let mut agent = lonely(alloc)?;
+fn write_retransmits<W: Write>(
+    agent: &mut Agent,
+    alloc: Global,
+    output: &mut W,
+) -> Result<(), Broken> {
+    renew_lonely(agent, alloc)?;
     agent.set_max_stun_retransmits(1);
     let Duration(one) = agent.ice_timeout();
     agent.set_max_stun_retransmits(18446744073709551615);
     let Duration(most) = agent.ice_timeout();
-    set_rto(&mut agent, 0);
+    set_rto(agent, 0);
     let Duration(none) = agent.ice_timeout();
     writeln!(output, "1 retransmit: given up behind {one} ns")?;
     writeln!(
@@ -122,9 +138,9 @@ fn write_retransmits<W: Write>(alloc: Global, output: &mut W) -> Result<(), Brok
     Ok(())
 }
 
-pub fn play<W: Write>(alloc: Global, output: &mut W) -> Result<(), Broken> {
-    write_no_delay(alloc, output)?;
-    write_last_moment(alloc, output)?;
-    write_back_in_time(alloc, output)?;
-    write_retransmits(alloc, output)
+pub fn play<W: Write>(agent: &mut Agent, alloc: Global, output: &mut W) -> Result<(), Broken> {
+    write_no_delay(agent, alloc, output)?;
+    write_last_moment(agent, alloc, output)?;
+    write_back_in_time(agent, alloc, output)?;
+    write_retransmits(agent, alloc, output)
 }

@@ -1,6 +1,6 @@
 //! One random call of an agent, and whether the agent did it.
 use crate::agents::{
-    Agent, FAR_PASS, Taken, add_host, at, creds, make, ms, signed, take, take_role, tell_peer,
+    Agent, FAR_PASS, Taken, add_host, at, creds, ms, renew, signed, take, take_role, tell_peer,
 };
 use crate::breeding::{below, breed};
 use crate::broken::Broken;
@@ -11,10 +11,9 @@ use rand_pcg::Pcg32;
 use std::alloc::Global;
 use std::net::SocketAddr;
 
-/// An agent, its peer, and what went between them last.
+/// What stands about an agent: its peer, the moment, and what went between them last.
 #[derive(Drop)]
 pub struct Session {
-    pub agent: Agent,
     pub peer: Candidate,
     /// In milliseconds.
     pub now: u64,
@@ -41,17 +40,21 @@ pub enum Did {
     Disagreed,
 }
 
-/// The agent that the seen request is for, in a random role and with or without its peer's candidate.
-pub fn start(alloc: Global, random: &mut Pcg32) -> Result<Session, Broken> {
-    let mut agent = make(alloc, UFRAG, PASSWORD)?;
-    take_role(&mut agent, below(random, 2) == 0);
-    add_host(&mut agent, alloc, at(1, 1000))?;
+/// A new agent that the seen request is for, in a random role, that knows its peer's credentials or not.
+pub fn start(agent: &mut Agent, alloc: Global, random: &mut Pcg32) -> Result<(), Broken> {
+    renew(agent, alloc, UFRAG, PASSWORD)?;
+    take_role(agent, below(random, 2) == 0);
+    add_host(agent, alloc, at(1, 1000))?;
     if below(random, 4) != 0 {
-        tell_peer(&mut agent, alloc, PEER, FAR_PASS)?;
+        tell_peer(agent, alloc, PEER, FAR_PASS)?;
     }
+    Ok(())
+}
+
+/// Nothing went between the agent and its peer yet.
+pub fn begin(alloc: Global) -> Result<Session, Broken> {
     let peer = Candidate::host(alloc, at(2, 2000), Protocol::Udp)?;
     Ok(Session {
-        agent,
         peer,
         now: 0,
         sent: Vec::new(alloc),
@@ -68,7 +71,7 @@ fn what_became(answer: Result<(), IceError>) -> Result<Did, Broken> {
 }
 
 /// Some time passes, or some is taken back.
-fn moment(session: &mut Session, random: &mut Pcg32) -> Result<Did, Broken> {
+fn moment(agent: &mut Agent, session: &mut Session, random: &mut Pcg32) -> Result<Did, Broken> {
     let now = session.now;
     session.now = match below(random, 8) {
         0 => now.saturating_sub(100),
@@ -79,7 +82,7 @@ fn moment(session: &mut Session, random: &mut Pcg32) -> Result<Did, Broken> {
         _ => now.saturating_add(16000),
     };
     let now = ms(session.now);
-    what_became(session.agent.handle_timeout(now, random))
+    what_became(agent.handle_timeout(now, random))
 }
 
 /// The id of the last packet that the agent sent.
@@ -131,7 +134,12 @@ fn came_of(taken: Taken, accepted: bool) -> Did {
 }
 
 /// A packet comes, mostly on the way of the peer's.
-fn packet(session: &mut Session, alloc: Global, random: &mut Pcg32) -> Result<Did, Broken> {
+fn packet(
+    agent: &mut Agent,
+    session: &mut Session,
+    alloc: Global,
+    random: &mut Pcg32,
+) -> Result<Did, Broken> {
     let mut bytes = parent(session, alloc, random)?;
     if below(random, 3) != 0 {
         bytes = breed(alloc, &bytes, random)?;
@@ -145,8 +153,8 @@ fn packet(session: &mut Session, alloc: Global, random: &mut Pcg32) -> Result<Di
         _ => at(1, 1000),
     };
     let now = ms(session.now);
-    let accepted = would_take(&session.agent, source, destination, &bytes);
-    let taken = take(&mut session.agent, now, source, destination, &bytes)?;
+    let accepted = would_take(agent, source, destination, &bytes);
+    let taken = take(agent, now, source, destination, &bytes)?;
     session.given = bytes;
     Ok(came_of(taken, accepted))
 }
@@ -183,66 +191,67 @@ fn invalidate(agent: &mut Agent, candidate: &Candidate) -> Did {
 }
 
 /// A candidate comes or goes.
-fn candidate(session: &mut Session, alloc: Global, random: &mut Pcg32) -> Result<Did, Broken> {
+fn candidate(agent: &mut Agent, alloc: Global, random: &mut Pcg32) -> Result<Did, Broken> {
     let number = match below(random, 2) {
         0 => 1,
         _ => 2,
     };
     let candidate = host(alloc, number, random)?;
     match below(random, 4) {
-        0 => Ok(invalidate(&mut session.agent, &candidate)),
-        1 => add_local(&mut session.agent, candidate),
-        _ => add_remote(&mut session.agent, candidate),
+        0 => Ok(invalidate(agent, &candidate)),
+        1 => add_local(agent, candidate),
+        _ => add_remote(agent, candidate),
     }
 }
 
-fn restart(session: &mut Session, alloc: Global, keep: bool) -> Result<Did, Broken> {
-    what_became(
-        session
-            .agent
-            .ice_restart(creds(alloc, UFRAG, PASSWORD)?, keep),
-    )
+fn restart(agent: &mut Agent, alloc: Global, keep: bool) -> Result<Did, Broken> {
+    what_became(agent.ice_restart(creds(alloc, UFRAG, PASSWORD)?, keep))
 }
 
 /// Credentials that are longer than any that are taken.
-fn tell_too_long(session: &mut Session, alloc: Global) -> Result<Did, Broken> {
+fn tell_too_long(agent: &mut Agent, alloc: Global) -> Result<Did, Broken> {
     let ufrag = "u".repeat(alloc, 509)?;
     let peer = creds(alloc, ufrag.as_str(), FAR_PASS)?;
-    what_became(session.agent.set_remote_credentials(peer))
+    what_became(agent.set_remote_credentials(peer))
 }
 
-fn tell_known(session: &mut Session, alloc: Global) -> Result<Did, Broken> {
-    tell_peer(&mut session.agent, alloc, PEER, FAR_PASS)?;
+fn tell_known(agent: &mut Agent, alloc: Global) -> Result<Did, Broken> {
+    tell_peer(agent, alloc, PEER, FAR_PASS)?;
     Ok(Did::Done)
 }
 
-fn recreate(session: &mut Session) -> Result<Did, Broken> {
-    what_became(session.agent.recreate_candidate_pairs())
+fn recreate(agent: &mut Agent) -> Result<Did, Broken> {
+    what_became(agent.recreate_candidate_pairs())
 }
 
 /// The end of the pair numbers comes near.
-fn skip(session: &mut Session) -> Did {
-    session.agent.skip_pair_ids(18446744073709551612);
+fn skip(agent: &mut Agent) -> Did {
+    agent.skip_pair_ids(18446744073709551612);
     Did::Done
 }
 
 /// What the user does that is no candidate.
-fn setting(session: &mut Session, alloc: Global, random: &mut Pcg32) -> Result<Did, Broken> {
+fn setting(agent: &mut Agent, alloc: Global, random: &mut Pcg32) -> Result<Did, Broken> {
     match below(random, 8) {
-        0 => restart(session, alloc, true),
-        1 => tell_too_long(session, alloc),
-        2 | 3 => recreate(session),
-        4 => Ok(skip(session)),
-        _ => tell_known(session, alloc),
+        0 => restart(agent, alloc, true),
+        1 => tell_too_long(agent, alloc),
+        2 | 3 => recreate(agent),
+        4 => Ok(skip(agent)),
+        _ => tell_known(agent, alloc),
     }
 }
 
 /// Makes a random call.
-pub fn call(session: &mut Session, alloc: Global, random: &mut Pcg32) -> Result<Did, Broken> {
+pub fn call(
+    agent: &mut Agent,
+    session: &mut Session,
+    alloc: Global,
+    random: &mut Pcg32,
+) -> Result<Did, Broken> {
     match below(random, 16) {
-        0 | 1 | 2 | 3 => moment(session, random),
-        4 | 5 => candidate(session, alloc, random),
-        6 => setting(session, alloc, random),
-        _ => packet(session, alloc, random),
+        0 | 1 | 2 | 3 => moment(agent, session, random),
+        4 | 5 => candidate(agent, alloc, random),
+        6 => setting(agent, alloc, random),
+        _ => packet(agent, session, alloc, random),
     }
 }

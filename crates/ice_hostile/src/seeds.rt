@@ -1,8 +1,8 @@
 //! Random lists of calls: what the agent does not do changes nothing that its caller can see.
-use crate::agents::{next_event, next_packet};
+use crate::agents::{Agent, next_event, next_packet};
 use crate::breeding::below;
 use crate::broken::Broken;
-use crate::random_calls::{Did, Session, call, start};
+use crate::random_calls::{Did, Session, begin, call, start};
 use crate::seen::look;
 use is::IceAgentEvent;
 use rand_core::SeedableRng;
@@ -61,10 +61,10 @@ impl Tally {
 }
 
 /// Takes the packets that wait, keeps the last, and answers how many there were.
-fn take_packets(session: &mut Session, tally: &mut Tally) -> u32 {
+fn take_packets(agent: &mut Agent, session: &mut Session, tally: &mut Tally) -> u32 {
     let mut count = 0u32;
     for _ in 0..u64::MAX {
-        let Some(packet) = next_packet(&mut session.agent) else {
+        let Some(packet) = next_packet(agent) else {
             break;
         };
         one_more(&mut count);
@@ -75,10 +75,10 @@ fn take_packets(session: &mut Session, tally: &mut Tally) -> u32 {
 }
 
 /// Takes the events that wait, and answers how many there were.
-fn take_events(session: &mut Session, tally: &mut Tally) -> u32 {
+fn take_events(agent: &mut Agent, tally: &mut Tally) -> u32 {
     let mut count = 0u32;
     for _ in 0..u64::MAX {
-        let Some(event) = next_event(&mut session.agent) else {
+        let Some(event) = next_event(agent) else {
             break;
         };
         one_more(&mut count);
@@ -92,16 +92,17 @@ fn take_events(session: &mut Session, tally: &mut Tally) -> u32 {
 /// A call that was not done changes no getter, and issues nothing. One that was done issues one packet at most. A packet is taken
 /// where the agent says that it would take it, and nowhere else.
 fn try_call(
+    agent: &mut Agent,
     session: &mut Session,
     alloc: Global,
     random: &mut Pcg32,
     tally: &mut Tally,
 ) -> Result<(), Broken> {
-    let before = look(&mut session.agent, &session.peer);
-    let did = call(session, alloc, random)?;
-    let packets = take_packets(session, tally);
-    let events = take_events(session, tally);
-    let after = look(&mut session.agent, &session.peer);
+    let before = look(agent, &session.peer);
+    let did = call(agent, session, alloc, random)?;
+    let packets = take_packets(agent, session, tally);
+    let events = take_events(agent, tally);
+    let after = look(agent, &session.peer);
     tally.count(did);
     let fits = match did {
         Did::Done | Did::Took => packets <= 1,
@@ -114,21 +115,22 @@ fn try_call(
     Ok(())
 }
 
-/// 10 to 30 calls.
-fn try_seed(alloc: Global, seed: u64, tally: &mut Tally) -> Result<(), Broken> {
+/// 10 to 30 calls of a new agent.
+fn try_seed(agent: &mut Agent, alloc: Global, seed: u64, tally: &mut Tally) -> Result<(), Broken> {
     let mut random = Pcg32::seed_from_u64(seed);
-    let mut session = start(alloc, &mut random)?;
+    start(agent, alloc, &mut random)?;
+    let mut session = begin(alloc)?;
     let calls = below(&mut random, 21).saturating_add(10);
     for _ in 0..calls {
-        try_call(&mut session, alloc, &mut random, tally)?;
+        try_call(agent, &mut session, alloc, &mut random, tally)?;
     }
     Ok(())
 }
 
-pub fn play<W: Write>(alloc: Global, output: &mut W) -> Result<(), Broken> {
+pub fn play<W: Write>(agent: &mut Agent, alloc: Global, output: &mut W) -> Result<(), Broken> {
     let mut tally = NOTHING;
     for seed in 0..SEEDS {
-        try_seed(alloc, seed, &mut tally)?;
+        try_seed(agent, alloc, seed, &mut tally)?;
     }
     let violations = tally.violations;
     let lively = tally.is_lively();
