@@ -19,7 +19,8 @@ use std::hash::Hash;
 
 type Boxed = Box<dyn LocalPreference>;
 
-/// What holds a boxed preference has no trait that a call may name here: it is there.
+/// These types are named in an alias alone, since a call with such a type argument, which holds a boxed preference, is not
+/// proved.
 type Holders = (
     IceAgent<DefaultSha1HmacProvider>,
     (Call, AgentCall<Boxed>),
