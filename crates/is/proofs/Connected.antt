@@ -33,21 +33,21 @@ only_self B x = inl refl
 module _ {H P : Type 0} (mac : H → List ℕ → List ℕ → List ℕ) (answers : P → CandidateRecord → ℕ → ℕ → Type 0) where
   -- ---- a packet that is handed over
 
-  handed : (side : Side) (packet : Packet) (w w' : WorldRecord H P) (s t : Stream) (x : Logged P) → (h : Hands side packet w x) → Happens mac answers w s x.event x.outcome w' t
+  pub handed : (side : Side) (packet : Packet) (w w' : WorldRecord H P) (s t : Stream) (x : Logged P) → (h : Hands side packet w x) → Happens mac answers w s x.event x.outcome w' t
       → Turns mac answers w s side (agent.ReceivePacket h.now (way_out packet) packet.contents) x.outcome w' t
   handed side packet w w' s t x h happens =
       subst (λ z. Turns mac answers w s z (agent.ReceivePacket h.now (way_out packet) packet.contents) x.outcome w' t) (twice side)
       (subst (λ o. world.Delivers mac answers w s o h.now (way_out packet) x.outcome w' t) h.sent
       (subst (λ (v : Event P). Happens mac answers w s v x.outcome w' t) h.event happens))
 
-  handed_has : (side : Side) (packet : Packet) (w : WorldRecord H P) (x : Logged P) → (h : Hands side packet w x)
+  pub handed_has : (side : Side) (packet : Packet) (w : WorldRecord H P) (x : Logged P) → (h : Hands side packet w x)
       → Has (acts side w x.event x.outcome.entry) (agent.ReceivePacket h.now (way_out packet) packet.contents, x.outcome.entry)
   handed_has side packet w x h =
       subst (λ (v : Event P). Has (acts side w v x.outcome.entry) (agent.ReceivePacket h.now (way_out packet) packet.contents, x.outcome.entry)) (sym h.event)
       (subst (λ o. Has (handed_as {P = P} side h.now (way_out packet) x.outcome.entry o) (agent.ReceivePacket h.now (way_out packet) packet.contents, x.outcome.entry)) (sym h.sent)
       (only_self side (agent.ReceivePacket h.now (way_out packet) packet.contents, x.outcome.entry)))
 
-  delivered : (side : Side) (packet : Packet) (w w' : WorldRecord H P) (s t : Stream) (x : Logged P) → (h : Hands side packet w x) → Happens mac answers w s x.event x.outcome w' t
+  pub delivered : (side : Side) (packet : Packet) (w w' : WorldRecord H P) (s t : Stream) (x : Logged P) → (h : Hands side packet w x) → Happens mac answers w s x.event x.outcome w' t
       → Delivered mac answers packet h.now (at side w) x.outcome.entry (at side w')
   delivered side packet w w' s t x h happens = record {
     before = s;
@@ -57,7 +57,7 @@ module _ {H P : Type 0} (mac : H → List ℕ → List ℕ → List ℕ) (answer
   }
 
   -- the other one is as it was
-  aside : (side : Side) (packet : Packet) (w w' : WorldRecord H P) (s t : Stream) (x : Logged P) → Hands (other side) packet w x → Happens mac answers w s x.event x.outcome w' t
+  pub aside : (side : Side) (packet : Packet) (w w' : WorldRecord H P) (s t : Stream) (x : Logged P) → Hands (other side) packet w x → Happens mac answers w s x.event x.outcome w' t
       → at side w' ≡ at side w
   aside side packet w w' s t x h happens =
       subst (λ z. at z w' ≡ at z w) (twice side)

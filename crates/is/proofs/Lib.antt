@@ -13,4 +13,5 @@ mod Settled
 mod Traced
 mod Owning
 mod Connected
+mod Granted
 mod MarkLemmas

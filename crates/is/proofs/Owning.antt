@@ -69,7 +69,7 @@ abbrev first_of : List Packet → Option Packet
 first_of [] = None
 first_of (p ∷ ps) = Some p
 
-abbrev polled_as : {P : Type 0} → Answer → List Packet → List (agent.Call P × Entry)
+abbrev pub polled_as : {P : Type 0} → Answer → List Packet → List (agent.Call P × Entry)
 polled_as (Refused error) ps = []
 polled_as _ ps = (agent.PollTransmit, quiet (Polled (first_of ps))) ∷ []
 
@@ -206,7 +206,7 @@ module _ {H P : Type 0} where
       | inr none ↦ absurd none
     ]
 
-    acts_told : (w w' : WorldRecord H P) (s t : Stream) (side : Side) (x : Logged P) (y : agent.Call P × Entry) (v : Event P) → Happens mac answers w s v x.outcome w' t
+    pub acts_told : (w w' : WorldRecord H P) (s t : Stream) (side : Side) (x : Logged P) (y : agent.Call P × Entry) (v : Event P) → Happens mac answers w s v x.outcome w' t
         → Has (acts side w v x.outcome.entry) y → is_some (last_of y.1.told.announced) ≡ true → Announces side x
     acts_told w w' s t side x y (world.Call z c) h has told = by (in_world c) h has where
       by : (b : Bool) → MatchBool b (Turns mac answers w s z c x.outcome w' t) (Stands mac answers w s agent.NotInWorld (Some z) x.outcome w' t)

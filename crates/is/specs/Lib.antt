@@ -8,6 +8,7 @@ pub mod WorldRoles
 pub mod Traces
 pub mod Marks
 pub mod Deliveries
+pub mod Grantings
 pub mod WorldLaws
 pub use Rattle.is_proto.specs.Moments
 pub use Rattle.is_proto.specs.Packets

@@ -8,6 +8,7 @@ use Rattle.is.specs.World.{WorldRecord, Logged, logged, IsWorldLog}
 use Rattle.is.specs.WorldRoles.{GreaterKeeps, LesserYieldsOnce, RolesDifferOnceMet}
 use Rattle.is.specs.Traces.{AnnouncedAreTraced}
 use Rattle.is.specs.Deliveries.{DeliveredRoundsAnnounce}
+use Rattle.is.specs.Grantings.{GrantedPathsAnnounce}
 
 module _ {H P : Type 0} (mac : H → List ℕ → List ℕ → List ℕ) (answers : P → CandidateRecord → ℕ → ℕ → Type 0) where
   abbrev pub KeepsLaw : Type 0
@@ -33,3 +34,6 @@ module _ {H P : Type 0} (mac : H → List ℕ → List ℕ → List ℕ) (answer
 
   abbrev pub DeliveriesLaw : Type 0
   DeliveriesLaw = (first : WorldRecord H P) (s : Stream) (log : List (Logged P)) → DeliveredRoundsAnnounce mac answers first s log
+
+  abbrev pub GrantingsLaw : Type 0
+  GrantingsLaw = (first : WorldRecord H P) (s : Stream) (log : List (Logged P)) → GrantedPathsAnnounce mac answers first s log

@@ -15,12 +15,13 @@ ghost use Rattle.is_agent.specs.View.{made};
 ghost use Rattle.is.specs.WorldRoles.{GreaterKeeps, LesserYieldsOnce, RolesDifferOnceMet};
 ghost use Rattle.is.specs.Traces.{AnnouncedAreTraced};
 ghost use Rattle.is.specs.Deliveries.{DeliveredRoundsAnnounce};
+ghost use Rattle.is.specs.Grantings.{GrantedPathsAnnounce};
 
 use crate::calls::{AgentCall, Answer, Entry};
 use crate::steps::{quiet, step, take_packet};
 use crate::world_laws::{
-    announced_are_traced, delivered_rounds_announce, greater_keeps, lesser_yields_once,
-    roles_differ_once_met,
+    announced_are_traced, delivered_rounds_announce, granted_paths_announce, greater_keeps,
+    lesser_yields_once, roles_differ_once_met,
 };
 use is_agent::{Agent, IceCreds};
 use is_candidate::LocalPreference;
@@ -436,12 +437,18 @@ impl<H: Sha1HmacProvider + Drop, P: LocalPreference> TwoAgents<H, P> {
         // moment on in which a check goes out on the path of one of them the network delivers it and its success, that agent announces a path
         // in one of the rounds. Both know each other, their roles differ, and the path reaches the other one; whatever else happens.
         ensures rounds { DeliveredRoundsAnnounce H.mac P.answers (world_of self.old) (R.stream rng.old) (logged events.items result.entries.items) }
+
+        // And of the controlled agent: where the controlling one checks the way back of a path whose pairs it nominated, and the controlled one
+        // checks the path, and the network delivers the first check, the second and its success, it announced a path by its next moment that
+        // serves no request. Where one pair of it alone joins the path, and until a call of its own may take such a pair away.
+        ensures granted { GrantedPathsAnnounce H.mac P.answers (world_of self.old) (R.stream rng.old) (logged events.items result.entries.items) }
     {
         greater_keeps::<H, P>();
         lesser_yields_once::<H, P>();
         roles_differ_once_met::<H, P>();
         announced_are_traced::<H, P>();
         delivered_rounds_announce::<H, P>();
+        granted_paths_announce::<H, P>();
         self.run_events(events, rng)
     }
 }

@@ -1,11 +1,12 @@
 //! What holds of each run of a world. Each law is the contract of a function that does nothing.
 
-ghost use Rattle.is.specs.WorldLaws.{KeepsLaw, YieldsLaw, DiffersLaw, TracedLaw, DeliveriesLaw};
+ghost use Rattle.is.specs.WorldLaws.{KeepsLaw, YieldsLaw, DiffersLaw, TracedLaw, DeliveriesLaw, GrantingsLaw};
 
 use is_candidate::LocalPreference;
 use is_proto::Sha1HmacProvider;
 use is_rules::laws::{
-    courses_announce, exchanges_succeed, fresh_is_sound, path_effect, role_effect, trade_effect,
+    checks_ask, courses_announce, exchanges_succeed, fresh_is_sound, granted_are_announced,
+    path_effect, role_effect, trade_effect,
 };
 
 /// Between two agents over any network the greater tie-breaker keeps its role.
@@ -54,4 +55,16 @@ pub(crate) fn delivered_rounds_announce<H: Sha1HmacProvider, P: LocalPreference>
     fresh_is_sound::<H, P>();
     exchanges_succeed::<H, P>();
     courses_announce::<H, P>();
+}
+
+/// Where the controlled agent is asked for a path by the other one, and its own check on it is answered, its next moment that serves no
+/// request finds a path announced, unless a pair of the path may have gone.
+pub(crate) fn granted_paths_announce<H: Sha1HmacProvider, P: LocalPreference>()
+    ensures { GrantingsLaw H.mac P.answers }
+{
+    path_effect::<H, P>();
+    fresh_is_sound::<H, P>();
+    exchanges_succeed::<H, P>();
+    checks_ask::<H, P>();
+    granted_are_announced::<H, P>();
 }

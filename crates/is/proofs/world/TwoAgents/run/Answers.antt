@@ -14,3 +14,6 @@ returns-clause-traced g c = c.announced_are_traced.ensures _ _ _ _ _ c.run_event
 
 pub returns-clause-rounds : goal.returns-clause-rounds
 returns-clause-rounds g c = c.delivered_rounds_announce.ensures _ _ _
+
+pub returns-clause-granted : goal.returns-clause-granted
+returns-clause-granted g c = c.granted_paths_announce.ensures _ _ _

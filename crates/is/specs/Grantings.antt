@@ -1,0 +1,93 @@
+-- How the controlled one of two agents finds a path: the other one asks for it, and its own check on it is answered (RFC 8445, sections
+-- 7.2.5.3.2 and 7.3.1.5).
+use Rattle.std.specs.Prelude.{◌≡◌, ℕ, suc, true, false, List, [], ◌∷◌, ◌++◌, None, ◌⊎◌}
+use Rattle.rand_core.specs.Stream.{Stream}
+use Rattle.is_proto.specs.Lists.{Has}
+use Rattle.is_proto.specs.Packets.{Packet}
+use Rattle.is_candidate.specs.Candidates.{CandidateRecord}
+use Rattle.is_stun.specs.declared.header.Class.TheVariants.{Request, Success}
+use Rattle.is_rules.specs.declared.told.Path.{Path}
+use Rattle.is_rules.specs.Asked.{IsAlone}
+use Rattle.is_rules.specs.AskedCourses.{Ends}
+use Rattle.is_rules.specs.Asking.{AreNominatedOn}
+use Rattle.is_rules.specs.Delivery.{KnowEachOther, IsReachedBy, Sends}
+use Rattle.is_rules.specs.Issuing.{way_out}
+use Rattle.is_rules.specs.Queue.{request_at}
+use Rattle.is_rules.specs.Steps as agent
+use Rattle.is_rules.specs.Told.{turned}
+use Rattle.is.specs.declared.world.Side.{Side}
+use Rattle.is.specs.Deliveries.{MakesPolls, Announces, Hands}
+use Rattle.is.specs.World.{WorldRecord, Call, Logged, Run, at, other}
+use Rattle.is.specs.WorldRoles.{IsNewAgent}
+
+-- an entry of a log, between the worlds before and behind it
+pub record Occurrence (H P : Type 0) : Type 0 where
+  pub before : WorldRecord H P
+  pub entry : Logged P
+  pub behind : WorldRecord H P
+
+module _ {H P : Type 0} where
+  -- before each of them the side is controlled, and the other one is not
+  abbrev pub IsControlled : Side → List (Occurrence H P) → Type 0
+  IsControlled side all = (x : Occurrence H P) → Has all x → ((at side x.before).controlling ≡ false) × ((at (other side) x.before).controlling ≡ true)
+
+  -- the packet comes to a side; before it does the waiting one makes no call but polls
+  pub record Arrival (waiting side : Side) (packet : Packet) (all : List (Occurrence H P)) : Type 0 where
+    pub between : List (Occurrence H P)
+    pub handed : Occurrence H P
+    pub rest : List (Occurrence H P)
+    pub split : all ≡ between ++ handed ∷ rest
+    pub polls : (x : Occurrence H P) → Has between x → MakesPolls waiting x.entry.event
+    pub hands : Hands side packet handed.before handed.entry
+
+  -- at a moment the side sends a check on the path, which comes to the other one before the next, and reaches it, while both know each other
+  pub record HandedCheck (mac : H → List ℕ → List ℕ → List ℕ) (side : Side) (path : Path) (all : List (Occurrence H P)) : Type 0 where
+    pub before : List (Occurrence H P)
+    pub sent : Occurrence H P
+    pub behind : List (Occurrence H P)
+    pub split : all ≡ before ++ sent ∷ behind
+    pub now : ℕ
+    pub check : Packet
+    pub id : List ℕ
+    pub moment : sent.entry.event ≡ Call side (agent.HandleTimeout now)
+    pub on : way_out check ≡ path
+    pub sends : Sends (at side sent.before) sent.entry.outcome.entry Request id check (at side sent.behind)
+    pub comes : Arrival side (other side) check behind
+    pub know : KnowEachOther mac (at side comes.handed.before) (at (other side) comes.handed.before)
+    pub reached : IsReachedBy (at (other side) comes.handed.before) path
+
+  -- the other side asks for the path: it checks the way back, whose pairs are nominated
+  abbrev pub IsAskedOver : (H → List ℕ → List ℕ → List ℕ) → Side → Path → List (Occurrence H P) → Type 0
+  IsAskedOver mac side path all = (k : HandedCheck mac (other side) (turned path) all) × AreNominatedOn (at (other side) k.sent.behind) (turned path)
+
+  -- the side checks the path, and the success comes back to it before its next moment
+  abbrev pub IsExchangedOver : (H → List ℕ → List ℕ → List ℕ) → Side → Path → List (Occurrence H P) → Type 0
+  IsExchangedOver mac side path all =
+      (k : HandedCheck mac side path all)
+      × ((reply : Packet) → Sends (at (other side) k.comes.handed.before) k.comes.handed.entry.outcome.entry Success k.id reply (at (other side) k.comes.handed.behind)
+      → Arrival side side reply k.comes.rest)
+
+  -- a call of the side may take away a pair of the path
+  abbrev pub MayEndAt : Side → Path → Occurrence H P → Type 0
+  MayEndAt side path x = (c : agent.Call P) × (x.entry.event ≡ Call side c) × Ends (at side x.before) c x.entry.outcome.entry path
+
+  module _ (mac : H → List ℕ → List ℕ → List ℕ) (answers : P → CandidateRecord → ℕ → ℕ → Type 0) where
+    -- what occurred in a run
+    abbrev pub occurrences_in : (w : WorldRecord H P) (s : Stream) (n : ℕ) (log : List (Logged P)) (last : WorldRecord H P) (t : Stream) → Run mac answers w s n log last t
+        → List (Occurrence H P)
+    occurrences_in w s n [] last t run = []
+    occurrences_in w s n (x ∷ rest) last t run = record { before = w; entry = x; behind = run.0 } ∷ occurrences_in run.0 run.1 (suc n) rest last t run.4
+
+    -- Between two agents as they are made, wherever in a part of the log the controlled side is asked for a path and its own check there is
+    -- answered, in whichever order, and a moment of it comes behind that serves no request, it announced a path by then, where one pair of it
+    -- alone joins this one, unless a call of it may have taken such a pair away.
+    abbrev pub GrantedPathsAnnounce : WorldRecord H P → Stream → List (Logged P) → Type 0
+    GrantedPathsAnnounce first s log =
+        (last : WorldRecord H P) (t : Stream) (run : Run mac answers first s 0 log last t) (before part rest : List (Occurrence H P)) (moment : Occurrence H P)
+        (now : ℕ) (side : Side) (path : Path)
+        → ((x : Side) → IsNewAgent (at x first)) → occurrences_in first s 0 log last t run ≡ before ++ ((part ++ moment ∷ []) ++ rest)
+        → IsControlled side (part ++ moment ∷ []) → IsAskedOver mac side path part → IsExchangedOver mac side path part
+        → moment.entry.event ≡ Call side (agent.HandleTimeout now) → moment.entry.outcome.entry.answer ≡ agent.Done → request_at now (at side moment.before) ≡ None
+        → IsAlone (at side moment.behind) path
+        → ((x : Occurrence H P) × Has (before ++ (part ++ moment ∷ [])) x × Announces side x.entry)
+        ⊎ ((x : Occurrence H P) × Has (part ++ moment ∷ []) x × MayEndAt side path x)
