@@ -1,4 +1,5 @@
-//! Agents: what a request, an answer, a moment with a check and an idle moment cost, by the number of pairs.
+//! Agents: what a request, an answer, a moment with a check and an idle moment cost, by the number of pairs, and local candidates by
+//! theirs.
 
 use crate::checksum::Checksum;
 use crate::messages::BROWSER_REQUEST;
@@ -20,7 +21,7 @@ const PEER_PASSWORD: &str = "VOkJxbRl1RmTxUk/WvJxBt";
 /// When a case begins: late enough for a nominated pair to go before the others by its 60 s.
 const START: Instant = Instant(60_000_000_000);
 
-/// The port of the peer's first address. The others follow it.
+/// The port of the first of several addresses. The others follow it.
 const FIRST_PORT: u16 = 2000;
 
 /// What happens in each round.
@@ -50,12 +51,44 @@ pub fn case_of(name: &str) -> Option<(Turn, u16)> {
         "1" => 1,
         "10" => 10,
         "100" => 100,
+        "1000" => 1000,
         _ => return None,
     };
     Some((turn, pairs))
 }
 
-/// Makes an agent with so many pairs, and then takes that many turns. Only this function owns an agent; the others borrow it.
+/// Each round makes an agent and adds so many host candidates to it.
+pub fn host_candidates(
+    alloc: Global,
+    count: u16,
+    rounds: u64,
+    sum: &mut Checksum,
+) -> Result<(), IceError> {
+    for _ in 0..rounds {
+        let mut agent = make(alloc)?;
+        add_hosts(&mut agent, alloc, count, sum)?;
+    }
+    Ok(())
+}
+
+fn add_hosts(
+    agent: &mut Agent,
+    alloc: Global,
+    count: u16,
+    sum: &mut Checksum,
+) -> Result<(), IceError> {
+    for candidate in 0..count {
+        let address = at(1, FIRST_PORT.saturating_add(candidate));
+        let host = Candidate::host(alloc, address, Protocol::Udp)?;
+        if let Some(added) = agent.add_local_candidate(host)? {
+            sum.add(u64::from(added.prio()));
+        }
+    }
+    Ok(())
+}
+
+/// Makes an agent with so many pairs, and then takes that many turns. Only this function and `host_candidates` own an agent; the others
+/// borrow it.
 pub fn turns(
     alloc: Global,
     turn: Turn,
@@ -76,6 +109,7 @@ fn make(alloc: Global) -> Result<Box<Agent>, IceError> {
 /// The agent is the one that the request is for, at 10.0.0.1:1000, and is met by so many pairs.
 fn set_up(agent: &mut Agent, alloc: Global, pairs: u16) -> Result<(), IceError> {
     agent.set_remote_credentials(creds(alloc, "SQAt", PEER_PASSWORD)?)?;
+    agent.set_max_candidate_pairs(usize::from(pairs.max(100)));
     let _ = agent.add_local_candidate(Candidate::host(alloc, at(1, 1000), Protocol::Udp)?)?;
     meet(agent, pairs)
 }
