@@ -31,8 +31,9 @@ use Rattle.is_rules.specs.declared.told.Told.{Told}
 use Rattle.is_rules.specs.Agent.{AgentRecord}
 use Rattle.is_rules.specs.Accepting.{HandlesPacket, IsAcceptedAs, IsAcceptedOn, IsAddressed, Takes}
 use Rattle.is_rules.specs.Answers.{keeps_check_on}
+use Rattle.is_rules.specs.Brought.{IsServing}
 use Rattle.is_rules.specs.Checking.{username_between}
-use Rattle.is_rules.specs.Delivery.{IsFragment, IsReachedBy, Sends, Delivered, Issued, IsTaken, ChecksAreServed, RepliesAreAccepted, receives, is_gone_at}
+use Rattle.is_rules.specs.Delivery.{IsFragment, KnowEachOther, IsReachedBy, Sends, Delivered, Issued, IsTaken, ChecksAreServed, RepliesAreAccepted, receives, is_gone_at}
 use Rattle.is_rules.specs.Fitting.{USERNAME_LIMIT, are_too_long}
 use Rattle.is_rules.specs.Issuing.{Says, IsIssued, key_for, way_out}
 use Rattle.is_rules.specs.Places.{is_live, is_reached, is_sender, local_place, place_by, IsRemotePlace, IsGreatestPlace}
@@ -97,6 +98,21 @@ not_misled true u leads = refl
 not_misled false true leads = let wrong : false ≡ true = leads refl in absurd (cc)
 not_misled false false leads = refl
 
+module _ {H P : Type 0} (mac : H → List ℕ → List ℕ → List ℕ) where
+  -- the check of an agent comes to another one that it is known to: it claims the role of its sender, and is served past the test of its user fragment
+  pub record Comes (a b : AgentRecord H P) (check : Packet) (id : List ℕ) (at : ℕ) (e : Entry) : Type 0 where
+    pub message : Message
+    pub reads : Reads check.contents message
+    pub accepted : e.answer ≡ Flag true
+    pub request : message.class ≡ class.Request
+    pub id_is : message.id ≡ id
+    pub named : names_another b (request_in at (way_out check) message) ≡ false
+    pub controlling : message.attributes.ice_controlling ≡ (if a.controlling then Some a.tie_breaker else None)
+    pub controlled : message.attributes.ice_controlled ≡ (if a.controlling then None else Some a.tie_breaker)
+    pub leads : message.attributes.use_candidate ≡ true → a.controlling ≡ true
+    pub mid : AgentRecord H P
+    pub serves : Serves mac (request_in at (way_out check) message) b e.told mid
+
 module _ {H P : Type 0} (mac : H → List ℕ → List ℕ → List ℕ) (answers : P → CandidateRecord → ℕ → ℕ → Type 0) where
   -- ---- what a step issued
 
@@ -127,7 +143,7 @@ module _ {H P : Type 0} (mac : H → List ℕ → List ℕ → List ℕ) (answer
   -- ---- where a request is served
 
   -- the first candidate that receives it stands
-  live_place : (b : AgentRecord H P) (q : RequestRecord) → list_any (is_live (receives q.path)) b.local ≡ true
+  pub live_place : (b : AgentRecord H P) (q : RequestRecord) → list_any (is_live (receives q.path)) b.local ≡ true
       → (l : ℕ) × (local_place b.local q ≡ Some l) × ((candidate_at b.local l).discarded ≡ false)
   live_place b q there =
       let at : position (is_live (is_reached q)) b.local ≡ Some (position_or_len (is_live (is_reached q)) b.local) = first_found (is_live (is_reached q)) b.local there in
@@ -190,10 +206,10 @@ module _ {H P : Type 0} (mac : H → List ℕ → List ℕ → List ℕ) (answer
 
   -- ---- what comes of a packet
 
-  abbrev Took : Packet → ℕ → AgentRecord H P → Entry → Message → Type 0
+  abbrev pub Took : Packet → ℕ → AgentRecord H P → Entry → Message → Type 0
   Took packet at old e m = (e.answer ≡ Flag true) × ((mid : AgentRecord H P) × Takes mac m.class at old (way_out packet) m e.told mid)
 
-  took : (packet : Packet) (at : ℕ) (old : AgentRecord H P) (e : Entry) (new : AgentRecord H P) (m : Message) → Reads packet.contents m
+  pub took : (packet : Packet) (at : ℕ) (old : AgentRecord H P) (e : Entry) (new : AgentRecord H P) (m : Message) → Reads packet.contents m
       → IsAcceptedOn mac old (way_out packet) m → Delivered mac answers packet at old e new → Took packet at old e m
   took packet at old e new m reads accepted d = by d.step.0 where
     handled : (r : Result Bool IceError) (told : Told) → e ≡ record { answer = answer_by Flag r; told = told }
@@ -208,13 +224,36 @@ module _ {H P : Type 0} (mac : H → List ℕ → List ℕ → List ℕ) (answer
     by (inr (n, other, (r, told, is, handles))) =
         handled r told is (subst (λ (x : Message). HandlesPacket mac at old (way_out packet) x r told new) (same_reading packet.contents m n reads other) handles)
 
+  -- what goes out as the packet is served takes the way back
+  pub goes-back : (c : Class) (b served : AgentRecord H P) (check : Packet) (id : List ℕ) (at : ℕ) (e : Entry) → IsSound b → Delivered mac answers check at b e served
+      → ((packet : Packet) (m : Message) → Says c b (ReceivePacket at (way_out check) check.contents) e packet.contents m (way_out packet) served.controlling → way_out packet ≡ turned (way_out check))
+      → (path : Path) → e.told.issued ≡ Some (issued_as path c id)
+      → (reply : Packet) × (way_out reply ≡ turned (way_out check)) × Sends b e c id reply served
+  goes-back c b served check id at e sound_b delivered turns path told =
+      let call : Call P = ReceivePacket at (way_out check) check.contents in
+      let posted = (path_effect mac answers b served delivered.before delivered.behind e call sound_b delivered.step).2 in
+      elim (issues mac answers b served delivered.before delivered.behind e call posted) [
+        | inl none ↦ absurd (let no : None ≡ Some (issued_as path c id) = sym none ∙ told in cc)
+        | inr (packet, put, issue) ↦ (let same = told_as path (way_out packet) c issue.0.class id issue.0.id (sym told ∙ issue.2) in (
+          packet,
+          turns packet issue.0 (subst (λ k. Says k b call e packet.contents issue.0 (way_out packet) served.controlling) (sym same.1) issue.3),
+          record { told = told ∙ ap (λ w. Some (issued_as w c id)) same.0; put = put },
+        ))
+      ]
+
+  -- the request that is served came by the packet's way
+  pub brought-by : (b : AgentRecord H P) (check : Packet) (at : ℕ) (e : Entry) (q : RequestRecord) → IsServing b (ReceivePacket at (way_out check) check.contents) e q → q.path ≡ way_out check
+  brought-by b check at e q (now, by, n, (now_is, by_is, reads, flag), request, known, is) = ap (λ (r : RequestRecord). r.path) is ∙ sym by_is
+
   -- ---- the check
 
   module _ (read : (m : List ℕ → List ℕ → List ℕ) (key : List ℕ) (x : Message) → WrittenIsRead m key x)
       (fits : (key id username : List ℕ) (controlling : Bool) (tie_breaker priority : ℕ) (nominates : Bool)
       → length username ≤ USERNAME_LIMIT → FitsInto key LONGEST_CHECK (binding_request username id controlling tie_breaker priority nominates)) where
-    pub checks-are-served : ChecksAreServed mac answers
-    checks-are-served a sent b served check id at e sound_a sound_b know apart reached issued delivered =
+    -- the check of an agent that is known comes: it is accepted, and gets past the test of its user fragment
+    pub check-comes : (a sent b served : AgentRecord H P) (check : Packet) (id : List ℕ) (at : ℕ) (e : Entry) → IsSound a → KnowEachOther mac a b
+        → Issued mac answers class.Request id check a sent → Delivered mac answers check at b e served → Comes mac a b check id at e
+    check-comes a sent b served check id at e sound_a know issued delivered =
         let i = issued_packet a sent class.Request id check sound_a issued in
         let same = told_as (way_out check) (way_out check) class.Request i.0.class id i.0.id (sym issued.sends.told ∙ i.2) in
         asked i.0 (i.1 ∙ ap (λ c. written (mac a.provider) (Some (key_for c a.local_creds a.remote_creds)) i.0) (sym same.1)) (sym same.2)
@@ -222,34 +261,11 @@ module _ {H P : Type 0} (mac : H → List ℕ → List ℕ → List ℕ) (answer
           way : Path
           way = way_out check
 
-          Answered : Type 0
-          Answered = IsTaken mac answers check at e class.Request
-              × ((reply : Packet) × (way_out reply ≡ turned (way_out check)) × Sends b e class.Success id reply served)
-
-          back_to : (packet : Packet) (m : Message) → Says class.Success b (ReceivePacket at way check.contents) e packet.contents m (way_out packet) served.controlling
-              → way_out packet ≡ turned way
-          back_to packet m (q, (now, by, n, (now_is, by_is, reads, flag), request, known, is), m_is, path_is, put) =
-              path_is ∙ ap turned (ap (λ (r : RequestRecord). r.path) is ∙ sym by_is)
-
-          replied_by : (path : Path) → e.told.issued ≡ Some (issued_as path class.Success id)
-              → (reply : Packet) × (way_out reply ≡ turned (way_out check)) × Sends b e class.Success id reply served
-          replied_by path told =
-              let call : Call P = ReceivePacket at way check.contents in
-              let posted = (path_effect mac answers b served delivered.before delivered.behind e call sound_b delivered.step).2 in
-              elim (issues mac answers b served delivered.before delivered.behind e call posted) [
-                | inl none ↦ absurd (let no : None ≡ Some (issued_as path class.Success id) = sym none ∙ told in cc)
-                | inr (packet, put, issue) ↦ (let same = told_as path (way_out packet) class.Success issue.0.class id issue.0.id (sym told ∙ issue.2) in (
-                  packet,
-                  back_to packet issue.0 (subst (λ k. Says k b call e packet.contents issue.0 (way_out packet) served.controlling) (sym same.1) issue.3),
-                  record { told = told ∙ ap (λ w. Some (issued_as w class.Success id)) same.0; put = put },
-                ))
-              ]
-
           taken : (peer : IceCreds) (c : CandidateRecord) (uses : Bool) (own : List ℕ) → own ≡ id → (uses ≡ true → a.controlling ≡ true) → peer ≡ b.local_creds
               → (back : ReadsBack (mac a.provider) peer.pass
               (written (mac a.provider) (Some peer.pass) (binding_request (username_between peer a.local_creds) own a.controlling a.tie_breaker (check_priority c) uses))
               (binding_request (username_between peer a.local_creds) own a.controlling a.tie_breaker (check_priority c) uses))
-              → Reads check.contents back.read → Answered
+              → Reads check.contents back.read → Comes mac a b check id at e
           taken peer c uses own id_is leads it back reads =
               let x : Message = binding_request (username_between peer a.local_creds) own a.controlling a.tie_breaker (check_priority c) uses in
               let n : Message = back.read in
@@ -268,22 +284,25 @@ module _ {H P : Type 0} (mac : H → List ℕ → List ℕ → List ℕ) (answer
               let q : RequestRecord = request_in at way n in
               let mid = t.1.0 in
               let takes : TakesRequest mac q b e.told mid = subst (λ k. Takes mac k at b way n e.told mid) same.class t.1.1 in
-              let serving : Serves mac q b e.told mid = subst (λ o. MatchOption o (Queues q b e.told mid) (λ _. Serves mac q b e.told mid)) know.its takes in
               let from : q.ufrag ≡ a.local_creds.ufrag = ap (λ o. option_map_or (λ (name : List ℕ × List ℕ). name.1) o []) names in
-              let named : names_another b q ≡ false =
-              ap (λ o. option_map_or (λ (k : IceCreds). not (bytes_eq q.ufrag k.ufrag)) o true) know.its
-              ∙ ap not ((bytes_eq-Decides q.ufrag a.local_creds.ufrag).1 from) in
-              let rival_of : rival_in b.controlling q ≡ None =
-              subst (λ r. rival_in r q ≡ None) (sym apart)
-              (no_rival a.controlling q a.tie_breaker (ap (λ (r : AttributesRecord). r.ice_controlling) same.attributes) (ap (λ (r : AttributesRecord). r.ice_controlled) same.attributes)) in
-              let led : is_misled b.controlling q ≡ false =
-              subst (λ r. (r && q.use_candidate) ≡ false) (sym apart)
-              (subst (λ u. (not a.controlling && u) ≡ false) (sym (ap (λ (r : AttributesRecord). r.use_candidate) same.attributes)) (not_misled a.controlling uses leads)) in
-              let reply = serves q b mid e.told named reached (ap (λ o. conflict_by b.tie_breaker o) rival_of) led serving in
-              ((n, (refl, refl, reads, t.0), same.class), replied_by reply.0 (reply.1 ∙ ap (λ i. Some (issued_as reply.0 class.Success i)) (same.id ∙ id_is)))
+              let nominates : n.attributes.use_candidate ≡ uses = ap (λ (r : AttributesRecord). r.use_candidate) same.attributes in
+              record {
+                message = n;
+                reads = reads;
+                accepted = t.0;
+                request = same.class;
+                id_is = same.id ∙ id_is;
+                named = ap (λ o. option_map_or (λ (k : IceCreds). not (bytes_eq q.ufrag k.ufrag)) o true) know.its
+                    ∙ ap not ((bytes_eq-Decides q.ufrag a.local_creds.ufrag).1 from);
+                controlling = ap (λ (r : AttributesRecord). r.ice_controlling) same.attributes;
+                controlled = ap (λ (r : AttributesRecord). r.ice_controlled) same.attributes;
+                leads = λ is. leads (sym nominates ∙ is);
+                mid = mid;
+                serves = subst (λ o. MatchOption o (Queues q b e.told mid) (λ _. Serves mac q b e.told mid)) know.its takes;
+              }
 
           asked : (m : Message) → check.contents ≡ written (mac a.provider) (Some (key_for class.Request a.local_creds a.remote_creds)) m → m.id ≡ id
-              → Says class.Request a issued.call issued.entry check.contents m (way_out check) sent.controlling → Answered
+              → Says class.Request a issued.call issued.entry check.contents m (way_out check) sent.controlling → Comes mac a b check id at e
           asked m contents id_is (peer, c, uses, known, has, m_is, put, role, leads) =
               let x : Message = binding_request (username_between peer a.local_creds) m.id a.controlling a.tie_breaker (check_priority c) uses in
               let it : peer ≡ b.local_creds = some_is peer b.local_creds (sym known ∙ know.mine) in
@@ -294,6 +313,19 @@ module _ {H P : Type 0} (mac : H → List ℕ → List ℕ → List ℕ) (answer
               (subst (λ (y : IceCreds). are_too_long a.local_creds (Some y) ≡ false) (sym it) know.fit) know.own
               (subst (λ (y : IceCreds). IsFragment y.ufrag) (sym it) know.other) (subst (λ (y : Message). IsPut check.contents y) m_is put) in
               taken peer c uses m.id id_is leads it back (subst (λ bs. Reads bs back.read) (sym bytes) back.reads)
+
+    pub checks-are-served : ChecksAreServed mac answers
+    checks-are-served a sent b served check id at e sound_a sound_b know apart reached issued delivered =
+        let k = check-comes a sent b served check id at e sound_a know issued delivered in
+        let q : RequestRecord = request_in at (way_out check) k.message in
+        let rival_of : rival_in b.controlling q ≡ None =
+        subst (λ r. rival_in r q ≡ None) (sym apart) (no_rival a.controlling q a.tie_breaker k.controlling k.controlled) in
+        let led : is_misled b.controlling q ≡ false = subst (λ r. (r && q.use_candidate) ≡ false) (sym apart) (not_misled a.controlling q.use_candidate k.leads) in
+        let reply = serves q b k.mid e.told k.named reached (ap (λ o. conflict_by b.tie_breaker o) rival_of) led k.serves in (
+          (k.message, (refl, refl, k.reads, k.accepted), k.request),
+          goes-back class.Success b served check id at e sound_b delivered (λ packet m says. says.3 ∙ ap turned (brought-by b check at e says.0 says.1))
+              reply.0 (reply.1 ∙ ap (λ i. Some (issued_as reply.0 class.Success i)) k.id_is),
+        )
 
   -- ---- its answer
 

@@ -52,6 +52,7 @@ pub mod Delivered
 pub mod KeptChecks
 pub mod Staying
 pub mod Exchanged
+pub mod Settling
 pub mod Coursing
 pub mod Asking
 pub mod AskedCourses

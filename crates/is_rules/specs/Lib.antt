@@ -46,6 +46,7 @@ pub mod Progress
 pub mod Rounds
 pub mod Delivery
 pub mod Exchange
+pub mod Conflicts
 pub mod Courses
 pub mod Asking
 pub mod AskedCourses

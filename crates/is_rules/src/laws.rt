@@ -8,6 +8,7 @@ ghost use Rattle.is_rules.specs.RoleView.{FreshIsNew, RoleLaw};
 ghost use Rattle.is_rules.specs.Progress.{AnsweredAnnounce, AnswersAnnounce, MomentsAnnounce, NoPairStarves, WakesAhead, WakesAreOfUse, WakesInTime};
 ghost use Rattle.is_rules.specs.Delivery.{ChecksAreServed, ChecksAreKept, RepliesAreAccepted};
 ghost use Rattle.is_rules.specs.Exchange.{ChecksStay, ExchangesSucceed};
+ghost use Rattle.is_rules.specs.Conflicts.{ConflictsSettle};
 ghost use Rattle.is_rules.specs.Courses.{CoursesAnnounce};
 ghost use Rattle.is_rules.specs.Asking.{ChecksAsk};
 ghost use Rattle.is_rules.specs.AskedCourses.{GrantedAreAnnounced};
@@ -176,6 +177,18 @@ pub fn checks_stay<H: Sha1HmacProvider, P: LocalPreference>()
 pub fn exchanges_succeed<H: Sha1HmacProvider, P: LocalPreference>()
     ensures { ExchangesSucceed H.mac P.answers }
 {
+    checks_are_answered::<H, P>();
+}
+
+/// One check settles a role conflict: where it comes to the other agent, which has the sender's role, either that has the smaller tie-breaker
+/// and takes the other role, or its 487, delivered before the sender's next moment, makes the sender take it. Whatever packets and polls come
+/// between.
+pub fn conflicts_settle<H: Sha1HmacProvider, P: LocalPreference>()
+    ensures { ConflictsSettle H.mac P.answers }
+{
+    written_is_read();
+    checks_fit();
+    replies_fit();
     checks_are_answered::<H, P>();
 }
 
