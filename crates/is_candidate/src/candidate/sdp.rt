@@ -10,6 +10,9 @@ use std::alloc::Global;
 use std::fmt;
 use std::net::SocketAddr;
 
+/// Room for most lines, in bytes.
+const LINE_ROOM: usize = 128;
+
 impl Candidate {
     /// The line of the candidate: `candidate:`, foundation, component, protocol, priority, address, port, `typ` and
     /// kind, then `raddr` with `rport`, `tcptype` and `ufrag`, each where it is known.
@@ -17,7 +20,9 @@ impl Candidate {
         ensures text { IfOk result (λ line. string_bytes line ≡ sdp_text self.now) }
         ensures refusal { IsOkUnless result OutOfMemory }
     {
-        Ok(format!(in alloc; "{self}")?)
+        let mut line = String::with_capacity(alloc, LINE_ROOM)?;
+        write!(line, "{self}")?;
+        Ok(line)
     }
 }
 
