@@ -142,7 +142,7 @@ module _ {H P : Type 0} (mac : H → List ℕ → List ℕ → List ℕ) (answer
                 subst (λ w. list_any (keeps_check_on sent w id) sent.pairs ≡ true) (sym back.1) (kept_law a sent s t now check id moment sound_a step sends) in
                 let kept = checks-stay mac answers sent near xs (way_out refusal) id sound_sent fits_in gone way_back in
                 let sound_near = sound-course mac answers xs sent near sound_sent gone in record {
-                  no_smaller = le;
+                  no_smaller = omega (arith, le);
                   stays = role ∙ ap (λ c. role_once c b.controlling) is;
                   refusal = refusal;
                   way_back = back.1;
@@ -173,4 +173,4 @@ module _ {H P : Type 0} (mac : H → List ℕ → List ℕ → List ℕ) (answer
             settles : b.controlling ≡ a.controlling → (((nat_le a.tie_breaker b.tie_breaker ≡ true) × (a.tie_breaker ≤ b.tie_breaker)) ⊎ ((nat_le a.tie_breaker b.tie_breaker ≡ false) × (b.tie_breaker < a.tie_breaker)))
                 → ((b.tie_breaker < a.tie_breaker) × (served.controlling ≡ not a.controlling)) ⊎ IsInsisted mac answers a near b served check id handed
             settles alike (inl (is, le)) = inr (insists le alike (conflict true alike is))
-            settles alike (inr (is, lt)) = inl (lt, role ∙ ap (λ c. role_once c b.controlling) (conflict false alike is) ∙ ap not alike)
+            settles alike (inr (is, lt)) = inl (omega (arith, lt), role ∙ ap (λ c. role_once c b.controlling) (conflict false alike is) ∙ ap not alike)
