@@ -1,5 +1,6 @@
 //! Two agents and the packets between them.
 
+mod granted;
 mod repeats;
 mod roles;
 mod rounds;
