@@ -14,4 +14,5 @@ mod Traced
 mod Owning
 mod Connected
 mod Granted
+mod Meeting
 mod MarkLemmas

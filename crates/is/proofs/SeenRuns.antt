@@ -11,7 +11,7 @@ use Rattle.is.specs.declared.world.Side.TheVariants.{A, B}
 use Rattle.is_rules.specs.Standing.{Mail, Standing, Deed, IsNew}
 use Rattle.is.specs.World.{other}
 use Rattle.is.specs.WorldRoles.{changes}
-use Rattle.is.proofs.Seen.{Letter, Seen, Told, Kind, Still, Move, Moves, Stands, Happening, Happens, Run, at, put, roles_of, role_at}
+use Rattle.is.proofs.Seen.{Letter, Seen, Told, Kind, Still, Move, Moves, Stands, Happening, Happens, Roles, Run, at, put, roles_of, role_at}
 use Rattle.is.proofs.Seen.{told_of, Trace, Back, DistinctChecks, Premises, StaysFull, NeverLite, roles_along, KeepsRole, YieldsOnce, Meets, Point, DifferOnceMet, Traced, AnswersComeBack}
 use Rattle.is.proofs.SeenGrow.{distinct-append}
 use Rattle.is.proofs.SeenCarried.{not-other, sides, role-roles, not-self, Setting, Fact, Half, Carried, Turn, fact-grow, half-grow, half_turn, announced_turn, greater_turn, lesser_turn, met_turn}
@@ -292,13 +292,13 @@ told_of-append : (log more : List Happening) → told_of (log ++ more) ≡ told_
 told_of-append [] more = refl
 told_of-append (x ∷ log) more = ap (λ es. x.told ∷ es) (told_of-append log more)
 
-apart : (g : Side) (role : Bool) (e : Told) → role_at g e.roles ≡ role → role_at (other g) e.roles ≡ not role → e.roles.a ≢ e.roles.b
-apart A role e is differs both = not-self role (sym differs ∙ sym both ∙ is)
-apart B role e is differs both = not-self role (sym differs ∙ both ∙ is)
+apart : (g : Side) (role : Bool) (r : Roles) → role_at g r ≡ role → role_at (other g) r ≡ not role → r.a ≢ r.b
+apart A role r is differs both = not-self role (sym differs ∙ sym both ∙ is)
+apart B role r is differs both = not-self role (sym differs ∙ both ∙ is)
 
 all_apart : (g : Side) (role : Bool) (es : List Told) → AllByRecursion (λ e. role_at g e.roles ≡ role) es → AllByRecursion (λ e. role_at (other g) e.roles ≡ not role) es → AllByRecursion (λ e. e.roles.a ≢ e.roles.b) es
 all_apart g role [] is differs = tt
-all_apart g role (e ∷ es) (is, more_is) (differs, more_differ) = (apart g role e is differs, all_apart g role es more_is more_differ)
+all_apart g role (e ∷ es) (is, more_is) (differs, more_differ) = (apart g role e.roles is differs, all_apart g role es more_is more_differ)
 
 -- what is known at an event of a run
 record AtPoint (z : Setting) (log before : List Happening) (mid : Seen) (x : Happening) (rest : List Happening) : Type 0 where
@@ -324,6 +324,44 @@ differ_once_met first log greater p before mid x rest point met =
     all_apart greater (at greater first).controlling (told_of (x ∷ rest))
     (n.roles greater ∙ n.after.role, runs_keep z (es ++ x.told ∷ []) rest point.after point.last point.leads full_rest n.distinct_rest n.after)
     (n.roles (other greater) ∙ role, runs_settled z (es ++ x.told ∷ []) rest point.after point.last point.leads full_rest n.distinct_rest n.after role)
+
+-- ---- wherever a run leads
+
+-- the greater's role and the tie-breakers are those of the start
+pub record Reaches (first : Seen) (greater : Side) (mid : Seen) : Type 0 where
+  pub role : (at greater mid).controlling ≡ (at greater first).controlling
+  pub tie : (s : Side) → (at s mid).tie_breaker ≡ (at s first).tie_breaker
+
+pub reaches : (first mid : Seen) (front : List Happening) (left : List Told) (greater : Side) → Premises first greater (told_of front ++ left) → Run first front mid → Reaches first greater mid
+unfolding setting_of none_full
+reaches first mid front left greater p ran =
+    let z = setting_of first greater p.tie none_full in
+    let k = runs_carried z [] front first mid ran (all_none z (λ s. refl) front) (distinct-append (told_of front) left p.distinct) (start_carried first greater _ p none_full) in
+    record { role = k.role; tie = λ s. (k.half s).tie }
+
+both_apart : (g : Side) (role : Bool) (w : Seen) → (at g w).controlling ≡ role → (at (other g) w).controlling ≡ not role → w.a.controlling ≢ w.b.controlling
+both_apart g role w is differs = apart g role (roles_of w) (role-roles g w ∙ is) (role-roles (other g) w ∙ differs)
+
+other_apart : (g : Side) (role : Bool) (w : Seen) → (at g w).controlling ≡ role → w.a.controlling ≢ w.b.controlling → (at (other g) w).controlling ≡ not role
+other_apart g role w is differs = elim (one_of (at (other g) w).controlling role) [ inr turned ↦ turned | inl same ↦ absurd (alike g is same) ] where
+  alike : (g : Side) → (at g w).controlling ≡ role → (at (other g) w).controlling ≡ role → ⊥
+  alike A one two = differs (one ∙ sym two)
+  alike B one two = differs (two ∙ sym one)
+
+-- the lesser one that meets the greater's role, or has the other one, has the other one
+pub event_apart : (first w w' : Seen) (front : List Happening) (left : List Told) (kind : Kind) (e : Told) (greater : Side) → Premises first greater (told_of front ++ e ∷ left)
+    → Run first front w → Happens w kind e w' → Meets (other greater) w kind ⊎ (w.a.controlling ≢ w.b.controlling) → w'.a.controlling ≢ w'.b.controlling
+unfolding setting_of none_full
+event_apart first w w' front left kind e greater p ran happens how =
+    let z = setting_of first greater p.tie none_full in
+    let distinct = distinct-append (told_of front) (e ∷ left) p.distinct in
+    let k = runs_carried z [] front first w ran (all_none z (λ s. refl) front) distinct (start_carried first greater _ p none_full) in
+    let full : AreFull z kind = λ s is. (let no : z.full s ≡ false = refl in cc) in
+    let after = carried z (told_of front) w w' k kind e happens full distinct in
+    both_apart greater z.role w' after.role (elim how [
+      | inl met ↦ lesser_met z (told_of front) w w' k kind e happens full distinct met
+      | inr differs ↦ lesser_stays z (told_of front) w w' k kind e happens full distinct (other_apart greater z.role w k.role differs)
+    ])
 
 -- ---- announced paths
 

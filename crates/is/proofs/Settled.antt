@@ -112,7 +112,7 @@ role_as B (a ∷ b ∷ rest) = refl
 role_as B (a ∷ []) = refl
 role_as B [] = refl
 
-role_of : {H P : Type 0} (side : Side) (w : WorldRecord H P) → (seen.at side (seen_of w)).controlling ≡ (world.at side w).controlling
+pub role_of : {H P : Type 0} (side : Side) (w : WorldRecord H P) → (seen.at side (seen_of w)).controlling ≡ (world.at side w).controlling
 role_of A w = refl
 role_of B w = refl
 
@@ -128,7 +128,7 @@ all_differ : {P : Type 0} (log : List (Logged P)) → AllByRecursion (λ (e : To
 all_differ [] all = tt
 all_differ (x ∷ log) (is, all) = (λ both. is (role_as A x.outcome.controlling ∙ both ∙ sym (role_as B x.outcome.controlling)), all_differ log all)
 
-map-append : {X Y : Type 0} (f : X → Y) (xs ys : List X) → map f (xs ++ ys) ≡ map f xs ++ map f ys
+pub map-append : {X Y : Type 0} (f : X → Y) (xs ys : List X) → map f (xs ++ ys) ≡ map f xs ++ map f ys
 map-append f [] ys = refl
 map-append f (x ∷ xs) ys = ap (λ zs. f x ∷ zs) (map-append f xs ys)
 
@@ -170,7 +170,7 @@ module _ {H P : Type 0} where
   passes_so : (old : AgentRecord H P) (q : RequestRecord) → IsServedPastTests old q → (standing_of old).passes q ≡ true
   passes_so old q (named, (place, is)) = ap (λ b. not b && is_some (local_place old.local q)) named ∙ ap (λ o. is_some o) is
 
-  met_seen : (side : Side) (w : WorldRecord H P) (c : agent.Call P) (e : Entry) (kind : Kind) → kind ≡ Move side (deed_of (world.at side w) c e)
+  pub met_seen : (side : Side) (w : WorldRecord H P) (c : agent.Call P) (e : Entry) (kind : Kind) → kind ≡ Move side (deed_of (world.at side w) c e)
       → ((q : RequestRecord) × IsServing (world.at side w) c e q × IsServedPastTests (world.at side w) q)
       ⊎ ((now : ℕ) × (way : Path) × (m : Message) × Brings c e now way m × (m.class ≡ class.Failure) × (is_role_conflict m ≡ true))
       → seen.Meets side (seen_of w) kind

@@ -16,12 +16,13 @@ ghost use Rattle.is.specs.WorldRoles.{GreaterKeeps, LesserYieldsOnce, RolesDiffe
 ghost use Rattle.is.specs.Traces.{AnnouncedAreTraced};
 ghost use Rattle.is.specs.Deliveries.{DeliveredRoundsAnnounce};
 ghost use Rattle.is.specs.Grantings.{GrantedPathsAnnounce};
+ghost use Rattle.is.specs.Meetings.{RolesMeet};
 
 use crate::calls::{AgentCall, Answer, Entry};
 use crate::steps::{quiet, step, take_packet};
 use crate::world_laws::{
     announced_are_traced, delivered_rounds_announce, granted_paths_announce, greater_keeps,
-    lesser_yields_once, roles_differ_once_met,
+    lesser_yields_once, roles_differ_once_met, roles_meet,
 };
 use is_agent::{Agent, IceCreds};
 use is_candidate::LocalPreference;
@@ -430,6 +431,9 @@ impl<H: Sha1HmacProvider + Drop, P: LocalPreference> TwoAgents<H, P> {
         // From the event on at which it met the greater's role the roles differ.
         ensures differ { RolesDifferOnceMet H.mac P.answers (world_of self.old) (R.stream rng.old) (logged events.items result.entries.items) }
 
+        // Whatever roles they begin with: wherever a check of either is delivered, and its 487 where it gives one, the roles differ from then on.
+        ensures meet { RolesMeet H.mac P.answers (world_of self.old) (R.stream rng.old) (logged events.items result.entries.items) }
+
         // Each path that an agent announced which is never lite was answered by the other agent, and the answer came back on it.
         ensures traced { AnnouncedAreTraced (world_of self.old) (logged events.items result.entries.items) result.entries.items }
 
@@ -449,6 +453,7 @@ impl<H: Sha1HmacProvider + Drop, P: LocalPreference> TwoAgents<H, P> {
         announced_are_traced::<H, P>();
         delivered_rounds_announce::<H, P>();
         granted_paths_announce::<H, P>();
+        roles_meet::<H, P>();
         self.run_events(events, rng)
     }
 }

@@ -1,12 +1,12 @@
 //! What holds of each run of a world. Each law is the contract of a function that does nothing.
 
-ghost use Rattle.is.specs.WorldLaws.{KeepsLaw, YieldsLaw, DiffersLaw, TracedLaw, DeliveriesLaw, GrantingsLaw};
+ghost use Rattle.is.specs.WorldLaws.{KeepsLaw, YieldsLaw, DiffersLaw, TracedLaw, DeliveriesLaw, GrantingsLaw, MeetingsLaw};
 
 use is_candidate::LocalPreference;
 use is_proto::Sha1HmacProvider;
 use is_rules::laws::{
-    checks_ask, courses_announce, exchanges_succeed, fresh_is_sound, granted_are_announced,
-    path_effect, role_effect, trade_effect,
+    checks_ask, conflicts_settle, courses_announce, exchanges_succeed, fresh_is_sound,
+    granted_are_announced, path_effect, role_effect, trade_effect,
 };
 
 /// Between two agents over any network the greater tie-breaker keeps its role.
@@ -67,4 +67,14 @@ pub(crate) fn granted_paths_announce<H: Sha1HmacProvider, P: LocalPreference>()
     exchanges_succeed::<H, P>();
     checks_ask::<H, P>();
     granted_are_announced::<H, P>();
+}
+
+/// One delivered check, and its 487 where it gives one, make roles opposite.
+pub(crate) fn roles_meet<H: Sha1HmacProvider, P: LocalPreference>()
+    ensures { MeetingsLaw H.mac P.answers }
+{
+    path_effect::<H, P>();
+    role_effect::<H, P>();
+    fresh_is_sound::<H, P>();
+    conflicts_settle::<H, P>();
 }

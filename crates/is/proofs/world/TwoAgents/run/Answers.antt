@@ -17,3 +17,6 @@ returns-clause-rounds g c = c.delivered_rounds_announce.ensures _ _ _
 
 pub returns-clause-granted : goal.returns-clause-granted
 returns-clause-granted g c = c.granted_paths_announce.ensures _ _ _
+
+pub returns-clause-meet : goal.returns-clause-meet
+returns-clause-meet g c = c.roles_meet.ensures _ _ _
