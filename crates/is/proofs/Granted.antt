@@ -1,4 +1,5 @@
 -- A path that the controlled one of two agents was asked for, and that was answered, is announced by its next moment.
+-- The premises that refused/laws turns are read by tactics where they are used: so a weaker one leaves that goal open.
 use Rattle.std.proofs.Common.{◌≡◌, ℕ, suc, Bool, true, false, not, List, [], ◌∷◌, ◌++◌, Option, Some, None, is_some, inl, inr, refl, ap, sym, ◌∙◌, subst, if◌then◌else◌, append_assoc}
 use Rattle.std.specs.Prelude.{slice_get}
 use Rattle.rand_core.specs.Stream.{Stream}
@@ -8,12 +9,14 @@ use Rattle.is_candidate.specs.Candidates.{CandidateRecord}
 use Rattle.is_rules.specs.declared.told.Path.{Path}
 use Rattle.is_rules.specs.Agent.{AgentRecord, fresh}
 use Rattle.is_rules.specs.Answers.{goes_back}
+use Rattle.is_rules.specs.Asked.{IsAlone}
 use Rattle.is_rules.specs.AskedCourses.{IsAnsweredAlong, AnnouncesAlong, Ends, EndsAlong, GrantsAlong, GrantedAreAnnounced}
 use Rattle.is_rules.specs.Asking.{AreNominatedOn, Grants, ChecksAsk}
 use Rattle.is_rules.specs.Delivery.{IsReachedBy}
 use Rattle.is_rules.specs.Effects.{PathLaw, last_of}
 use Rattle.is_rules.specs.Exchange.{AreBetween, Course, ExchangesSucceed}
 use Rattle.is_rules.specs.Issuing.{way_out}
+use Rattle.is_rules.specs.Queue.{request_at}
 use Rattle.is_rules.specs.Sound.{FreshIsSound}
 use Rattle.is_rules.specs.Steps as agent
 use Rattle.is_rules.specs.Steps.{Answer, Entry, Refused, Done, quiet, Step}
@@ -22,7 +25,7 @@ use Rattle.is_rules.proofs.KeptChecks.{back_again}
 use Rattle.is.specs.declared.world.Side.{Side}
 use Rattle.is.specs.declared.world.Side.TheVariants.{A, B}
 use Rattle.is.specs.Deliveries.{MakesPolls, Announces, Hands}
-use Rattle.is.specs.Grantings.{Occurrence, HandedCheck, IsAskedOver, IsExchangedOver, MayEndAt, occurrences_in, GrantedPathsAnnounce}
+use Rattle.is.specs.Grantings.{Occurrence, IsControlled, Arrival, HandedCheck, IsAskedOver, IsExchangedOver, MayEndAt, occurrences_in, GrantedPathsAnnounce}
 use Rattle.is.specs.World as world
 use Rattle.is.specs.World.{WorldRecord, LetterRecord, Event, Logged, Turns, Happens, Run, at, other, in_world}
 use Rattle.is.proofs.Following.{Has-front, Has-rear, AreSound}
@@ -115,6 +118,14 @@ module _ {H P : Type 0} (mac : H → List ℕ → List ℕ → List ℕ) (answer
       (subst (λ o. handed_as {P = P} side h.now (way_out packet) x.outcome.entry o ≡ (agent.ReceivePacket h.now (way_out packet) packet.contents, x.outcome.entry) ∷ []) (sym h.sent)
       (only_one side (agent.ReceivePacket h.now (way_out packet) packet.contents, x.outcome.entry)))
 
+  -- ---- the premises
+
+  apart_at : (side : Side) (all : List (Occurrence H P)) (x : Occurrence H P) → IsControlled side all → Has all x → ((at side x.before).controlling ≡ false) × ((at (other side) x.before).controlling ≡ true)
+  apart_at side all x roles has = search (roles x has)
+
+  polls_between : (waiting side : Side) (packet : Packet) (all : List (Occurrence H P)) (come : Arrival waiting side packet all) (x : Occurrence H P) → Has come.between x → MakesPolls waiting x.entry.event
+  polls_between waiting side packet all come x has = search (come.polls x has)
+
   -- ---- a check
 
   record Checked (from : Side) (path : Path) (all : List (Occurrence H P)) (last : WorldRecord H P) (k : HandedCheck mac from path all) : Type 0 where
@@ -142,7 +153,7 @@ module _ {H P : Type 0} (mac : H → List ℕ → List ℕ → List ℕ) (answer
         sound_sent = sound_sent;
         step = turn_step mac answers k.sent.before k.sent.behind one.s one.t from (agent.HandleTimeout k.now) k.sent.entry.outcome
             (subst (λ (v : Event P). Happens mac answers k.sent.before one.s v k.sent.entry.outcome k.sent.behind one.t) k.moment one.happens);
-        between = own_between from k.comes.between k.comes.polls;
+        between = own_between from k.comes.between (polls_between from (other from) k.check k.behind k.comes);
         course = own_course from k.comes.between k.sent.behind k.comes.handed.before two.led;
         sound = sound_along paths k.comes.between k.sent.behind k.comes.handed.before two.led
             (sound_on mac answers paths k.sent.before k.sent.behind one.s one.t k.sent.entry sound_sent one.happens);
@@ -293,8 +304,8 @@ module _ {H P : Type 0} (mac : H → List ℕ → List ℕ → List ℕ) (answer
 
       asked_for : (side : Side) (path : Path) → ((x : Occurrence H P) → Has part x → ((at side x.before).controlling ≡ false) × ((at (other side) x.before).controlling ≡ true))
           → (at side last).controlling ≡ false → IsAskedOver mac side path part → Granted side path whole (own side part) (at side w) (at side last)
-      asked_for A path roles role (k, nominated) = asked B (turned path) roles role k nominated
-      asked_for B path roles role (k, nominated) = asked A (turned path) roles role k nominated
+      asked_for A path roles role (k, nominated) = asked B (turned path) roles role k (search nominated)
+      asked_for B path roles role (k, nominated) = asked A (turned path) roles role k (search nominated)
 
       answered : (side : Side) (path : Path) → ((x : Occurrence H P) → Has part x → ((at side x.before).controlling ≡ false) × ((at (other side) x.before).controlling ≡ true))
           → IsExchangedOver mac side path part → IsAnsweredAlong (own side part) path
@@ -308,11 +319,11 @@ module _ {H P : Type 0} (mac : H → List ℕ → List ℕ → List ℕ) (answer
           (subst (λ y. IsReachedBy (at (other side) handed.before) y) (sym k.on) k.reached)
           (delivered mac answers (other side) k.check handed.before handed.behind c.u c.v handed.entry k.comes.hands c.happens) in
           let reply = there.1.0 in
-          let back = returns reply there.1.2 in
+          let back : Arrival side side reply k.comes.rest = search (returns reply there.1.2) in
           let m = meet back.between back.rest back.handed handed.behind last (subst (λ xs. Follow handed.behind xs last) back.split c.rest) in
           let call : agent.Call P = agent.ReceivePacket back.hands.now (way_out reply) reply.contents in
           let taken = there.1.3 (at side back.handed.before) (at side back.handed.behind) (own side back.between) back.hands.now back.handed.entry.outcome.entry
-          (own_between side back.between back.polls)
+          (own_between side back.between (polls_between side side reply k.comes.rest back))
           (subst (λ (z : AgentRecord H P). Course mac answers (own side back.between) z (at side back.handed.before))
           (aside mac answers side k.check handed.before handed.behind c.u c.v handed.entry k.comes.hands c.happens)
           (own_course side back.between handed.behind back.handed.before m.led))
@@ -351,15 +362,19 @@ module _ {H P : Type 0} (mac : H → List ℕ → List ℕ → List ℕ) (answer
       let sound : AreSound start = sound_along paths before first start led.1 (λ z. sound_new new_sound (at z first) (new z)) in
       let turn : Turns mac answers moment.before m.s side (agent.HandleTimeout now) moment.entry.outcome moment.behind m.t =
       subst (λ (v : Event P). Happens mac answers moment.before m.s v moment.entry.outcome moment.behind m.t) comes m.happens in
-      let roles_part = λ (x : Occurrence H P) (has : Has part x). roles x (Has-front part (moment ∷ []) x has) in
+      let idle : request_at now (at side moment.before) ≡ None = search none in
+      let lone : IsAlone (at side moment.behind) path = search alone in
+      let roles_part : (x : Occurrence H P) → Has part x → ((at side x.before).controlling ≡ false) × ((at (other side) x.before).controlling ≡ true) =
+      λ x has. apart_at side (part ++ moment ∷ []) x roles (Has-front part (moment ∷ []) x has) in
+      let role_moment = (apart_at side (part ++ moment ∷ []) moment roles (middle part [] moment)).0 in
       let among = λ (x : Occurrence H P) (has : Has part x). Has-front part (moment ∷ []) x has in
-      let g = asked_for paths asks succeeds part (part ++ moment ∷ []) start moment.before sound m.led among side path roles_part (roles moment (middle part [] moment)).0 ask in
+      let g = asked_for paths asks succeeds part (part ++ moment ∷ []) start moment.before sound m.led among side path roles_part role_moment ask in
       let a = answered paths asks succeeds part (part ++ moment ∷ []) start moment.before sound m.led among side path roles_part answer in
       let n = new side in
       elim (announce (fresh (at side first).provider n.0 n.1) (at side start) (at side moment.before) (at side moment.behind) ((agent.SetControlling n.2, quiet Done) ∷ own side before)
       (own side part) m.s m.t now moment.entry.outcome.entry path (n.0, n.1, refl)
       (at side first, s, s, tt, (refl, n.3, refl), own_course side before first start led.1)
-      g.0 (turn_step mac answers moment.before moment.behind m.s m.t side (agent.HandleTimeout now) moment.entry.outcome turn) done none g.2 a alone) [
+      g.0 (turn_step mac answers moment.before moment.behind m.s m.t side (agent.HandleTimeout now) moment.entry.outcome turn) done idle g.2 a lone) [
         | inl told ↦ inl (told_back side before part moment first start moment.before (agent.SetControlling n.2) (agent.HandleTimeout now) led.1 m.led turn.side_is told)
         | inr ends ↦ inr (elim ends [
           | inl e ↦ g.1 e
