@@ -1,4 +1,5 @@
 -- One delivered check, and its 487 where it gives one, make roles opposite.
+-- The premises that refused/laws turns are read by tactics where they are used: so a weaker one leaves that goal open.
 use Rattle.std.proofs.Common.{◌≡◌, ◌⊎◌, ℕ, suc, ◌<◌, Bool, true, false, not, List, [], ◌∷◌, ◌++◌, map, length, inl, inr, refl, ap, sym, ◌∙◌, subst, arith, ◌+◌, append_assoc, append-nil}
 use Rattle.std.specs.List.{AllByRecursion}
 use Rattle.std.specs.Prelude.{◌≢◌}
@@ -171,7 +172,8 @@ module _ {H P : Type 0} where
                     (subst (λ z. (at (other greater) first).tie_breaker < (at z first).tie_breaker) (sym there_is) less) in
                     elim (there.1 alike) [
                       | inl (below, _) ↦ absurd (let none : ⊥ = omega (arith, below, above, tie_a, tie_b) in none)
-                      | inr i ↦ insisted w mid last s u t n x rest run lesser k happens (λ y has. polls y (inr has)) i back (aside mac answers side check w mid s u x h happens)
+                      | inr i ↦ insisted w mid last s u t n x rest run lesser k happens (λ y has. polls y (inr has)) i (λ refusal gives. search (back refusal gives))
+                          (aside mac answers side check w mid s u x h happens)
                     ])
               ]
           confronts (x ∷ rest) w last s t n (mid, u, number, happens, run) xs fits course polls k (inr later) =
@@ -190,7 +192,7 @@ module _ {H P : Type 0} (mac : H → List ℕ → List ℕ → List ℕ) (answer
       let moved : Step mac answers (at side start) u (agent.HandleTimeout r.now) r.moment.outcome.entry (at side m.mid) m.u =
       turn_step mac answers start m.mid u m.u side (agent.HandleTimeout r.now) r.moment.outcome (subst (λ (v : Event P). Happens mac answers start u v r.moment.outcome m.mid m.u) m.comes m.happens) in
       confronts first greater mac answers paths roles settles side left less (at side start) (at side m.mid) u m.u r.now r.moment.outcome.entry check id (k.sound side) moved m.sends role
-      (tie_kept first greater start (r.moment ∷ (r.behind ++ left)) side k) r.behind m.mid last m.u t (suc n) m.run [] (λ y none. absurd none) refl m.polls
+      (tie_kept first greater start (r.moment ∷ (r.behind ++ left)) side k) r.behind m.mid last m.u t (suc n) m.run [] (λ y none. absurd none) refl (λ x has. search (m.polls x has))
       (comes_on first greater mac answers paths roles start m.mid u m.u r.moment (r.behind ++ left) k m.happens) m.confronts
 
   pub roles_meet : (first : WorldRecord H P) (s : Stream) (log : List (Logged P)) → RolesMeet mac answers first s log
@@ -218,8 +220,8 @@ module _ {H P : Type 0} (mac : H → List ℕ → List ℕ → List ℕ) (answer
             let here : Apart start = apart_if greater start apart in
             let there : Apart m.mid = apart_on first greater mac answers paths roles start m.mid u m.u r.moment (r.behind ++ rest) k m.happens here in
             (apart_run first greater mac answers paths roles r.behind rest m.mid last m.u t (suc (length before)) k_mid m.run there).0)
-      ] in (
-        differs,
-        (apart_run first greater mac answers paths roles rest [] last end t v (suc (length before) + length r.behind)
-            (subst (λ (l : List (Logged P)). Comes first greater last l) (sym (append-nil rest)) k_last) more differs).1,
-      )
+      ] in
+      let after : AllByRecursion AreOpposite rest =
+      (apart_run first greater mac answers paths roles rest [] last end t v (suc (length before) + length r.behind)
+      (subst (λ (l : List (Logged P)). Comes first greater last l) (sym (append-nil rest)) k_last) more differs).1 in
+      (differs, (search after))

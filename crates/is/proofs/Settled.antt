@@ -1,5 +1,5 @@
 -- Roles of two agents, and traces of what they announce, from runs of the world as each is met by the other one.
-use Rattle.std.proofs.Common.{◌≡◌, ℕ, zero, suc, ◌<◌, ◌≤◌, Bool, true, false, List, [], ◌∷◌, ◌++◌, map, Option, Some, None, is_some, option_map, ◌⊎◌, inl, inr, refl, ap, sym, ◌∙◌, subst, not}
+use Rattle.std.proofs.Common.{◌≡◌, ℕ, zero, suc, ◌<◌, ◌≤◌, Bool, true, false, List, [], ◌∷◌, ◌++◌, map, Option, Some, None, is_some, option_map, ◌⊎◌, inl, inr, refl, ap, sym, ◌∙◌, subst, not, arith}
 use Rattle.std.specs.Prelude.{◌≢◌, ◌&&◌, slice_get}
 use Rattle.std.specs.List.{AllByRecursion}
 use Rattle.rand_core.specs.Stream.{Stream}
@@ -87,7 +87,7 @@ pub premises_seen : {H P : Type 0} (first : WorldRecord H P) (greater : Side) (l
 premises_seen first greater log es same p = record {
   new = new_at;
   empty = ap (map letter_as) p.empty;
-  tie = less greater p.tie;
+  tie = less greater (omega (arith, p.tie));
   distinct = subst seen.DistinctChecks (sym same) (distinct_seen log p.distinct);
 }
   where
