@@ -1,4 +1,5 @@
 -- In rounds in which the network delivers, a controlling side announces a path.
+-- The premises that refused/laws turns are read by tactics where they are used: so a weaker one leaves that goal open.
 use Rattle.std.proofs.Common.{◌≡◌, ℕ, suc, ◌+◌, true, false, not, List, [], ◌∷◌, ◌++◌, length, Some, inl, inr, refl, ap, sym, ◌∙◌, subst, arith}
 use Rattle.rand_core.specs.Stream.{Stream}
 use Rattle.is_proto.specs.Lists.{Has}
@@ -8,7 +9,7 @@ use Rattle.is_stun.specs.declared.header.Class.TheVariants.{Request, Success}
 use Rattle.is_rules.specs.declared.told.Path.{Path}
 use Rattle.is_rules.specs.Agent.{AgentRecord, fresh}
 use Rattle.is_rules.specs.Courses.{CourseRound, AcceptsSuccess, IsAnsweredRound, AnnouncesAmong, CourseRounds, CoursesAnnounce}
-use Rattle.is_rules.specs.Delivery.{Sends, Delivered, IsTaken}
+use Rattle.is_rules.specs.Delivery.{KnowEachOther, Sends, Delivered, IsTaken}
 use Rattle.is_rules.specs.Effects.{PathLaw, TradeLaw}
 use Rattle.is_rules.specs.Exchange.{AreBetween, Course, ExchangesSucceed}
 use Rattle.is_rules.specs.Issuing.{way_out, IsQueued}
@@ -22,6 +23,7 @@ use Rattle.is.specs.declared.world.Side.TheVariants.{A, B}
 use Rattle.is.specs.Deliveries.{WorldRound, entries_of, MakesPolls, AreApart, Announces, Hands, Returns, Exchanges, IsDelivered, AreDelivered, DeliveredRoundsAnnounce}
 use Rattle.is.specs.World as world
 use Rattle.is.specs.World.{WorldRecord, Event, Logged, Turns, Happens, Run, at, other}
+use Rattle.is.specs.WorldRoles.{role_in}
 use Rattle.is.proofs.Following.{Has-front, Has-rear, AreSound}
 use Rattle.is.proofs.Settled.{sound_new}
 use Rattle.is.proofs.Owning.{only, handed_as, twice, between_both, acts, acts_between, course_on, turn_other, turn_step, sound_on, own, acts_course, owns, steers, own_between, own_told, sound_run, role_run, role_behind}
@@ -64,6 +66,11 @@ module _ {H P : Type 0} (mac : H → List ℕ → List ℕ → List ℕ) (answer
       (turn_other mac answers w w' s t (other side) (agent.ReceivePacket h.now (way_out packet) packet.contents) x.outcome (handed (other side) packet w w' s t x h happens))
 
   module _ (side : Side) where
+    -- ---- the premises
+
+    is_apart : (x : Logged P) → AreApart side x → (role_in side x ≡ true) × (role_in (other side) x ≡ false)
+    is_apart x apart = search apart
+
     -- ---- the way back
 
     -- an accepted success among what the side did
@@ -109,17 +116,18 @@ module _ {H P : Type 0} (mac : H → List ℕ → List ℕ → List ℕ) (answer
             → Exchanges mac answers side check id w s n log last t run → Met (own mac answers side w s n log last t run)
         exchanges [] w last s t n run xs fits course sound role polls apart comes = absurd comes
         exchanges (x ∷ rest) w last s t n (mid, u, number, happens, run) xs fits course sound role polls apart (inl (h, know, reached, back)) =
+            let known : KnowEachOther mac (at side w) (at (other side) w) = search know in
             let there = succeeds a sent (at side w) (at (other side) w) (at (other side) mid) s₀ t₀ now h.now check id moment x.outcome.entry xs sound_a (sound (other side))
-            step sends fits course know (role ∙ ap not (sym role_a)) reached (delivered (other side) check w mid s u x h happens) in
+            step sends fits course known (role ∙ ap not (sym role_a)) reached (delivered (other side) check w mid s u x h happens) in
             met_later (acts side w x.event x.outcome.entry) (own mac answers side mid u (suc n) rest last t run)
             (returns there.1.0 (at side w) there.1.3 rest mid last u t (suc n) run [] (λ y none. absurd none) (aside side check w mid s u x h happens)
-            (λ y has. polls y (inr has)) (back there.1.0 there.1.2))
+            (λ y has. polls y (inr has)) (search (back there.1.0 there.1.2)))
         exchanges (x ∷ rest) w last s t n (mid, u, number, happens, run) xs fits course sound role polls apart (inr later) =
             met_later (acts side w x.event x.outcome.entry) (own mac answers side mid u (suc n) rest last t run)
             (exchanges rest mid last u t (suc n) run (xs ++ acts side w x.event x.outcome.entry)
             (between_both xs (acts side w x.event x.outcome.entry) fits (acts_between side w x.event x.outcome.entry (polls x (inl refl))))
             (course_on mac answers xs (acts side w x.event x.outcome.entry) sent (at side w) (at side mid) course (acts_course mac answers w mid s u side x happens))
-            (sound_on mac answers paths w mid s u x sound happens) (role_behind mac answers w mid s u (other side) x false happens (apart x (inl refl)).1)
+            (sound_on mac answers paths w mid s u x sound happens) (role_behind mac answers w mid s u (other side) x false happens (is_apart x (apart x (inl refl))).1)
             (λ y has. polls y (inr has)) (λ y has. apart y (inr has)) later)
 
       -- ---- a round
@@ -142,7 +150,7 @@ module _ {H P : Type 0} (mac : H → List ℕ → List ℕ → List ℕ) (answer
           → AreSound w → (at side w).controlling ≡ true → IsAnsweredRound by path (round_of by path r w s n next t d)
       is_answered by path r w s n next t d sound role = record {
         done = d.done;
-        late = d.late;
+        late = omega (arith, d.late);
         early = d.early;
         between = own_between mac answers side d.mid next d.u t (suc n) r.behind d.run d.polls;
         met = λ id out. met id out;
@@ -161,7 +169,7 @@ module _ {H P : Type 0} (mac : H → List ℕ → List ℕ → List ℕ) (answer
             exchanges (at side w) (at side d.mid) s d.u r.now r.moment.outcome.entry check id (sound side) role moment sends
             r.behind d.mid next d.u t (suc n) d.run [] (λ y none. absurd none) refl
             (sound_on mac answers paths w d.mid s d.u r.moment sound d.happens)
-            (role_behind mac answers w d.mid s d.u (other side) r.moment false d.happens (d.apart r.moment (inl refl)).1)
+            (role_behind mac answers w d.mid s d.u (other side) r.moment false d.happens (is_apart r.moment (d.apart r.moment (inl refl))).1)
             d.polls (λ y has. d.apart y (inr has)) (d.exchanged check id queued.1 sends)
 
       -- ---- round after round
