@@ -1,6 +1,7 @@
 //! Two agents and the packets between them.
 
 mod granted;
+mod meet;
 mod repeats;
 mod roles;
 mod rounds;
