@@ -68,11 +68,16 @@ fn ufrag(side: Side) -> &'static str {
     }
 }
 
-fn creds(alloc: Global, side: Side) -> Result<IceCreds, AllocError> {
+/// Credentials of the side under this user fragment.
+fn named(alloc: Global, side: Side, ufrag: &str) -> Result<IceCreds, AllocError> {
     Ok(IceCreds {
-        ufrag: Text::from_str(alloc, ufrag(side))?,
+        ufrag: Text::from_str(alloc, ufrag)?,
         pass: Text::from_str(alloc, password(side))?,
     })
+}
+
+fn creds(alloc: Global, side: Side) -> Result<IceCreds, AllocError> {
+    named(alloc, side, ufrag(side))
 }
 
 /// The way from A to the address.
@@ -171,8 +176,16 @@ enum Step {
     Controlling(bool),
     TieBreaker(u64),
     Lite,
+    /// The limit of pairs.
+    Pairs(usize),
+    /// The limit of checks of a pair.
+    Checks(usize),
+    /// The agent takes this user fragment.
+    Named(&'static str),
     /// The other agent's credentials become known.
     Remote,
+    /// Those of this user fragment do.
+    RemoteNamed(&'static str),
     Host(SocketAddr),
     /// A host candidate of the other agent becomes known.
     Peer(SocketAddr),
@@ -191,8 +204,13 @@ enum Step {
     Recreate,
 }
 
-fn remote(alloc: Global, side: Side) -> Option<Call> {
-    let creds = creds(alloc, other(side)).ok()?;
+fn rename(alloc: Global, side: Side, ufrag: &str) -> Option<Call> {
+    let creds = named(alloc, side, ufrag).ok()?;
+    Some(AgentCall::SetLocalCredentials(creds))
+}
+
+fn remote(alloc: Global, side: Side, ufrag: &str) -> Option<Call> {
+    let creds = named(alloc, other(side), ufrag).ok()?;
     Some(AgentCall::SetRemoteCredentials(creds))
 }
 
@@ -236,7 +254,11 @@ fn call(alloc: Global, side: Side, step: Step) -> Option<Call> {
         Step::Controlling(controlling) => Some(AgentCall::SetControlling(controlling)),
         Step::TieBreaker(number) => Some(AgentCall::SetControlTieBreaker(number)),
         Step::Lite => Some(AgentCall::SetIceLite(true)),
-        Step::Remote => remote(alloc, side),
+        Step::Pairs(limit) => Some(AgentCall::SetMaxCandidatePairs(limit)),
+        Step::Checks(limit) => Some(AgentCall::SetMaxStunRetransmits(limit)),
+        Step::Named(ufrag) => rename(alloc, side, ufrag),
+        Step::Remote => remote(alloc, side, ufrag(other(side))),
+        Step::RemoteNamed(ufrag) => remote(alloc, side, ufrag),
         Step::Host(address) => host(alloc, address),
         Step::Peer(address) => peer(alloc, address),
         Step::PeerLine(line) => peer_line(alloc, line),

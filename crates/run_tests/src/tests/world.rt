@@ -2,6 +2,7 @@
 
 mod granted;
 mod meet;
+mod premises;
 mod repeats;
 mod roles;
 mod rounds;

@@ -97,7 +97,7 @@ fn of_two_controlled_agents_the_lesser_takes_control(stage: &mut Stage) -> Told 
     ])
 }
 
-const EQUALS: Start = Start {
+pub(super) const EQUALS: Start = Start {
     tie_breakers: [7, 7],
     controlling: [true, true],
 };
