@@ -1,6 +1,6 @@
 -- A path that the controlled one of two agents was asked for, and that was answered, is announced by its next moment.
 -- The premises that refused/laws turns are read by tactics where they are used: so a weaker one leaves that goal open.
-use Rattle.std.proofs.Common.{◌≡◌, ℕ, suc, Bool, true, false, not, List, [], ◌∷◌, ◌++◌, Option, Some, None, is_some, inl, inr, refl, ap, sym, ◌∙◌, subst, if◌then◌else◌, append_assoc}
+use Rattle.std.proofs.Common.{◌≡◌, ℕ, suc, Bool, true, false, not, List, [], ◌∷◌, ◌++◌, Option, Some, None, is_some, inl, inr, ◌⊎◌, refl, ap, sym, ◌∙◌, subst, if◌then◌else◌, append_assoc}
 use Rattle.std.specs.Prelude.{slice_get}
 use Rattle.rand_core.specs.Stream.{Stream}
 use Rattle.is_proto.specs.Lists.{Has}
@@ -28,6 +28,7 @@ use Rattle.is.specs.Deliveries.{MakesPolls, Announces, Hands}
 use Rattle.is.specs.Grantings.{Occurrence, IsControlled, Arrival, HandedCheck, IsAskedOver, IsExchangedOver, MayEndAt, occurrences_in, GrantedPathsAnnounce}
 use Rattle.is.specs.World as world
 use Rattle.is.specs.World.{WorldRecord, LetterRecord, Event, Logged, Turns, Happens, Run, at, other, in_world}
+use Rattle.is.specs.WorldRoles.{IsNewAgent}
 use Rattle.is.proofs.Following.{Has-front, Has-rear, AreSound}
 use Rattle.is.proofs.Settled.{sound_new}
 use Rattle.is.proofs.Owning.{either_has, only, handed_as, polled_as, between_both, acts, acts_between, course_on, turn_step, acts_course, acts_told, sound_on}
@@ -43,61 +44,61 @@ only_one B x = refl
 module _ {H P : Type 0} (mac : H → List ℕ → List ℕ → List ℕ) (answers : P → CandidateRecord → ℕ → ℕ → Type 0) where
   -- ---- one after another
 
-  abbrev Follow : WorldRecord H P → List (Occurrence H P) → WorldRecord H P → Type 0
+  abbrev pub Follow : WorldRecord H P → List (Occurrence H P) → WorldRecord H P → Type 0
   Follow w [] last = last ≡ w
   Follow w (x ∷ rest) last =
       (x.before ≡ w) × (s t : Stream) × Happens mac answers x.before s x.entry.event x.entry.outcome x.behind t × Follow x.behind rest last
 
-  follows : (w last : WorldRecord H P) (s t : Stream) (n : ℕ) (log : List (Logged P)) → (run : Run mac answers w s n log last t) → Follow w (occurrences_in mac answers w s n log last t run) last
+  pub follows : (w last : WorldRecord H P) (s t : Stream) (n : ℕ) (log : List (Logged P)) → (run : Run mac answers w s n log last t) → Follow w (occurrences_in mac answers w s n log last t run) last
   follows w last s t n [] run = run.0
   follows w last s t n (x ∷ rest) (mid, u, number, happens, run) = (refl, s, u, happens, follows mid last u t (suc n) rest run)
 
-  cut : (xs ys : List (Occurrence H P)) (w last : WorldRecord H P) → Follow w (xs ++ ys) last → (mid : WorldRecord H P) × Follow w xs mid × Follow mid ys last
+  pub cut : (xs ys : List (Occurrence H P)) (w last : WorldRecord H P) → Follow w (xs ++ ys) last → (mid : WorldRecord H P) × Follow w xs mid × Follow mid ys last
   cut [] ys w last more = (w, refl, more)
   cut (x ∷ xs) ys w last (from, s, t, happens, more) = let k = cut xs ys x.behind last more in (k.0, (from, s, t, happens, k.1), k.2)
 
   -- one of them, what leads to it and what comes behind
-  record Met (w last : WorldRecord H P) (xs : List (Occurrence H P)) (x : Occurrence H P) (ys : List (Occurrence H P)) : Type 0 where
+  pub record Met (w last : WorldRecord H P) (xs : List (Occurrence H P)) (x : Occurrence H P) (ys : List (Occurrence H P)) : Type 0 where
     pub led : Follow w xs x.before
     pub s : Stream
     pub t : Stream
     pub happens : Happens mac answers x.before s x.entry.event x.entry.outcome x.behind t
     pub rest : Follow x.behind ys last
 
-  meet : (xs ys : List (Occurrence H P)) (x : Occurrence H P) (w last : WorldRecord H P) → Follow w (xs ++ x ∷ ys) last → Met w last xs x ys
+  pub meet : (xs ys : List (Occurrence H P)) (x : Occurrence H P) (w last : WorldRecord H P) → Follow w (xs ++ x ∷ ys) last → Met w last xs x ys
   meet [] ys x w last (from, s, t, happens, more) = record { led = from; s = s; t = t; happens = happens; rest = more }
   meet (y ∷ xs) ys x w last (from, s, t, happens, more) =
       let k = meet xs ys x y.behind last more in
       record { led = (from, s, t, happens, k.led); s = k.s; t = k.t; happens = k.happens; rest = k.rest }
 
-  sound_along : PathLaw {H = H} {P = P} mac answers → (xs : List (Occurrence H P)) (w last : WorldRecord H P) → Follow w xs last → AreSound w → AreSound last
+  pub sound_along : PathLaw {H = H} {P = P} mac answers → (xs : List (Occurrence H P)) (w last : WorldRecord H P) → Follow w xs last → AreSound w → AreSound last
   sound_along paths [] w last is sound = subst AreSound (sym is) sound
   sound_along paths (x ∷ rest) w last (from, s, t, happens, more) sound =
       sound_along paths rest x.behind last more (sound_on mac answers paths x.before x.behind s t x.entry (subst AreSound (sym from) sound) happens)
 
   -- ---- what a side does
 
-  abbrev acts_at : Side → Occurrence H P → List (agent.Call P × Entry)
+  abbrev pub acts_at : Side → Occurrence H P → List (agent.Call P × Entry)
   acts_at side x = acts side x.before x.entry.event x.entry.outcome.entry
 
-  abbrev own : Side → List (Occurrence H P) → List (agent.Call P × Entry)
+  abbrev pub own : Side → List (Occurrence H P) → List (agent.Call P × Entry)
   own side [] = []
   own side (x ∷ rest) = acts_at side x ++ own side rest
 
-  own_course : (side : Side) (xs : List (Occurrence H P)) (w last : WorldRecord H P) → Follow w xs last → Course mac answers (own side xs) (at side w) (at side last)
+  pub own_course : (side : Side) (xs : List (Occurrence H P)) (w last : WorldRecord H P) → Follow w xs last → Course mac answers (own side xs) (at side w) (at side last)
   own_course side [] w last is = ap (λ (v : WorldRecord H P). at side v) is
   own_course side (x ∷ rest) w last (from, s, t, happens, more) =
       subst (λ (v : WorldRecord H P). Course mac answers (own side (x ∷ rest)) (at side v) (at side last)) from
       (course_on mac answers (acts_at side x) (own side rest) (at side x.before) (at side x.behind) (at side last)
       (acts_course mac answers x.before x.behind s t side x.entry happens) (own_course side rest x.behind last more))
 
-  own_between : (side : Side) (xs : List (Occurrence H P)) → ((x : Occurrence H P) → Has xs x → MakesPolls side x.entry.event) → AreBetween (own side xs)
+  pub own_between : (side : Side) (xs : List (Occurrence H P)) → ((x : Occurrence H P) → Has xs x → MakesPolls side x.entry.event) → AreBetween (own side xs)
   own_between side [] polls y has = absurd has
   own_between side (x ∷ rest) polls y has =
       between_both (acts_at side x) (own side rest) (acts_between side x.before x.entry.event x.entry.outcome.entry (polls x (inl refl)))
       (own_between side rest (λ z there. polls z (inr there))) y has
 
-  own_has : (side : Side) (xs : List (Occurrence H P)) (x : Occurrence H P) (y : agent.Call P × Entry) → Has xs x → Has (acts_at side x) y → Has (own side xs) y
+  pub own_has : (side : Side) (xs : List (Occurrence H P)) (x : Occurrence H P) (y : agent.Call P × Entry) → Has xs x → Has (acts_at side x) y → Has (own side xs) y
   own_has side [] x y has there = absurd has
   own_has side (z ∷ rest) x y (inl is) there = Has-front (acts_at side z) (own side rest) y (subst (λ (u : Occurrence H P). Has (acts_at side u) y) (sym is) there)
   own_has side (z ∷ rest) x y (inr has) there = Has-rear (acts_at side z) (own side rest) y (own_has side rest x y has there)
@@ -120,7 +121,7 @@ module _ {H P : Type 0} (mac : H → List ℕ → List ℕ → List ℕ) (answer
 
   -- ---- the premises
 
-  apart_at : (side : Side) (all : List (Occurrence H P)) (x : Occurrence H P) → IsControlled side all → Has all x → ((at side x.before).controlling ≡ false) × ((at (other side) x.before).controlling ≡ true)
+  pub apart_at : (side : Side) (all : List (Occurrence H P)) (x : Occurrence H P) → IsControlled side all → Has all x → ((at side x.before).controlling ≡ false) × ((at (other side) x.before).controlling ≡ true)
   apart_at side all x roles has = search (roles x has)
 
   polls_between : (waiting side : Side) (packet : Packet) (all : List (Occurrence H P)) (come : Arrival waiting side packet all) (x : Occurrence H P) → Has come.between x → MakesPolls waiting x.entry.event
@@ -307,7 +308,7 @@ module _ {H P : Type 0} (mac : H → List ℕ → List ℕ → List ℕ) (answer
       asked_for A path roles role (k, nominated) = asked B (turned path) roles role k (search nominated)
       asked_for B path roles role (k, nominated) = asked A (turned path) roles role k (search nominated)
 
-      answered : (side : Side) (path : Path) → ((x : Occurrence H P) → Has part x → ((at side x.before).controlling ≡ false) × ((at (other side) x.before).controlling ≡ true))
+      pub answered : (side : Side) (path : Path) → ((x : Occurrence H P) → Has part x → ((at side x.before).controlling ≡ false) × ((at (other side) x.before).controlling ≡ true))
           → IsExchangedOver mac side path part → IsAnsweredAlong (own side part) path
       answered side path roles (k, returns) =
           let c = checked paths side path part w last k sound follow in
@@ -352,32 +353,54 @@ module _ {H P : Type 0} (mac : H → List ℕ → List ℕ → List ℕ) (answer
     ]
   ]
 
-  pub granted_announce : PathLaw {H = H} {P = P} mac answers → FreshIsSound H P → ChecksAsk {H = H} {P = P} mac answers → ExchangesSucceed {H = H} {P = P} mac answers → GrantedAreAnnounced {H = H} {P = P} mac answers
-      → (first : WorldRecord H P) (s : Stream) (log : List (Logged P)) → GrantedPathsAnnounce mac answers first s log
-  granted_announce paths new_sound asks succeeds announce first s log last t run before part rest moment now side path new split roles ask answer comes done none alone =
-      let led = cut before ((part ++ moment ∷ []) ++ rest) first last (subst (λ xs. Follow first xs last) split (follows first last s t 0 log run)) in
+  -- where the side is asked, and the part answers the path, however it does
+  pub announced_where : PathLaw {H = H} {P = P} mac answers → FreshIsSound H P → ChecksAsk {H = H} {P = P} mac answers → ExchangesSucceed {H = H} {P = P} mac answers → GrantedAreAnnounced {H = H} {P = P} mac answers
+      → (first last : WorldRecord H P) (s : Stream) (before part rest : List (Occurrence H P)) (moment : Occurrence H P) (now : ℕ) (side : Side) (path : Path)
+      → ((x : Side) → IsNewAgent (at x first)) → Follow first (before ++ ((part ++ moment ∷ []) ++ rest)) last
+      → ((x : Occurrence H P) → Has (part ++ moment ∷ []) x → ((at side x.before).controlling ≡ false) × ((at (other side) x.before).controlling ≡ true))
+      → ((start : WorldRecord H P) → Follow first before start → AreSound start → Follow start part moment.before
+      → IsAskedOver mac side path part × IsAnsweredAlong (own side part) path)
+      → moment.entry.event ≡ world.Call side (agent.HandleTimeout now) → moment.entry.outcome.entry.answer ≡ Done → request_at now (at side moment.before) ≡ None
+      → IsAlone (at side moment.behind) path
+      → ((x : Occurrence H P) × Has (before ++ (part ++ moment ∷ [])) x × Announces side x.entry)
+      ⊎ ((x : Occurrence H P) × Has (part ++ moment ∷ []) x × MayEndAt side path x)
+  announced_where paths new_sound asks succeeds announce first last s before part rest moment now side path new follow roles happened comes done none alone =
+      let led = cut before ((part ++ moment ∷ []) ++ rest) first last follow in
       let start : WorldRecord H P = led.0 in
       let on = cut (part ++ moment ∷ []) rest start last led.2 in
       let m = meet part [] moment start on.0 on.1 in
       let sound : AreSound start = sound_along paths before first start led.1 (λ z. sound_new new_sound (at z first) (new z)) in
       let turn : Turns mac answers moment.before m.s side (agent.HandleTimeout now) moment.entry.outcome moment.behind m.t =
       subst (λ (v : Event P). Happens mac answers moment.before m.s v moment.entry.outcome moment.behind m.t) comes m.happens in
-      let idle : request_at now (at side moment.before) ≡ None = search none in
-      let lone : IsAlone (at side moment.behind) path = search alone in
-      let roles_part : (x : Occurrence H P) → Has part x → ((at side x.before).controlling ≡ false) × ((at (other side) x.before).controlling ≡ true) =
-      λ x has. apart_at side (part ++ moment ∷ []) x roles (Has-front part (moment ∷ []) x has) in
-      let role_moment = (apart_at side (part ++ moment ∷ []) moment roles (middle part [] moment)).0 in
+      let roles_part = λ (x : Occurrence H P) (has : Has part x). roles x (Has-front part (moment ∷ []) x has) in
       let among = λ (x : Occurrence H P) (has : Has part x). Has-front part (moment ∷ []) x has in
-      let g = asked_for paths asks succeeds part (part ++ moment ∷ []) start moment.before sound m.led among side path roles_part role_moment ask in
-      let a = answered paths asks succeeds part (part ++ moment ∷ []) start moment.before sound m.led among side path roles_part answer in
+      let h = happened start led.1 sound m.led in
+      let g = asked_for paths asks succeeds part (part ++ moment ∷ []) start moment.before sound m.led among side path roles_part (roles moment (middle part [] moment)).0 h.0 in
       let n = new side in
       elim (announce (fresh (at side first).provider n.0 n.1) (at side start) (at side moment.before) (at side moment.behind) ((agent.SetControlling n.2, quiet Done) ∷ own side before)
       (own side part) m.s m.t now moment.entry.outcome.entry path (n.0, n.1, refl)
       (at side first, s, s, tt, (refl, n.3, refl), own_course side before first start led.1)
-      g.0 (turn_step mac answers moment.before moment.behind m.s m.t side (agent.HandleTimeout now) moment.entry.outcome turn) done idle g.2 a lone) [
+      g.0 (turn_step mac answers moment.before moment.behind m.s m.t side (agent.HandleTimeout now) moment.entry.outcome turn) done none g.2 h.1 alone) [
         | inl told ↦ inl (told_back side before part moment first start moment.before (agent.SetControlling n.2) (agent.HandleTimeout now) led.1 m.led turn.side_is told)
         | inr ends ↦ inr (elim ends [
           | inl e ↦ g.1 e
           | inr e ↦ (moment, middle part [] moment, (agent.HandleTimeout now, comes, e))
         ])
       ]
+
+  pub granted_announce : PathLaw {H = H} {P = P} mac answers → FreshIsSound H P → ChecksAsk {H = H} {P = P} mac answers → ExchangesSucceed {H = H} {P = P} mac answers → GrantedAreAnnounced {H = H} {P = P} mac answers
+      → (first : WorldRecord H P) (s : Stream) (log : List (Logged P)) → GrantedPathsAnnounce mac answers first s log
+  granted_announce paths new_sound asks succeeds announce first s log last t run before part rest moment now side path new split roles ask answer comes done none alone =
+      let idle : request_at now (at side moment.before) ≡ None = search none in
+      let lone : IsAlone (at side moment.behind) path = search alone in
+      let apart : (x : Occurrence H P) → Has (part ++ moment ∷ []) x → ((at side x.before).controlling ≡ false) × ((at (other side) x.before).controlling ≡ true) =
+      λ x has. apart_at side (part ++ moment ∷ []) x roles has in
+      announced_where paths new_sound asks succeeds announce first last s before part rest moment now side path new
+      (subst (λ xs. Follow first xs last) split (follows first last s t 0 log run)) apart
+      (λ start led sound follow. (
+        ask,
+        answered paths asks succeeds part (part ++ moment ∷ []) start moment.before sound follow
+            (λ (x : Occurrence H P) (has : Has part x). Has-front part (moment ∷ []) x has) side path
+            (λ (x : Occurrence H P) (has : Has part x). apart x (Has-front part (moment ∷ []) x has)) answer,
+      ))
+      comes done idle lone

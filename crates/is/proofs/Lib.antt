@@ -14,5 +14,6 @@ mod Traced
 mod Owning
 mod Connected
 mod Granted
+mod Connecting
 mod Meeting
 mod MarkLemmas

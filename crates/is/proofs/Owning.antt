@@ -44,7 +44,7 @@ only_none A B = refl
 only_none B A = refl
 only_none B B = refl
 
-only_own : {X : Type 0} (side s : Side) (xs : List X) (y : X) → Has (only side s xs) y → Has xs y × (s ≡ side)
+pub only_own : {X : Type 0} (side s : Side) (xs : List X) (y : X) → Has (only side s xs) y → Has xs y × (s ≡ side)
 only_own A A xs y has = (has, refl)
 only_own B B xs y has = (has, refl)
 only_own A B xs y has = absurd has

@@ -9,6 +9,7 @@ pub mod Traces
 pub mod Marks
 pub mod Deliveries
 pub mod Grantings
+pub mod Connections
 pub mod Meetings
 pub mod WorldLaws
 pub use Rattle.is_proto.specs.Moments

@@ -9,6 +9,7 @@ use Rattle.is.specs.WorldRoles.{GreaterKeeps, LesserYieldsOnce, RolesDifferOnceM
 use Rattle.is.specs.Traces.{AnnouncedAreTraced}
 use Rattle.is.specs.Deliveries.{DeliveredRoundsAnnounce}
 use Rattle.is.specs.Grantings.{GrantedPathsAnnounce}
+use Rattle.is.specs.Connections.{BothConnect}
 use Rattle.is.specs.Meetings.{RolesMeet}
 
 module _ {H P : Type 0} (mac : H → List ℕ → List ℕ → List ℕ) (answers : P → CandidateRecord → ℕ → ℕ → Type 0) where
@@ -38,6 +39,9 @@ module _ {H P : Type 0} (mac : H → List ℕ → List ℕ → List ℕ) (answer
 
   abbrev pub GrantingsLaw : Type 0
   GrantingsLaw = (first : WorldRecord H P) (s : Stream) (log : List (Logged P)) → GrantedPathsAnnounce mac answers first s log
+
+  abbrev pub ConnectionsLaw : Type 0
+  ConnectionsLaw = (first : WorldRecord H P) (s : Stream) (log : List (Logged P)) → BothConnect mac answers first s log
 
   abbrev pub MeetingsLaw : Type 0
   MeetingsLaw = (first : WorldRecord H P) (s : Stream) (log : List (Logged P)) → RolesMeet mac answers first s log

@@ -15,14 +15,15 @@ ghost use Rattle.is_agent.specs.View.{made};
 ghost use Rattle.is.specs.WorldRoles.{GreaterKeeps, LesserYieldsOnce, RolesDifferOnceMet};
 ghost use Rattle.is.specs.Traces.{AnnouncedAreTraced};
 ghost use Rattle.is.specs.Deliveries.{DeliveredRoundsAnnounce};
+ghost use Rattle.is.specs.Connections.{BothConnect};
 ghost use Rattle.is.specs.Grantings.{GrantedPathsAnnounce};
 ghost use Rattle.is.specs.Meetings.{RolesMeet};
 
 use crate::calls::{AgentCall, Answer, Entry};
 use crate::steps::{quiet, step, take_packet};
 use crate::world_laws::{
-    announced_are_traced, delivered_rounds_announce, granted_paths_announce, greater_keeps,
-    lesser_yields_once, roles_differ_once_met, roles_meet,
+    announced_are_traced, both_connect, delivered_rounds_announce, granted_paths_announce,
+    greater_keeps, lesser_yields_once, roles_differ_once_met, roles_meet,
 };
 use is_agent::{Agent, IceCreds};
 use is_candidate::LocalPreference;
@@ -446,6 +447,11 @@ impl<H: Sha1HmacProvider + Drop, P: LocalPreference> TwoAgents<H, P> {
         // checks the path, and the network delivers the first check, the second and its success, it announced a path by its next moment that
         // serves no request. Where one pair of it alone joins the path, and until a call of its own may take such a pair away.
         ensures granted { GrantedPathsAnnounce H.mac P.answers (world_of self.old) (R.stream rng.old) (logged events.items result.entries.items) }
+
+        // Both: where the controlling agent has a nominated pair, and the controlled one a pair on the way back, in rounds that suffice for each,
+        // 2n - 1 where it has n pairs and one more for each that it adds, and each check that goes out on these paths is delivered, and the
+        // controlled one's success too, the controlled one announced a path by its next moment, as above.
+        ensures connect { BothConnect H.mac P.answers (world_of self.old) (R.stream rng.old) (logged events.items result.entries.items) }
     {
         greater_keeps::<H, P>();
         lesser_yields_once::<H, P>();
@@ -453,6 +459,7 @@ impl<H: Sha1HmacProvider + Drop, P: LocalPreference> TwoAgents<H, P> {
         announced_are_traced::<H, P>();
         delivered_rounds_announce::<H, P>();
         granted_paths_announce::<H, P>();
+        both_connect::<H, P>();
         roles_meet::<H, P>();
         self.run_events(events, rng)
     }

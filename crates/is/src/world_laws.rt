@@ -1,12 +1,12 @@
 //! What holds of each run of a world. Each law is the contract of a function that does nothing.
 
-ghost use Rattle.is.specs.WorldLaws.{KeepsLaw, YieldsLaw, DiffersLaw, TracedLaw, DeliveriesLaw, GrantingsLaw, MeetingsLaw};
+ghost use Rattle.is.specs.WorldLaws.{KeepsLaw, YieldsLaw, DiffersLaw, TracedLaw, DeliveriesLaw, GrantingsLaw, ConnectionsLaw, MeetingsLaw};
 
 use is_candidate::LocalPreference;
 use is_proto::Sha1HmacProvider;
 use is_rules::laws::{
-    checks_ask, conflicts_settle, courses_announce, exchanges_succeed, fresh_is_sound,
-    granted_are_announced, path_effect, role_effect, trade_effect,
+    checks_ask, conflicts_settle, courses_announce, courses_reach, exchanges_succeed,
+    fresh_is_sound, granted_are_announced, path_effect, role_effect, trade_effect,
 };
 
 /// Between two agents over any network the greater tie-breaker keeps its role.
@@ -67,6 +67,20 @@ pub(crate) fn granted_paths_announce<H: Sha1HmacProvider, P: LocalPreference>()
     exchanges_succeed::<H, P>();
     checks_ask::<H, P>();
     granted_are_announced::<H, P>();
+}
+
+/// Where each of two agents, one controlling, has rounds that suffice for a pair of the path, in which the network delivers, the controlled
+/// one announces a path, too.
+pub(crate) fn both_connect<H: Sha1HmacProvider, P: LocalPreference>()
+    ensures { ConnectionsLaw H.mac P.answers }
+{
+    path_effect::<H, P>();
+    trade_effect::<H, P>();
+    fresh_is_sound::<H, P>();
+    exchanges_succeed::<H, P>();
+    checks_ask::<H, P>();
+    granted_are_announced::<H, P>();
+    courses_reach::<H, P>();
 }
 
 /// One delivered check, and its 487 where it gives one, make roles opposite.

@@ -56,7 +56,7 @@ front_has [] ys x has = absurd has
 front_has (y ∷ xs) ys x (inl e) = inl e
 front_has (y ∷ xs) ys x (inr h) = inr (front_has xs ys x h)
 
-either_has : {X : Type 0} (xs ys : List X) (x : X) → Has (xs ++ ys) x → Has xs x ⊎ Has ys x
+pub either_has : {X : Type 0} (xs ys : List X) (x : X) → Has (xs ++ ys) x → Has xs x ⊎ Has ys x
 either_has [] ys x has = inr has
 either_has (y ∷ xs) ys x (inl e) = inl (inl e)
 either_has (y ∷ xs) ys x (inr h) = elim (either_has xs ys x h) [ inl k ↦ inl (inr k) | inr k ↦ inr k ]
@@ -64,15 +64,15 @@ either_has (y ∷ xs) ys x (inr h) = elim (either_has xs ys x h) [ inl k ↦ inl
 module _ {P : Type 0} where
   -- ---- the entries of a course in a log
 
-  abbrev entry_of : List (Logged P) → Call P → Entry → Logged P
+  abbrev pub entry_of : List (Logged P) → Call P → Entry → Logged P
   entry_of before call e = record { number = length before; call = call; entry = e }
 
   -- newest first
-  abbrev part_of : List (Logged P) → List (Call P × Entry) → List (Logged P)
+  abbrev pub part_of : List (Logged P) → List (Call P × Entry) → List (Logged P)
   part_of before [] = []
   part_of before (x ∷ rest) = part_of (entry_of before x.0 x.1 ∷ before) rest ++ entry_of before x.0 x.1 ∷ []
 
-  abbrev pushed : List (Logged P) → List (Call P × Entry) → List (Logged P)
+  abbrev pub pushed : List (Logged P) → List (Call P × Entry) → List (Logged P)
   pushed before [] = before
   pushed before (x ∷ rest) = pushed (entry_of before x.0 x.1 ∷ before) rest
 
@@ -83,7 +83,7 @@ module _ {P : Type 0} where
       let k = part_has (entry_of before x.0 x.1 ∷ before) rest y has in
       (k.0, front_has (part_of (entry_of before x.0 x.1 ∷ before) rest) (entry_of before x.0 x.1 ∷ []) k.0 k.1, k.2)
 
-  part_is : (before : List (Logged P)) (xs : List (Call P × Entry)) (x : Logged P) → Has (part_of before xs) x → Has xs (x.call, x.entry)
+  pub part_is : (before : List (Logged P)) (xs : List (Call P × Entry)) (x : Logged P) → Has (part_of before xs) x → Has xs (x.call, x.entry)
   part_is before [] x has = absurd has
   part_is before (y ∷ rest) x has = elim (Has-push (part_of (entry_of before y.0 y.1 ∷ before) rest) (entry_of before y.0 y.1) x has) [
     | inl k ↦ inr (part_is (entry_of before y.0 y.1 ∷ before) rest x k)
@@ -92,22 +92,22 @@ module _ {P : Type 0} where
 
   -- ---- its rounds, newest first
 
-  abbrev round_of : List (Logged P) → CourseRound P → LoggedRound P
+  abbrev pub round_of : List (Logged P) → CourseRound P → LoggedRound P
   round_of before r = record {
     behind = part_of (entry_of before (HandleTimeout r.now) r.moment ∷ before) r.behind;
     moment = entry_of before (HandleTimeout r.now) r.moment;
     now = r.now;
   }
 
-  abbrev rounds_of : List (Logged P) → List (LoggedRound P) → List (CourseRound P) → List (LoggedRound P)
+  abbrev pub rounds_of : List (Logged P) → List (LoggedRound P) → List (CourseRound P) → List (LoggedRound P)
   rounds_of before older [] = older
   rounds_of before older (r ∷ later) = rounds_of before (round_of (entries_of older ++ before) r ∷ older) later
 
-  begun : (before : List (Logged P)) (x : LoggedRound P) (older : List (LoggedRound P)) (rounds : List (CourseRound P)) → began_at (rounds_of before (x ∷ older) rounds) ≡ began_at (x ∷ older)
+  pub begun : (before : List (Logged P)) (x : LoggedRound P) (older : List (LoggedRound P)) (rounds : List (CourseRound P)) → began_at (rounds_of before (x ∷ older) rounds) ≡ began_at (x ∷ older)
   begun before x older [] = refl
   begun before x older (r ∷ later) = begun before (round_of (entries_of (x ∷ older) ++ before) r) (x ∷ older) later
 
-  as_many : (before : List (Logged P)) (older : List (LoggedRound P)) (rounds : List (CourseRound P)) → length (rounds_of before older rounds) ≡ length older + length rounds
+  pub as_many : (before : List (Logged P)) (older : List (LoggedRound P)) (rounds : List (CourseRound P)) → length (rounds_of before older rounds) ≡ length older + length rounds
   as_many before older [] = omega arith
   as_many before older (r ∷ later) =
       let k = as_many before (round_of (entries_of older ++ before) r ∷ older) later in omega (arith, k)
@@ -157,7 +157,7 @@ module _ {P : Type 0} where
 module _ {H P : Type 0} (mac : H → List ℕ → List ℕ → List ℕ) (answers : P → CandidateRecord → ℕ → ℕ → Type 0) where
   -- ---- a step under another random source
 
-  abbrev Anew : Call P → Entry → AgentRecord H P → AgentRecord H P → Stream → Type 0
+  abbrev pub Anew : Call P → Entry → AgentRecord H P → AgentRecord H P → Stream → Type 0
   Anew call e old new t = (s : Stream) × Step mac answers old s call e new t
 
   top_anew : (now : ℕ) (remote : IceCreds) (old new : AgentRecord H P) (s t u : Stream) (issued : Option code.Issued) (top : Option PairRecord)
@@ -184,7 +184,7 @@ module _ {H P : Type 0} (mac : H → List ℕ → List ℕ → List ℕ) (answer
         let k = check_anew now kept.remote_creds kept new s t u issued checking in (k.0, (first, second, issued, named, kept, nominating, giving, k.1, is))
     by (Some q) (serving, drawn) = (u, (serving, refl))
 
-  anew : (call : Call P) (e : Entry) (old new : AgentRecord H P) (s t u : Stream) → Step mac answers old s call e new t → Anew call e old new u
+  pub anew : (call : Call P) (e : Entry) (old new : AgentRecord H P) (s t u : Stream) → Step mac answers old s call e new t → Anew call e old new u
   anew (SetMtu target warn) e old new s t u (r, is, does, drawn) = (u, (r, is, does, refl))
   anew (SetControlTieBreaker tie) e old new s t u (is, made, drawn) = (u, (is, made, refl))
   anew (SetMaxCandidatePairs n) e old new s t u (is, made, drawn) = (u, (is, made, refl))
@@ -216,10 +216,10 @@ module _ {H P : Type 0} (mac : H → List ℕ → List ℕ → List ℕ) (answer
   -- ---- runs, from the end backwards
 
   -- a run that leaves this source
-  abbrev Leads : AgentRecord H P → List (Logged P) → AgentRecord H P → Type 0
+  abbrev pub Leads : AgentRecord H P → List (Logged P) → AgentRecord H P → Type 0
   Leads first log last = (t : Stream) → (s : Stream) × Run mac answers first s log last t
 
-  leads_on : (first : AgentRecord H P) (xs : List (Call P × Entry)) (before : List (Logged P)) (old new : AgentRecord H P) → Leads first before old → Course mac answers xs old new
+  pub leads_on : (first : AgentRecord H P) (xs : List (Call P × Entry)) (before : List (Logged P)) (old new : AgentRecord H P) → Leads first before old → Course mac answers xs old new
       → Leads first (pushed before xs) new
   leads_on first [] before old new led is = subst (λ (a : AgentRecord H P). Leads first before a) (sym is) led
   leads_on first (x ∷ rest) before old new led (mid, s, t, based, step, more) =

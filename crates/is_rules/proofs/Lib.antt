@@ -64,3 +64,4 @@ pub mod Mild
 pub mod MildSteps
 pub mod Reaching
 pub mod ReachLaws
+pub mod ReachedCourses

@@ -345,7 +345,7 @@ module _ {H P : Type 0} where
             young = lt-is (length p.checks) start.timing.max_retransmits (let young = f.line.young in omega (arith, young));
             late = late;
             early = early;
-            ready = (let due = f.line.due in omega (arith, due), inl f.line.invalid);
+            ready = (let due = f.line.due in omega (arith, due), f.line.settled);
             count = omega arith;
           }
 

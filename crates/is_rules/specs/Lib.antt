@@ -53,3 +53,4 @@ pub mod AskedCourses
 pub mod Staying
 pub mod Asked
 pub mod Reached
+pub mod ReachedCourses

@@ -1,6 +1,6 @@
 -- How soon a pair that is due is checked, in either role and whatever comes: others may go before it, each twice at most. So a controlled
 -- agent that is asked for the pair's path announces a path, where the checks on it are answered.
-use Rattle.std.specs.Prelude.{◌≡◌, ℕ, ◌+◌, ◌*◌, ◌<◌, ◌≤◌, ◌⊎◌, true, false, List, [], ◌∷◌, ◌++◌, length, Some, None}
+use Rattle.std.specs.Prelude.{◌≡◌, ℕ, ◌+◌, ◌*◌, ◌<◌, ◌≤◌, ◌⊎◌, true, false, List, [], ◌∷◌, ◌++◌, length, Some, None, is_some}
 use Rattle.rand_core.specs.Stream.{Stream}
 use Rattle.is_proto.specs.Lists.{Has}
 use Rattle.is_proto.specs.Moments.{MAX}
@@ -38,13 +38,14 @@ abbrev pub IsMetOn : {P : Type 0} → Path → LoggedRound P → Type 0
 IsMetOn path r = (id : List ℕ) → r.moment.entry.told.issued ≡ Some (issued_as path class.Request id) → IsAnsweredIn r.behind path
 
 module _ {H P : Type 0} where
-  -- a pair that is not valid waits for its check: asked at the moment, it is due by the other one, and it will not be given up before
+  -- A pair waits for its check: asked at the moment, it is due by the other one, and it will not be given up before. It is not valid, so that
+  -- nothing nominates it first, or the moment at which it is due stands fixed.
   pub record IsInLine (at by : ℕ) (a : AgentRecord H P) (p : PairRecord) : Type 0 where
     pub checking : IsChecking a
     pub queue : a.queue ≡ []
     pub there : Has a.pairs p
     pub due : due_moment at a.timing p ≤ by
-    pub invalid : is_valid p ≡ false
+    pub settled : (is_valid p ≡ false) ⊎ (is_some p.due ≡ true)
     pub young : length p.checks < a.timing.max_retransmits
 
   -- The rounds suffice for a pair that is due by a moment when they begin: they lie behind it, and are 2n - 1 where there are n pairs, and

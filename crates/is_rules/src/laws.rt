@@ -16,6 +16,7 @@ ghost use Rattle.is_rules.specs.Rounds.{AnsweredRoundsAnnounce, PartsAreRuns, Tu
 ghost use Rattle.is_rules.specs.Staying.{PairsStay, PairsStayOn};
 ghost use Rattle.is_rules.specs.Asked.{AskedAreAnnounced};
 ghost use Rattle.is_rules.specs.Reached.{PairsAreReached, AskedRoundsAnnounce};
+ghost use Rattle.is_rules.specs.ReachedCourses.{CoursesReach};
 
 use is_candidate::LocalPreference;
 use is_proto::Sha1HmacProvider;
@@ -218,6 +219,11 @@ pub fn asked_are_announced<H: Sha1HmacProvider, P: LocalPreference>()
 /// is added in them, unless the path was answered in one. In either role, whatever comes and is nominated.
 pub fn pairs_are_reached<H: Sha1HmacProvider, P: LocalPreference>()
     ensures { PairsAreReached H.mac P.answers }
+{}
+
+/// The same of an agent that shares its random source.
+pub fn courses_reach<H: Sha1HmacProvider, P: LocalPreference>()
+    ensures { CoursesReach H.mac P.answers }
 {}
 
 /// Where in such rounds the checks on the pair's path are answered, and a controlled agent is asked for the path, the next moment announces

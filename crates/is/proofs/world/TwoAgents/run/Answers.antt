@@ -20,3 +20,6 @@ returns-clause-granted g c = c.granted_paths_announce.ensures _ _ _
 
 pub returns-clause-meet : goal.returns-clause-meet
 returns-clause-meet g c = c.roles_meet.ensures _ _ _
+
+pub returns-clause-connect : goal.returns-clause-connect
+returns-clause-connect g c = c.both_connect.ensures _ _ _

@@ -1,0 +1,301 @@
+-- Both of two agents come to a path in rounds in which the network delivers. The premises that refused/laws turns are read by tactics.
+use Rattle.std.proofs.Common.{◌≡◌, ℕ, suc, Bool, true, false, List, [], ◌∷◌, ◌++◌, length, Option, Some, None, inl, inr, ◌⊎◌, refl, ap, sym, ◌∙◌, subst, arith, if◌then◌else◌, append_assoc}
+use Rattle.std.specs.Prelude.{slice_get}
+use Rattle.rand_core.specs.Stream.{Stream}
+use Rattle.is_proto.specs.Lists.{Has}
+use Rattle.is_proto.specs.Packets.{Packet}
+use Rattle.is_candidate.specs.Candidates.{CandidateRecord}
+use Rattle.is_stun.specs.declared.header.Class.TheVariants.{Request}
+use Rattle.is_rules.specs.declared.told.Path.{Path}
+use Rattle.is_rules.specs.Agent.{fresh}
+use Rattle.is_rules.specs.Asked.{IsAlone}
+use Rattle.is_rules.specs.AskedCourses.{AcceptsSuccessOn, IsAnsweredAlong, GrantedAreAnnounced}
+use Rattle.is_rules.specs.Asking.{ChecksAsk}
+use Rattle.is_rules.specs.Courses.{CourseRound}
+use Rattle.is_rules.specs.Effects.{PathLaw, TradeLaw}
+use Rattle.is_rules.specs.Exchange.{ExchangesSucceed}
+use Rattle.is_rules.specs.Issuing.{IsQueued}
+use Rattle.is_rules.specs.Queue.{request_at}
+use Rattle.is_rules.specs.ReachedCourses.{IsPassed, ChecksAmong, IsAnsweredAmong, PassRounds, CoursesReach}
+use Rattle.is_rules.specs.Sound.{FreshIsSound}
+use Rattle.is_rules.specs.Steps as agent
+use Rattle.is_rules.specs.Steps.{Answer, Entry, Done, Refused, quiet, Step}
+use Rattle.is_rules.specs.Told.{issued_as, turned}
+use Rattle.is.specs.declared.world.Side.{Side}
+use Rattle.is.specs.Connections.{Round, all_of, IsKept, HasRounds, SendsOn, IsHanded, Succeeds, BothConnect}
+use Rattle.is.specs.Grantings.{Occurrence, Arrival, HandedCheck, IsAskedOver}
+use Rattle.is.specs.World as world
+use Rattle.is.specs.World.{WorldRecord, LetterRecord, Event, Logged, Happens, Run, at, other, in_world}
+use Rattle.is.specs.WorldRoles.{IsNewAgent}
+use Rattle.is.proofs.Following.{Has-front, Has-rear, AreSound}
+use Rattle.is.proofs.Owning.{either_has, acts, only, only_own, handed_as, polled_as, course_on, turn_step}
+use Rattle.is.proofs.Granted.{Follow, follows, cut, meet, sound_along, acts_at, own, own_course, own_between, apart_at, answered, announced_where}
+
+module _ {H P : Type 0} (mac : H → List ℕ → List ℕ → List ℕ) (answers : P → CandidateRecord → ℕ → ℕ → Type 0) where
+  -- ---- what a side does in its rounds
+
+  abbrev round_of : Side → Round H P → CourseRound P
+  round_of side r = record { now = r.now; moment = r.moment.entry.outcome.entry; behind = own mac answers side r.behind }
+
+  abbrev rounds_of : Side → List (Round H P) → List (CourseRound P)
+  rounds_of side [] = []
+  rounds_of side (r ∷ later) = round_of side r ∷ rounds_of side later
+
+  as_many : (side : Side) (rounds : List (Round H P)) → length (rounds_of side rounds) ≡ length rounds
+  as_many side [] = refl
+  as_many side (r ∷ later) = ap suc (as_many side later)
+
+  abbrev Moves : Side → Round H P → Type 0
+  Moves side r = r.moment.entry.event ≡ world.Call side (agent.HandleTimeout r.now)
+
+  moved : (side : Side) (r : Round H P) (s t : Stream) → Moves side r → Happens mac answers r.moment.before s r.moment.entry.event r.moment.entry.outcome r.moment.behind t
+      → Step mac answers (at side r.moment.before) s (agent.HandleTimeout r.now) r.moment.entry.outcome.entry (at side r.moment.behind) t
+  moved side r s t comes happens =
+      turn_step mac answers r.moment.before r.moment.behind s t side (agent.HandleTimeout r.now) r.moment.entry.outcome
+      (subst (λ (v : Event P). Happens mac answers r.moment.before s v r.moment.entry.outcome r.moment.behind t) comes happens)
+
+  passes : (side : Side) (rounds : List (Round H P)) (w last : WorldRecord H P) → Follow mac answers w (all_of rounds) last → ((r : Round H P) → Has rounds r → Moves side r)
+      → PassRounds mac answers (rounds_of side rounds) (at side w) (at side last)
+  passes side [] w last is comes = ap (λ (v : WorldRecord H P). at side v) is
+  passes side (r ∷ later) w last (from, s, t, happens, more) comes =
+      let c = cut mac answers r.behind (all_of later) r.moment.behind last more in
+      subst (λ (v : WorldRecord H P). PassRounds mac answers (rounds_of side (r ∷ later)) (at side v) (at side last)) from (
+        at side r.moment.behind,
+        at side c.0,
+        s,
+        t,
+        moved side r s t (comes r (inl refl)) happens,
+        own_course mac answers side r.behind r.moment.behind c.0 c.1,
+        passes side later c.0 last c.2 (λ y has. comes y (inr has)),
+      )
+
+  is_passed : (side : Side) (by : ℕ) (r : Round H P) → IsKept side by r → IsPassed by (round_of side r)
+  is_passed side by r kept = record {
+    done = kept.done;
+    late = (let late = kept.late in omega (arith, late));
+    early = kept.early;
+    between = own_between mac answers side r.behind (λ x has. search (kept.polls x has));
+  }
+
+  are_passed : (side : Side) (by : ℕ) (rounds : List (Round H P)) → ((r : Round H P) → Has rounds r → IsKept side by r) → (c : CourseRound P) → Has (rounds_of side rounds) c → IsPassed by c
+  are_passed side by [] kept c has = absurd has
+  are_passed side by (r ∷ later) kept c (inl is) = subst (λ (z : CourseRound P). IsPassed by z) is (is_passed side by r (kept r (inl refl)))
+  are_passed side by (r ∷ later) kept c (inr has) = are_passed side by later (λ y there. kept y (inr there)) c has
+
+  -- a round of the course is one of the world
+  back : (side : Side) (rounds : List (Round H P)) (c : CourseRound P) → Has (rounds_of side rounds) c → (r : Round H P) × Has rounds r × (round_of side r ≡ c)
+  back side [] c has = absurd has
+  back side (r ∷ later) c (inl is) = (r, inl refl, is)
+  back side (r ∷ later) c (inr has) = let k = back side later c has in (k.0, inr k.1, k.2)
+
+  -- ---- a check goes out in one of them, or the path is answered in one
+
+  abbrev Checks : Side → Path → List (Round H P) → Type 0
+  Checks side path rounds =
+      (r : Round H P) × (id : List ℕ) × Has rounds r × (r.moment.entry.outcome.entry.told.issued ≡ Some (issued_as path Request id))
+
+  abbrev Answers : Side → Path → List (Round H P) → Type 0
+  Answers side path rounds = (r : Round H P) × Has rounds r × IsAnsweredAlong (own mac answers side r.behind) path
+
+  reached : CoursesReach {H = H} {P = P} mac answers → (side : Side) (path : Path) (first start last : WorldRecord H P) (s : Stream) (before part : List (Occurrence H P))
+      → IsNewAgent (at side first) → Follow mac answers first before start → Follow mac answers start part last → (k : HasRounds side path part last)
+      → Checks side path (k.first ∷ k.later) ⊎ Answers side path (k.first ∷ k.later)
+  reached reach side path first start last s before part n led on k =
+      let rounds : List (Round H P) = k.first ∷ k.later in
+      let c = cut mac answers k.ahead (all_of rounds) start last (subst (λ xs. Follow mac answers start xs last) k.split on) in
+      let begin : WorldRecord H P = k.first.moment.before in
+      let to : Follow mac answers start k.ahead begin = subst (λ (w : WorldRecord H P). Follow mac answers start k.ahead w) (sym c.2.0) c.1 in
+      let rest : Follow mac answers begin (all_of rounds) last = subst (λ (w : WorldRecord H P). Follow mac answers w (all_of rounds) last) (sym c.2.0) c.2 in
+      let many = as_many side k.later in
+      let enough = k.enough in
+      let found = subst (λ way. ChecksAmong (rounds_of side rounds) way ⊎ IsAnsweredAmong (rounds_of side rounds) way) k.on
+      (reach (fresh (at side first).provider n.0 n.1) (at side begin) (at side last)
+      ((agent.SetControlling n.2, quiet Done) ∷ (own mac answers side before ++ own mac answers side k.ahead)) (round_of side k.first) (rounds_of side k.later) k.pair k.by (n.0, n.1, refl) (
+        at side first,
+        s,
+        s,
+        tt,
+        (refl, n.3, refl),
+        course_on mac answers (own mac answers side before) (own mac answers side k.ahead) (at side first) (at side start) (at side begin)
+            (own_course mac answers side before first start led) (own_course mac answers side k.ahead start begin to),
+      )
+      k.line (passes side rounds begin last rest (λ r has. (k.kept r has).comes)) (are_passed side k.by rounds k.kept) (omega (arith, many, enough))) in
+      elim found [
+        | inl (x, id, has, out) ↦ (let r = back side rounds x has in inl (r.0, id, r.1, ap (λ (z : CourseRound P). z.moment.told.issued) r.2 ∙ out))
+        | inr (x, has, is) ↦ (let r = back side rounds x has in inr (r.0, r.1, subst (λ (z : CourseRound P). IsAnsweredAlong z.behind path) (sym r.2) is))
+      ]
+
+  -- ---- a round in a part
+
+  place : (rounds : List (Round H P)) (r : Round H P) → Has rounds r → (xs ys : List (Occurrence H P)) × (all_of rounds ≡ xs ++ r.moment ∷ (r.behind ++ ys))
+  place [] r has = absurd has
+  place (z ∷ later) r (inl is) =
+      subst (λ (y : Round H P). (xs ys : List (Occurrence H P)) × (all_of (z ∷ later) ≡ xs ++ y.moment ∷ (y.behind ++ ys))) is ([], all_of later, refl)
+  place (z ∷ later) r (inr has) =
+      let k = place later r has in (
+        z.moment ∷ (z.behind ++ k.0),
+        k.1,
+        ap (λ xs. z.moment ∷ (z.behind ++ xs)) k.2 ∙ ap (λ xs. z.moment ∷ xs) (sym (append_assoc z.behind k.0 (r.moment ∷ (r.behind ++ k.1)))),
+      )
+
+  abbrev longer : (waiting side : Side) (packet : Packet) (xs ys : List (Occurrence H P)) → Arrival waiting side packet xs → Arrival waiting side packet (xs ++ ys)
+  longer waiting side packet xs ys a = record {
+    between = a.between;
+    handed = a.handed;
+    rest = a.rest ++ ys;
+    split = ap (λ zs. zs ++ ys) a.split ∙ append_assoc a.between (a.handed ∷ a.rest) ys;
+    polls = a.polls;
+    hands = a.hands;
+  }
+
+  module _ (side : Side) (path : Path) (part : List (Occurrence H P)) (start last : WorldRecord H P) (sound : AreSound start) (follow : Follow mac answers start part last)
+      (k : HasRounds side path part last) where
+    -- the round of a check stands in the part
+    record Stood (r : Round H P) (id : List ℕ) : Type 0 where
+      pub ahead : List (Occurrence H P)
+      pub rear : List (Occurrence H P)
+      pub split : part ≡ ahead ++ r.moment ∷ (r.behind ++ rear)
+      pub check : Packet
+      pub sends : SendsOn side path r check id
+
+    stood : PathLaw {H = H} {P = P} mac answers → TradeLaw {H = H} {P = P} mac answers → (r : Round H P) (id : List ℕ) → Has (k.first ∷ k.later) r
+        → r.moment.entry.outcome.entry.told.issued ≡ Some (issued_as path Request id) → Stood r id
+    stood paths trades r id has out =
+        let p = place (k.first ∷ k.later) r has in
+        let split : part ≡ (k.ahead ++ p.0) ++ r.moment ∷ (r.behind ++ p.1) = k.split ∙ (ap (λ xs. k.ahead ++ xs) p.2 ∙ sym (append_assoc k.ahead p.0 (r.moment ∷ (r.behind ++ p.1)))) in
+        let m = meet mac answers (k.ahead ++ p.0) (r.behind ++ p.1) r.moment start last (subst (λ xs. Follow mac answers start xs last) split follow) in
+        let sound_at : AreSound r.moment.before = sound_along mac answers paths (k.ahead ++ p.0) start r.moment.before m.led sound in
+        let queued : IsQueued (Some (issued_as path Request id)) (at side r.moment.before).packets (at side r.moment.behind).packets =
+        subst (λ o. IsQueued o (at side r.moment.before).packets (at side r.moment.behind).packets) out
+        (trades (at side r.moment.before) (at side r.moment.behind) m.s m.t (agent.HandleTimeout r.now) r.moment.entry.outcome.entry (sound_at side) tt
+        (moved side r m.s m.t (k.kept r has).comes m.happens)).sends in
+        record {
+          ahead = k.ahead ++ p.0;
+          rear = p.1;
+          split = split;
+          check = queued.0;
+          sends = record { on = queued.1; sends = record { told = out ∙ ap (λ z. Some (issued_as z Request id)) (sym queued.1); put = queued.2 } };
+        }
+
+    abbrev handed : (r : Round H P) (id : List ℕ) → Has (k.first ∷ k.later) r → (z : Stood r id) → IsHanded mac side path r z.check → HandedCheck mac side path part
+    handed r id has z h = record {
+      before = z.ahead;
+      sent = r.moment;
+      behind = r.behind ++ z.rear;
+      split = z.split;
+      now = r.now;
+      check = z.check;
+      id = id;
+      moment = (k.kept r has).comes;
+      on = z.sends.on;
+      sends = z.sends.sends;
+      comes = longer side (other side) z.check r.behind z.rear h.comes;
+      know = h.know;
+      reached = h.reached;
+    }
+
+  -- ---- a success in the rounds
+
+  poll_accepts : (answer : Answer) (ps : List Packet) (path : Path) (y : agent.Call P × Entry) → Has (polled_as answer ps) y → AcceptsSuccessOn y.0 y.1 path → ⊥
+  poll_accepts (Refused error) ps path y has accepts = has
+  poll_accepts _ ps path y (inl is) accepts = (subst (λ (z : agent.Call P × Entry). AcceptsSuccessOn z.0 z.1 path) (sym is) accepts).3
+  poll_accepts _ ps path y (inr none) accepts = none
+
+  call_accepts : (c : agent.Call P) (e : Entry) (path : Path) → in_world c ≡ true → AcceptsSuccessOn c e path → ⊥
+  call_accepts (agent.ReceivePacket now way bytes) e path is accepts = cc
+  call_accepts _ e path is accepts = accepts.3
+
+  succeeds_at : (side : Side) (path : Path) (x : Occurrence H P) (y : agent.Call P × Entry) → Has (acts_at mac answers side x) y → AcceptsSuccessOn y.0 y.1 path → Succeeds side path x
+  succeeds_at side path x y has accepts = by x.entry.event refl has where
+    by : (v : Event P) → x.entry.event ≡ v → Has (acts side x.before v x.entry.outcome.entry) y → Succeeds side path x
+    by (world.Call s c) is there = absurd (within (in_world c) refl there) where
+      within : (b : Bool) → in_world c ≡ b → Has (only side s (if b then (c, x.entry.outcome.entry) ∷ [] else [])) y → ⊥
+      within true inside here = elim (only_own side s ((c, x.entry.outcome.entry) ∷ []) y here).0 [
+        | inl same ↦ call_accepts c x.entry.outcome.entry path inside (subst (λ (z : agent.Call P × Entry). AcceptsSuccessOn z.0 z.1 path) (sym same) accepts)
+        | inr none ↦ none
+      ]
+      within false outside here = (only_own side s [] y here).0
+    by (world.Poll s) is there =
+        absurd (poll_accepts x.entry.outcome.entry.answer (at side x.before).packets path y
+        (only_own side s (polled_as x.entry.outcome.entry.answer (at side x.before).packets) y there).0 accepts)
+    by (world.Deliver n now way) is there = letter (slice_get x.before.bag n) refl there where
+      letter : (o : Option LetterRecord) → slice_get x.before.bag n ≡ o → Has (handed_as side now way x.entry.outcome.entry o) y → Succeeds side path x
+      letter None sent here = absurd here
+      letter (Some l) sent here = let o = only_own side (other l.sender) ((agent.ReceivePacket now way l.packet.contents, x.entry.outcome.entry) ∷ []) y here in elim o.0 [
+        | inl same ↦ record {
+          place = n;
+          now = now;
+          way = way;
+          letter = l;
+          event = is;
+          sent = sent;
+          its = o.1;
+          accepts = subst (λ (z : agent.Call P × Entry). AcceptsSuccessOn z.0 z.1 path) (sym same) accepts;
+        }
+        | inr none ↦ absurd none
+      ]
+
+  succeeds_in : (side : Side) (path : Path) (xs : List (Occurrence H P)) → IsAnsweredAlong (own mac answers side xs) path → (x : Occurrence H P) × Has xs x × Succeeds side path x
+  succeeds_in side path [] (y, has, accepts) = absurd has
+  succeeds_in side path (x ∷ rest) (y, has, accepts) = elim (either_has (acts_at mac answers side x) (own mac answers side rest) y has) [
+    | inl h ↦ (x, inl refl, succeeds_at side path x y h accepts)
+    | inr h ↦ (let k = succeeds_in side path rest (y, h, accepts) in (k.0, inr k.1, k.2))
+  ]
+
+  -- ---- both
+
+  pub both_connect : PathLaw {H = H} {P = P} mac answers → TradeLaw {H = H} {P = P} mac answers → FreshIsSound H P → ChecksAsk {H = H} {P = P} mac answers → ExchangesSucceed {H = H} {P = P} mac answers
+      → GrantedAreAnnounced {H = H} {P = P} mac answers → CoursesReach {H = H} {P = P} mac answers → (first : WorldRecord H P) (s : Stream) (log : List (Logged P)) → BothConnect mac answers first s log
+  both_connect paths trades new_sound asks succeeds announce reach first s log last t run before part rest moment now side path new split roles asking asks_so asked answered_so comes done none alone =
+      let idle : request_at now (at side moment.before) ≡ None = search none in
+      let lone : IsAlone (at side moment.behind) path = search alone in
+      announced_where mac answers paths new_sound asks succeeds announce first last s before part rest moment now side path new
+      (subst (λ xs. Follow mac answers first xs last) split (follows mac answers first last s t 0 log run)) (λ x has. apart_at mac answers side (part ++ moment ∷ []) x roles has)
+      (λ start led sound follow. (ask start led sound follow, answer start led sound follow)) comes done idle lone where
+        part_roles : (x : Occurrence H P) → Has part x → ((at side x.before).controlling ≡ false) × ((at (other side) x.before).controlling ≡ true)
+        part_roles x has = apart_at mac answers side (part ++ moment ∷ []) x roles (Has-front part (moment ∷ []) x has)
+
+        ask : (start : WorldRecord H P) → Follow mac answers first before start → AreSound start → Follow mac answers start part moment.before → IsAskedOver mac side path part
+        ask start led sound follow = by (reached reach (other side) (turned path) first start moment.before s before part (new (other side)) led follow asking) where
+          goes : (r : Round H P) (id : List ℕ) → Has (asking.first ∷ asking.later) r → r.moment.entry.outcome.entry.told.issued ≡ Some (issued_as (turned path) Request id) → IsAskedOver mac side path part
+          goes r id has out =
+              let z = stood (other side) (turned path) part start moment.before sound follow asking paths trades r id has out in
+              let so = asks_so r has in
+              (handed (other side) (turned path) part start moment.before sound follow asking r id has z (so.handed z.check id z.sends), search so.nominated)
+
+          by : Checks (other side) (turned path) (asking.first ∷ asking.later) ⊎ Answers (other side) (turned path) (asking.first ∷ asking.later) → IsAskedOver mac side path part
+          by (inl (r, id, has, out)) = goes r id has out
+          by (inr (r, has, is)) =
+              let x = succeeds_in (other side) (turned path) r.behind is in
+              let k : (id : List ℕ) × (r.moment.entry.outcome.entry.told.issued ≡ Some (issued_as (turned path) Request id)) = search ((asks_so r has).timely x.0 x.1 x.2) in
+              goes r k.0 has k.1
+
+        answer : (start : WorldRecord H P) → Follow mac answers first before start → AreSound start → Follow mac answers start part moment.before → IsAnsweredAlong (own mac answers side part) path
+        answer start led sound follow = by (reached reach side path first start moment.before s before part (new side) led follow asked) where
+          by : Checks side path (asked.first ∷ asked.later) ⊎ Answers side path (asked.first ∷ asked.later) → IsAnsweredAlong (own mac answers side part) path
+          by (inl (r, id, has, out)) =
+              let z = stood side path part start moment.before sound follow asked paths trades r id has out in
+              let k = answered_so r has z.check id z.sends in
+              answered mac answers paths asks succeeds part part start moment.before sound follow (λ x there. there) side path part_roles (
+                handed side path part start moment.before sound follow asked r id has z k.0,
+                λ reply sends. longer side side reply k.0.comes.rest z.rear (search (k.1 reply sends)),
+              )
+          by (inr (r, has, (y, in_round, accepts))) =
+              let p = place (asked.first ∷ asked.later) r has in
+              (y, subst (λ xs. Has (own mac answers side xs) y) (sym (asked.split ∙ ap (λ xs. asked.ahead ++ xs) p.2)) (among asked.ahead p.0 r p.1 y in_round), accepts) where
+                own_rear : (xs ys : List (Occurrence H P)) (y : agent.Call P × Entry) → Has (own mac answers side ys) y → Has (own mac answers side (xs ++ ys)) y
+                own_rear [] ys y there = there
+                own_rear (x ∷ xs) ys y there = Has-rear (acts_at mac answers side x) (own mac answers side (xs ++ ys)) y (own_rear xs ys y there)
+
+                own_front : (xs ys : List (Occurrence H P)) (y : agent.Call P × Entry) → Has (own mac answers side xs) y → Has (own mac answers side (xs ++ ys)) y
+                own_front [] ys y there = absurd there
+                own_front (x ∷ xs) ys y there = elim (either_has (acts_at mac answers side x) (own mac answers side xs) y there) [
+                  | inl h ↦ Has-front (acts_at mac answers side x) (own mac answers side (xs ++ ys)) y h
+                  | inr h ↦ Has-rear (acts_at mac answers side x) (own mac answers side (xs ++ ys)) y (own_front xs ys y h)
+                ]
+
+                among : (ahead xs : List (Occurrence H P)) (r : Round H P) (ys : List (Occurrence H P)) (y : agent.Call P × Entry) → Has (own mac answers side r.behind) y
+                    → Has (own mac answers side (ahead ++ (xs ++ r.moment ∷ (r.behind ++ ys)))) y
+                among ahead xs r ys y there =
+                    own_rear ahead (xs ++ r.moment ∷ (r.behind ++ ys)) y (own_rear xs (r.moment ∷ (r.behind ++ ys)) y
+                    (Has-rear (acts_at mac answers side r.moment) (own mac answers side (r.behind ++ ys)) y (own_front r.behind ys y there)))

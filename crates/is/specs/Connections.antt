@@ -1,0 +1,117 @@
+-- How both of two agents come to a path: rounds of each in which the network delivers (RFC 8445, sections 6.1.4.2, 7.2.5.3 and 7.3.1.5).
+use Rattle.std.specs.Prelude.{◌≡◌, ℕ, ◌+◌, ◌*◌, ◌<◌, ◌≤◌, List, [], ◌∷◌, ◌++◌, length, Some, None, ◌⊎◌, slice_get}
+use Rattle.rand_core.specs.Stream.{Stream}
+use Rattle.is_proto.specs.Lists.{Has}
+use Rattle.is_proto.specs.Moments.{MAX}
+use Rattle.is_proto.specs.Packets.{Packet}
+use Rattle.is_candidate.specs.Candidates.{CandidateRecord}
+use Rattle.is_pair.specs.Pairs.{PairRecord}
+use Rattle.is_stun.specs.declared.header.Class.TheVariants.{Request, Success}
+use Rattle.is_rules.specs.declared.told.Path.{Path}
+use Rattle.is_rules.specs.Asked.{IsAlone}
+use Rattle.is_rules.specs.AskedCourses.{AcceptsSuccessOn}
+use Rattle.is_rules.specs.Asking.{AreNominatedOn}
+use Rattle.is_rules.specs.Delivery.{KnowEachOther, IsReachedBy, Sends}
+use Rattle.is_rules.specs.Issuing.{way_out}
+use Rattle.is_rules.specs.Queue.{request_at}
+use Rattle.is_rules.specs.Reached.{IsInLine}
+use Rattle.is_rules.specs.Sending.{path_of}
+use Rattle.is_rules.specs.Steps as agent
+use Rattle.is_rules.specs.Told.{issued_as, turned}
+use Rattle.is.specs.declared.world.Side.{Side}
+use Rattle.is.specs.Deliveries.{MakesPolls, Announces}
+use Rattle.is.specs.Grantings.{Occurrence, IsControlled, Arrival, MayEndAt, occurrences_in}
+use Rattle.is.specs.World.{WorldRecord, LetterRecord, Call, Deliver, Logged, Run, at, other}
+use Rattle.is.specs.WorldRoles.{IsNewAgent}
+
+-- a moment of a side, and what occurs behind it, oldest first
+pub record Round (H P : Type 0) : Type 0 where
+  pub now : ℕ
+  pub moment : Occurrence H P
+  pub behind : List (Occurrence H P)
+
+abbrev pub all_of : {H P : Type 0} → List (Round H P) → List (Occurrence H P)
+all_of [] = []
+all_of (r ∷ later) = r.moment ∷ (r.behind ++ all_of later)
+
+module _ {H P : Type 0} where
+  -- The moment is done, and lies behind this one. Then the side makes no call but polls, whatever comes to it and whatever the other one does.
+  pub record IsKept (side : Side) (by : ℕ) (r : Round H P) : Type 0 where
+    pub comes : r.moment.entry.event ≡ Call side (agent.HandleTimeout r.now)
+    pub done : r.moment.entry.outcome.entry.answer ≡ agent.Done
+    pub late : by < r.now
+    pub early : r.now < MAX
+    pub polls : (x : Occurrence H P) → Has r.behind x → MakesPolls side x.entry.event
+
+  -- The side has rounds in the part that suffice for a pair on the path, which is due by a moment when they begin: they lie behind it, and are
+  -- 2n - 1 where it has n pairs, and one more for each that it adds in them.
+  pub record HasRounds (side : Side) (path : Path) (part : List (Occurrence H P)) (last : WorldRecord H P) : Type 0 where
+    pub ahead : List (Occurrence H P)
+    pub first : Round H P
+    pub later : List (Round H P)
+    pub split : part ≡ ahead ++ all_of (first ∷ later)
+    pub by : ℕ
+    pub pair : PairRecord
+    pub line : IsInLine first.now by (at side first.moment.before) pair
+    pub on : path_of (at side first.moment.before) pair ≡ path
+    pub kept : (r : Round H P) → Has (first ∷ later) r → IsKept side by r
+    pub enough : 2 * length (at side first.moment.before).pairs + (at side last).next_number
+        ≤ length (first ∷ later) + 1 + (at side first.moment.before).next_number
+
+  -- the moment sends this check on the path
+  pub record SendsOn (side : Side) (path : Path) (r : Round H P) (check : Packet) (id : List ℕ) : Type 0 where
+    pub on : way_out check ≡ path
+    pub sends : Sends (at side r.moment.before) r.moment.entry.outcome.entry Request id check (at side r.moment.behind)
+
+  -- the check comes to the other side before the next moment, and reaches it, while both know each other
+  pub record IsHanded (mac : H → List ℕ → List ℕ → List ℕ) (side : Side) (path : Path) (r : Round H P) (check : Packet) : Type 0 where
+    pub comes : Arrival side (other side) check r.behind
+    pub know : KnowEachOther mac (at side comes.handed.before) (at (other side) comes.handed.before)
+    pub reached : IsReachedBy (at (other side) comes.handed.before) path
+
+  -- a success on the path is accepted
+  pub record Succeeds (side : Side) (path : Path) (x : Occurrence H P) : Type 0 where
+    pub place : ℕ
+    pub now : ℕ
+    pub way : Path
+    pub letter : LetterRecord
+    pub event : x.entry.event ≡ Deliver place now way
+    pub sent : slice_get x.before.bag place ≡ Some letter
+    pub its : other letter.sender ≡ side
+    pub accepts : AcceptsSuccessOn {P = P} (agent.ReceivePacket now way letter.packet.contents) x.entry.outcome.entry path
+
+  -- A round of the side that asks: a check that goes out on the path is delivered, and the path's pairs are nominated by then. No success comes
+  -- on the path in a round in which no check goes out on it.
+  pub record Asks (mac : H → List ℕ → List ℕ → List ℕ) (side : Side) (path : Path) (r : Round H P) : Type 0 where
+    pub handed : (check : Packet) (id : List ℕ) → SendsOn side path r check id → IsHanded mac side path r check
+    pub nominated : AreNominatedOn (at side r.moment.behind) path
+    pub timely : (x : Occurrence H P) → Has r.behind x → Succeeds side path x
+        → (id : List ℕ) × (r.moment.entry.outcome.entry.told.issued ≡ Some (issued_as path Request id))
+
+  -- a round of the side that is asked: a check that goes out on the path is delivered, and its success comes back before the next moment
+  abbrev pub IsAnswered : (H → List ℕ → List ℕ → List ℕ) → Side → Path → Round H P → Type 0
+  IsAnswered mac side path r =
+      (check : Packet) (id : List ℕ) → SendsOn side path r check id
+      → (h : IsHanded mac side path r check)
+      × ((reply : Packet) → Sends (at (other side) h.comes.handed.before) h.comes.handed.entry.outcome.entry Success id reply (at (other side) h.comes.handed.behind)
+      → Arrival side side reply h.comes.rest)
+
+  module _ (mac : H → List ℕ → List ℕ → List ℕ) (answers : P → CandidateRecord → ℕ → ℕ → Type 0) where
+    -- Between two agents as they are made, wherever in a part of the log the controlling side has rounds that suffice for a nominated pair, in
+    -- which it asks for the path, and the controlled side has rounds that suffice for a pair on the way back, in which it is answered, and a
+    -- moment of the controlled side comes behind them that serves no request, it announced a path by then, where one pair of it alone joins
+    -- this one, unless a call of it may have taken such a pair away. Whatever else happens.
+    abbrev pub BothConnect : WorldRecord H P → Stream → List (Logged P) → Type 0
+    BothConnect first s log =
+        (last : WorldRecord H P) (t : Stream) (run : Run mac answers first s 0 log last t) (before part rest : List (Occurrence H P)) (moment : Occurrence H P)
+        (now : ℕ) (side : Side) (path : Path)
+        → ((x : Side) → IsNewAgent (at x first)) → occurrences_in mac answers first s 0 log last t run ≡ before ++ ((part ++ moment ∷ []) ++ rest)
+        → IsControlled side (part ++ moment ∷ [])
+        → (asking : HasRounds (other side) (turned path) part moment.before)
+        → ((r : Round H P) → Has (asking.first ∷ asking.later) r → Asks mac (other side) (turned path) r)
+        → (asked : HasRounds side path part moment.before)
+        → ((r : Round H P) → Has (asked.first ∷ asked.later) r → IsAnswered mac side path r)
+        → moment.entry.event ≡ Call side (agent.HandleTimeout now) → moment.entry.outcome.entry.answer ≡ agent.Done → request_at now (at side moment.before) ≡ None
+        → IsAlone (at side moment.behind) path
+        → ((x : Occurrence H P) × Has (before ++ (part ++ moment ∷ [])) x × Announces side x.entry)
+        ⊎ ((x : Occurrence H P) × Has (part ++ moment ∷ []) x × MayEndAt side path x)

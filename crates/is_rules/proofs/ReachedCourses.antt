@@ -1,0 +1,141 @@
+-- A pair that waits in a course is checked, or answered, as soon as one that waits in a log.
+use Rattle.std.proofs.Common.{ℕ, List, [], ◌∷◌, ◌++◌, length, inl, inr, ◌⊎◌, refl, ap, sym, ◌∙◌, subst, arith, append_assoc}
+use Rattle.rand_core.specs.Stream.{Stream}
+use Rattle.is_proto.specs.Lists.{Has}
+use Rattle.is_candidate.specs.Candidates.{CandidateRecord}
+use Rattle.is_rules.specs.declared.told.Path.{Path}
+use Rattle.is_rules.specs.Agent.{AgentRecord}
+use Rattle.is_rules.specs.Asked.{IsAnsweredOn, IsAnsweredIn}
+use Rattle.is_rules.specs.Courses.{CourseRound}
+use Rattle.is_rules.specs.Exchange.{Course}
+use Rattle.is_rules.specs.Logs.{Logged}
+use Rattle.is_rules.specs.Reached.{IsPassing, ChecksIn}
+use Rattle.is_rules.specs.ReachedCourses.{IsPassed, ChecksAmong, IsAnsweredAmong, PassRounds, CoursesReach}
+use Rattle.is_rules.specs.Rounds.{LoggedRound, entries_of, RunsOn}
+use Rattle.is_rules.specs.Sending.{path_of}
+use Rattle.is_rules.specs.Steps.{Call, Entry, HandleTimeout}
+use Rattle.is_rules.proofs.Coursing.{entry_of, part_of, pushed, part_is, round_of, rounds_of, begun, as_many, either_has, anew, leads_on}
+use Rattle.is_rules.proofs.ReachLaws.{pairs-are-reached}
+
+module _ {P : Type 0} where
+  -- ---- rounds of a course, as those of a log
+
+  is_passing : (by : ℕ) (before : List (Logged P)) (r : CourseRound P) → IsPassed by r → IsPassing by (round_of before r)
+  is_passing by before r round = record {
+    comes = refl;
+    done = round.done;
+    late = round.late;
+    early = round.early;
+    between = λ x has. round.between (x.call, x.entry) (part_is (entry_of before (HandleTimeout r.now) r.moment ∷ before) r.behind x has);
+  }
+
+  are_passing : (by : ℕ) (before : List (Logged P)) (older : List (LoggedRound P)) (rounds : List (CourseRound P)) → ((r : LoggedRound P) → Has older r → IsPassing by r)
+      → ((r : CourseRound P) → Has rounds r → IsPassed by r) → (r : LoggedRound P) → Has (rounds_of before older rounds) r → IsPassing by r
+  are_passing by before older [] were are r has = were r has
+  are_passing by before older (x ∷ later) were are r has =
+      are_passing by before (round_of (entries_of older ++ before) x ∷ older) later
+      (λ y there. elim there [
+        | inl is ↦ subst (λ (z : LoggedRound P). IsPassing by z) is (is_passing by (entries_of older ++ before) x (are x (inl refl)))
+        | inr k ↦ were y k
+      ])
+      (λ y there. are y (inr there)) r has
+
+  checks_later : (x : CourseRound P) (rounds : List (CourseRound P)) (path : Path) → ChecksAmong rounds path → ChecksAmong (x ∷ rounds) path
+  checks_later x rounds path (r, id, has, out) = (r, id, inr has, out)
+
+  answered_later : (x : CourseRound P) (rounds : List (CourseRound P)) (path : Path) → IsAnsweredAmong rounds path → IsAnsweredAmong (x ∷ rounds) path
+  answered_later x rounds path (r, has, is) = (r, inr has, is)
+
+  -- what is checked in the rounds of the log is checked in those of the course
+  checks_among : (before : List (Logged P)) (older : List (LoggedRound P)) (rounds : List (CourseRound P)) (path : Path) → ChecksIn (rounds_of before older rounds) path
+      → ChecksAmong rounds path ⊎ ChecksIn older path
+  checks_among before older [] path checks = inr checks
+  checks_among before older (r ∷ later) path checks =
+      elim (checks_among before (round_of (entries_of older ++ before) r ∷ older) later path checks) [
+        | inl k ↦ inl (checks_later r later path k)
+        | inr (x, id, inl is, out) ↦ inl (r, id, inl refl, ap (λ (y : LoggedRound P). y.moment.entry.told.issued) is ∙ out)
+        | inr (x, id, inr has, out) ↦ inr (x, id, has, out)
+      ]
+
+  -- and so what is answered
+  answered_among : (before : List (Logged P)) (older : List (LoggedRound P)) (rounds : List (CourseRound P)) (path : Path) → IsAnsweredIn (entries_of (rounds_of before older rounds)) path
+      → IsAnsweredAmong rounds path ⊎ IsAnsweredIn (entries_of older) path
+  answered_among before older [] path answered = inr answered
+  answered_among before older (r ∷ later) path answered =
+      elim (answered_among before (round_of (entries_of older ++ before) r ∷ older) later path answered) [
+        | inl k ↦ inl (answered_later r later path k)
+        | inr (x, has, is) ↦ elim (either_has (round_of (entries_of older ++ before) r).behind (entry_of (entries_of older ++ before) (HandleTimeout r.now) r.moment ∷ entries_of older) x has) [
+          | inl behind ↦
+              inl (r, inl refl, ((x.call, x.entry), part_is (entry_of (entries_of older ++ before) (HandleTimeout r.now) r.moment ∷ (entries_of older ++ before)) r.behind x behind, is))
+          | inr (inl same) ↦ absurd (subst (λ (y : Logged P). IsAnsweredOn y path) (sym same) is).3
+          | inr (inr was) ↦ inr (x, was, is)
+        ]
+      ]
+
+module _ {H P : Type 0} (mac : H → List ℕ → List ℕ → List ℕ) (answers : P → CandidateRecord → ℕ → ℕ → Type 0) where
+  -- ---- parts of a run, from the end backwards
+
+  abbrev Runs : List (Logged P) → AgentRecord H P → List (Logged P) → AgentRecord H P → Type 0
+  Runs before start part last = (t : Stream) → (s : Stream) × RunsOn mac answers before start s part last t
+
+  runs_both : (before one two : List (Logged P)) (start mid last : AgentRecord H P) (s u t : Stream) → RunsOn mac answers before start s one mid u
+      → RunsOn mac answers (one ++ before) mid u two last t → RunsOn mac answers before start s (two ++ one) last t
+  runs_both before one [] start mid last s u t h (is, same) =
+      subst (λ (a : AgentRecord H P). RunsOn mac answers before start s one a t) (sym is) (subst (λ v. RunsOn mac answers before start s one mid v) (sym same) h)
+  runs_both before one (x ∷ two) start mid last s u t h (m, v, run, number, based, step) =
+      (m, v, runs_both before one two start mid m s u v h run, number ∙ ap length (sym (append_assoc two one before)), based, step)
+
+  runs_course : (xs : List (Call P × Entry)) (before : List (Logged P)) (old new : AgentRecord H P) → Course mac answers xs old new → Runs before old (part_of before xs) new
+  runs_course [] before old new is t = (t, (is, refl))
+  runs_course (x ∷ rest) before old new (mid, s, t, based, step, more) u =
+      let k = runs_course rest (entry_of before x.0 x.1 ∷ before) mid new more u in
+      let a = anew mac answers x.0 x.1 old mid s t k.0 step in (
+        a.0,
+        runs_both before (entry_of before x.0 x.1 ∷ []) (part_of (entry_of before x.0 x.1 ∷ before) rest) old mid new a.0 k.0 u
+            (old, a.0, (refl, refl), refl, based, a.1) k.1,
+      )
+
+  runs_rounds : (rounds : List (CourseRound P)) (before : List (Logged P)) (older : List (LoggedRound P)) (start old new : AgentRecord H P) → Runs before start (entries_of older) old
+      → PassRounds mac answers rounds old new → Runs before start (entries_of (rounds_of before older rounds)) new
+  runs_rounds [] before older start old new ran is = subst (λ (a : AgentRecord H P). Runs before start (entries_of older) a) (sym is) ran
+  runs_rounds (r ∷ later) before older start old new ran (mid, next, s, t, step, course, more) =
+      runs_rounds later before (round_of (entries_of older ++ before) r ∷ older) start next new one more where
+        moment : Logged P
+        moment = entry_of (entries_of older ++ before) (HandleTimeout r.now) r.moment
+
+        one : Runs before start (entries_of (round_of (entries_of older ++ before) r ∷ older)) next
+        one u =
+            let k = runs_course r.behind (moment ∷ (entries_of older ++ before)) mid next course u in
+            let a = anew mac answers (HandleTimeout r.now) r.moment old mid s t k.0 step in
+            let h = ran a.0 in (
+              h.0,
+              runs_both before (moment ∷ entries_of older) (part_of (moment ∷ (entries_of older ++ before)) r.behind) start mid next h.0 k.0 u
+                  (old, a.0, h.1, refl, tt, a.1) k.1,
+            )
+
+  pub courses-reach : CoursesReach mac answers
+  courses-reach first start last xs r rounds p by fresh course line chain are enough =
+      let before : List (Logged P) = pushed [] xs in
+      let all : List (LoggedRound P) = rounds_of before [] (r ∷ rounds) in
+      let any : Stream = record { u32_after = λ cs. 0; u64_after = λ cs. 0; bytes_after = λ cs n. [] } in
+      let ran = runs_rounds (r ∷ rounds) before [] start start last (λ t. (t, (refl, refl))) chain any in
+      let led = leads_on mac answers first xs [] first start (λ t. (t, (refl, refl))) course ran.0 in
+      let many = as_many before [] (r ∷ rounds) in
+      elim (pairs-are-reached mac answers first led.0 (entries_of all ++ before) fresh before start last all p by
+      (record { rest = []; split = refl; at = ran.0; led = led.1; behind = any; run = ran.1 })
+      (record {
+        at = r.now;
+        began = begun before (round_of ([] ++ before) r) [] rounds;
+        line = line;
+        passing = are_passing by before [] (r ∷ rounds) (λ x none. absurd none) are;
+        enough = omega (arith, many, enough);
+      })) [
+        | inl checks ↦ elim (checks_among before [] (r ∷ rounds) (path_of start p) checks) [
+          | inl k ↦ inl k
+          | inr none ↦ absurd none.2
+        ]
+        | inr answered ↦ elim (answered_among before [] (r ∷ rounds) (path_of start p) answered) [
+          | inl k ↦ inr k
+          | inr none ↦ absurd none.1
+        ]
+      ]
