@@ -2,8 +2,8 @@
 
     python3 python/peer.py [-a ADDRESS ..] [-m TEXT] [-t SECONDS] controlling|controlled
 
-It binds a socket at each address (127.0.0.1 without -a) and prints its signal as a line, which the other peer's standard
-input is to read; it reads the other's from its own:
+It binds a socket at each address (127.0.0.1 without -a) and prints its signal as a line: standard output is what the other
+peer's standard input is to read. What happens is told on standard error. It reads from standard input:
 
     signal UFRAG PASSWORD LINE,LINE,..   the other peer's signal
     candidate:..                         a candidate that comes later
@@ -54,16 +54,16 @@ class Peer:
     def note(self, event: IceAgentEvent) -> None:
         """Prints an event, and keeps the path."""
         if isinstance(event, IceConnectionStateChange):
-            say(f"state {event.state.name.capitalize()}")
+            tell(f"state {event.state.name.capitalize()}")
         elif isinstance(event, DiscoveredRecv):
-            say(f"discovered {event.source}")
+            tell(f"discovered {event.source}")
         elif isinstance(event, NominatedSend):
             self.path = event
-            say(f"nominated {event.source} {event.destination}")
+            tell(f"nominated {event.source} {event.destination}")
 
     def hear(self, source: SocketAddress, local: SocketAddress, data: bytes) -> None:
         """Prints what the other peer said."""
-        say("heard " + data.decode(errors="replace"))
+        tell("heard " + data.decode(errors="replace"))
         self.heard.set()
 
     def read(self, line: str) -> None:
@@ -81,7 +81,7 @@ class Peer:
             self.agent.ice_restart(new_creds(), True)
             say(self.signal())
         elif word == "/stats":
-            say(f"{self.agent.stats} {self.agent.nominated_pair}")
+            tell(f"{self.agent.stats} {self.agent.nominated_pair}")
         elif word == "/quit":
             self.ended.set()
         elif self.path:
@@ -93,7 +93,7 @@ class Peer:
         try:
             self.agent.add_remote_candidate(line)
         except IceError as refusal:
-            print(f"peer: {refusal}", file=sys.stderr)
+            tell(f"peer: {refusal}")
 
     async def read_all(self) -> None:
         """Reads lines until standard input ends."""
@@ -133,7 +133,13 @@ class Peer:
 
 
 def say(line: str) -> None:
+    """Prints a line for the other peer."""
     print(line, flush=True)
+
+
+def tell(line: str) -> None:
+    """Prints a line for who looks on."""
+    print(line, file=sys.stderr, flush=True)
 
 
 def main() -> int:
