@@ -1,6 +1,8 @@
 //! Where a request is served: the choices that serving it rests on.
 
-ghost use Rattle.std.specs.Prelude.{◌≡◌, ◌+◌, ◌<◌, length, position, true, IfSome};
+ghost use Rattle.std.specs.Prelude.{◌≡◌, ◌==◌, ◌+◌, ◌<◌, length, position, true, false, IfSome};
+ghost use Rattle.std.specs.Net.Socket.{socket_port};
+ghost use Rattle.is_candidate.specs.Addresses.{same_address};
 ghost use Rattle.std.specs.List.{list_any};
 ghost use Rattle.is_candidate.specs.Candidates.{base_of, candidate_at, nowhere};
 ghost use Rattle.is_candidate.specs.Priorities.{candidate_priority, check_priority};
@@ -122,10 +124,22 @@ const NOWHERE_PRIORITY: u32 = 126 * 0x100_0000 + 65534 * 0x100 + 255;
 /// The same, were it peer reflexive.
 const NOWHERE_CHECK_PRIORITY: u32 = 110 * 0x100_0000 + 65534 * 0x100 + 255;
 
+/// Whether two addresses have one port. Most addresses that differ do so in it, and it is the quickest to compare.
+#[inline(always)]
+pub(crate) fn same_port(a: SocketAddr, b: SocketAddr) -> bool
+    ensures test { result ≡ (socket_port a == socket_port b) }
+    ensures apart { result ≡ false → same_address a b ≡ false }
+{
+    a.port() == b.port()
+}
+
+#[inline(always)]
 fn is_at(address: SocketAddr, proto: Protocol, candidate: &Candidate) -> bool
     ensures { result ≡ is_at address proto candidate.now }
 {
-    same_address(candidate.addr(), address) && same_protocol(candidate.proto(), proto)
+    same_port(candidate.addr(), address)
+        && same_address(candidate.addr(), address)
+        && same_protocol(candidate.proto(), proto)
 }
 
 fn is_reached(request: &Request<'_>, candidate: &Candidate) -> bool
@@ -166,6 +180,7 @@ pub fn local_place(local: &[Candidate], request: &Request<'_>) -> Option<usize>
     }
 }
 
+#[inline(always)]
 fn is_sender(request: &Request<'_>, candidate: &Candidate) -> bool
     ensures { result ≡ is_sender (request_view request.now) candidate.now }
 {
