@@ -7,16 +7,15 @@ use Rattle.is_stun.specs.declared.timing.StunTiming.{StunTiming}
 use Rattle.is_rules.specs.declared.credentials.IceCreds.{IceCreds}
 use Rattle.is_rules.specs.declared.event.IceAgentEvent.{IceAgentEvent}
 use Rattle.is_rules.specs.declared.event.IceConnectionState.{IceConnectionState}
-use Rattle.is_rules.specs.declared.waking.Waking.{Waking}
 use Rattle.is_rules.specs.declared.request.Waiting.{Waiting as Waiter}
 use Rattle.is_rules.specs.Request.{RequestRecord}
 use Rattle.is_rules.specs.RequestView.{waiting_view}
 use Rattle.is_rules.specs.Agent.{AgentRecord}
-use Rattle.is_rules.specs.Queue.{is_outdated, queue_left, first_taken, request_at}
-use Rattle.is_rules.specs.States.{same_state, with_state}
+use Rattle.is_rules.specs.Queue.{is_outdated, queue_left, queue_cleared, first_taken, request_at}
+use Rattle.is_rules.specs.States.{same_state, evaluated}
 use Rattle.is_rules.specs.declared.event.IceAgentEvent.TheVariants.{IceRestart}
 use Rattle.is_rules.specs.declared.event.IceConnectionState.TheVariants.{New}
-use Rattle.is_rules.specs.Waking.{with_start, start_event, outdated, IsWaking}
+use Rattle.is_rules.specs.Waking.{with_start, start_event, outdated}
 use Rattle.is_rules.specs.Timeouts.{awake, start_told, MayRefuseMoment}
 use Rattle.is_rules.specs.Serving.{MayRefuseRequest}
 use Rattle.is_proto.specs.declared.error.IceError.{IceError}
@@ -44,17 +43,21 @@ module _ {H P : Type 0} where
   outdated-left now t (Some peer) a = refl
 
   -- the start is told of in New alone
-  start-told : (a : AgentRecord H P) → with_start (start_event a.state a.local_creds) a.events ≡ (start_told a).events
+  pub start-told : (a : AgentRecord H P) → with_start (start_event a.state a.local_creds) a.events ≡ (start_told a).events
   start-told a = told (same_state a.state New) where
     told : (b : Bool) → with_start (if b then Some (IceRestart a.local_creds) else None) a.events ≡ (if b then a.events ++ IceRestart a.local_creds ∷ [] else a.events)
     told true = refl
     told false = refl
 
+  -- behind New it is told of no more
+  pub started : (a : AgentRecord H P) → same_state a.state New ≡ false → start_told a ≡ a
+  started a behind = rw (behind) refl
+
   -- what waking changes
-  pub wakes : (now : ℕ) (a : AgentRecord H P) (w : Waking) (state : IceConnectionState) (events : List IceAgentEvent) (queue : List RequestRecord) → IsWaking now a w
-      → state ≡ w.state → events ≡ (with_state w.state (record a { events = with_start w.start a.events })).events → queue ≡ drop w.outdated a.queue
-      → record a { state = state; events = events; queue = queue } ≡ awake now a
-  wakes now a w state events queue is s e q = rw (s, e, q, is.0, is.1, is.2, start-told a, outdated-left now a.timing a.remote_creds a) refl
+  pub wakes : (now : ℕ) (a : AgentRecord H P) (state : IceConnectionState) (events : List IceAgentEvent) (queue : List RequestRecord) (many : ℕ)
+      → state ≡ (evaluated now a).state → events ≡ (evaluated now a).events → queue ≡ drop many a.queue → many ≡ outdated now a.timing a.remote_creds a
+      → record a { state = state; events = events; queue = queue } ≡ queue_cleared now (evaluated now a)
+  wakes now a state events queue many s e q is = rw (s, e, q, is, outdated-left now a.timing a.remote_creds a) refl
 
   -- the first request that is left
   pub request-left : (now : ℕ) (a : AgentRecord H P) (peer : IceCreds) (items : List Waiter) (k : ℕ) → a.queue ≡ map waiting_view items → a.remote_creds ≡ Some peer

@@ -2,9 +2,8 @@
 //!
 //! Room for all of it is made before the agent changes; what follows can't be refused.
 
-ghost use Rattle.std.specs.Prelude.{◌≡◌, ℕ, Option, Some, true, IfOk, IfErr, OnOk, IsOkUnless, MatchOption};
+ghost use Rattle.std.specs.Prelude.{◌≡◌, ℕ, Option, Some, true, IfOk, IfErr, OnOk, MatchOption};
 ghost use Rattle.std.specs.List.{list_any};
-ghost use Rattle.is_proto.specs.declared.error.IceError.TheVariants as errors;
 ghost use Rattle.is_stun.specs.Laws.{IsPut};
 ghost use Rattle.is_stun.specs.Writing.{written};
 ghost use Rattle.is_stun.specs.declared.header.Class.TheVariants as classes;
@@ -16,11 +15,10 @@ ghost use Rattle.is_pair.specs.Bag.{has_number};
 ghost use Rattle.is_pair.specs.Due.{is_due, IsNextDue};
 ghost use Rattle.is_rules.specs.Due.{may_fall_due, Drafts, DraftsNext, check_counted};
 ghost use Rattle.is_pair.specs.Pairs.{PairRecord};
-ghost use Rattle.is_rules.specs.Queue.{request_at};
+ghost use Rattle.is_rules.specs.Queue.{request_at, queue_cleared};
 ghost use Rattle.is_rules.specs.Sending.{with_packet};
 ghost use Rattle.is_rules.specs.States.{evaluated};
 ghost use Rattle.is_rules.specs.Told.{issued_as};
-ghost use Rattle.is_rules.specs.Waking.{IsWaking};
 ghost use Rattle.is_rules.specs.Timeouts.{awake, is_given_up, given_up_gone, GivesUp, MayRefuseMoment, ServesQueued, Proceeds, TimesOut};
 
 use crate::agent::Agent;
@@ -29,10 +27,10 @@ use is_candidate::LocalPreference;
 use is_pair::checklist::GivenUp;
 use is_proto::{IceError, Instant, Sha1HmacProvider, Transmit};
 use is_rules::checking::{Draft, write_username};
-use is_rules::states::tell_state;
+use is_rules::event::IceConnectionState;
+use is_rules::states::{same_state, tell_state};
 use is_rules::timeout::FallsDue;
 use is_rules::told::{Issued, Path, Told};
-use is_rules::waking::Waking;
 use is_stun::stun::{Class, TransId};
 use rand_core::Rng;
 use std::alloc::AllocError;
@@ -242,45 +240,68 @@ impl<H: Sha1HmacProvider + Drop, P: LocalPreference> Agent<H, P> {
         self.told = Told::by(issued, first, second);
     }
 
-    /// The moment begins, and all follows, with room for both.
-    fn wake_and_proceed<R: Rng>(&mut self, now: Instant, rng: &mut R, waking: Waking)
-        requires waking { IsWaking now.0 (record_of self.old) waking }
-        requires events { HasEventRoom 5 self.old }
+    /// The agent wakes, and all follows, with room for both. The start was told of.
+    fn wake_and_proceed<R: Rng>(&mut self, now: Instant, rng: &mut R)
+        requires events { HasEventRoom 4 self.old }
         requires checks { HasCheckRoomAt now.0 self.old }
-        ensures { Proceeds H.mac now.0 (awake now.0 (record_of self.old)) (R.stream rng.old) (told_of self.new) (record_of self.new) (R.stream rng.new) }
+        ensures { Proceeds H.mac now.0 (queue_cleared now.0 (evaluated now.0 (record_of self.old))) (R.stream rng.old) (told_of self.new) (record_of self.new) (R.stream rng.new) }
     {
-        self.wake(now, waking);
+        self.wake(now);
         self.proceed(now, rng);
     }
 
-    /// All that this moment does where it serves no request.
-    fn advance<R: Rng>(&mut self, now: Instant, rng: &mut R) -> Result<(), IceError>
+    /// All that the first moment does, where it serves no request: the start is told of before all else.
+    #[inline(never)]
+    fn advance_from_new<R: Rng>(&mut self, now: Instant, rng: &mut R) -> Result<(), AllocError>
         ensures advanced { OnOk result (Proceeds H.mac now.0 (awake now.0 (record_of self.old)) (R.stream rng.old) (told_of self.new) (record_of self.new) (R.stream rng.new)) }
-        ensures refused { IsOkUnless result errors.OutOfMemory }
         ensures unchanged { IfErr result (λ _. (record_of self.new ≡ record_of self.old) × (R.stream rng.new ≡ R.stream rng.old)) }
     {
-        let waking = self.waking(now)?;
+        let start = self.start_event()?;
         self.take_round_room(now)?;
-        self.wake_and_proceed(now, rng, waking);
+        self.tell_start(start);
+        self.wake_and_proceed(now, rng);
         Ok(())
     }
 
-    /// The request that waited is served; where there is none, the agent advances.
-    fn pass<R: Rng>(&mut self, now: Instant, rng: &mut R) -> Result<(), IceError>
+    /// All that this moment does where it serves no request.
+    fn advance<R: Rng>(&mut self, now: Instant, rng: &mut R) -> Result<(), AllocError>
+        ensures advanced { OnOk result (Proceeds H.mac now.0 (awake now.0 (record_of self.old)) (R.stream rng.old) (told_of self.new) (record_of self.new) (R.stream rng.new)) }
+        ensures unchanged { IfErr result (λ _. (record_of self.new ≡ record_of self.old) × (R.stream rng.new ≡ R.stream rng.old)) }
+    {
+        if same_state(self.state, IceConnectionState::New) {
+            return self.advance_from_new(now, rng);
+        }
+        self.take_round_room(now)?;
+        self.wake_and_proceed(now, rng);
+        Ok(())
+    }
+
+    /// The request that waited is served; where the moment serves none, the agent advances.
+    #[inline(never)]
+    fn pass_waiting<R: Rng>(&mut self, now: Instant, rng: &mut R) -> Result<(), IceError>
         ensures passed { OnOk result (MatchOption (request_at now.0 (record_of self.old)) (Proceeds H.mac now.0 (awake now.0 (record_of self.old)) (R.stream rng.old) (told_of self.new) (record_of self.new) (R.stream rng.new)) (λ q. ServesQueued H.mac q (awake now.0 (record_of self.old)) (R.stream rng.old) (told_of self.new) (record_of self.new) (R.stream rng.new))) }
         ensures refused { IfErr result (λ error. MayRefuseMoment now.0 (record_of self.old) error) }
         ensures unchanged { IfErr result (λ _. (record_of self.new ≡ record_of self.old) × (R.stream rng.new ≡ R.stream rng.old)) }
     {
-        if self.queue.is_empty() {
-            return self.advance(now, rng);
-        }
         match self.late_request(now)? {
             Some(waiting) => {
                 self.told = self.serve_waiting(now, &waiting)?;
                 Ok(())
             }
-            None => self.advance(now, rng),
+            None => Ok(self.advance(now, rng)?),
         }
+    }
+
+    /// The same; mostly no request waits.
+    fn pass<R: Rng>(&mut self, now: Instant, rng: &mut R) -> Result<(), IceError>
+        ensures passed { OnOk result (MatchOption (request_at now.0 (record_of self.old)) (Proceeds H.mac now.0 (awake now.0 (record_of self.old)) (R.stream rng.old) (told_of self.new) (record_of self.new) (R.stream rng.new)) (λ q. ServesQueued H.mac q (awake now.0 (record_of self.old)) (R.stream rng.old) (told_of self.new) (record_of self.new) (R.stream rng.new))) }
+        ensures refused { IfErr result (λ error. MayRefuseMoment now.0 (record_of self.old) error) }
+        ensures unchanged { IfErr result (λ _. (record_of self.new ≡ record_of self.old) × (R.stream rng.new ≡ R.stream rng.old)) }
+    {
+        if !self.queue.is_empty() {
+            return self.pass_waiting(now, rng);
+        }
+        Ok(self.advance(now, rng)?)
     }
 
     /// Tells the agent of a moment. In New the start is told of, and the state is evaluated. A request that waited is

@@ -6,9 +6,10 @@ ghost use Rattle.is_agent.specs.Room.{HasEventRoom, HasNewsRoom, HasServingRoom,
 ghost use Rattle.is_rules.specs.Serving.{Serves, LacksNumber, AlwaysLacksNumber, MayRefuseRequest};
 ghost use Rattle.is_proto.specs.declared.error.IceError.TheVariants as errors;
 ghost use Rattle.is_agent.specs.View.{record_of};
-ghost use Rattle.is_rules.specs.Queue.{request_at, first_taken};
-ghost use Rattle.is_rules.specs.Waking.{start_event, outdated, IsWaking};
-ghost use Rattle.is_rules.specs.Timeouts.{awake, MayRefuseMoment};
+ghost use Rattle.is_rules.specs.Queue.{request_at, first_taken, queue_cleared};
+ghost use Rattle.is_rules.specs.States.{evaluated};
+ghost use Rattle.is_rules.specs.Waking.{start_event, outdated};
+ghost use Rattle.is_rules.specs.Timeouts.{awake, start_told, MayRefuseMoment};
 
 use crate::agent::Agent;
 use is_candidate::LocalPreference;
@@ -18,11 +19,12 @@ use is_rules::queue::{count_outdated, drop_first};
 use is_rules::request::{Request, Waiting};
 use is_rules::states::{same_state, tell_state};
 use is_rules::told::Told;
-use is_rules::waking::{Waking, tell_start, waiting_at};
+use is_rules::waking::{tell_start, waiting_at};
 use std::alloc::AllocError;
 
 impl<H: Sha1HmacProvider + Drop, P: LocalPreference> Agent<H, P> {
-    fn start_event(&self) -> Result<Option<IceAgentEvent>, AllocError>
+    /// The event that tells of the start, in New.
+    pub(crate) fn start_event(&self) -> Result<Option<IceAgentEvent>, AllocError>
         ensures { IfOk result (λ event. event ≡ start_event (record_of self.now).state (record_of self.now).local_creds) }
     {
         if !same_state(self.state, IceConnectionState::New) {
@@ -40,35 +42,31 @@ impl<H: Sha1HmacProvider + Drop, P: LocalPreference> Agent<H, P> {
         }
     }
 
-    /// What this moment begins with.
-    pub(crate) fn waking(&self, now: Instant) -> Result<Waking, AllocError>
-        ensures { IfOk result (λ waking. IsWaking now.0 (record_of self.now) waking) }
-    {
-        let start = self.start_event()?;
-        Ok(Waking {
-            start,
-            state: self.state_at(now),
-            outdated: self.outdated(now),
-        })
-    }
-
-    /// The moment begins, within room for two events.
-    pub(crate) fn wake(&mut self, now: Instant, waking: Waking)
-        requires waking { IsWaking now.0 (record_of self.old) waking }
-        requires room { HasEventRoom 2 self.old }
-        ensures awake { record_of self.new ≡ awake now.0 (record_of self.old) }
+    /// The start is told of, where there is one, within room for an event.
+    pub(crate) fn tell_start(&mut self, start: Option<IceAgentEvent>)
+        requires start { start ≡ start_event (record_of self.old).state (record_of self.old).local_creds }
+        requires room { HasEventRoom 1 self.old }
+        ensures told { record_of self.new ≡ start_told (record_of self.old) }
         ensures serving { HasServingRoom self.old → HasServingRoom self.new }
-        ensures packets { HasPacketRoom self.old → HasPacketRoom self.new }
-        ensures events { HasEventRoom 5 self.old → HasEventRoom 3 self.new }
-        ensures news { HasNewsRoom 4 self.old → HasNewsRoom 2 self.new }
+        ensures events { HasEventRoom 2 self.old → HasEventRoom 1 self.new }
+        ensures more { HasEventRoom 5 self.old → HasEventRoom 4 self.new }
+        ensures news { HasNewsRoom 4 self.old → HasNewsRoom 3 self.new }
         ensures checks { (t : ℕ) → HasCheckRoomAt t self.old → HasCheckRoomAt t self.new }
     {
-        let Waking {
-            start,
-            state,
-            outdated,
-        } = waking;
         tell_start(&mut self.events, start);
+    }
+
+    /// The state is evaluated, within room for an event, and outdated requests go.
+    pub(crate) fn wake(&mut self, now: Instant)
+        requires room { HasEventRoom 1 self.old }
+        ensures awake { record_of self.new ≡ queue_cleared now.0 (evaluated now.0 (record_of self.old)) }
+        ensures serving { HasServingRoom self.old → HasServingRoom self.new }
+        ensures events { HasEventRoom 4 self.old → HasEventRoom 3 self.new }
+        ensures news { HasNewsRoom 3 self.old → HasNewsRoom 2 self.new }
+        ensures checks { (t : ℕ) → HasCheckRoomAt t self.old → HasCheckRoomAt t self.new }
+    {
+        let state = self.state_at(now);
+        let outdated = self.outdated(now);
         tell_state(&mut self.state, &mut self.events, state);
         drop_first(&mut self.queue, outdated);
     }
@@ -130,20 +128,21 @@ impl<H: Sha1HmacProvider + Drop, P: LocalPreference> Agent<H, P> {
         ensures refused { IfErr result (λ error. MayRefuseRequest (record_of self.old) (waiting_view waiting.now) error
             × (record_of self.new ≡ record_of self.old)) }
     {
-        let waking = self.waking(now)?;
+        let start = self.start_event()?;
         let request = waiting.request();
-        self.serve_late(now, waking, &request)
+        self.serve_late(now, start, &request)
     }
 
-    /// The same, and the first request that is left goes.
-    fn wake_first(&mut self, now: Instant, waking: Waking)
-        requires waking { IsWaking now.0 (record_of self.old) waking }
+    /// The moment begins, within room for two events, and the first request that is left goes.
+    fn wake_first(&mut self, now: Instant, start: Option<IceAgentEvent>)
+        requires start { start ≡ start_event (record_of self.old).state (record_of self.old).local_creds }
         requires room { HasEventRoom 2 self.old }
         ensures awake { record_of self.new ≡ first_taken (awake now.0 (record_of self.old)) }
         ensures serving { HasServingRoom self.old → HasServingRoom self.new }
         ensures news { HasNewsRoom 4 self.old → HasNewsRoom 2 self.new }
     {
-        self.wake(now, waking);
+        self.tell_start(start);
+        self.wake(now);
         drop_first(&mut self.queue, 1);
     }
 
@@ -174,10 +173,10 @@ impl<H: Sha1HmacProvider + Drop, P: LocalPreference> Agent<H, P> {
     fn serve_late(
         &mut self,
         now: Instant,
-        waking: Waking,
+        start: Option<IceAgentEvent>,
         request: &Request<'_>,
     ) -> Result<Told, IceError>
-        requires waking { IsWaking now.0 (record_of self.old) waking }
+        requires start { start ≡ start_event (record_of self.old).state (record_of self.old).local_creds }
         ensures served { IfOk result (λ told. Serves H.mac (request_view request.now) (first_taken (awake now.0 (record_of self.old))) told
             (record_of self.new)) }
         ensures refused { IfErr result (λ error. MayRefuseRequest (record_of self.old) (request_view request.now) error
@@ -185,7 +184,7 @@ impl<H: Sha1HmacProvider + Drop, P: LocalPreference> Agent<H, P> {
     {
         let Some(at) = self.places_of(request) else {
             self.take_waking_room()?;
-            self.wake_first(now, waking);
+            self.wake_first(now, start);
             return Ok(Told::nothing());
         };
         if self.lacks_number(request, at) {
@@ -193,7 +192,7 @@ impl<H: Sha1HmacProvider + Drop, P: LocalPreference> Agent<H, P> {
         }
         let supplies = self.supplies_for(request, at)?;
         self.take_late_room()?;
-        self.wake_first(now, waking);
+        self.wake_first(now, start);
         Ok(self.settle(request, at, supplies))
     }
 }

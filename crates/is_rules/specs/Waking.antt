@@ -1,15 +1,14 @@
 -- What a moment begins with, as internal functions prepare it before the agent changes.
-use Rattle.std.specs.Prelude.{◌≡◌, ℕ, List, [], ◌∷◌, ◌++◌, length, take_while, Option, Some, None, if◌then◌else◌}
+use Rattle.std.specs.Prelude.{ℕ, List, [], ◌∷◌, ◌++◌, length, take_while, Option, Some, None, if◌then◌else◌}
 use Rattle.is_stun.specs.declared.timing.StunTiming.{StunTiming}
 use Rattle.is_rules.specs.declared.credentials.IceCreds.{IceCreds}
 use Rattle.is_rules.specs.declared.event.IceAgentEvent.{IceAgentEvent}
 use Rattle.is_rules.specs.declared.event.IceAgentEvent.TheVariants.{IceRestart}
 use Rattle.is_rules.specs.declared.event.IceConnectionState.{IceConnectionState}
 use Rattle.is_rules.specs.declared.event.IceConnectionState.TheVariants.{New}
-use Rattle.is_rules.specs.declared.waking.Waking.{Waking}
 use Rattle.is_rules.specs.Agent.{AgentRecord}
 use Rattle.is_rules.specs.Queue.{is_outdated}
-use Rattle.is_rules.specs.States.{same_state, next_state, has_selected, has_possible}
+use Rattle.is_rules.specs.States.{same_state}
 
 -- the event that tells of the start, in New
 abbrev pub start_event : IceConnectionState → IceCreds → Option IceAgentEvent
@@ -20,15 +19,7 @@ with_start None events = events
 with_start (Some event) events = events ++ event ∷ []
 
 module _ {H P : Type 0} where
-  -- the state that the agent is awake in
-  abbrev pub waking_state : ℕ → AgentRecord H P → IceConnectionState
-  waking_state now a = next_state a.state (has_selected a) (has_possible now a) a.lite
-
   -- how many requests are outdated, once remote credentials are known
   abbrev pub outdated : ℕ → StunTiming → Option IceCreds → AgentRecord H P → ℕ
   outdated now t None a = 0
   outdated now t (Some peer) a = length (take_while (is_outdated now t) a.queue)
-
-  abbrev pub IsWaking : ℕ → AgentRecord H P → Waking → Type 0
-  IsWaking now a w =
-      (w.start ≡ start_event a.state a.local_creds) × (w.state ≡ waking_state now a) × (w.outdated ≡ outdated now a.timing a.remote_creds a)

@@ -3,22 +3,11 @@
 ghost use Rattle.std.specs.Prelude.{◌≡◌, ◌<◌, ◌≤◌, ◌+◌, slice_get};
 ghost use Rattle.std.specs.VecDeque.{deque_len, deque_capacity};
 ghost use Rattle.std.specs.Option.{option_copied};
-ghost use Rattle.is_rules.specs.Waking.{with_start, outdated};
+ghost use Rattle.is_rules.specs.Waking.{with_start};
 
-use crate::event::{IceAgentEvent, IceConnectionState};
+use crate::event::IceAgentEvent;
 use crate::request::Waiting;
 use std::collections::VecDeque;
-
-/// What a moment begins with.
-#[derive(Drop)]
-pub struct Waking {
-    /// The start of the first session.
-    pub start: Option<IceAgentEvent>,
-    /// The state, evaluated at the moment.
-    pub state: IceConnectionState,
-    /// How many requests are outdated.
-    pub outdated: usize,
-}
 
 /// The request at a place of the queue.
 pub fn waiting_at(queue: &VecDeque<Waiting>, place: usize) -> Option<&Waiting>
