@@ -2,7 +2,7 @@
 //!
 //! Room for all of it is made before the agent changes; what follows can't be refused.
 
-ghost use Rattle.std.specs.Prelude.{◌≡◌, ℕ, Option, Some, true, IfOk, IfErr, OnOk, MatchOption};
+ghost use Rattle.std.specs.Prelude.{◌≡◌, ℕ, Option, Some, true, IfOk, None, IfErr, OnOk, MatchOption};
 ghost use Rattle.std.specs.List.{list_any};
 ghost use Rattle.is_stun.specs.Laws.{IsPut};
 ghost use Rattle.is_stun.specs.Writing.{written};
@@ -18,7 +18,9 @@ ghost use Rattle.is_pair.specs.Pairs.{PairRecord};
 ghost use Rattle.is_rules.specs.Queue.{request_at, queue_cleared};
 ghost use Rattle.is_rules.specs.Sending.{with_packet};
 ghost use Rattle.is_rules.specs.States.{evaluated};
-ghost use Rattle.is_rules.specs.Told.{issued_as};
+ghost use Rattle.is_rules.specs.Told.{issued_as, told_by};
+ghost use Rattle.is_rules.specs.declared.told.Issued.{Issued};
+ghost use Rattle.is_rules.specs.declared.told.Path.{Path};
 ghost use Rattle.is_rules.specs.Timeouts.{awake, is_given_up, given_up_gone, GivesUp, MayRefuseMoment, ServesQueued, Proceeds, TimesOut};
 
 use crate::agent::Agent;
@@ -96,6 +98,7 @@ impl<H: Sha1HmacProvider + Drop, P: LocalPreference> Agent<H, P> {
         ensures put { (peer : model.IceCreds) (p : PairRecord) → self.old.remote_creds ≡ Some peer → Drafts (record_of self.old) p draft
             → IsPut (written (H.mac self.old.provider) (Some peer.pass) (check_message (record_of self.old) peer p id.0))
             (check_message (record_of self.old) peer p id.0) }
+        ensures told { told_of self.new ≡ told_of self.old }
         ensures sent { (peer : model.IceCreds) (p : PairRecord) → self.old.remote_creds ≡ Some peer → Drafts (record_of self.old) p draft
             → record_of self.new ≡ with_packet draft.path (written (H.mac self.old.provider) (Some peer.pass)
             (check_message (record_of self.old) peer p id.0)) (check_counted (record_of self.old)) }
@@ -118,7 +121,8 @@ impl<H: Sha1HmacProvider + Drop, P: LocalPreference> Agent<H, P> {
     fn check<R: Rng>(&mut self, number: u64, draft: Draft, now: Instant, rng: &mut R) -> Issued
         requires has { has_number number (record_of self.old).pairs ≡ true }
         requires room { HasCheckRoom self.old }
-        ensures { (peer : model.IceCreds) (p : PairRecord) → self.old.remote_creds ≡ Some peer → p.number ≡ number
+        ensures told { told_of self.new ≡ told_of self.old }
+        ensures checked { (peer : model.IceCreds) (p : PairRecord) → self.old.remote_creds ≡ Some peer → p.number ≡ number
             → Drafts (record_of self.old) p draft → ChecksPair H.mac now.0 peer p (record_of self.old) (R.stream rng.old) (Some result)
             (record_of self.new) (R.stream rng.new) }
     {
@@ -143,7 +147,8 @@ impl<H: Sha1HmacProvider + Drop, P: LocalPreference> Agent<H, P> {
     /// The pair that is due first is checked.
     fn check_next<R: Rng>(&mut self, now: Instant, rng: &mut R) -> Option<Issued>
         requires room { list_any (is_due now.0 self.old.timing) (record_of self.old).pairs ≡ true → HasCheckRoom self.old }
-        ensures { (peer : model.IceCreds) → self.old.remote_creds ≡ Some peer → ChecksNext H.mac now.0 peer (record_of self.old)
+        ensures told { told_of self.new ≡ told_of self.old }
+        ensures checked { (peer : model.IceCreds) → self.old.remote_creds ≡ Some peer → ChecksNext H.mac now.0 peer (record_of self.old)
             (R.stream rng.old) result (record_of self.new) (R.stream rng.new) }
     {
         match self.next_check(now) {
@@ -155,7 +160,8 @@ impl<H: Sha1HmacProvider + Drop, P: LocalPreference> Agent<H, P> {
     /// The same, where the peer is known: each pair is asked for its due moment first. A lite agent sends no check.
     fn may_check<R: Rng>(&mut self, now: Instant, rng: &mut R) -> Option<Issued>
         requires { HasCheckRoomAt now.0 self.old }
-        ensures { MayCheck H.mac now.0 (record_of self.old).remote_creds (record_of self.old) (R.stream rng.old) result (record_of self.new)
+        ensures told { told_of self.new ≡ told_of self.old }
+        ensures checked { MayCheck H.mac now.0 (record_of self.old).remote_creds (record_of self.old) (R.stream rng.old) result (record_of self.new)
             (R.stream rng.new) }
     {
         match self.remote_creds {
@@ -227,6 +233,18 @@ impl<H: Sha1HmacProvider + Drop, P: LocalPreference> Agent<H, P> {
 // ---- the moment
 
 impl<H: Sha1HmacProvider + Drop, P: LocalPreference> Agent<H, P> {
+    /// A pair may be checked, and the check is told of beside the paths that were.
+    fn check_and_tell<R: Rng>(&mut self, now: Instant, rng: &mut R)
+        requires { HasCheckRoomAt now.0 self.old }
+        ensures { (first second : Option Path) → told_of self.old ≡ told_by None first second → (issued : Option Issued)
+            × MayCheck H.mac now.0 (record_of self.old).remote_creds (record_of self.old) (R.stream rng.old) issued (record_of self.new)
+            (R.stream rng.new) × (told_of self.new ≡ told_by issued first second) }
+    {
+        if let Some(issued) = self.may_check(now, rng) {
+            self.told.issued = Some(issued);
+        }
+    }
+
     /// All that the moment does behind waking, with room for it. What it tells is written where it is kept.
     fn proceed<R: Rng>(&mut self, now: Instant, rng: &mut R)
         requires events { HasEventRoom 3 self.old }
@@ -236,15 +254,16 @@ impl<H: Sha1HmacProvider + Drop, P: LocalPreference> Agent<H, P> {
         self.last_moment = Some(now);
         let first = self.evaluate_nomination();
         let second = self.give_up(now);
-        let issued = self.may_check(now, rng);
-        self.told = Told::by(issued, first, second);
+        self.told = Told::by(None, first, second);
+        self.check_and_tell(now, rng);
     }
 
     /// The agent wakes, and all follows, with room for both. The start was told of.
     fn wake_and_proceed<R: Rng>(&mut self, now: Instant, rng: &mut R)
         requires events { HasEventRoom 4 self.old }
         requires checks { HasCheckRoomAt now.0 self.old }
-        ensures { Proceeds H.mac now.0 (queue_cleared now.0 (evaluated now.0 (record_of self.old))) (R.stream rng.old) (told_of self.new) (record_of self.new) (R.stream rng.new) }
+        ensures { Proceeds H.mac now.0 (queue_cleared now.0 (evaluated now.0 (record_of self.old))) (R.stream rng.old) (told_of self.new)
+            (record_of self.new) (R.stream rng.new) }
     {
         self.wake(now);
         self.proceed(now, rng);
@@ -253,7 +272,8 @@ impl<H: Sha1HmacProvider + Drop, P: LocalPreference> Agent<H, P> {
     /// All that the first moment does, where it serves no request: the start is told of before all else.
     #[inline(never)]
     fn advance_from_new<R: Rng>(&mut self, now: Instant, rng: &mut R) -> Result<(), AllocError>
-        ensures advanced { OnOk result (Proceeds H.mac now.0 (awake now.0 (record_of self.old)) (R.stream rng.old) (told_of self.new) (record_of self.new) (R.stream rng.new)) }
+        ensures advanced { OnOk result (Proceeds H.mac now.0 (awake now.0 (record_of self.old)) (R.stream rng.old) (told_of self.new)
+            (record_of self.new) (R.stream rng.new)) }
         ensures unchanged { IfErr result (λ _. (record_of self.new ≡ record_of self.old) × (R.stream rng.new ≡ R.stream rng.old)) }
     {
         let start = self.start_event()?;
@@ -265,7 +285,8 @@ impl<H: Sha1HmacProvider + Drop, P: LocalPreference> Agent<H, P> {
 
     /// All that this moment does where it serves no request.
     fn advance<R: Rng>(&mut self, now: Instant, rng: &mut R) -> Result<(), AllocError>
-        ensures advanced { OnOk result (Proceeds H.mac now.0 (awake now.0 (record_of self.old)) (R.stream rng.old) (told_of self.new) (record_of self.new) (R.stream rng.new)) }
+        ensures advanced { OnOk result (Proceeds H.mac now.0 (awake now.0 (record_of self.old)) (R.stream rng.old) (told_of self.new)
+            (record_of self.new) (R.stream rng.new)) }
         ensures unchanged { IfErr result (λ _. (record_of self.new ≡ record_of self.old) × (R.stream rng.new ≡ R.stream rng.old)) }
     {
         if same_state(self.state, IceConnectionState::New) {
@@ -279,7 +300,10 @@ impl<H: Sha1HmacProvider + Drop, P: LocalPreference> Agent<H, P> {
     /// The request that waited is served; where the moment serves none, the agent advances.
     #[inline(never)]
     fn pass_waiting<R: Rng>(&mut self, now: Instant, rng: &mut R) -> Result<(), IceError>
-        ensures passed { OnOk result (MatchOption (request_at now.0 (record_of self.old)) (Proceeds H.mac now.0 (awake now.0 (record_of self.old)) (R.stream rng.old) (told_of self.new) (record_of self.new) (R.stream rng.new)) (λ q. ServesQueued H.mac q (awake now.0 (record_of self.old)) (R.stream rng.old) (told_of self.new) (record_of self.new) (R.stream rng.new))) }
+        ensures passed { OnOk result (MatchOption (request_at now.0 (record_of self.old))
+            (Proceeds H.mac now.0 (awake now.0 (record_of self.old)) (R.stream rng.old) (told_of self.new) (record_of self.new) (R.stream rng.new))
+            (λ q. ServesQueued H.mac q (awake now.0 (record_of self.old)) (R.stream rng.old) (told_of self.new) (record_of self.new)
+            (R.stream rng.new))) }
         ensures refused { IfErr result (λ error. MayRefuseMoment now.0 (record_of self.old) error) }
         ensures unchanged { IfErr result (λ _. (record_of self.new ≡ record_of self.old) × (R.stream rng.new ≡ R.stream rng.old)) }
     {
@@ -294,7 +318,10 @@ impl<H: Sha1HmacProvider + Drop, P: LocalPreference> Agent<H, P> {
 
     /// The same; mostly no request waits.
     fn pass<R: Rng>(&mut self, now: Instant, rng: &mut R) -> Result<(), IceError>
-        ensures passed { OnOk result (MatchOption (request_at now.0 (record_of self.old)) (Proceeds H.mac now.0 (awake now.0 (record_of self.old)) (R.stream rng.old) (told_of self.new) (record_of self.new) (R.stream rng.new)) (λ q. ServesQueued H.mac q (awake now.0 (record_of self.old)) (R.stream rng.old) (told_of self.new) (record_of self.new) (R.stream rng.new))) }
+        ensures passed { OnOk result (MatchOption (request_at now.0 (record_of self.old))
+            (Proceeds H.mac now.0 (awake now.0 (record_of self.old)) (R.stream rng.old) (told_of self.new) (record_of self.new) (R.stream rng.new))
+            (λ q. ServesQueued H.mac q (awake now.0 (record_of self.old)) (R.stream rng.old) (told_of self.new) (record_of self.new)
+            (R.stream rng.new))) }
         ensures refused { IfErr result (λ error. MayRefuseMoment now.0 (record_of self.old) error) }
         ensures unchanged { IfErr result (λ _. (record_of self.new ≡ record_of self.old) × (R.stream rng.new ≡ R.stream rng.old)) }
     {

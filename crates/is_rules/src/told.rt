@@ -85,9 +85,16 @@ impl Told {
     pub fn by(issued: Option<Issued>, first: Option<Path>, second: Option<Path>) -> Told
         ensures { result ≡ told_by issued first second }
     {
-        let announced = match first {
-            Some(path) => [Some(path), second],
-            None => [second, None],
+        if first.is_none() && second.is_none() {
+            return Told {
+                issued,
+                announced: [None, None],
+            };
+        }
+        let announced = match second {
+            None => [first, None],
+            Some(_) if first.is_none() => [second, None],
+            Some(_) => [first, second],
         };
         Told { issued, announced }
     }
