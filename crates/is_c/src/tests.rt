@@ -92,41 +92,41 @@ fn a_request_is_replied_to(rt: HostRuntime) {
     let mut at = 7;
     let mut buffer = [0; 64];
     let made = is_agent_new(alloc, &mut slot, b"p9KA", b"xJcE9AQAR7kczUDVOXRUCl", 1);
-    assert_eq!(rt; made, codes::OK);
+    assert!(rt; made == codes::OK);
     let again = is_agent_new(alloc, &mut slot, b"p9KA", b"x", 1);
-    assert_eq!(rt; again, codes::HAS_AGENT);
+    assert!(rt; again == codes::HAS_AGENT);
     let told = is_agent_set_remote_credentials(alloc, &mut slot, b"SQAt", b"x");
-    assert_eq!(rt; told, codes::OK);
+    assert!(rt; told == codes::OK);
     let added = is_agent_add_local(alloc, &mut slot, &host(own));
-    assert_eq!(rt; added, codes::OK);
+    assert!(rt; added == codes::OK);
     let known = is_agent_add_local(alloc, &mut slot, &host(own));
-    assert_eq!(rt; known, codes::NOTHING);
+    assert!(rt; known == codes::NOTHING);
     let cut = is_agent_handle_packet(alloc, &mut slot, 0, 0, &peer, &own, &REQUEST[..99]);
-    assert_eq!(rt; cut, codes::UNPARSED);
+    assert!(rt; cut == codes::UNPARSED);
     let mine = is_agent_accepts_packet(alloc, &mut slot, 0, &peer, &own, &REQUEST);
-    assert_eq!(rt; mine, codes::OK);
+    assert!(rt; mine == codes::OK);
     let answer = is_agent_accepts_message(alloc, &mut slot, &REPLY);
-    assert_eq!(rt; answer, codes::NOTHING);
+    assert!(rt; answer == codes::NOTHING);
     let taken = is_agent_handle_packet(alloc, &mut slot, 0, 0, &peer, &own, &REQUEST);
-    assert_eq!(rt; taken, codes::OK);
+    assert!(rt; taken == codes::OK);
     let short = is_agent_poll_transmit(alloc, &mut slot, &mut buffer[..63], &mut packet);
-    assert_eq!(rt; short, codes::BUFFER_TOO_SHORT);
-    assert_eq!(rt; packet.length, 64);
+    assert!(rt; short == codes::BUFFER_TOO_SHORT);
+    assert!(rt; packet.length == 64);
     let given = is_agent_poll_transmit(alloc, &mut slot, &mut buffer, &mut packet);
-    assert_eq!(rt; given, codes::OK);
-    assert_eq!(rt; packet.destination.port, 2000);
+    assert!(rt; given == codes::OK);
+    assert!(rt; packet.destination.port == 2000);
     assert!(rt; buffer[..] == REPLY[..]);
     let heard = is_agent_poll_event(alloc, &mut slot, &mut event);
-    assert_eq!(rt; heard, codes::OK);
-    assert_eq!(rt; event.kind, 3);
-    assert_eq!(rt; event.source.port, 2000);
+    assert!(rt; heard == codes::OK);
+    assert!(rt; event.kind == 3);
+    assert!(rt; event.source.port == 2000);
     let viable = is_agent_has_viable_remote(alloc, &mut slot, &peer);
-    assert_eq!(rt; viable, codes::NOTHING);
+    assert!(rt; viable == codes::NOTHING);
     let wake = is_agent_poll_timeout(alloc, &mut slot, &mut at);
-    assert_eq!(rt; wake, codes::NOTHING);
+    assert!(rt; wake == codes::NOTHING);
     is_agent_free(alloc, &mut slot);
     let gone = is_agent_poll_timeout(alloc, &mut slot, &mut at);
-    assert_eq!(rt; gone, codes::NO_AGENT);
+    assert!(rt; gone == codes::NO_AGENT);
 }
 
 #[test]
@@ -137,25 +137,25 @@ fn a_check_has_the_random_bytes_as_its_id(rt: HostRuntime) {
     let mut buffer = [0; 200];
     let id = *b"twelve bytes";
     let made = is_agent_new(alloc, &mut slot, b"AAAA", b"PPPP", 10);
-    assert_eq!(rt; made, codes::OK);
+    assert!(rt; made == codes::OK);
     let leads = is_agent_set_controlling(alloc, &mut slot, true);
-    assert_eq!(rt; leads, codes::OK);
+    assert!(rt; leads == codes::OK);
     let told = is_agent_set_remote_credentials(alloc, &mut slot, b"BBBB", b"QQQQ");
-    assert_eq!(rt; told, codes::OK);
+    assert!(rt; told == codes::OK);
     let added = is_agent_add_local(alloc, &mut slot, &host(address(1, 1000)));
-    assert_eq!(rt; added, codes::OK);
+    assert!(rt; added == codes::OK);
     let line = b"candidate:1 1 udp 2130706175 10.0.0.2 2000 typ host";
     let known = is_agent_add_remote(alloc, &mut slot, line);
-    assert_eq!(rt; known, codes::OK);
+    assert!(rt; known == codes::OK);
     let few = is_agent_handle_timeout(alloc, &mut slot, 60_000_000_000, &id[..11]);
-    assert_eq!(rt; few, codes::TOO_FEW_RANDOM_BYTES);
+    assert!(rt; few == codes::TOO_FEW_RANDOM_BYTES);
     let begun = is_agent_handle_timeout(alloc, &mut slot, 60_000_000_000, &id);
-    assert_eq!(rt; begun, codes::OK);
+    assert!(rt; begun == codes::OK);
     let given = is_agent_poll_transmit(alloc, &mut slot, &mut buffer, &mut packet);
-    assert_eq!(rt; given, codes::OK);
+    assert!(rt; given == codes::OK);
     assert!(rt; buffer[8..20] == id[..]);
     let gone = is_agent_invalidate(alloc, &mut slot, line);
-    assert_eq!(rt; gone, codes::OK);
+    assert!(rt; gone == codes::OK);
     is_agent_free(alloc, &mut slot);
 }
 
@@ -167,26 +167,26 @@ fn credentials_are_made_and_told(rt: HostRuntime) {
     let mut pass = [0; 22];
     let mut length = 0;
     let few = is_make_credentials(alloc, &[0; 37], &mut ufrag, &mut pass);
-    assert_eq!(rt; few, codes::TOO_FEW_RANDOM_BYTES);
+    assert!(rt; few == codes::TOO_FEW_RANDOM_BYTES);
     let drawn = is_make_credentials(alloc, &[26; 38], &mut ufrag, &mut pass);
-    assert_eq!(rt; drawn, codes::OK);
+    assert!(rt; drawn == codes::OK);
     assert!(rt; ufrag[..] == b"aaaaaaaaaaaaaaaa"[..]);
     let made = is_agent_new(alloc, &mut slot, &ufrag, b"\xff", 1);
-    assert_eq!(rt; made, codes::NOT_UTF8);
+    assert!(rt; made == codes::NOT_UTF8);
     let made = is_agent_new(alloc, &mut slot, &ufrag, &pass, 1);
-    assert_eq!(rt; made, codes::OK);
+    assert!(rt; made == codes::OK);
     let mut text = [0; 22];
     let told = is_agent_local_ufrag(alloc, &mut slot, &mut text, &mut length);
-    assert_eq!(rt; told, codes::OK);
-    assert_eq!(rt; length, 16);
+    assert!(rt; told == codes::OK);
+    assert!(rt; length == 16);
     let told = is_agent_local_pass(alloc, &mut slot, &mut text, &mut length);
-    assert_eq!(rt; told, codes::OK);
+    assert!(rt; told == codes::OK);
     assert!(rt; text[..] == pass[..]);
     let again = is_agent_restart(alloc, &mut slot, b"CCCC", b"RRRR", true);
-    assert_eq!(rt; again, codes::OK);
+    assert!(rt; again == codes::OK);
     let told = is_agent_local_ufrag(alloc, &mut slot, &mut text[..3], &mut length);
-    assert_eq!(rt; told, codes::BUFFER_TOO_SHORT);
-    assert_eq!(rt; length, 4);
+    assert!(rt; told == codes::BUFFER_TOO_SHORT);
+    assert!(rt; length == 4);
     is_agent_free(alloc, &mut slot);
 }
 
@@ -205,23 +205,23 @@ fn settings_and_lines_are_told(rt: HostRuntime) {
         ice_timeout: 0,
     };
     let made = is_agent_new(alloc, &mut slot, b"AAAA", b"PPPP", 1);
-    assert_eq!(rt; made, codes::OK);
+    assert!(rt; made == codes::OK);
     let none = is_agent_set_max_retransmits(alloc, &mut slot, 0);
-    assert_eq!(rt; none, codes::BAD_LIMIT);
+    assert!(rt; none == codes::BAD_LIMIT);
     let small = is_agent_set_mtu(alloc, &mut slot, 587, 1280);
-    assert_eq!(rt; small, codes::MTU_TOO_SMALL);
+    assert!(rt; small == codes::MTU_TOO_SMALL);
     let asked = is_agent_status(alloc, &mut slot, &mut status);
-    assert_eq!(rt; asked, codes::OK);
-    assert_eq!(rt; status.state, 0);
-    assert_eq!(rt; status.mtu, 1150);
+    assert!(rt; asked == codes::OK);
+    assert!(rt; status.state == 0);
+    assert!(rt; status.mtu == 1150);
     let added = is_agent_add_local(alloc, &mut slot, &host(address(1, 1000)));
-    assert_eq!(rt; added, codes::OK);
+    assert!(rt; added == codes::OK);
     let told = is_agent_local_candidate(alloc, &mut slot, 0, &mut line, &mut length);
-    assert_eq!(rt; told, codes::OK);
-    assert_eq!(rt; length, 85);
+    assert!(rt; told == codes::OK);
+    assert!(rt; length == 85);
     assert!(rt; line[51..85] == b" 10.0.0.1 1000 typ host ufrag AAAA"[..]);
     let after = is_agent_local_candidate(alloc, &mut slot, 1, &mut line, &mut length);
-    assert_eq!(rt; after, codes::NOTHING);
+    assert!(rt; after == codes::NOTHING);
     is_agent_free(alloc, &mut slot);
 }
 
@@ -231,7 +231,7 @@ fn a_refused_line_tells_its_fault(rt: HostRuntime) {
     let mut text = [0; 40];
     let mut length = 0;
     let told = is_line_refusal(alloc, b"candidate:1 x", &mut text, &mut length);
-    assert_eq!(rt; told, codes::OK);
+    assert!(rt; told == codes::OK);
     assert!(rt; text[..length] == b"candidate:1 x: bad component-id"[..]);
 }
 
@@ -241,15 +241,15 @@ fn a_refusal_wants_a_message_and_room(rt: HostRuntime) {
     let mut text = [0; 30];
     let mut length = 0;
     let short = is_line_refusal(alloc, b"candidate:1 x", &mut text, &mut length);
-    assert_eq!(rt; short, codes::BUFFER_TOO_SHORT);
-    assert_eq!(rt; length, 31);
+    assert!(rt; short == codes::BUFFER_TOO_SHORT);
+    assert!(rt; length == 31);
     let unread = is_line_refusal(alloc, b"\xff", &mut text, &mut length);
-    assert_eq!(rt; unread, codes::NOT_UTF8);
+    assert!(rt; unread == codes::NOT_UTF8);
     let line = b"candidate:1 1 udp 2130706175 10.0.0.2 2000 typ host";
     let read = is_line_refusal(alloc, line, &mut text, &mut length);
-    assert_eq!(rt; read, codes::NOTHING);
+    assert!(rt; read == codes::NOTHING);
     let none = is_candidate_refusal(alloc, &host(address(1, 1000)), &mut text, &mut length);
-    assert_eq!(rt; none, codes::NOTHING);
+    assert!(rt; none == codes::NOTHING);
 }
 
 #[test]
@@ -269,18 +269,18 @@ fn a_table_gives_the_preference(rt: HostRuntime) {
         v6: kinds,
     };
     let made = is_agent_new(alloc, &mut slot, b"AAAA", b"PPPP", 1);
-    assert_eq!(rt; made, codes::OK);
+    assert!(rt; made == codes::OK);
     let set = is_agent_set_preference_table(alloc, &mut slot, &table);
-    assert_eq!(rt; set, codes::OK);
+    assert!(rt; set == codes::OK);
     let first = is_agent_add_local(alloc, &mut slot, &host(address(1, 1000)));
-    assert_eq!(rt; first, codes::OK);
+    assert!(rt; first == codes::OK);
     let told = is_agent_local_candidate(alloc, &mut slot, 0, &mut line, &mut length);
-    assert_eq!(rt; told, codes::OK);
+    assert!(rt; told == codes::OK);
     assert!(rt; line[41..51] == b"2113995007"[..]);
     let second = is_agent_add_local(alloc, &mut slot, &host(address(3, 1000)));
-    assert_eq!(rt; second, codes::OK);
+    assert!(rt; second == codes::OK);
     let told = is_agent_local_candidate(alloc, &mut slot, 1, &mut line, &mut length);
-    assert_eq!(rt; told, codes::OK);
+    assert!(rt; told == codes::OK);
     assert!(rt; line[41..51] == b"2113994751"[..]);
     is_agent_free(alloc, &mut slot);
 }
