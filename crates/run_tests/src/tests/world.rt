@@ -1,5 +1,6 @@
 //! Two agents and the packets between them.
 
+mod connect;
 mod granted;
 mod meet;
 mod premises;

@@ -24,7 +24,7 @@ fn stories(rt: HostRuntime) -> Result<(), Fail> {
 }
 
 /// Each sends a packet off, A's under this number and B's under the next, and both arrive.
-fn crossing(first: usize, ms: u64) -> [Event; 4] {
+pub(super) fn crossing(first: usize, ms: u64) -> [Event; 4] {
     [
         Event::Poll(Side::A),
         Event::Poll(Side::B),
@@ -34,7 +34,7 @@ fn crossing(first: usize, ms: u64) -> [Event; 4] {
 }
 
 /// A moment of both.
-fn moments(ms: u64) -> [Event; 2] {
+pub(super) fn moments(ms: u64) -> [Event; 2] {
     [
         Event::Do(Side::A, Step::Moment(ms)),
         Event::Do(Side::B, Step::Moment(ms)),
