@@ -3,6 +3,7 @@
 mod connect;
 mod granted;
 mod meet;
+mod mirror;
 mod premises;
 mod repeats;
 mod roles;
@@ -25,6 +26,12 @@ enum Event {
         ms: u64,
         to: Side,
         from: SocketAddr,
+    },
+    /// The packet of this number arrives on this way.
+    Arrive {
+        packet: usize,
+        ms: u64,
+        way: Path,
     },
 }
 
@@ -68,6 +75,13 @@ fn event_of(alloc: Global, event: Event) -> Option<WorldEvent> {
             proto: Protocol::Udp,
             source: from,
             destination: home(to),
+        }),
+        Event::Arrive { packet, ms, way } => Some(WorldEvent::Deliver {
+            packet,
+            now: moment(ms),
+            proto: way.proto,
+            source: way.source,
+            destination: way.destination,
         }),
     }
 }
