@@ -1,5 +1,5 @@
 //! Which path each of two agents announces last, where two paths work: of its valid nominated pairs that of the greatest one, by the priorities
-//! that it knows (RFC 8445, section 6.1.2.3). A nomination is not taken back, so agents that know other priorities can stay on two paths.
+//! that it knows (RFC 8445, section 6.1.2.3). A nomination is not taken back, so agents that know different priorities can stay on two paths.
 
 use super::premises::moments;
 use super::*;
