@@ -16,4 +16,5 @@ mod Connected
 mod Granted
 mod Connecting
 mod Meeting
+mod Mirrored
 mod MarkLemmas

@@ -11,6 +11,7 @@ pub mod Deliveries
 pub mod Grantings
 pub mod Connections
 pub mod Meetings
+pub mod Mirrors
 pub mod WorldLaws
 pub use Rattle.is_proto.specs.Moments
 pub use Rattle.is_proto.specs.Packets

@@ -11,6 +11,7 @@ use Rattle.is.specs.Deliveries.{DeliveredRoundsAnnounce}
 use Rattle.is.specs.Grantings.{GrantedPathsAnnounce}
 use Rattle.is.specs.Connections.{BothConnect}
 use Rattle.is.specs.Meetings.{RolesMeet}
+use Rattle.is.specs.Mirrors.{LonePathsMirror}
 
 module _ {H P : Type 0} (mac : H → List ℕ → List ℕ → List ℕ) (answers : P → CandidateRecord → ℕ → ℕ → Type 0) where
   abbrev pub KeepsLaw : Type 0
@@ -45,3 +46,6 @@ module _ {H P : Type 0} (mac : H → List ℕ → List ℕ → List ℕ) (answer
 
   abbrev pub MeetingsLaw : Type 0
   MeetingsLaw = (first : WorldRecord H P) (s : Stream) (log : List (Logged P)) → RolesMeet mac answers first s log
+
+  abbrev pub MirrorsLaw : Type 0
+  MirrorsLaw = (first : WorldRecord H P) (s : Stream) (log : List (Logged P)) → LonePathsMirror mac answers first s log

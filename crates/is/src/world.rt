@@ -18,12 +18,13 @@ ghost use Rattle.is.specs.Deliveries.{DeliveredRoundsAnnounce};
 ghost use Rattle.is.specs.Connections.{BothConnect};
 ghost use Rattle.is.specs.Grantings.{GrantedPathsAnnounce};
 ghost use Rattle.is.specs.Meetings.{RolesMeet};
+ghost use Rattle.is.specs.Mirrors.{LonePathsMirror};
 
 use crate::calls::{AgentCall, Answer, Entry};
 use crate::steps::{quiet, step, take_packet};
 use crate::world_laws::{
     announced_are_traced, both_connect, delivered_rounds_announce, granted_paths_announce,
-    greater_keeps, lesser_yields_once, roles_differ_once_met, roles_meet,
+    greater_keeps, lesser_yields_once, lone_paths_mirror, roles_differ_once_met, roles_meet,
 };
 use is_agent::{Agent, IceCreds};
 use is_candidate::LocalPreference;
@@ -452,6 +453,10 @@ impl<H: Sha1HmacProvider + Drop, P: LocalPreference> TwoAgents<H, P> {
         // 2n - 1 where it has n pairs and one more for each that it adds, and each check that goes out on these paths is delivered, and the
         // controlled one's success too, the controlled one announced a path by its next moment, as above.
         ensures connect { BothConnect H.mac P.answers (world_of self.old) (R.stream rng.old) (logged events.items result.entries.items) }
+
+        // And on the same path: while neither is lite, and all pairs of one are on a path and all of the other on its way back, whatever paths
+        // the two announced are each other's turned.
+        ensures mirror { LonePathsMirror H.mac P.answers (world_of self.old) (R.stream rng.old) (logged events.items result.entries.items) }
     {
         greater_keeps::<H, P>();
         lesser_yields_once::<H, P>();
@@ -460,6 +465,7 @@ impl<H: Sha1HmacProvider + Drop, P: LocalPreference> TwoAgents<H, P> {
         delivered_rounds_announce::<H, P>();
         granted_paths_announce::<H, P>();
         both_connect::<H, P>();
+        lone_paths_mirror::<H, P>();
         roles_meet::<H, P>();
         self.run_events(events, rng)
     }

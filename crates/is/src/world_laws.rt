@@ -1,6 +1,6 @@
 //! What holds of each run of a world. Each law is the contract of a function that does nothing.
 
-ghost use Rattle.is.specs.WorldLaws.{KeepsLaw, YieldsLaw, DiffersLaw, TracedLaw, DeliveriesLaw, GrantingsLaw, ConnectionsLaw, MeetingsLaw};
+ghost use Rattle.is.specs.WorldLaws.{KeepsLaw, YieldsLaw, DiffersLaw, TracedLaw, DeliveriesLaw, GrantingsLaw, ConnectionsLaw, MeetingsLaw, MirrorsLaw};
 
 use is_candidate::LocalPreference;
 use is_proto::Sha1HmacProvider;
@@ -91,4 +91,12 @@ pub(crate) fn roles_meet<H: Sha1HmacProvider, P: LocalPreference>()
     role_effect::<H, P>();
     fresh_is_sound::<H, P>();
     conflicts_settle::<H, P>();
+}
+
+/// Where all pairs of one agent stay on a path, and all of the other on its way back, whatever paths they announce are each other's turned.
+pub(crate) fn lone_paths_mirror<H: Sha1HmacProvider, P: LocalPreference>()
+    ensures { MirrorsLaw H.mac P.answers }
+{
+    path_effect::<H, P>();
+    fresh_is_sound::<H, P>();
 }

@@ -23,3 +23,6 @@ returns-clause-meet g c = c.roles_meet.ensures _ _ _
 
 pub returns-clause-connect : goal.returns-clause-connect
 returns-clause-connect g c = c.both_connect.ensures _ _ _
+
+pub returns-clause-mirror : goal.returns-clause-mirror
+returns-clause-mirror g c = c.lone_paths_mirror.ensures _ _ _
