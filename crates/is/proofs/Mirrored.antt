@@ -92,4 +92,4 @@ module _ {H P : Type 0} (mac : H → List ℕ → List ℕ → List ℕ) (answer
       let there : KeepsTo (other side) (turned path) y.before = search (keep y has_y) in
       let a : one ≡ path = tells_in paths all first last follow sound x has_x side path one here told_x in
       let b : two ≡ turned path = tells_in paths all first last follow sound y has_y (other side) (turned path) two there told_y in
-      let is : two ≡ turned one = cc in is
+      cc
