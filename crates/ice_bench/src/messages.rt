@@ -1,7 +1,7 @@
 //! Messages: reading, verifying, writing, the CRC of fingerprints and HMAC-SHA1.
 
 use crate::checksum::Checksum;
-use is_proto::{DefaultSha1HmacProvider, Sha1HmacProvider};
+use is_proto::{DefaultSha1HmacProvider, HmacKey, KeptProvider, Sha1HmacProvider};
 use is_stun::stun::{Builder, StunMessage, TransId};
 use std::net::{Ipv4Addr, SocketAddr, SocketAddrV4};
 
@@ -17,6 +17,15 @@ pub const BROWSER_REQUEST: [u8; 100] = [
 ];
 
 const BROWSER_PASSWORD: &[u8; 22] = b"xJcE9AQAR7kczUDVOXRUCl";
+
+/// The provider of one who signs or verifies more than one message with a password, as an agent does: what HMAC computes of the
+/// password is kept.
+fn keeping(kept: &HmacKey) -> KeptProvider<'_, DefaultSha1HmacProvider> {
+    KeptProvider {
+        provider: &DefaultSha1HmacProvider,
+        kept,
+    }
+}
 
 /// RFC 5769, section 2.2: sample IPv4 response.
 const RFC_IPV4_RESPONSE: [u8; 80] = [
@@ -60,28 +69,39 @@ pub fn parse_reply(rounds: u64, sum: &mut Checksum) {
     }
 }
 
+/// The message is verified under a key that is kept.
 pub fn verify_request(rounds: u64, sum: &mut Checksum) {
+    let kept = HmacKey::new(BROWSER_PASSWORD);
+    let provider = keeping(&kept);
     let mut bytes = BROWSER_REQUEST;
     for round in 0..rounds {
         bytes[99] = last_of(round);
         if let Ok(read) = StunMessage::parse(&bytes) {
-            sum.add(u64::from(read.verify(BROWSER_PASSWORD, &DefaultSha1HmacProvider)));
+            sum.add(u64::from(read.verify(BROWSER_PASSWORD, &provider)));
         }
     }
 }
 
 /// Adds what was written of the message.
-fn write(message: StunMessage<'_>, password: Option<&[u8]>, sum: &mut Checksum) {
+fn write<H: Sha1HmacProvider>(
+    message: StunMessage<'_>,
+    password: Option<&[u8]>,
+    provider: &H,
+    sum: &mut Checksum,
+) {
     let mut buf = [0; 256];
-    if let Ok(len) = message.to_bytes(password, &mut buf, &DefaultSha1HmacProvider) {
+    if let Ok(len) = message.to_bytes(password, &mut buf, provider) {
         sum.add_bytes(buf.get(..len).unwrap_or(&[]));
     }
 }
 
+/// Each check is signed with a key that is kept.
 pub fn write_request(rounds: u64, sum: &mut Checksum) {
+    let kept = HmacKey::new(BROWSER_PASSWORD);
+    let provider = keeping(&kept);
     for round in 0..rounds {
         let check = StunMessage::binding_request("p9KA:SQAt", id_of(round), true, 5, 9, true);
-        write(check, Some(BROWSER_PASSWORD), sum);
+        write(check, Some(BROWSER_PASSWORD), &provider, sum);
     }
 }
 
@@ -90,15 +110,18 @@ fn reply_of(round: u64) -> StunMessage<'static> {
     StunMessage::binding_reply(id_of(round), SocketAddr::V4(address))
 }
 
+/// Each reply is signed with a key that is kept.
 pub fn write_reply(rounds: u64, sum: &mut Checksum) {
+    let kept = HmacKey::new(BROWSER_PASSWORD);
+    let provider = keeping(&kept);
     for round in 0..rounds {
-        write(reply_of(round), Some(BROWSER_PASSWORD), sum);
+        write(reply_of(round), Some(BROWSER_PASSWORD), &provider, sum);
     }
 }
 
 pub fn write_unsigned(rounds: u64, sum: &mut Checksum) {
     for round in 0..rounds {
-        write(reply_of(round), None, sum);
+        write(reply_of(round), None, &DefaultSha1HmacProvider, sum);
     }
 }
 
@@ -107,15 +130,23 @@ pub fn crc(rounds: u64, sum: &mut Checksum) {
     let data = [7; 200];
     for round in 0..rounds {
         let message = Builder::new().send().indication().data(&data);
-        write(message.build(id_of(round)), None, sum);
+        write(
+            message.build(id_of(round)),
+            None,
+            &DefaultSha1HmacProvider,
+            sum,
+        );
     }
 }
 
+/// The MAC is under a key that is kept.
 pub fn hmac(rounds: u64, sum: &mut Checksum) {
+    let kept = HmacKey::new(BROWSER_PASSWORD);
+    let provider = keeping(&kept);
     let mut bytes = BROWSER_REQUEST;
     for round in 0..rounds {
         bytes[19] = last_of(round);
-        let mac = DefaultSha1HmacProvider.sha1_hmac(BROWSER_PASSWORD, &[&bytes]);
+        let mac = provider.sha1_hmac(BROWSER_PASSWORD, &[&bytes]);
         sum.add_bytes(&mac);
     }
 }
