@@ -1,13 +1,17 @@
 -- Pairs that fall due at a moment: pairs that go and asking for moments add none.
-use Rattle.std.proofs.Common.{if◌then◌else◌, ◌≡◌, ℕ, ◌&&◌, ◌||◌, Bool, true, false, not, List, [], ◌∷◌, map, Option, Some, None, is_some, refl}
+use Rattle.std.proofs.Common.{if◌then◌else◌, ◌≡◌, ℕ, ◌&&◌, ◌||◌, Bool, true, false, not, List, [], ◌∷◌, map, Option, Some, None, is_some, option_map, MatchBool, subst, sym, refl}
 use Rattle.std.specs.List.{list_any}
 use Rattle.is_stun.specs.declared.timing.StunTiming.{StunTiming}
 use Rattle.is_pair.specs.Pairs.{PairRecord}
 use Rattle.is_pair.specs.Due.{asked, is_due, IsNextDue}
-use Rattle.is_pair.specs.Bag.{without}
-use Rattle.is_rules.specs.declared.checking.Draft.{Draft}
+use Rattle.is_pair.specs.Bag.{without, pair_numbered, rises}
+use Rattle.rand_core.specs.Stream.{Stream}
+use Rattle.is_rules.specs.declared.credentials.IceCreds.{IceCreds}
+use Rattle.is_rules.specs.declared.told.Issued.{Issued}
 use Rattle.is_rules.specs.Agent.{AgentRecord}
-use Rattle.is_rules.specs.Due.{awaits_nomination, falls_due, DraftsNext}
+use Rattle.is_rules.specs.Checking.{all_asked, all_heard, ChecksNext, MayCheck}
+use Rattle.is_rules.specs.Due.{awaits_nomination, falls_due}
+use Rattle.is_rules.proofs.NumberLemmas.{numbered-found}
 use Rattle.is_agent.proofs.NumberLemmas.{has-any}
 
 or-right : (a b : Bool) → b ≡ true → a || b ≡ true
@@ -44,8 +48,26 @@ and-third false b c d weaker h = h
 pub all-three : (a b c : Bool) → a ≡ true → b ≡ true → c ≡ true → a && b && c ≡ true
 all-three a b c x y z = rw (x, y) z
 
--- where a check is drafted, a pair is due
-pub due-there : {H P : Type 0} (a : AgentRecord H P) (now : ℕ) (t : StunTiming) (next : Option PairRecord) (draft : ℕ × Draft)
-    → IsNextDue now t a.pairs next → DraftsNext a next (Some draft) → list_any (is_due now t) a.pairs ≡ true
-due-there a now t None draft is drafts = absurd drafts
-due-there a now t (Some p) draft ((has, first), due) drafts = has-any (is_due now t) a.pairs p has due
+-- where the pair that is checked next has a number, it is due
+pub due-there : {H P : Type 0} (a : AgentRecord H P) (now : ℕ) (t : StunTiming) (next : Option PairRecord) (n : ℕ)
+    → IsNextDue now t a.pairs next → option_map (λ p. p.number) next ≡ Some n → list_any (is_due now t) a.pairs ≡ true
+due-there a now t None n is numbered = absurd (cc)
+due-there a now t (Some p) n ((has, first), due) numbered = has-any (is_due now t) a.pairs p has due
+
+-- and it is found by that number
+pub next-found : (ps : List PairRecord) (now : ℕ) (t : StunTiming) (next : Option PairRecord) (n : ℕ) → rises ps ≡ true
+    → IsNextDue now t ps next → option_map (λ p. p.number) next ≡ Some n
+    → (p : PairRecord) × (next ≡ Some p) × (p.number ≡ n) × (pair_numbered n ps ≡ Some p)
+next-found ps now t None n rising is numbered = absurd (cc)
+next-found ps now t (Some p) n rising ((has, first), due) numbered =
+    let same : p.number ≡ n = cc in
+    (p, refl, same, subst (λ m. pair_numbered m ps ≡ Some p) same (numbered-found ps p rising has))
+
+-- with a known peer, and not under lite, the next pair is checked once all were asked
+pub may-check : {H P : Type 0} (mac : H → List ℕ → List ℕ → List ℕ) (now : ℕ) (creds : Option IceCreds) (peer : IceCreds) (old all new : AgentRecord H P)
+    (s : Stream) (issued : Option Issued) (t : Stream) → creds ≡ Some peer → old.lite ≡ false → all ≡ all_asked now old
+    → ChecksNext mac now peer all s issued new t → MayCheck mac now creds old s issued new t
+may-check mac now creds peer old all new s issued t known full same checked =
+    subst (λ c. MayCheck mac now c old s issued new t) (sym known)
+    (subst (λ b. MatchBool b ((issued ≡ None) × (new ≡ all_heard now old) × (t ≡ s)) (ChecksNext mac now peer (all_asked now old) s issued new t)) (sym full)
+    (subst (λ a. ChecksNext mac now peer a s issued new t) same checked))

@@ -2,7 +2,7 @@
 //!
 //! Room for all of it is made before the agent changes; what follows can't be refused.
 
-ghost use Rattle.std.specs.Prelude.{◌≡◌, ℕ, Option, Some, true, IfOk, None, IfErr, OnOk, MatchOption};
+ghost use Rattle.std.specs.Prelude.{◌≡◌, ℕ, Option, Some, true, IfOk, IfSome, option_map, None, IfErr, OnOk, MatchOption};
 ghost use Rattle.std.specs.List.{list_any};
 ghost use Rattle.is_stun.specs.Laws.{IsPut};
 ghost use Rattle.is_stun.specs.Writing.{written};
@@ -11,9 +11,11 @@ ghost use Rattle.is_rules.specs.declared.credentials.IceCreds as model;
 ghost use Rattle.is_agent.specs.View.{record_of, told_of};
 ghost use Rattle.is_agent.specs.Room.{HasPacketRoom, HasEventRoom, HasCheckRoom, HasCheckRoomAt, IsPrepared};
 ghost use Rattle.is_rules.specs.Checking.{check_message, ChecksPair, ChecksNext, MayCheck};
-ghost use Rattle.is_pair.specs.Bag.{has_number};
+ghost use Rattle.is_pair.specs.Bag.{has_number, pair_numbered, rises};
 ghost use Rattle.is_pair.specs.Due.{is_due, IsNextDue};
-ghost use Rattle.is_rules.specs.Due.{may_fall_due, Drafts, DraftsNext, check_counted};
+ghost use Rattle.is_rules.specs.Agent.{AgentRecord};
+ghost use Rattle.is_rules.specs.Due.{may_fall_due, Drafts, check_counted};
+ghost use Rattle.is_rules.specs.Nominating.{Nominates};
 ghost use Rattle.is_pair.specs.Pairs.{PairRecord};
 ghost use Rattle.is_rules.specs.Queue.{request_at, queue_cleared};
 ghost use Rattle.is_rules.specs.Sending.{with_packet};
@@ -71,19 +73,34 @@ impl<H: Sha1HmacProvider + Drop, P: LocalPreference> Agent<H, P> {
         tell_state(&mut self.state, &mut self.events, state);
     }
 
-    /// Pairs that are not possible any more go; where one does, nomination and state are evaluated.
-    fn give_up(&mut self, now: Instant) -> Option<Path>
+    /// Pairs that are given up go, and nomination and state are evaluated. It stands apart, so that moments at which none is cost
+    /// nothing for it.
+    #[inline(never)]
+    fn give_up_and_tell(&mut self, first: Option<Path>, now: Instant)
         requires room { HasEventRoom 2 self.old }
-        ensures given_up { GivesUp now.0 (record_of self.old) result (record_of self.new) }
+        ensures given_up { (second : Option Path) × (mid : AgentRecord H P) × Nominates (given_up_gone now.0 (record_of self.old)) second mid
+            × (record_of self.new ≡ evaluated now.0 mid) × (told_of self.new ≡ told_by None first second) }
+        ensures checks { (t : ℕ) → HasCheckRoomAt t self.old → HasCheckRoomAt t self.new }
+    {
+        self.drop_given_up(now);
+        let second = self.evaluate_nomination();
+        self.evaluate_at(now);
+        self.told = Told::by(None, first, second);
+    }
+
+    /// Pairs that are not possible any more go; where one does, nomination and state are evaluated. What is announced is told of
+    /// behind the path that was before.
+    fn give_up(&mut self, first: Option<Path>, now: Instant)
+        requires room { HasEventRoom 2 self.old }
+        ensures given_up { (second : Option Path) × GivesUp now.0 (record_of self.old) second (record_of self.new)
+            × (told_of self.new ≡ told_by None first second) }
         ensures checks { (t : ℕ) → HasCheckRoomAt t self.old → HasCheckRoomAt t self.new }
     {
         if !self.any_given_up(now) {
-            return None;
+            self.told = Told::announced_alone(first);
+            return;
         }
-        self.drop_given_up(now);
-        let path = self.evaluate_nomination();
-        self.evaluate_at(now);
-        path
+        self.give_up_and_tell(first, now);
     }
 }
 
@@ -133,46 +150,76 @@ impl<H: Sha1HmacProvider + Drop, P: LocalPreference> Agent<H, P> {
         self.send(draft, id)
     }
 
-    /// The number of the pair that is due first, and what its check says.
-    fn next_check(&self, now: Instant) -> Option<(u64, Draft)>
-        ensures { (next : Option PairRecord) × IsNextDue now.0 self.now.timing (record_of self.now).pairs next
-            × DraftsNext (record_of self.now) next result }
+    /// What a check of the pair of the number says.
+    fn draft_of(&self, number: u64) -> Draft
+        requires { has_number number (record_of self.now).pairs ≡ true }
+        ensures { (p : PairRecord) → pair_numbered number (record_of self.now).pairs ≡ Some p → Drafts (record_of self.now) p result }
     {
-        match self.pairs.next_due(now, &self.timing) {
-            None => None,
-            Some(pair) => Some((pair.id().0, self.draft(pair))),
+        match self.pairs.get(number) {
+            None => unreachable!(),
+            Some(pair) => self.draft(pair),
         }
     }
 
-    /// The pair that is due first is checked.
-    fn check_next<R: Rng>(&mut self, now: Instant, rng: &mut R) -> Option<Issued>
-        requires room { list_any (is_due now.0 self.old.timing) (record_of self.old).pairs ≡ true → HasCheckRoom self.old }
-        ensures told { told_of self.new ≡ told_of self.old }
-        ensures checked { (peer : model.IceCreds) → self.old.remote_creds ≡ Some peer → ChecksNext H.mac now.0 peer (record_of self.old)
-            (R.stream rng.old) result (record_of self.new) (R.stream rng.new) }
+    /// The pair of the number is checked, and that is told of beside the paths that were. It stands apart, so that moments without
+    /// a check cost nothing for it.
+    #[inline(never)]
+    fn check_and_tell<R: Rng>(&mut self, number: u64, now: Instant, rng: &mut R)
+        requires has { has_number number (record_of self.old).pairs ≡ true }
+        requires room { HasCheckRoom self.old }
+        ensures { (peer : model.IceCreds) (p : PairRecord) (first second : Option Path) → self.old.remote_creds ≡ Some peer
+            → p.number ≡ number → pair_numbered number (record_of self.old).pairs ≡ Some p → told_of self.old ≡ told_by None first second
+            → (issued : Option Issued) × ChecksPair H.mac now.0 peer p (record_of self.old) (R.stream rng.old) issued (record_of self.new)
+            (R.stream rng.new) × (told_of self.new ≡ told_by issued first second) }
     {
-        match self.next_check(now) {
+        let draft = self.draft_of(number);
+        let issued = self.check(number, draft, now, rng);
+        self.told.issued = Some(issued);
+    }
+
+    /// The number of the pair that is due first.
+    fn next_number(&self, now: Instant) -> Option<u64>
+        ensures next { (next : Option PairRecord) × IsNextDue now.0 self.now.timing (record_of self.now).pairs next
+            × (result ≡ option_map (λ p. p.number) next) }
+        ensures has { IfSome result (λ n. has_number n (record_of self.now).pairs ≡ true) }
+        ensures rises { rises (record_of self.now).pairs ≡ true }
+    {
+        self.pairs.numbers_rise();
+        match self.pairs.next_due(now, &self.timing) {
             None => None,
-            Some((number, draft)) => Some(self.check(number, draft, now, rng)),
+            Some(pair) => Some(pair.id().0),
+        }
+    }
+
+    /// The pair that is due first is checked, where one is, and that is told of.
+    fn check_next<R: Rng>(&mut self, now: Instant, rng: &mut R)
+        requires room { list_any (is_due now.0 self.old.timing) (record_of self.old).pairs ≡ true → HasCheckRoom self.old }
+        ensures { (peer : model.IceCreds) (first second : Option Path) → self.old.remote_creds ≡ Some peer
+            → told_of self.old ≡ told_by None first second → (issued : Option Issued)
+            × ChecksNext H.mac now.0 peer (record_of self.old) (R.stream rng.old) issued (record_of self.new) (R.stream rng.new)
+            × (told_of self.new ≡ told_by issued first second) }
+    {
+        if let Some(number) = self.next_number(now) {
+            self.check_and_tell(number, now, rng);
         }
     }
 
     /// The same, where the peer is known: each pair is asked for its due moment first. A lite agent sends no check.
-    fn may_check<R: Rng>(&mut self, now: Instant, rng: &mut R) -> Option<Issued>
+    fn may_check<R: Rng>(&mut self, now: Instant, rng: &mut R)
         requires { HasCheckRoomAt now.0 self.old }
-        ensures told { told_of self.new ≡ told_of self.old }
-        ensures checked { MayCheck H.mac now.0 (record_of self.old).remote_creds (record_of self.old) (R.stream rng.old) result (record_of self.new)
-            (R.stream rng.new) }
+        ensures { (first second : Option Path) → told_of self.old ≡ told_by None first second → (issued : Option Issued)
+            × MayCheck H.mac now.0 (record_of self.old).remote_creds (record_of self.old) (R.stream rng.old) issued (record_of self.new)
+            (R.stream rng.new) × (told_of self.new ≡ told_by issued first second) }
     {
         match self.remote_creds {
-            None => None,
+            None => {}
             Some(_) => {
                 if self.lite {
                     self.pairs.hear_all(now);
-                    return None;
+                    return;
                 }
                 self.pairs.ask_all(now, &self.timing);
-                self.check_next(now, rng)
+                self.check_next(now, rng);
             }
         }
     }
@@ -233,18 +280,6 @@ impl<H: Sha1HmacProvider + Drop, P: LocalPreference> Agent<H, P> {
 // ---- the moment
 
 impl<H: Sha1HmacProvider + Drop, P: LocalPreference> Agent<H, P> {
-    /// A pair may be checked, and the check is told of beside the paths that were.
-    fn check_and_tell<R: Rng>(&mut self, now: Instant, rng: &mut R)
-        requires { HasCheckRoomAt now.0 self.old }
-        ensures { (first second : Option Path) → told_of self.old ≡ told_by None first second → (issued : Option Issued)
-            × MayCheck H.mac now.0 (record_of self.old).remote_creds (record_of self.old) (R.stream rng.old) issued (record_of self.new)
-            (R.stream rng.new) × (told_of self.new ≡ told_by issued first second) }
-    {
-        if let Some(issued) = self.may_check(now, rng) {
-            self.told.issued = Some(issued);
-        }
-    }
-
     /// All that the moment does behind waking, with room for it. What it tells is written where it is kept.
     fn proceed<R: Rng>(&mut self, now: Instant, rng: &mut R)
         requires events { HasEventRoom 3 self.old }
@@ -253,9 +288,8 @@ impl<H: Sha1HmacProvider + Drop, P: LocalPreference> Agent<H, P> {
     {
         self.last_moment = Some(now);
         let first = self.evaluate_nomination();
-        let second = self.give_up(now);
-        self.told = Told::by(None, first, second);
-        self.check_and_tell(now, rng);
+        self.give_up(first, now);
+        self.may_check(now, rng);
     }
 
     /// The agent wakes, and all follows, with room for both. The start was told of.

@@ -1,6 +1,6 @@
 mod PriorityLemmas
 mod PairLemmas
-mod NumberLemmas
+pub mod NumberLemmas
 pub mod Rising
 mod DueLemmas
 mod PlaceLemmas

@@ -1,11 +1,11 @@
 -- A check before it is sent, and the pair of an answer: what the agent's inner functions say. No contract of a public call names any of it.
-use Rattle.std.specs.Prelude.{◌≡◌, ℕ, ◌&&◌, ◌||◌, Bool, true, not, List, Option, Some, None, is_some}
+use Rattle.std.specs.Prelude.{◌≡◌, ℕ, ◌&&◌, ◌||◌, Bool, true, not, List, Option, Some, is_some}
 use Rattle.std.specs.List.{list_any}
 use Rattle.is_proto.specs.Lists.{Has, same}
 use Rattle.is_proto.specs.Moments.{counted}
 use Rattle.is_candidate.specs.Candidates.{CandidateRecord, candidate_at}
 use Rattle.is_candidate.specs.Priorities.{check_priority}
-use Rattle.is_pair.specs.Bag.{has_number, pair_numbered, RecordsAnswer}
+use Rattle.is_pair.specs.Bag.{pair_numbered, RecordsAnswer}
 use Rattle.is_pair.specs.Checks.{Check}
 use Rattle.is_pair.specs.Due.{is_due}
 use Rattle.is_pair.specs.Pairs.{PairRecord, is_nominated, is_valid}
@@ -34,12 +34,6 @@ module _ {H P : Type 0} where
   abbrev pub Drafts : AgentRecord H P → PairRecord → Draft → Type 0
   Drafts a p d =
       (d.path ≡ path_of a p) × (d.priority ≡ check_priority (candidate_at a.local p.local)) × (d.nominated ≡ is_nominated p)
-
-  -- and this is the number of the pair, which is one of the agent's
-  abbrev pub DraftsNext : AgentRecord H P → Option PairRecord → Option (ℕ × Draft) → Type 0
-  DraftsNext a None None = Unit {0}
-  DraftsNext a (Some p) (Some next) = (next.0 ≡ p.number) × (has_number p.number a.pairs ≡ true) × Drafts a p next.1
-  DraftsNext a next other = ⊥
 
   -- the agent may issue a check at this moment
   abbrev pub may_fall_due : ℕ → AgentRecord H P → Bool

@@ -1,8 +1,10 @@
-use Rattle.std.proofs.Common.{◌≡◌, ap, is_some, not, rules, true}
+use Rattle.std.proofs.Common.{List, ◌≡◌, ap, is_some, not, rules, true}
 use Rattle.std.specs.List.{list_any}
+use Rattle.is_pair.specs.Pairs.{PairRecord}
 use Rattle.is_pair.specs.Checklists.{bag_of}
 use Rattle.is_rules.specs.Due.{falls_due}
-use Rattle.is_agent.proofs.DueLemmas.{all-three, falls-asked}
+use Rattle.is_agent.specs.View.{record_of}
+use Rattle.is_agent.proofs.DueLemmas.{all-three, falls-asked, may-check}
 use Rattle.is_agent.proofs.agent.Agent.may_check.Goals as goal
 
 pub check_next-requires : goal.check_next-requires
@@ -16,3 +18,11 @@ check_next-requires g c =
           let old = c.requires (all-three (not self.lite) (is_some self.remote_creds) (list_any (falls_due self.controlling now self.timing) (bag_of self.pairs)) full known falls) in
           (old.0, c.ask_all.ensures.check_room old.1, old.2);
     }
+
+pub returns-else-self : goal.returns-else-self
+returns-else-self g c first second told =
+    let (issued, checked, tells) = c.check_next.ensures c.in-Some.field-0 first second c.in-Some.is told in
+    let old = record_of c.args.self.now in
+    let asked = ap (λ (ps : List PairRecord). record old { pairs = ps }) c.ask_all.ensures.asked in
+    let may = may-check g.H.Sha1HmacProvider.mac c.args.now.0 c.args.self.now.remote_creds c.in-Some.field-0 old _ _ _ issued _ c.in-Some.is c.if-self.false asked checked in
+    (issued, may, tells)

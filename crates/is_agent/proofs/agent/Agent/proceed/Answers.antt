@@ -5,7 +5,8 @@ use Rattle.is_agent.proofs.agent.Agent.proceed.Goals as goal
 
 pub returns : goal.returns
 returns g c =
-    let first = c.evaluate_nomination-first in let second = c.give_up-second in
+    let first = c.evaluate_nomination-first in
     let nominates : Nominates (at_moment c.args.now.0 (record_of c.args.self.now)) first.result (record_of first.new.self) = search (first.ensures.nominates) in
-    let (issued, checked, told) = c.check_and_tell.ensures first.result second.result c.by-self.ensures in
-    (first.result, second.result, issued, record_of first.new.self, record_of second.new.self, nominates, second.ensures.given_up, checked, told)
+    let (second, given_up, paths) = c.give_up.ensures.given_up in
+    let (issued, checked, told) = c.may_check.ensures first.result second paths in
+    (first.result, second, issued, record_of first.new.self, record_of c.give_up.new.self, nominates, given_up, checked, told)
