@@ -1,9 +1,8 @@
 //! Candidates as lines and as JSON texts.
 
 use crate::checksum::Checksum;
-use is_candidate::Candidate;
+use is_candidate::{Candidate, JsonScratch};
 use is_proto::IceError;
-use serde_json::Value;
 use std::alloc::Global;
 
 const LINE: &str = "candidate:1 1 udp 2113929471 203.0.113.100 10100 typ host";
@@ -30,11 +29,10 @@ pub fn print_line(alloc: Global, rounds: u64, sum: &mut Checksum) -> Result<(), 
 }
 
 pub fn read_json(alloc: Global, rounds: u64, sum: &mut Checksum) -> Result<(), IceError> {
+    let mut scratch = JsonScratch::new(alloc);
     for _ in 0..rounds {
-        if let Ok(value) = Value::from_str(alloc, INFO) {
-            let candidate = Candidate::from_json(alloc, &value)?;
-            sum.add(u64::from(candidate.prio()));
-        }
+        let candidate = Candidate::from_json_str(alloc, INFO, &mut scratch)?;
+        sum.add(u64::from(candidate.prio()));
     }
     Ok(())
 }

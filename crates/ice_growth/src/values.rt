@@ -4,7 +4,9 @@ use crate::calls::{Agent, creds};
 use crate::packets::at;
 use crate::print::refusal_name;
 use is::parse::parse_candidate;
-use is::{Candidate, DefaultSha1HmacProvider, IceCreds, IceError, Protocol, TcpType};
+use is::{
+    Candidate, DefaultSha1HmacProvider, IceCreds, IceError, JsonScratch, Protocol, TcpType,
+};
 use rand_pcg::Pcg32;
 use serde_json::Value;
 use std::alloc::Global;
@@ -13,6 +15,9 @@ use std::io::Write;
 
 const LINE: &str =
     "candidate:842163049 1 udp 1677729535 203.0.113.5 46154 typ srflx raddr 0.0.0.0 rport 0 ufrag EsAw";
+
+const INFO: &str =
+    "{\"candidate\":\"candidate:842163049 1 udp 1677729535 203.0.113.5 46154 typ srflx raddr 0.0.0.0 rport 0\",\"sdpMid\":\"0\",\"sdpMLineIndex\":0,\"usernameFragment\":\"EsAw\"}";
 
 /// A call that makes a value.
 #[derive(Clone, Copy)]
@@ -27,12 +32,13 @@ enum Making {
     Line,
     Json,
     FromJson,
+    FromText,
     Ufrag,
     Random,
 }
 
 /// Each call under its name, in the order in which they are made.
-static MAKINGS: [(&str, Making); 12] = [
+static MAKINGS: [(&str, Making); 13] = [
     ("with_hmac", Making::WithHmac),
     ("server_reflexive", Making::Reflexive),
     ("build", Making::Built),
@@ -43,6 +49,7 @@ static MAKINGS: [(&str, Making); 12] = [
     ("to_sdp_string", Making::Line),
     ("to_json", Making::Json),
     ("from_json", Making::FromJson),
+    ("from_json_str", Making::FromText),
     ("creds.new", Making::Random),
     ("set_ufrag", Making::Ufrag),
 ];
@@ -163,6 +170,7 @@ fn make_candidate(alloc: Global, making: Making, stock: &Stock) -> Result<Candid
         Making::Parsed => parse_candidate(alloc, LINE),
         Making::Read => Candidate::from_sdp_string(alloc, LINE),
         Making::FromJson => Candidate::from_json(alloc, &stock.json),
+        Making::FromText => Candidate::from_json_str(alloc, INFO, &mut JsonScratch::new(alloc)),
         _ => Ok(stock.candidate.clone()?),
     }
 }

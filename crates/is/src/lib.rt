@@ -21,8 +21,8 @@ pub use is_agent::{
     RemoteCandidates,
 };
 pub use is_candidate::{
-    Candidate, CandidateBuilder, CandidateKind, FnPreference, LocalPreference, PreferenceFunction,
-    default_local_preference,
+    Candidate, CandidateBuilder, CandidateKind, FnPreference, JsonScratch, LocalPreference,
+    PreferenceFunction, default_local_preference,
 };
 pub use is_proto::{
     DefaultSha1HmacProvider, Duration, IceError, Instant, ParseFault, Protocol, Sha1HmacProvider,

@@ -1,7 +1,8 @@
 -- Candidate info, the object in which browsers signal a candidate (the W3C's RTCIceCandidateInit).
-use Rattle.std.specs.Prelude.{◌≡◌, ℕ, ◌⊎◌, List, codes, Option, Some, None, option_and_then, Result, Ok, Err, if◌then◌else◌, string_bytes}
+use Rattle.std.specs.Prelude.{◌≡◌, ℕ, ◌⊎◌, List, codes, Option, Some, None, option_and_then, Result, Ok, Err, IsErrAnd, if◌then◌else◌, string_bytes}
 use Rattle.serde_json.specs.Data.{Data, null, boolean, number, string, array, object, unsigned, member, no_members}
 use Rattle.serde_json.specs.Find.{get_member, as_str}
+use Rattle.serde_json.specs.Read.{read}
 use Rattle.serde_json.specs.Written.{has_float}
 use Rattle.is_proto.specs.declared.error.IceError.{IceError}
 use Rattle.is_proto.specs.declared.error.IceError.TheVariants.{BadCandidate, OutOfMemory, PairIdsExhausted, MtuTooSmall, CredentialsTooLong}
@@ -9,6 +10,7 @@ use Rattle.is_proto.specs.declared.error.IceError.TheVariants.{PriorityTooHigh}
 use Rattle.is_candidate.specs.Candidates.{CandidateRecord}
 use Rattle.is_candidate.specs.Faults.{RefusesText}
 use Rattle.is_candidate.specs.Lines.{Answer, IsLineOf}
+use Rattle.is_candidate.specs.Refusals.{RefusesWith}
 use Rattle.is_candidate.specs.Sdp.{sdp_text}
 
 -- a text, or null
@@ -95,3 +97,11 @@ RefusesInfo d PriorityTooHigh = ⊥
 abbrev pub ReadsInfo : Data → Result CandidateRecord IceError → Type 0
 ReadsInfo d (Ok c) = IsInfoOf d c
 ReadsInfo d (Err e) = RefusesInfo d e
+
+-- the candidate of a text's value, or the refusal; a text that has no value is no JSON
+abbrev pub ReadsValue : Option Data → Result CandidateRecord IceError → Type 0
+ReadsValue (Some d) r = ReadsInfo d r
+ReadsValue None r = IsErrAnd r (RefusesWith (codes "candidate info is not JSON"))
+
+abbrev pub ReadsInfoText : List ℕ → Result CandidateRecord IceError → Type 0
+ReadsInfoText text r = ReadsValue (read text) r

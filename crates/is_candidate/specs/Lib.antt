@@ -14,4 +14,5 @@ pub mod Lines
 pub mod Faults
 pub mod Scanned
 pub mod Infos
+pub mod Flat
 pub mod RoundTrips

@@ -10,4 +10,5 @@ pub use candidate::builder::{
     CandidateBuilder, HasProtocol, HasRoute, NoProtocol, NoRoute, Tcp, Udp,
 };
 pub use candidate::kind::CandidateKind;
+pub use json::Scratch as JsonScratch;
 pub use preference::{FnPreference, LocalPreference, PreferenceFunction, default_local_preference};

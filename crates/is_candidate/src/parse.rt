@@ -1,5 +1,5 @@
 //! Candidate lines (RFC 5245, section 15.1), read.
-ghost use Rattle.std.specs.Prelude.{◌≡◌, ◌++◌, codes, List, ℕ};
+ghost use Rattle.std.specs.Prelude.{◌≡◌, ◌≤◌, ◌++◌, codes, length, take, IfSome, List, MatchOption, ℕ};
 ghost use Rattle.is_candidate.specs.Candidates.{CandidateRecord};
 ghost use Rattle.is_candidate.specs.Lines.{Answer, ReadsText};
 ghost use Rattle.is_candidate.specs.Faults.{fault_text, ReadsLine};
@@ -17,7 +17,7 @@ use fault::Fault;
 use is_proto::IceError;
 use line::{candidate_of, read_words};
 use std::alloc::Global;
-use words::words_of;
+use words::{MANY_WORDS, place_words, words_of};
 
 /// The candidate of a line: `candidate:`, then by words at white space foundation, component, protocol, priority,
 /// address, port, `typ` and kind, then keys with values. Of `raddr`, `rport`, `tcptype` and `ufrag` the last counts;
@@ -30,10 +30,31 @@ pub fn parse_candidate(alloc: Global, text: &str) -> Result<Candidate, IceError>
     let Some(rest) = text.strip_prefix("candidate:") else {
         return Err(refusal(alloc, text, Fault::MissingPrefix));
     };
-    let words = words_of(alloc, rest)?;
-    match read_words(words.as_slice()) {
+    let mut room = [""; MANY_WORDS];
+    let count = place_words(rest, &mut room);
+    let more = match count {
+        Some(_) => Vec::new(alloc),
+        None => words_of(alloc, rest)?,
+    };
+    match read_words(placed_or_all(&room, count, &more)) {
         Ok(line) => Ok(candidate_of(alloc, &line)?),
         Err(fault) => Err(refusal(alloc, text, fault)),
+    }
+}
+
+/// The words that were placed in the room, or all of them where there are more.
+#[inline(always)]
+fn placed_or_all<'r, 'a>(
+    room: &'r [&'a str; MANY_WORDS],
+    count: Option<usize>,
+    all: &'r Vec<&'a str>,
+) -> &'r [&'a str]
+    requires { IfSome count (λ n. n ≤ length room.now) }
+    ensures { MatchOption count (result.now ≡ all.now.items) (λ n. result.now ≡ take n room.now) }
+{
+    match count {
+        Some(count) => &room[..count],
+        None => all.as_slice(),
     }
 }
 

@@ -1,19 +1,34 @@
 //! The words of a line, and the numbers that they write.
-ghost use Rattle.std.specs.Prelude.{◌^◌, ℕ, IfOk, MatchOption};
+ghost use Rattle.std.specs.Prelude.{◌^◌, ◌≤◌, ℕ, length, take, IfOk, IfSome, MatchOption};
 ghost use Rattle.is_candidate.specs.Lines.{IsNumberBelow};
 ghost use Rattle.is_candidate.specs.Scanned.{texts};
 ghost use Rattle.is_candidate.specs.Words.{HasWords};
 
 use std::alloc::{AllocError, Global};
 
-/// Room for the words of a browser's line, so that one growth does for it.
-const MANY_WORDS: usize = 24;
+/// Room for the words of a browser's line.
+pub(crate) const MANY_WORDS: usize = 20;
+
+/// Puts the words of the text into the room, and tells how many; none where there are more than have room.
+pub(crate) fn place_words<'a>(text: &'a str, room: &mut [&'a str; MANY_WORDS]) -> Option<usize>
+    ensures { IfSome result (λ count. (count ≤ length room.new) × HasWords text.now (texts (take count room.new))) }
+{
+    let mut count = 0;
+    for word in text.split_whitespace() {
+        if count == MANY_WORDS {
+            return None;
+        }
+        room[count] = word;
+        count += 1;
+    }
+    Some(count)
+}
 
 /// The words of the text, split at white space (Unicode's White_Space).
 pub(crate) fn words_of(alloc: Global, text: &str) -> Result<Vec<&str>, AllocError>
     ensures { IfOk result (λ v. HasWords text.now (texts v.items)) }
 {
-    let mut words = Vec::with_capacity(alloc, MANY_WORDS)?;
+    let mut words = Vec::with_capacity(alloc, 2 * MANY_WORDS)?;
     for word in text.split_whitespace() {
         words.push(word)?;
     }

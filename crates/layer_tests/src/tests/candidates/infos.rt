@@ -1,16 +1,20 @@
 //! Candidate info, as browsers signal candidates.
 
-use is_candidate::Candidate;
+use is_candidate::{Candidate, JsonScratch};
 use is_proto::{IceError, Protocol};
 use serde_json::Value;
 use std::alloc::Global;
 use std::test::Fail;
 
-/// The candidate of the text of a value.
+/// The candidate of the text's value, where the text without its value tells of the same.
 fn read(alloc: Global, text: &str) -> Option<Candidate> {
-    match Value::from_str(alloc, text) {
-        Ok(value) => Candidate::from_json(alloc, &value).ok(),
-        Err(_) => None,
+    let value = Value::from_str(alloc, text).ok()?;
+    let by_value = Candidate::from_json(alloc, &value).ok()?;
+    let by_text = Candidate::from_json_str(alloc, text, &mut JsonScratch::new(alloc)).ok()?;
+    if by_text == by_value && by_text.ufrag() == by_value.ufrag() {
+        Some(by_text)
+    } else {
+        None
     }
 }
 
@@ -71,15 +75,24 @@ fn a_fragment_replaces_the_ufrag_of_the_line(rt: HostRuntime) {
     }
 }
 
-/// Whether the value of the text is refused with this message.
+/// Whether it is refused with this message.
+fn says(read: Result<Candidate, IceError>, message: &str) -> bool {
+    match read {
+        Err(IceError::BadCandidate(said)) => said.as_str() == message,
+        _ => false,
+    }
+}
+
+/// Whether the text's value, and the text without it, are refused with this message.
 fn is_refused(alloc: Global, text: &str, message: &str) -> bool {
     let Ok(value) = Value::from_str(alloc, text) else {
         return false;
     };
-    match Candidate::from_json(alloc, &value) {
-        Err(IceError::BadCandidate(said)) => said.as_str() == message,
-        _ => false,
-    }
+    says(Candidate::from_json(alloc, &value), message)
+        && says(
+            Candidate::from_json_str(alloc, text, &mut JsonScratch::new(alloc)),
+            message,
+        )
 }
 
 #[test]
@@ -91,7 +104,16 @@ fn the_first_fault_of_a_value_is_told(rt: HostRuntime) {
             "{\"sdpMLineIndex\": [{\"deep\": 1e2}]}",
             "candidate info holds a fraction",
         ),
+        (
+            "{\"candidate\": \"x\", \"sdpMLineIndex\": 18446744073709551616}",
+            "candidate info holds a fraction",
+        ),
+        ("{}", "candidate info lacks candidate"),
         ("{\"candidate\": 1}", "candidate info lacks candidate"),
+        (
+            "{\"candidate\": \"x\", \"candidate\": null}",
+            "candidate info lacks candidate",
+        ),
         (
             "{\"candidate\": \"x\", \"usernameFragment\": 1}",
             "x: missing 'candidate:' prefix",
@@ -104,4 +126,56 @@ fn the_first_fault_of_a_value_is_told(rt: HostRuntime) {
     for (text, message) in rows.iter() {
         assert!(rt; is_refused(rt.alloc(), text, message));
     }
+}
+
+/// Texts that tell of one host with the ufrag `new`.
+static ALIKE: [&str; 6] = [
+    "{\"usernameFragment\":\"new\",\"sdpMLineIndex\":18446744073709551615,\"candidate\":\"candidate:1 1 udp 1 10.0.0.1 1 typ host\"}",
+    " {\"candidate\" : \"candidate:1 1 udp 1 10.0.0.1 1 typ host ufrag new\", \"more\" : true } \n",
+    "{\"candidat\\u0065\":\"candidate:1\\u00201 udp 1 10.0.0.1 1 typ host ufrag n\\u0065w\"}",
+    "{\"candidate\":\"x\",\"usernameFragment\":\"old\",\"usernameFragment\":\"new\",\"candidate\":\"candidate:1 1 udp 1 10.0.0.1 1 typ host\"}",
+    "{\"candidate\":\"candidate:1 1 udp 1 10.0.0.1 1 typ host\",\"usernameFragment\":\"new\",\"sdpMLineIndex\":-1}",
+    "{\"candidate\":\"candidate:1 1 udp 1 10.0.0.1 1 typ host\",\"usernameFragment\":\"new\",\"more\":{\"deep\":[1,null]}}",
+];
+
+#[test]
+fn order_spaces_escapes_and_other_members_change_nothing(rt: HostRuntime) -> Result<(), Fail> {
+    let line = "candidate:1 1 udp 1 10.0.0.1 1 typ host ufrag new";
+    for text in ALIKE.iter() {
+        let Some(candidate) = read(rt.alloc(), text) else {
+            return Err(Fail::from("a text does not read"));
+        };
+        let printed = candidate.to_sdp_string(rt.alloc())?;
+        assert!(rt; printed.as_str() == line);
+    }
+    Ok(())
+}
+
+#[test]
+fn a_text_that_is_not_json_is_told_so(rt: HostRuntime) {
+    let rows = [
+        "",
+        "{",
+        "{\"candidate\":\"candidate:1 1 udp 1 10.0.0.1 1 typ host\"",
+        "{\"candidate\":\"candidate:1 1 udp 1 10.0.0.1 1 typ host\",}",
+        "{\"candidate\":\"candidate:1 1 udp 1 10.0.0.1 1 typ host\"} {}",
+        "{\"candidate\":\"candidate:1 1 udp 1 10.0.0.1 1 typ host\",\"more\":01}",
+        "{\"candidate\":1e999}",
+        "candidate:1 1 udp 1 10.0.0.1 1 typ host",
+    ];
+    let mut scratch = JsonScratch::new(rt.alloc());
+    for text in rows.iter() {
+        let read = Candidate::from_json_str(rt.alloc(), text, &mut scratch);
+        assert!(rt; says(read, "candidate info is not JSON"));
+    }
+}
+
+#[test]
+fn a_scratch_serves_one_text_after_another(rt: HostRuntime) -> Result<(), Fail> {
+    let mut scratch = JsonScratch::new(rt.alloc());
+    for text in ALIKE.iter() {
+        let candidate = Candidate::from_json_str(rt.alloc(), text, &mut scratch)?;
+        assert!(rt; candidate.ufrag() == Some("new"));
+    }
+    Ok(())
 }

@@ -93,6 +93,20 @@ fn of_equal_keys_the_last_counts_and_a_lone_raddr_is_none(rt: HostRuntime) {
 }
 
 #[test]
+fn lines_of_any_number_of_keys_read_to_their_last_word(rt: HostRuntime) -> Result<(), Fail> {
+    let text = "candidate:1 1 udp 1 10.0.0.1 1 typ host ufrag z";
+    let mut line = String::from_str(rt.alloc(), "candidate:1 1 udp 1 10.0.0.1 1 typ host")?;
+    for _ in 0..40 {
+        let whole = format!(in rt.alloc(); "{line} ufrag z")?;
+        assert!(rt; prints(rt.alloc(), whole.as_str(), text));
+        let cut = format!(in rt.alloc(); "{line} ufrag")?;
+        assert!(rt; is_refused(rt.alloc(), cut.as_str(), "missing ufrag value"));
+        line.push_str(" generation 0")?;
+    }
+    Ok(())
+}
+
+#[test]
 fn unicode_white_space_splits_words(rt: HostRuntime) {
     let line = "candidate:1\u{a0}1\u{2003}udp 1 10.0.0.1 1 typ host";
     let text = "candidate:1 1 udp 1 10.0.0.1 1 typ host";

@@ -1,17 +1,8 @@
-use Rattle.std.proofs.Common.{◌≡◌, ℕ, List, [], ◌∷◌, ◌++◌, refl, ap, subst}
+use Rattle.std.proofs.Common.{ℕ, List, [], ◌∷◌, subst}
 use Rattle.std.specs.Str.Iter.{split_whitespace_rest}
-use Rattle.std.specs.Borrow.{Bor}
-use Rattle.is_candidate.specs.Scanned.{texts}
 use Rattle.is_candidate.specs.Words.{HasWords}
+use Rattle.is_candidate.proofs.Texts.{texts-push, texts-end}
 use Rattle.is_candidate.proofs.parse.words.words_of.Goals as goal
-
-texts-push : (xs : List (Bor (List ℕ))) (w : Bor (List ℕ)) (ws : List (List ℕ)) → texts xs ++ (w.now ∷ ws) ≡ texts (xs ++ w ∷ []) ++ ws
-texts-push [] w ws = refl
-texts-push (x ∷ xs) w ws = ap (λ r. x.now ∷ r) (texts-push xs w ws)
-
-texts-end : (xs : List (Bor (List ℕ))) → texts xs ++ [] ≡ texts xs
-texts-end [] = refl
-texts-end (x ∷ xs) = ap (λ r. x.now ∷ r) (texts-end xs)
 
 pub loop-word-preserved : goal.loop-word-preserved
 loop-word-preserved c = λ ws h.

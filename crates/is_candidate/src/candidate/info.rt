@@ -103,7 +103,7 @@ fn ufrag_in(value: &Value) -> Result<Option<&str>, &'static str>
 }
 
 /// The refusal with this message, or want of memory for it.
-fn refusal(alloc: Global, message: &str) -> IceError
+pub(super) fn refusal(alloc: Global, message: &str) -> IceError
     ensures { RefusesWith message.now result }
 {
     match String::from_str(alloc, message) {

@@ -1,0 +1,19 @@
+-- Numbers of JSON that are whole ones of 64 bits.
+use Rattle.std.proofs.Common.{◌≡◌, ℕ, ◌^◌, ◌<◌, List, get_or, Option, true, Some, None, lt-ltb, ne_eqb}
+use Rattle.std.specs.Prelude.{IsTrue, is_some}
+use Rattle.std.specs.Option.{SomeIff}
+use Rattle.fast_float.specs.Text.{Parts, scan, digits_of, IsInteger}
+use Rattle.serde_json.specs.Data.{unsigned}
+use Rattle.serde_json.specs.Read.{number_of, is_integer}
+
+integer : (p : Parts) → IsInteger p → is_integer p ≡ true
+integer p h = rw (lt-ltb _ _ h.0, h.1, h.2)
+
+-- digits alone, with no sign, that 64 bits hold
+pub unsigned_number : (s : List ℕ) → (get_or s 0 0 ≡ 45 → ⊥) → IsInteger (scan s) → digits_of (scan s) < 2 ^ 64 → number_of s ≡ Some (unsigned (digits_of (scan s)))
+unfolding number_of
+unsigned_number s sign whole fits = rw (ne_eqb (get_or s 0 0) 45 sign, integer (scan s) whole, lt-ltb _ _ fits)
+
+pub where_some : {T : Type 0} {P : Type 0} (r : Option T) (v : T) → SomeIff r P v → IsTrue (is_some r) → P
+where_some None v h never = absurd (cc)
+where_some (Some x) v h some = h.0
