@@ -4,9 +4,7 @@ use crate::calls::{Agent, creds};
 use crate::packets::at;
 use crate::print::refusal_name;
 use is::parse::parse_candidate;
-use is::{
-    Candidate, DefaultSha1HmacProvider, IceCreds, IceError, JsonScratch, Protocol, TcpType,
-};
+use is::{Candidate, DefaultSha1HmacProvider, IceCreds, IceError, JsonScratch, Protocol, TcpType};
 use rand_pcg::Pcg32;
 use serde_json::Value;
 use std::alloc::Global;
