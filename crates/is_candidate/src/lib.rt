@@ -10,5 +10,6 @@ pub use candidate::builder::{
     CandidateBuilder, HasProtocol, HasRoute, NoProtocol, NoRoute, Tcp, Udp,
 };
 pub use candidate::kind::CandidateKind;
+/// Room in which `Candidate::from_json_str` reads, for any number of texts one after the other.
 pub use json::Scratch as JsonScratch;
 pub use preference::{FnPreference, LocalPreference, PreferenceFunction, default_local_preference};

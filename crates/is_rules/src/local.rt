@@ -9,7 +9,7 @@ ghost use Rattle.is_candidate.specs.Equality.{is_alike, is_same_place};
 ghost use Rattle.is_rules.specs.Discarding.{change_place};
 ghost use Rattle.is_rules.specs.Local.{count_alike, MayPrefer, comes_again, enabled, preferred, as_own, error_of};
 
-use crate::places::same_port;
+use crate::places::same_version_and_port;
 use is_candidate::candidate::equality::{is_alike, is_same_origin, is_same_place};
 use is_candidate::candidate::internals::{enable, is_discarded, set_local_preference};
 use is_candidate::{Candidate, LocalPreference, default_local_preference};
@@ -79,7 +79,7 @@ pub fn preference_for<P: LocalPreference>(
 fn is_same(candidate: &Candidate, other: &Candidate) -> bool
     ensures { result ≡ is_same_place candidate.now other.now }
 {
-    same_port(candidate.addr(), other.addr()) && is_same_place(candidate, other)
+    same_version_and_port(candidate.addr(), other.addr()) && is_same_place(candidate, other)
 }
 
 /// The first place of a candidate of equal address, base and protocol.

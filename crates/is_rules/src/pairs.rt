@@ -23,7 +23,7 @@ impl PairTest for Between {
     ghost passes = { λ t p. is_between t.l t.r p };
 
     fn passes(&self, pair: &CandidatePair) -> bool {
-        pair.local_idx() == self.l && pair.remote_idx() == self.r
+        pair.remote_idx() == self.r && pair.local_idx() == self.l
     }
 }
 

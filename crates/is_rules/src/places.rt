@@ -1,8 +1,8 @@
 //! Where a request is served: the choices that serving it rests on.
 
-ghost use Rattle.std.specs.Prelude.{◌≡◌, ◌==◌, ◌+◌, ◌<◌, length, position, true, false, IfSome};
+ghost use Rattle.std.specs.Prelude.{◌≡◌, ◌==◌, ◌&&◌, ◌+◌, ◌<◌, ◌≤◌, length, position, true, false, None, IfSome};
 ghost use Rattle.std.specs.Net.Socket.{socket_port};
-ghost use Rattle.is_candidate.specs.Addresses.{same_address};
+ghost use Rattle.is_candidate.specs.Addresses.{same_address, same_version};
 ghost use Rattle.std.specs.List.{list_any};
 ghost use Rattle.is_candidate.specs.Candidates.{base_of, candidate_at, nowhere};
 ghost use Rattle.is_candidate.specs.Priorities.{candidate_priority, check_priority};
@@ -124,20 +124,24 @@ const NOWHERE_PRIORITY: u32 = 126 * 0x100_0000 + 65534 * 0x100 + 255;
 /// The same, were it peer reflexive.
 const NOWHERE_CHECK_PRIORITY: u32 = 110 * 0x100_0000 + 65534 * 0x100 + 255;
 
-/// Whether two addresses have one port. Most addresses that differ do so in it, and it is the quickest to compare.
+/// Whether two addresses have one IP version and one port: most that differ do so in these, the quickest to compare.
 #[inline(always)]
-pub(crate) fn same_port(a: SocketAddr, b: SocketAddr) -> bool
-    ensures test { result ≡ (socket_port a == socket_port b) }
+pub(crate) fn same_version_and_port(a: SocketAddr, b: SocketAddr) -> bool
+    ensures test { result ≡ (same_version a b && socket_port a == socket_port b) }
     ensures apart { result ≡ false → same_address a b ≡ false }
 {
-    a.port() == b.port()
+    match (a, b) {
+        (SocketAddr::V4(a), SocketAddr::V4(b)) => a.port() == b.port(),
+        (SocketAddr::V6(a), SocketAddr::V6(b)) => a.port() == b.port(),
+        _ => false,
+    }
 }
 
 #[inline(always)]
 fn is_at(address: SocketAddr, proto: Protocol, candidate: &Candidate) -> bool
     ensures { result ≡ is_at address proto candidate.now }
 {
-    same_port(candidate.addr(), address)
+    same_version_and_port(candidate.addr(), address)
         && same_address(candidate.addr(), address)
         && same_protocol(candidate.proto(), proto)
 }
@@ -187,6 +191,7 @@ fn is_sender(request: &Request<'_>, candidate: &Candidate) -> bool
     is_at(request.path.source, request.path.proto, candidate)
 }
 
+#[inline(always)]
 fn is_live_sender(request: &Request<'_>, candidate: &Candidate) -> bool
     ensures { result ≡ is_live (is_sender (request_view request.now)) candidate.now }
 {
@@ -220,12 +225,24 @@ fn better_sender(
     }
 }
 
+/// The first place of a live candidate with the request's source and protocol, or the end: mostly it is the only one, and to
+/// find it takes a shorter loop than to compare priorities does.
+fn first_sender(remote: &[Candidate], request: &Request<'_>) -> usize
+    ensures none { IsGreatestBelow result (is_live (is_sender (request_view request.now))) remote.now None }
+    ensures within { result ≤ length remote.now }
+{
+    match remote.iter().position(|c| is_live_sender(request, c)) {
+        Some(place) => place,
+        None => remote.len(),
+    }
+}
+
 /// Of the live candidates with the request's source and protocol, the place of one of greatest priority.
 fn live_remote_place(remote: &[Candidate], request: &Request<'_>) -> Option<usize>
     ensures { IsGreatestPlace (is_live (is_sender (request_view request.now))) remote.now result }
 {
     let mut best = None;
-    for place in 0..remote.len() {
+    for place in first_sender(remote, request)..remote.len() {
         best = better_sender(remote, request, best, place);
     }
     best
