@@ -10,6 +10,7 @@ use Rattle.is_rules.specs.declared.told.Path.{Path}
 use Rattle.is_rules.specs.Agent.{AgentRecord, fresh}
 use Rattle.is_rules.specs.Answers.{goes_back}
 use Rattle.is_rules.specs.Asked.{IsAlone}
+use Rattle.is_rules.specs.Progress.{HasAnnounced}
 use Rattle.is_rules.specs.AskedCourses.{IsAnsweredAlong, AnnouncesAlong, Ends, EndsAlong, GrantsAlong, GrantedAreAnnounced}
 use Rattle.is_rules.specs.Asking.{AreNominatedOn, Grants, ChecksAsk}
 use Rattle.is_rules.specs.Delivery.{IsReachedBy}
@@ -362,7 +363,7 @@ module _ {H P : Type 0} (mac : H → List ℕ → List ℕ → List ℕ) (answer
       → IsAskedOver mac side path part × IsAnsweredAlong (own side part) path)
       → moment.entry.event ≡ world.Call side (agent.HandleTimeout now) → moment.entry.outcome.entry.answer ≡ Done → request_at now (at side moment.before) ≡ None
       → IsAlone (at side moment.behind) path
-      → ((x : Occurrence H P) × Has (before ++ (part ++ moment ∷ [])) x × Announces side x.entry)
+      → (((x : Occurrence H P) × Has (before ++ (part ++ moment ∷ [])) x × Announces side x.entry) × HasAnnounced (at side moment.behind))
       ⊎ ((x : Occurrence H P) × Has (part ++ moment ∷ []) x × MayEndAt side path x)
   announced_where paths new_sound asks succeeds announce first last s before part rest moment now side path new follow roles happened comes done none alone =
       let led = cut before ((part ++ moment ∷ []) ++ rest) first last follow in
@@ -381,7 +382,7 @@ module _ {H P : Type 0} (mac : H → List ℕ → List ℕ → List ℕ) (answer
       (own side part) m.s m.t now moment.entry.outcome.entry path (n.0, n.1, refl)
       (at side first, s, s, tt, (refl, n.3, refl), own_course side before first start led.1)
       g.0 (turn_step mac answers moment.before moment.behind m.s m.t side (agent.HandleTimeout now) moment.entry.outcome turn) done none g.2 h.1 alone) [
-        | inl told ↦ inl (told_back side before part moment first start moment.before (agent.SetControlling n.2) (agent.HandleTimeout now) led.1 m.led turn.side_is told)
+        | inl told ↦ inl (told_back side before part moment first start moment.before (agent.SetControlling n.2) (agent.HandleTimeout now) led.1 m.led turn.side_is told.0, told.1)
         | inr ends ↦ inr (elim ends [
           | inl e ↦ g.1 e
           | inr e ↦ (moment, middle part [] moment, (agent.HandleTimeout now, comes, e))

@@ -13,6 +13,7 @@ use Rattle.is_rules.specs.AskedCourses.{AcceptsSuccessOn}
 use Rattle.is_rules.specs.Asking.{AreNominatedOn}
 use Rattle.is_rules.specs.Delivery.{KnowEachOther, IsReachedBy, Sends}
 use Rattle.is_rules.specs.Issuing.{way_out}
+use Rattle.is_rules.specs.Progress.{HasAnnounced}
 use Rattle.is_rules.specs.Queue.{request_at}
 use Rattle.is_rules.specs.Reached.{IsInLine}
 use Rattle.is_rules.specs.Sending.{path_of}
@@ -113,5 +114,5 @@ module _ {H P : Type 0} where
         → ((r : Round H P) → Has (asked.first ∷ asked.later) r → IsAnswered mac side path r)
         → moment.entry.event ≡ Call side (agent.HandleTimeout now) → moment.entry.outcome.entry.answer ≡ agent.Done → request_at now (at side moment.before) ≡ None
         → IsAlone (at side moment.behind) path
-        → ((x : Occurrence H P) × Has (before ++ (part ++ moment ∷ [])) x × Announces side x.entry)
+        → (((x : Occurrence H P) × Has (before ++ (part ++ moment ∷ [])) x × Announces side x.entry) × HasAnnounced (at side moment.behind))
         ⊎ ((x : Occurrence H P) × Has (part ++ moment ∷ []) x × MayEndAt side path x)

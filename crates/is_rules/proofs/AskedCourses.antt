@@ -17,6 +17,7 @@ use Rattle.is_rules.specs.Effects.{PathEffect, last_of}
 use Rattle.is_rules.specs.Exchange.{Course}
 use Rattle.is_rules.specs.Nominating.{is_eligible}
 use Rattle.is_rules.specs.Points.{IsTopAnnounced}
+use Rattle.is_rules.specs.Progress.{HasAnnounced}
 use Rattle.is_rules.specs.Sending.{path_of}
 use Rattle.is_rules.specs.Sound.{IsSound, GivesBased}
 use Rattle.is_rules.specs.Staying.{Stays}
@@ -118,7 +119,7 @@ module _ {H P : Type 0} where
         (course_on xs ((HandleTimeout now, moment) ∷ []) start near last course (last, s, t, tt, step, refl)) in
         by sound_first sound_near whole (granted path xs start near sound_start course asks) (answered path xs start near sound_start course y has is) where
           Said : Type 0
-          Said = AnnouncesAlong (before ++ (xs ++ (HandleTimeout now, moment) ∷ [])) ⊎ (EndsAlong mac answers xs start near course path ⊎ Ends near (HandleTimeout now) moment path)
+          Said = (AnnouncesAlong (before ++ (xs ++ (HandleTimeout now, moment) ∷ [])) × HasAnnounced last) ⊎ (EndsAlong mac answers xs start near course path ⊎ Ends near (HandleTimeout now) moment path)
 
           at_last : IsSound first → IsSound near → Course mac answers (before ++ (xs ++ (HandleTimeout now, moment) ∷ [])) first last → Marked path is_nominated last → Marked path is_valid last → Said
           at_last sound_first sound_near whole n w =
@@ -126,7 +127,10 @@ module _ {H P : Type 0} where
               let valid : is_valid n.0 ≡ true = subst (λ (p : PairRecord). is_valid p ≡ true) one w.2 in
               let effect = (path_law mac answers near last s t (HandleTimeout now) moment sound_near tt step).0 in
               let number = named last n.0 n.1 (nominated-eligible last.controlling n.0 valid n.2) (effect.points (done, none)) in
-              inl (told_along (before ++ (xs ++ (HandleTimeout now, moment) ∷ [])) first last number.0 sound_first whole (ap (λ (a : AgentRecord H P). a.announced) fresh.2) number.1)
+              inl (
+                told_along (before ++ (xs ++ (HandleTimeout now, moment) ∷ [])) first last number.0 sound_first whole (ap (λ (a : AgentRecord H P). a.announced) fresh.2) number.1,
+                (effect.points (done, none), (n.0, n.1, nominated-eligible last.controlling n.0 valid n.2)),
+              )
 
           by : IsSound first → IsSound near → Course mac answers (before ++ (xs ++ (HandleTimeout now, moment) ∷ [])) first last
               → Marked path is_nominated near ⊎ EndsAlong mac answers xs start near course path → Marked path is_valid near ⊎ EndsAlong mac answers xs start near course path → Said

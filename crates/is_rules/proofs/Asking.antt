@@ -17,7 +17,8 @@ use Rattle.is_rules.specs.declared.told.Path.{Path}
 use Rattle.is_rules.specs.Agent.{AgentRecord}
 use Rattle.is_rules.specs.Asking.{AreNominatedOn, ChecksAsk}
 use Rattle.is_rules.specs.Checking.{check_message, check_sent}
-use Rattle.is_rules.specs.Delivery.{IsFragment, KnowEachOther, ChecksAreServed}
+use Rattle.is_rules.specs.Carried.{CarriedAreServed, CarriedAsk}
+use Rattle.is_rules.specs.Delivery.{IsFragment, KnowEachOther}
 use Rattle.is_rules.specs.Fitting.{are_too_long}
 use Rattle.is_rules.specs.Issuing.{Says, way_out}
 use Rattle.is_rules.specs.Request.{request_in}
@@ -59,21 +60,17 @@ module _ {H P : Type 0} (mac : H → List ℕ → List ℕ → List ℕ) (answer
   module _ (read : (m : List ℕ → List ℕ → List ℕ) (key : List ℕ) (x : Message) → WrittenIsRead m key x)
       (fits : (key id username : List ℕ) (controlling : Bool) (tie_breaker priority : ℕ) (nominates : Bool)
       → length username ≤ 508 → FitsInto key 588 (binding_request username id controlling tie_breaker priority nominates)) where
-    pub checks-ask : ChecksAreServed mac answers → ChecksAsk mac answers
-    checks-ask served_law a sent near b served s t now at check id moment handed xs sound_a sound_b step sends role nominated between gone know other reached delivered =
-        let sound_sent = (path_law mac answers a sent s t (HandleTimeout now) moment sound_a tt step).1 in
-        let keys_near : keys_of near ≡ keys_of sent = keys-between mac answers xs sent near sound_sent between gone in
-        let keys_a : keys_of a ≡ keys_of near = sym (keys_near ∙ keys-moment mac answers now moment a sent s t sound_a step) in
-        let know_a : KnowEachOther mac a b = known-on mac near a b keys_a know in
-        let taken = served_law a sent b served check id at handed sound_a sound_b know_a (other ∙ ap not (sym role)) reached
-        (record { call = HandleTimeout now; entry = moment; before = s; behind = t; step = step; sends = sends }) delivered in
+    pub carried-ask : CarriedAreServed mac answers → CarriedAsk mac answers
+    carried-ask served_law a sent b served s t now at check came id moment handed sound_a sound_b step sends role nominated know other unaltered reached delivered =
+        let taken = served_law a sent b served check came id at handed sound_a sound_b know (other ∙ ap not (sym role)) reached
+        (record { call = HandleTimeout now; entry = moment; before = s; behind = t; step = step; sends = sends }) unaltered delivered in
         let c = checks-as mac answers a sent s t now (way_out check) id moment sends.told step in
         let know_old : KnowEachOther mac c.old b =
-        known-on mac near c.old b (ap (λ (x : AgentRecord H P). keys_of x) (sym c.made) ∙ sym keys_near) know in (
-          (request_in at (way_out check) taken.0.0),
+        known-on mac a c.old b (ap (λ (x : AgentRecord H P). keys_of x) (sym c.made) ∙ keys-moment mac answers now moment a sent s t sound_a step) know in (
+          (request_in at (way_out came) taken.0.0),
           id,
-          (at, way_out check, taken.0.0, taken.0.1, taken.0.2, ap (λ o. is_some o) know.its, refl),
-          asks c know_old taken.0.0 taken.0.1.2,
+          (at, way_out came, taken.0.0, taken.0.1, taken.0.2, ap (λ o. is_some o) know.its, refl),
+          asks c know_old taken.0.0 (subst (λ bs. Reads bs taken.0.0) unaltered taken.0.1.2),
           taken.1.2.told ∙ ap (λ w. Some (issued_as w class.Success id)) taken.1.1,
         ) where
           stays : sent.controlling ≡ a.controlling
@@ -105,3 +102,9 @@ module _ {H P : Type 0} (mac : H → List ℕ → List ℕ → List ℕ) (answer
               let is : m ≡ back.read = same_reading (written (mac c.old.provider) (Some c.remote.pass) x) back.read m back.reads bytes in
               ap (λ (y : Message). y.attributes.use_candidate) is ∙ (ap (λ (r : AttributesRecord). r.use_candidate) back.same.attributes
               ∙ leads now (way_out check) id sent c (stays ∙ role) nominated)
+
+    pub checks-ask : CarriedAsk mac answers → ChecksAsk mac answers
+    checks-ask law a sent near b served s t now at check id moment handed xs sound_a sound_b step sends role nominated between gone know other reached delivered =
+        let sound_sent = (path_law mac answers a sent s t (HandleTimeout now) moment sound_a tt step).1 in
+        let keys = sym (keys-between mac answers xs sent near sound_sent between gone ∙ keys-moment mac answers now moment a sent s t sound_a step) in
+        law a sent b served s t now at check check id moment handed sound_a sound_b step sends role nominated (known-on mac near a b keys know) other refl reached delivered

@@ -33,6 +33,7 @@ use Rattle.is_rules.specs.Accepting.{HandlesPacket, IsAcceptedAs, IsAcceptedOn, 
 use Rattle.is_rules.specs.Answers.{keeps_check_on}
 use Rattle.is_rules.specs.Brought.{IsServing}
 use Rattle.is_rules.specs.Checking.{username_between}
+use Rattle.is_rules.specs.Carried.{CarriedAreServed, CarriedAreAccepted}
 use Rattle.is_rules.specs.Delivery.{IsFragment, KnowEachOther, IsReachedBy, Sends, Delivered, Issued, IsTaken, ChecksAreServed, RepliesAreAccepted, receives, is_gone_at}
 use Rattle.is_rules.specs.Fitting.{USERNAME_LIMIT, are_too_long}
 use Rattle.is_rules.specs.Issuing.{Says, IsIssued, key_for, way_out}
@@ -251,21 +252,21 @@ module _ {H P : Type 0} (mac : H → List ℕ → List ℕ → List ℕ) (answer
       (fits : (key id username : List ℕ) (controlling : Bool) (tie_breaker priority : ℕ) (nominates : Bool)
       → length username ≤ USERNAME_LIMIT → FitsInto key LONGEST_CHECK (binding_request username id controlling tie_breaker priority nominates)) where
     -- the check of an agent that is known comes: it is accepted, and gets past the test of its user fragment
-    pub check-comes : (a sent b served : AgentRecord H P) (check : Packet) (id : List ℕ) (at : ℕ) (e : Entry) → IsSound a → KnowEachOther mac a b
-        → Issued mac answers class.Request id check a sent → Delivered mac answers check at b e served → Comes mac a b check id at e
-    check-comes a sent b served check id at e sound_a know issued delivered =
+    pub check-comes : (a sent b served : AgentRecord H P) (check came : Packet) (id : List ℕ) (at : ℕ) (e : Entry) → IsSound a → KnowEachOther mac a b
+        → Issued mac answers class.Request id check a sent → came.contents ≡ check.contents → Delivered mac answers came at b e served → Comes mac a b came id at e
+    check-comes a sent b served check came id at e sound_a know issued unaltered delivered =
         let i = issued_packet a sent class.Request id check sound_a issued in
         let same = told_as (way_out check) (way_out check) class.Request i.0.class id i.0.id (sym issued.sends.told ∙ i.2) in
         asked i.0 (i.1 ∙ ap (λ c. written (mac a.provider) (Some (key_for c a.local_creds a.remote_creds)) i.0) (sym same.1)) (sym same.2)
         (subst (λ c. Says c a issued.call issued.entry check.contents i.0 (way_out check) sent.controlling) (sym same.1) i.3) where
           way : Path
-          way = way_out check
+          way = way_out came
 
           taken : (peer : IceCreds) (c : CandidateRecord) (uses : Bool) (own : List ℕ) → own ≡ id → (uses ≡ true → a.controlling ≡ true) → peer ≡ b.local_creds
               → (back : ReadsBack (mac a.provider) peer.pass
               (written (mac a.provider) (Some peer.pass) (binding_request (username_between peer a.local_creds) own a.controlling a.tie_breaker (check_priority c) uses))
               (binding_request (username_between peer a.local_creds) own a.controlling a.tie_breaker (check_priority c) uses))
-              → Reads check.contents back.read → Comes mac a b check id at e
+              → Reads came.contents back.read → Comes mac a b came id at e
           taken peer c uses own id_is leads it back reads =
               let x : Message = binding_request (username_between peer a.local_creds) own a.controlling a.tie_breaker (check_priority c) uses in
               let n : Message = back.read in
@@ -280,7 +281,7 @@ module _ {H P : Type 0} (mac : H → List ℕ → List ℕ → List ℕ) (answer
               subst (λ k. IsSignedBy k n b.local_creds.pass) know.alike (subst (λ (y : IceCreds). IsSignedBy (mac a.provider) n y.pass) it back.signed) in
               let accepted : IsAcceptedOn mac b way n =
               (same.method, subst (λ k. IsAcceptedAs mac k (keeps_check_on b way n.id) b n) (sym same.class) (addressed, signed)) in
-              let t = took check at b e served n reads accepted delivered in
+              let t = took came at b e served n reads accepted delivered in
               let q : RequestRecord = request_in at way n in
               let mid = t.1.0 in
               let takes : TakesRequest mac q b e.told mid = subst (λ k. Takes mac k at b way n e.told mid) same.class t.1.1 in
@@ -302,7 +303,7 @@ module _ {H P : Type 0} (mac : H → List ℕ → List ℕ → List ℕ) (answer
               }
 
           asked : (m : Message) → check.contents ≡ written (mac a.provider) (Some (key_for class.Request a.local_creds a.remote_creds)) m → m.id ≡ id
-              → Says class.Request a issued.call issued.entry check.contents m (way_out check) sent.controlling → Comes mac a b check id at e
+              → Says class.Request a issued.call issued.entry check.contents m (way_out check) sent.controlling → Comes mac a b came id at e
           asked m contents id_is (peer, c, uses, known, has, m_is, put, role, leads) =
               let x : Message = binding_request (username_between peer a.local_creds) m.id a.controlling a.tie_breaker (check_priority c) uses in
               let it : peer ≡ b.local_creds = some_is peer b.local_creds (sym known ∙ know.mine) in
@@ -312,37 +313,41 @@ module _ {H P : Type 0} (mac : H → List ℕ → List ℕ → List ℕ) (answer
               check_reads read fits peer.pass a.local_creds peer m.id a.controlling uses a.tie_breaker (check_priority c) (mac a.provider) check.contents know.twenty
               (subst (λ (y : IceCreds). are_too_long a.local_creds (Some y) ≡ false) (sym it) know.fit) know.own
               (subst (λ (y : IceCreds). IsFragment y.ufrag) (sym it) know.other) (subst (λ (y : Message). IsPut check.contents y) m_is put) in
-              taken peer c uses m.id id_is leads it back (subst (λ bs. Reads bs back.read) (sym bytes) back.reads)
+              taken peer c uses m.id id_is leads it back (subst (λ bs. Reads bs back.read) (sym (unaltered ∙ bytes)) back.reads)
 
-    pub checks-are-served : ChecksAreServed mac answers
-    checks-are-served a sent b served check id at e sound_a sound_b know apart reached issued delivered =
-        let k = check-comes a sent b served check id at e sound_a know issued delivered in
-        let q : RequestRecord = request_in at (way_out check) k.message in
+    pub carried-are-served : CarriedAreServed mac answers
+    carried-are-served a sent b served check came id at e sound_a sound_b know apart reached issued unaltered delivered =
+        let k = check-comes a sent b served check came id at e sound_a know issued unaltered delivered in
+        let q : RequestRecord = request_in at (way_out came) k.message in
         let rival_of : rival_in b.controlling q ≡ None =
         subst (λ r. rival_in r q ≡ None) (sym apart) (no_rival a.controlling q a.tie_breaker k.controlling k.controlled) in
         let led : is_misled b.controlling q ≡ false = subst (λ r. (r && q.use_candidate) ≡ false) (sym apart) (not_misled a.controlling q.use_candidate k.leads) in
         let reply = serves q b k.mid e.told k.named reached (ap (λ o. conflict_by b.tie_breaker o) rival_of) led k.serves in (
           (k.message, (refl, refl, k.reads, k.accepted), k.request),
-          goes-back class.Success b served check id at e sound_b delivered (λ packet m says. says.3 ∙ ap turned (brought-by b check at e says.0 says.1))
+          goes-back class.Success b served came id at e sound_b delivered (λ packet m says. says.3 ∙ ap turned (brought-by b came at e says.0 says.1))
               reply.0 (reply.1 ∙ ap (λ i. Some (issued_as reply.0 class.Success i)) k.id_is),
         )
+
+    pub checks-are-served : ChecksAreServed mac answers
+    checks-are-served a sent b served check id at e sound_a sound_b know apart reached issued delivered =
+        carried-are-served a sent b served check check id at e sound_a sound_b know apart reached issued refl delivered
 
   -- ---- its answer
 
   module _ (read : (m : List ℕ → List ℕ → List ℕ) (key : List ℕ) (x : Message) → WrittenIsRead m key x)
       (unscoped : (m : List ℕ → List ℕ → List ℕ) (key : Option (List ℕ)) (x : Message) → IsWrittenPlain m key x)
       (fits : (key id : List ℕ) (address : SocketAddr) → FitsInto key LONGEST_REPLY (binding_reply id address)) where
-    pub replies-are-accepted : RepliesAreAccepted mac answers
-    replies-are-accepted a taken b served reply id at e sound_b know issued kept delivered =
+    pub carried-are-accepted : CarriedAreAccepted mac answers
+    carried-are-accepted a taken b served reply came id at e sound_b know issued unaltered kept delivered =
         let i = issued_packet b served class.Success id reply sound_b issued in
         let same = told_as (way_out reply) (way_out reply) class.Success i.0.class id i.0.id (sym issued.sends.told ∙ i.2) in
         told i.0 (i.1 ∙ ap (λ c. written (mac b.provider) (Some (key_for c b.local_creds b.remote_creds)) i.0) (sym same.1)) (sym same.2)
         (subst (λ c. Says c b issued.call issued.entry reply.contents i.0 (way_out reply) served.controlling) (sym same.1) i.3) where
           way : Path
-          way = way_out reply
+          way = way_out came
 
           told : (m : Message) → reply.contents ≡ written (mac b.provider) (Some b.local_creds.pass) m → m.id ≡ id
-              → Says class.Success b issued.call issued.entry reply.contents m way served.controlling → IsTaken mac answers reply at e class.Success
+              → Says class.Success b issued.call issued.entry reply.contents m (way_out reply) served.controlling → IsTaken mac answers came at e class.Success
           told m contents id_is (q, serving, m_is, path_is, put) =
               let key : List ℕ = b.local_creds.pass in
               let x : Message = binding_reply q.id (carried q.path.source) in
@@ -361,6 +366,10 @@ module _ {H P : Type 0} (mac : H → List ℕ → List ℕ → List ℕ) (answer
               let awaited : list_any (keeps_check_on a way n.id) a.pairs ≡ true = subst (λ k. list_any (keeps_check_on a way k) a.pairs ≡ true) (sym own) kept in
               let accepted : IsAcceptedOn mac a way n =
               (same.method, subst (λ k. IsAcceptedAs mac k (keeps_check_on a way n.id) a n) (sym same.class) (awaited, signed)) in
-              let reads : Reads reply.contents n = subst (λ bs. Reads bs n) (sym bytes) back.reads in
-              let t = took reply at a e taken n reads accepted delivered in
+              let reads : Reads came.contents n = subst (λ bs. Reads bs n) (sym (unaltered ∙ bytes)) back.reads in
+              let t = took came at a e taken n reads accepted delivered in
               (n, (refl, refl, reads, t.0), same.class)
+
+    pub replies-are-accepted : RepliesAreAccepted mac answers
+    replies-are-accepted a taken b served reply id at e sound_b know issued kept delivered =
+        carried-are-accepted a taken b served reply reply id at e sound_b know issued refl kept delivered

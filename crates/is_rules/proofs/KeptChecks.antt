@@ -51,14 +51,14 @@ use Rattle.is_rules.proofs.Names.{any_has}
 use Rattle.is_rules.proofs.Serves.{Has-mapped}
 use Rattle.is_rules.proofs.Tells.{some_is}
 
-bytes_same : (a : List ℕ) → bytes_eq a a ≡ true
+pub bytes_same : (a : List ℕ) → bytes_eq a a ≡ true
 bytes_same a = (bytes_eq-Decides a a).1 refl
 
 pub number_same : (n : ℕ) → (n == n) ≡ true
 number_same n = eq-eqb n n refl
 
 -- an address is itself
-same_self : (a : SocketAddr) → same_address a a ≡ true
+pub same_self : (a : SocketAddr) → same_address a a ≡ true
 same_self (V4 a) = rw (bytes_same (ipv4_octets (v4_ip a)), number_same (v4_port a)) refl
 same_self (V6 a) = rw (bytes_same (ipv6_segments (v6_ip a)), number_same (v6_port a), number_same (v6_flowinfo a), number_same (v6_scope_id a)) refl
 
@@ -70,7 +70,7 @@ Has-last : (cs : List Check) (c : Check) → Has (cs ++ c ∷ []) c
 Has-last [] c = inl refl
 Has-last (x ∷ cs) c = inr (Has-last cs c)
 
-Has-rear : (cs ds : List Check) (c : Check) → Has ds c → Has (cs ++ ds) c
+pub Has-rear : (cs ds : List Check) (c : Check) → Has ds c → Has (cs ++ ds) c
 Has-rear [] ds c h = h
 Has-rear (x ∷ cs) ds c h = inr (Has-rear cs ds c h)
 

@@ -57,6 +57,8 @@ pub mod Coursing
 pub mod Asking
 pub mod AskedCourses
 pub mod Stays
+pub mod Pends
+pub mod PendLaws
 pub mod StayLaws
 pub mod AskedLaws
 pub mod Leads
@@ -65,3 +67,4 @@ pub mod MildSteps
 pub mod Reaching
 pub mod ReachLaws
 pub mod ReachedCourses
+pub mod SamePath

@@ -7,6 +7,7 @@ use Rattle.rand_core.specs.Stream.{Stream}
 use Rattle.is_proto.specs.Lists.{Has}
 use Rattle.is_proto.specs.Moments.{MAX}
 use Rattle.is_candidate.specs.Candidates.{CandidateRecord, base_of, candidate_at}
+use Rattle.is_pair.specs.Checks.{unanswered_count}
 use Rattle.is_pair.specs.declared.pair.states.CheckState.{CheckState}
 use Rattle.is_pair.specs.declared.pair.states.CheckState.TheVariants.{Waiting, InProgress, Succeeded}
 use Rattle.is_pair.specs.States.{is_valid_state, state_once_sent}
@@ -304,7 +305,7 @@ module _ {H P : Type 0} where
 
     -- a pair that was checked less often than it may be is not given up
     pub moment-keeps : (now : ℕ) (old new : AgentRecord H P) (s t : Stream) (told : Told) → is_some old.remote_creds ≡ true → old.lite ≡ false
-        → (p : PairRecord) → Has old.pairs p → nat_lt (length p.checks) old.timing.max_retransmits ≡ true
+        → (p : PairRecord) → Has old.pairs p → nat_lt (unanswered_count p.checks) old.timing.max_retransmits ≡ true
         → Proceeds mac now old s told new t → IsGone p.number new.pairs → ⊥
     moment-keeps now old new s t told known full p has young (first, second, issued, named, kept, nominating, giving, checking, is) gone =
         let a = nominates-thins 0 (at_moment now old) named first nominating in
@@ -313,8 +314,8 @@ module _ {H P : Type 0} where
         let n = nominates-has (at_moment now old) named first nominating p has in
         let named_full : named.lite ≡ false = ap (λ (x : Base). x.lite) a.0 ∙ full in
         let timing : named.timing ≡ old.timing = ap (λ (x : Base). x.timing) a.0 in
-        let n_young : nat_lt (length n.0.checks) named.timing.max_retransmits ≡ true =
-        ap (λ cs. nat_lt (length cs) named.timing.max_retransmits) n.2.checks ∙ (ap (λ (x : StunTiming). nat_lt (length p.checks) x.max_retransmits) timing ∙ young) in
+        let n_young : nat_lt (unanswered_count n.0.checks) named.timing.max_retransmits ≡ true =
+        ap (λ cs. nat_lt (unanswered_count cs) named.timing.max_retransmits) n.2.checks ∙ (ap (λ (x : StunTiming). nat_lt (unanswered_count p.checks) x.max_retransmits) timing ∙ young) in
         let k = gives-up-has now named kept second named_full giving n.0 n.1 n_young in
         let known_kept : is_some kept.remote_creds ≡ true = ap (λ (x : Base). is_some x.remote_creds) c.0 ∙ known in
         let full_kept : kept.lite ≡ false = ap (λ (x : Base). x.lite) c.0 ∙ full in

@@ -8,6 +8,7 @@ use Rattle.is_proto.specs.Lists.{Has}
 use Rattle.is_proto.specs.Moments.{MAX}
 use Rattle.is_proto.specs.Packets.{Packet}
 use Rattle.is_candidate.specs.Candidates.{CandidateRecord}
+use Rattle.is_pair.specs.Checks.{unanswered_count}
 use Rattle.is_pair.specs.Pairs.{PairRecord, is_valid, is_nominated, checked}
 use Rattle.is_pair.specs.Due.{asked, due_moment}
 use Rattle.is_pair.specs.Bag.{is_numbered, change_at, change_pair}
@@ -133,7 +134,7 @@ module _ {H P : Type 0} where
         × ((o ≡ p) ⊎ WaitsOn mac now by (length (due_by by now old.timing old.pairs)) old new p)
 
     checks-first : (now by : ℕ) (old new : AgentRecord H P) (s t : Stream) (told : Told) → is_some old.remote_creds ≡ true → old.lite ≡ false → Distinct old.pairs → NoneValid old.pairs
-        → by ≤ now → (p : PairRecord) → Has old.pairs p → nat_lt (length p.checks) old.timing.max_retransmits ≡ true → due_moment now old.timing p ≤ by
+        → by ≤ now → (p : PairRecord) → Has old.pairs p → nat_lt (unanswered_count p.checks) old.timing.max_retransmits ≡ true → due_moment now old.timing p ≤ by
         → IsPaced old.timing → now < MAX → Proceeds mac now old s told new t → ChecksFirst now by old told new p × Held by now old.timing new.pairs
     checks-first now by old new s t told known full distinct none from p has young due paced early (first, second, issued, named, kept, nominating, giving, checking, is) =
         let same : named ≡ at_moment now old = nominates-nothing (at_moment now old) named first none nominating in
@@ -215,7 +216,7 @@ module _ {H P : Type 0} where
     pub paced : IsPaced a.timing
     pub pair : PairRecord
     pub there : Has a.pairs pair
-    pub young : nat_lt (length pair.checks) a.timing.max_retransmits ≡ true
+    pub young : nat_lt (unanswered_count pair.checks) a.timing.max_retransmits ≡ true
     pub due : due_moment now a.timing pair ≤ by
     pub placed : pair.remote < length a.remote
     pub on : path_of a pair ≡ path
@@ -228,7 +229,7 @@ module _ {H P : Type 0} where
     pub paced : IsPaced a.timing
     pub pair : PairRecord
     pub there : Has a.pairs pair
-    pub young : nat_lt (length pair.checks) a.timing.max_retransmits ≡ true
+    pub young : nat_lt (unanswered_count pair.checks) a.timing.max_retransmits ≡ true
     pub due : (m : ℕ) → by < m → due_moment m a.timing pair ≤ by
     pub held : Held by at a.timing a.pairs
     pub placed : pair.remote < length a.remote
@@ -272,7 +273,7 @@ module _ {H P : Type 0} where
       paced = waits.paced;
       pair = p;
       there = waits.there;
-      young = lt-is (length p.checks) a.timing.max_retransmits (let young = unanswered.young in omega (arith, young));
+      young = lt-is (unanswered_count p.checks) a.timing.max_retransmits (let young = unanswered.young in omega (arith, young));
       due = (let due = waits.due in omega (arith, due));
       placed = (sound.placed p waits.there).1;
       on = refl;
@@ -346,8 +347,8 @@ module _ {H P : Type 0} where
                 paced = subst (λ (t : StunTiming). IsPaced t) (sym x.timing) st.paced;
                 pair = q;
                 there = subst (λ ps. Has ps q) (sym pairs) q_there;
-                young = ap (λ cs. nat_lt (length cs) new.timing.max_retransmits) checks
-                    ∙ (ap (λ (t : StunTiming). nat_lt (length st.pair.checks) t.max_retransmits) x.timing ∙ st.young);
+                young = ap (λ cs. nat_lt (unanswered_count cs) new.timing.max_retransmits) checks
+                    ∙ (ap (λ (t : StunTiming). nat_lt (unanswered_count st.pair.checks) t.max_retransmits) x.timing ∙ st.young);
                 due = λ at above. subst (λ (t : StunTiming). due_moment at t q ≤ by) (sym x.timing) (q_due at);
                 held = subst (λ (t : StunTiming). Held by now t new.pairs) (sym x.timing) held;
                 placed = subst (λ (cs : List CandidateRecord). q.remote < length cs) (sym x.remote) (subst (λ j. j < length old.remote) (sym matches.remote) st.placed);

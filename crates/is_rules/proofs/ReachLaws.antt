@@ -6,6 +6,7 @@ use Rattle.rand_core.specs.Stream.{Stream}
 use Rattle.is_proto.specs.Lists.{Has}
 use Rattle.is_proto.specs.Moments.{MAX}
 use Rattle.is_candidate.specs.Candidates.{CandidateRecord}
+use Rattle.is_pair.specs.Checks.{unanswered_count}
 use Rattle.is_pair.specs.Due.{asked, due_moment}
 use Rattle.is_pair.specs.Pairs.{PairRecord}
 use Rattle.is_stun.specs.declared.header.Class.TheVariants as class
@@ -105,7 +106,7 @@ module _ {H P : Type 0} where
     there : Has a.pairs pair
     number : pair.number ≡ n
     on : path_of a pair ≡ path
-    young : nat_lt (length pair.checks) a.timing.max_retransmits ≡ true
+    young : nat_lt (unanswered_count pair.checks) a.timing.max_retransmits ≡ true
     late : by < now
     early : now < MAX
     ready : Ready now by late early a.timing pair
@@ -120,7 +121,7 @@ module _ {H P : Type 0} where
     there : Has a.pairs pair
     number : pair.number ≡ n
     on : path_of a pair ≡ path
-    young : nat_lt (length pair.checks) a.timing.max_retransmits ≡ true
+    young : nat_lt (unanswered_count pair.checks) a.timing.max_retransmits ≡ true
     moment : ℕ
     before : moment ≤ by
     due : pair.due ≡ Some moment
@@ -162,7 +163,7 @@ module _ {H P : Type 0} where
           there = f.1;
           number = f.2;
           on = ap (λ (q : PairRecord). path_of new q) (sym one) ∙ (stays.path ∙ w.on);
-          young = ap (λ cs. nat_lt (length cs) new.timing.max_retransmits) f.4 ∙ (ap (λ (t : StunTiming). nat_lt (length w.pair.checks) t.max_retransmits) timing ∙ w.young);
+          young = ap (λ cs. nat_lt (unanswered_count cs) new.timing.max_retransmits) f.4 ∙ (ap (λ (t : StunTiming). nat_lt (unanswered_count w.pair.checks) t.max_retransmits) timing ∙ w.young);
           moment = w.moment;
           before = w.before;
           due = f.3;
@@ -246,7 +247,7 @@ module _ {H P : Type 0} where
                 there = has;
                 number = is ∙ st.number;
                 on = ap (λ (x : PairRecord). path_of new x) (sym one) ∙ (stays.path ∙ st.on);
-                young = ap (λ cs. nat_lt (length cs) new.timing.max_retransmits) checks ∙ (ap (λ (z : StunTiming). nat_lt (length st.pair.checks) z.max_retransmits) timing ∙ st.young);
+                young = ap (λ cs. nat_lt (unanswered_count cs) new.timing.max_retransmits) checks ∙ (ap (λ (z : StunTiming). nat_lt (unanswered_count st.pair.checks) z.max_retransmits) timing ∙ st.young);
                 moment = d;
                 before = before;
                 due = due;
@@ -342,7 +343,7 @@ module _ {H P : Type 0} where
             there = f.line.there;
             number = refl;
             on = refl;
-            young = lt-is (length p.checks) start.timing.max_retransmits (let young = f.line.young in omega (arith, young));
+            young = lt-is (unanswered_count p.checks) start.timing.max_retransmits (let young = f.line.young in omega (arith, young));
             late = late;
             early = early;
             ready = (let due = f.line.due in omega (arith, due), f.line.settled);

@@ -6,6 +6,7 @@ use Rattle.std.proofs.lemmas.Bool.Decides.{nat_tests}
 use Rattle.rand_core.specs.Stream.{Stream}
 use Rattle.is_proto.specs.Lists.{Has}
 use Rattle.is_proto.specs.Moments.{MAX}
+use Rattle.is_pair.specs.Checks.{unanswered_count}
 use Rattle.is_pair.specs.Bag.{is_numbered, change_at, change_pair}
 use Rattle.is_pair.specs.Due.{asked, due_moment, is_due, GoesBefore, IsNextDue}
 use Rattle.is_pair.specs.Pairs.{PairRecord, is_valid, is_nominated, checked}
@@ -124,7 +125,7 @@ module _ (now by : ℕ) (late : by < now) (early : now < MAX) where
             still false is there = there
 
     given-ready : (old new : AgentRecord H P) (path : Option Path) → GivesUp now old path new → old.lite ≡ false → Distinct old.pairs → (p : PairRecord) → Has old.pairs p
-        → nat_lt (length p.checks) old.timing.max_retransmits ≡ true → Ready old.timing p
+        → nat_lt (unanswered_count p.checks) old.timing.max_retransmits ≡ true → Ready old.timing p
         → (q : PairRecord) × Has new.pairs q × Alike p q × Ready old.timing q
     given-ready old new path h full distinct p has young ready = either (list_any (is_given_up now old) old.pairs) h
         (λ _ k. (
@@ -221,7 +222,7 @@ module _ (now by : ℕ) (late : by < now) (early : now < MAX) where
 
       pub moment-goes : (old new : AgentRecord H P) (s u : Stream) (told : Told) → is_some old.remote_creds ≡ true → old.lite ≡ false
           → Distinct old.pairs → 0 < old.timing.max_retransmits → (p : PairRecord) → Has old.pairs p
-          → nat_lt (length p.checks) old.timing.max_retransmits ≡ true → Ready old.timing p
+          → nat_lt (unanswered_count p.checks) old.timing.max_retransmits ≡ true → Ready old.timing p
           → Proceeds mac now old s told new u → ChecksOn old told p ⊎ WaitsOn old new p
       moment-goes old new s u told known full distinct some p has young ready (first, second, issued, named, kept, nominating, giving, checking, is) =
           let a = nominates-thins 0 (at_moment now old) named first nominating in
@@ -229,7 +230,7 @@ module _ (now by : ℕ) (late : by < now) (early : now < MAX) where
           let x = named-ready old.timing (at_moment now old) named first nominating distinct p has ready in
           let timing : named.timing ≡ old.timing = ap (λ (y : Base). y.timing) a.0 in
           let y = given-ready named kept second giving (ap (λ (y : Base). y.lite) a.0 ∙ full) (a.1.distinct distinct) x.0 x.1
-          (ap (λ cs. nat_lt (length cs) named.timing.max_retransmits) x.2.checks ∙ (ap (λ (z : StunTiming). nat_lt (length p.checks) z.max_retransmits) timing ∙ young))
+          (ap (λ cs. nat_lt (unanswered_count cs) named.timing.max_retransmits) x.2.checks ∙ (ap (λ (z : StunTiming). nat_lt (unanswered_count p.checks) z.max_retransmits) timing ∙ young))
           (subst (λ z. Ready z x.0) (sym timing) x.3) in
           let base : agent_base kept ≡ agent_base (at_moment now old) = b.0 ∙ a.0 in
           let alike = joins p x.0 y.0 x.2 y.2 in

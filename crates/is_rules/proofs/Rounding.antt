@@ -6,6 +6,7 @@ use Rattle.is_proto.specs.Lists.{Has}
 use Rattle.is_proto.specs.Moments.{MAX}
 use Rattle.is_proto.specs.Packets.{Packet}
 use Rattle.is_candidate.specs.Candidates.{CandidateRecord, base_of, candidate_at, nowhere}
+use Rattle.is_pair.specs.Checks.{unanswered_count}
 use Rattle.is_pair.specs.Pairs.{PairRecord}
 use Rattle.is_pair.specs.Due.{asked, due_moment}
 use Rattle.is_stun.specs.declared.header.Class.TheVariants as class
@@ -77,7 +78,7 @@ module _ {H P : Type 0} where
             paced = subst (λ (t : StunTiming). IsPaced t) (sym timing) w.paced;
             pair = x.0;
             there = x.1;
-            young = ap (λ cs. nat_lt (length cs) new.timing.max_retransmits) x.2.checks ∙ (ap (λ (t : StunTiming). nat_lt (length w.pair.checks) t.max_retransmits) timing ∙ w.young);
+            young = ap (λ cs. nat_lt (unanswered_count cs) new.timing.max_retransmits) x.2.checks ∙ (ap (λ (t : StunTiming). nat_lt (unanswered_count w.pair.checks) t.max_retransmits) timing ∙ w.young);
             due = λ m above. subst (λ (t : StunTiming). due_moment m t x.0 ≤ by) (sym timing) (due_still m above x.0 x.2);
             held = subst (λ (t : StunTiming). Held by at t new.pairs) (sym timing) (spares.held w.held);
             placed = subst (λ r. r < length new.remote) (sym x.2.matches.remote) g.1;

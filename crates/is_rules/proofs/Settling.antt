@@ -108,8 +108,8 @@ module _ {H P : Type 0} (mac : H → List ℕ → List ℕ → List ℕ) (answer
                 known-on mac near a b (sym (keys-between mac answers xs sent near sound_sent fits_in gone ∙ keys-moment mac answers now moment a sent s t sound_a step)) know
 
             k : Comes mac a b check id at handed
-            k = check-comes mac answers read checks a sent b served check id at handed sound_a known
-                (record { call = HandleTimeout now; entry = moment; before = s; behind = t; step = step; sends = sends }) delivered
+            k = check-comes mac answers read checks a sent b served check check id at handed sound_a known
+                (record { call = HandleTimeout now; entry = moment; before = s; behind = t; step = step; sends = sends }) refl delivered
 
             q : RequestRecord
             q = request_in at (way_out check) k.message

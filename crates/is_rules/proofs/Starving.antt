@@ -6,6 +6,7 @@ use Rattle.std.proofs.lemmas.List.{length-drop}
 use Rattle.rand_core.specs.Stream.{Stream}
 use Rattle.is_proto.specs.Lists.{Has, is_empty, head, drop_while}
 use Rattle.is_proto.specs.Moments.{MAX}
+use Rattle.is_pair.specs.Checks.{unanswered_count}
 use Rattle.is_pair.specs.Pairs.{PairRecord}
 use Rattle.is_pair.specs.Due.{asked, due_moment}
 use Rattle.is_stun.specs.declared.header.Class.TheVariants as class
@@ -207,7 +208,7 @@ module _ {H P : Type 0} where
         subst (λ (x : AgentRecord H P). Does at now by old told x p) (sym turn.taken) d
 
     -- a pair that was checked less often than it may be is not given up
-    pub turn-keeps : (old new : AgentRecord H P) (at now : ℕ) (told : Told) → Fits at old → (p : PairRecord) → Has old.pairs p → nat_lt (length p.checks) old.timing.max_retransmits ≡ true
+    pub turn-keeps : (old new : AgentRecord H P) (at now : ℕ) (told : Told) → Fits at old → (p : PairRecord) → Has old.pairs p → nat_lt (unanswered_count p.checks) old.timing.max_retransmits ≡ true
         → Turn mac old now told new → IsGone p.number new.pairs → ⊥
     turn-keeps old new at now told f p has young turn gone =
         let a = all-are-asked old turn.asked at turn.wake f.last f.checking.full f.idle.packets f.idle.queue (some-pairs old.pairs p has) turn.polled in

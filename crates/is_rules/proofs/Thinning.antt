@@ -154,12 +154,13 @@ at-alike n c l p = apart (is_numbered n p) where
   apart true = self-alike c l p
   apart false = alike-same p
 
-possible : (h b u i : Bool) → b ≡ true → (h || b || u || i) ≡ true
+possible : (h b u i : Bool) → u ≡ true → (h || b || u || i) ≡ true
 possible true b u i is = refl
 possible false true u i is = refl
-possible false false u i is = absurd (cc)
+possible false false true i is = refl
+possible false false false i is = absurd (cc)
 
-pub stays-young : (lite : Bool) (now : ℕ) (t : StunTiming) (p : PairRecord) → lite ≡ false → nat_lt (length p.checks) t.max_retransmits ≡ true → not (due.is_given_up lite now t p) ≡ true
+pub stays-young : (lite : Bool) (now : ℕ) (t : StunTiming) (p : PairRecord) → lite ≡ false → nat_lt (unanswered_count p.checks) t.max_retransmits ≡ true → not (due.is_given_up lite now t p) ≡ true
 stays-young true now t p full young = absurd (cc)
 stays-young false now t p full young =
     ap (λ b. not (not b)) (possible (due.is_heard now p) (nat_lt (length p.checks) t.max_retransmits) (nat_lt (unanswered_count p.checks) t.max_retransmits) (due.is_in_time now t p.checks) young)
@@ -223,7 +224,7 @@ module _ {H P : Type 0} where
         ))
 
   pub gives-up-has : (now : ℕ) (old new : AgentRecord H P) (path : Option Path) → old.lite ≡ false → GivesUp now old path new → (p : PairRecord) → Has old.pairs p
-      → nat_lt (length p.checks) old.timing.max_retransmits ≡ true → (q : PairRecord) × Has new.pairs q × Alike p q
+      → nat_lt (unanswered_count p.checks) old.timing.max_retransmits ≡ true → (q : PairRecord) × Has new.pairs q × Alike p q
   gives-up-has now old new path full h p has young = either (list_any (is_given_up now old) old.pairs) h
       (λ _ k. (
       let there : Has (given_up_gone now old).pairs p = Has-kept (λ q. not (is_given_up now old q)) old.pairs p has (stays-young old.lite now old.timing p full young) in

@@ -14,6 +14,7 @@ use Rattle.is_rules.specs.Asking.{Grants}
 use Rattle.is_rules.specs.Brought.{Brings}
 use Rattle.is_rules.specs.Effects.{last_of}
 use Rattle.is_rules.specs.Exchange.{Course}
+use Rattle.is_rules.specs.Progress.{HasAnnounced}
 use Rattle.is_rules.specs.Queue.{request_at}
 use Rattle.is_rules.specs.Runs.{IsFresh}
 use Rattle.is_rules.specs.Staying.{MayEnd}
@@ -54,4 +55,4 @@ module _ {H P : Type 0} where
         → IsFresh first → Course mac answers before first start → (course : Course mac answers xs start near)
         → Step mac answers near s (HandleTimeout now) moment last t → moment.answer ≡ Done → request_at now near ≡ None
         → GrantsAlong xs start near course path → IsAnsweredAlong xs path → IsAlone last path
-        → AnnouncesAlong (before ++ (xs ++ (HandleTimeout now, moment) ∷ [])) ⊎ (EndsAlong xs start near course path ⊎ Ends near (HandleTimeout now) moment path)
+        → (AnnouncesAlong (before ++ (xs ++ (HandleTimeout now, moment) ∷ [])) × HasAnnounced last) ⊎ (EndsAlong xs start near course path ⊎ Ends near (HandleTimeout now) moment path)

@@ -54,3 +54,6 @@ pub mod Staying
 pub mod Asked
 pub mod Reached
 pub mod ReachedCourses
+pub mod Pending
+pub mod Carried
+pub mod SamePath

@@ -5,6 +5,7 @@ use Rattle.is_proto.specs.Lists.{Has, is_empty}
 use Rattle.is_proto.specs.Moments.{MAX}
 use Rattle.is_proto.specs.Packets.{Packet}
 use Rattle.is_candidate.specs.Candidates.{CandidateRecord}
+use Rattle.is_pair.specs.Checks.{unanswered_count}
 use Rattle.is_pair.specs.Pairs.{PairRecord, is_valid, is_nominated}
 use Rattle.is_pair.specs.Due.{due_moment}
 use Rattle.is_stun.specs.declared.header.Class.TheVariants as class
@@ -89,7 +90,7 @@ module _ {H P : Type 0} where
   -- no pair is valid yet, and this one will not be given up before its check
   pub record IsUnanswered (a : AgentRecord H P) (p : PairRecord) : Type 0 where
     pub invalid : (q : PairRecord) → Has a.pairs q → is_valid q ≡ false
-    pub young : length p.checks < a.timing.max_retransmits
+    pub young : unanswered_count p.checks < a.timing.max_retransmits
 
   -- it is asked for its wake-up, or is not
   abbrev pub MayBeAsked : AgentRecord H P → AgentRecord H P → Type 0

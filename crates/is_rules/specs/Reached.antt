@@ -5,6 +5,7 @@ use Rattle.rand_core.specs.Stream.{Stream}
 use Rattle.is_proto.specs.Lists.{Has}
 use Rattle.is_proto.specs.Moments.{MAX}
 use Rattle.is_candidate.specs.Candidates.{CandidateRecord}
+use Rattle.is_pair.specs.Checks.{unanswered_count}
 use Rattle.is_pair.specs.Due.{due_moment}
 use Rattle.is_pair.specs.Pairs.{PairRecord, is_valid}
 use Rattle.is_stun.specs.declared.header.Class.TheVariants as class
@@ -46,7 +47,7 @@ module _ {H P : Type 0} where
     pub there : Has a.pairs p
     pub due : due_moment at a.timing p ≤ by
     pub settled : (is_valid p ≡ false) ⊎ (is_some p.due ≡ true)
-    pub young : length p.checks < a.timing.max_retransmits
+    pub young : unanswered_count p.checks < a.timing.max_retransmits
 
   -- The rounds suffice for a pair that is due by a moment when they begin: they lie behind it, and are 2n - 1 where there are n pairs, and
   -- one more for each pair that is added in them.

@@ -13,12 +13,16 @@ ghost use Rattle.is_rules.specs.Courses.{CoursesAnnounce};
 ghost use Rattle.is_rules.specs.Asking.{ChecksAsk};
 ghost use Rattle.is_rules.specs.AskedCourses.{GrantedAreAnnounced};
 ghost use Rattle.is_rules.specs.Rounds.{AnsweredRoundsAnnounce, PartsAreRuns, TurnsAreOfUse};
+ghost use Rattle.is_rules.specs.Carried.{CarriedAreServed, CarriedAreAccepted, CarriedSucceedLater, CarriedAsk};
+ghost use Rattle.is_rules.specs.Pending.{PairsKeepChecks, ChecksPend, ChecksPendAlong, ExchangesSucceedLater};
 ghost use Rattle.is_rules.specs.Staying.{PairsStay, PairsStayOn};
 ghost use Rattle.is_rules.specs.Asked.{AskedAreAnnounced};
 ghost use Rattle.is_rules.specs.Reached.{PairsAreReached, AskedRoundsAnnounce};
 ghost use Rattle.is_rules.specs.ReachedCourses.{CoursesReach};
+ghost use Rattle.is_rules.specs.SamePath.{TopPathsMatch, DisputesSplit, RanksSettle, AnnouncedPairsMatch, AnnouncedPathsMatch, AnnouncedPathsAreReversed};
 
 use is_candidate::LocalPreference;
+use is_pair::laws::priorities_are_symmetric;
 use is_proto::Sha1HmacProvider;
 use is_stun::laws::{addresses_are_written_plain, checks_fit, replies_fit, written_is_read};
 
@@ -161,6 +165,8 @@ pub fn checks_are_answered<H: Sha1HmacProvider, P: LocalPreference>()
     ensures served { ChecksAreServed H.mac P.answers }
     ensures kept { ChecksAreKept H.mac P.answers }
     ensures accepted { RepliesAreAccepted H.mac P.answers }
+    ensures carried_served { CarriedAreServed H.mac P.answers }
+    ensures carried_accepted { CarriedAreAccepted H.mac P.answers }
 {
     written_is_read();
     addresses_are_written_plain();
@@ -172,6 +178,23 @@ pub fn checks_are_answered<H: Sha1HmacProvider, P: LocalPreference>()
 pub fn checks_stay<H: Sha1HmacProvider, P: LocalPreference>()
     ensures { ChecksStay H.mac P.answers }
 {}
+
+/// Each step leaves each pair that it does not take away the checks that it keeps, in their order, answered or not, and adds at most one, behind
+/// which the last `max_retransmits` are kept. So a check is kept over whatever calls there are, until that many later ones went out.
+pub fn checks_pend<H: Sha1HmacProvider, P: LocalPreference>()
+    ensures one { PairsKeepChecks H.mac P.answers }
+    ensures kept { ChecksPend H.mac P.answers }
+    ensures along { ChecksPendAlong H.mac P.answers }
+{}
+
+/// A check of one of two agents, delivered to the other at any time, is accepted, and its success, delivered at any time while the check is
+/// kept, is accepted and makes a pair of the path valid.
+pub fn exchanges_succeed_later<H: Sha1HmacProvider, P: LocalPreference>()
+    ensures same { ExchangesSucceedLater H.mac P.answers }
+    ensures carried { CarriedSucceedLater H.mac P.answers }
+{
+    checks_are_answered::<H, P>();
+}
 
 /// A check that one of two agents that know each other sends at a moment, delivered to the other while their roles differ, is accepted, and
 /// its success, delivered before the first one's next moment, is accepted too. Whatever packets and polls come between.
@@ -235,7 +258,8 @@ pub fn asked_rounds_announce<H: Sha1HmacProvider, P: LocalPreference>()
 /// A check that a controlling agent sends at a moment on a path whose pairs are nominated, delivered to the controlled one before the next
 /// moment, asks for the way back, and is answered with success.
 pub fn checks_ask<H: Sha1HmacProvider, P: LocalPreference>()
-    ensures { ChecksAsk H.mac P.answers }
+    ensures same { ChecksAsk H.mac P.answers }
+    ensures carried { CarriedAsk H.mac P.answers }
 {
     written_is_read();
     checks_fit();
@@ -247,3 +271,31 @@ pub fn checks_ask<H: Sha1HmacProvider, P: LocalPreference>()
 pub fn granted_are_announced<H: Sha1HmacProvider, P: LocalPreference>()
     ensures { GrantedAreAnnounced H.mac P.answers }
 {}
+
+/// Two agents whose announced pairs are both eligible at both ends send on the same path, unless they dispute which of two is better.
+pub fn top_paths_match<H: Sha1HmacProvider, P: LocalPreference>()
+    ensures { TopPathsMatch H P }
+{}
+
+/// Agents that dispute which of two paths is better may announce different ones.
+pub fn disputes_split<H: Sha1HmacProvider, P: LocalPreference>()
+    ensures { DisputesSplit H P }
+{}
+
+/// Agents whose pairs have the same candidate priorities at both ends, with no ties, have no dispute.
+pub fn ranks_settle<H: Sha1HmacProvider, P: LocalPreference>()
+    ensures { RanksSettle H P }
+{
+    priorities_are_symmetric();
+}
+
+/// Such agents send on the same path, if each has an eligible counterpart of the pair that the other announced last.
+pub fn announced_match<H: Sha1HmacProvider, P: LocalPreference>()
+    ensures pairs { AnnouncedPairsMatch H P }
+    ensures paths { AnnouncedPathsMatch H.mac P.answers }
+    ensures reversed { AnnouncedPathsAreReversed H.mac P.answers }
+{
+    top_paths_match::<H, P>();
+    ranks_settle::<H, P>();
+    points_are_top::<H, P>();
+}

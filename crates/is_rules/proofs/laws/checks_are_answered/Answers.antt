@@ -10,3 +10,9 @@ returns-clause-accepted g c = lemmas.replies-are-accepted _ _ c.written_is_read.
 
 pub returns-clause-kept : goal.returns-clause-kept
 returns-clause-kept g c = checks-are-kept _ g.P.LocalPreference.answers
+
+pub returns-clause-carried_served : goal.returns-clause-carried_served
+returns-clause-carried_served g c = lemmas.carried-are-served _ _ c.written_is_read.ensures c.checks_fit.ensures.fits
+
+pub returns-clause-carried_accepted : goal.returns-clause-carried_accepted
+returns-clause-carried_accepted g c = lemmas.carried-are-accepted _ _ c.written_is_read.ensures c.addresses_are_written_plain.ensures c.replies_fit.ensures.fits

@@ -11,7 +11,8 @@ struct Connect;
 impl Subject for Connect {
     fn play(&self, stage: &mut Stage) -> Told {
         both_announce_the_path_of_the_lesser_of_two_pairs(stage)?;
-        where_the_nominating_check_is_lost_the_next_one_serves(stage)
+        where_the_nominating_check_is_lost_the_next_one_serves(stage)?;
+        where_all_premises_hold_both_announce(stage)
     }
 }
 
@@ -105,5 +106,56 @@ fn where_the_nominating_check_is_lost_the_next_one_serves(stage: &mut Stage) -> 
             &stage.world,
             &[(21, path_of(Side::A)), (37, path_of(Side::B))],
         ),
+    ])
+}
+
+/// Each has one pair. Both first checks are answered at 20, and A announces; asked for its wake-up, its nominated pair is due 60 s before, and
+/// B's is due at 250. A's round is the moment at 50, whose check nominates; B's is the one at 251, behind the due moment, whose check is
+/// answered. So by the moment at 300 B announced: it did at 251, since its first check was answered before it was asked.
+fn where_all_premises_hold_both_announce(stage: &mut Stage) -> Told {
+    let asked = [
+        Event::Do(Side::A, Step::PollWake),
+        Event::Do(Side::B, Step::PollWake),
+    ];
+    let asks = [
+        Event::Do(Side::A, Step::Moment(50)),
+        Event::Poll(Side::A),
+        deliver(4, 60, Side::B),
+        Event::Poll(Side::B),
+        deliver(5, 70, Side::A),
+    ];
+    let is_asked = [
+        Event::Do(Side::B, Step::Moment(251)),
+        Event::Poll(Side::B),
+        deliver(6, 261, Side::A),
+        Event::Poll(Side::A),
+        deliver(7, 271, Side::B),
+    ];
+    let parts: [&[Event]; 7] = [
+        &opening(),
+        &crossing(0, 10),
+        &crossing(2, 20),
+        &asked,
+        &asks,
+        &is_asked,
+        &[Event::Do(Side::B, Step::Moment(300))],
+    ];
+    let issued = [
+        (3, sent(Side::A, Class::Request, 0)),
+        (7, sent(Side::B, Class::Request, 1)),
+        (10, sent(Side::B, Class::Success, 0)),
+        (11, sent(Side::A, Class::Success, 1)),
+        (18, sent(Side::A, Class::Request, 2)),
+        (20, sent(Side::B, Class::Success, 2)),
+        (23, sent(Side::B, Class::Request, 3)),
+        (25, sent(Side::A, Class::Success, 3)),
+    ];
+    Story("where_all_premises_hold_both_announce").holds(&[
+        stage.happens(A_CONTROLS, &parts),
+        has_roles(&stage.world, &[(0, [true, false])]),
+        world_issues(&stage.world, &issued),
+        takes_all(&stage.world, 14, 1, Side::B, true),
+        takes_all(&stage.world, 15, 1, Side::A, true),
+        world_announces(&stage.world, &[(15, path_of(Side::A)), (23, path_of(Side::B))]),
     ])
 }
