@@ -160,12 +160,12 @@ pub fn next_event(agent: &mut Agent) -> Option<IceAgentEvent> {
     agent.poll_event()
 }
 
-pub fn next_wake(agent: &mut Agent) -> Option<Instant> {
+pub fn next_timeout(agent: &mut Agent) -> Option<Instant> {
     agent.poll_timeout()
 }
 
 /// A letter for an event: R for a restart, the first one of the state, S for a new source, N for a nomination.
-fn letter_of(event: &IceAgentEvent) -> char {
+fn in_flight_of(event: &IceAgentEvent) -> char {
     match event {
         IceAgentEvent::IceRestart(_) => 'R',
         IceAgentEvent::IceConnectionStateChange(state) => match state {
@@ -187,7 +187,7 @@ pub fn events(agent: &mut Agent, alloc: Global) -> Result<String, Broken> {
         let Some(event) = next_event(agent) else {
             break;
         };
-        letters.push(letter_of(&event))?;
+        letters.push(in_flight_of(&event))?;
     }
     if letters.is_empty() {
         letters.push('-')?;

@@ -1,6 +1,6 @@
 //! More requests than an agent keeps, before it knows its peer.
 use crate::agents::{
-    Agent, FAR, FAR_PASS, NEAR, NEAR_PASS, Taken, add_host, at, events, ms, next_packet, next_wake,
+    Agent, FAR, FAR_PASS, NEAR, NEAR_PASS, Taken, add_host, at, events, ms, next_packet, next_timeout,
     packets, renew, signed, take_here, tell_peer, wake,
 };
 use crate::broken::Broken;
@@ -59,7 +59,7 @@ fn write_replies<W: Write>(agent: &mut Agent, output: &mut W) -> Result<(), Brok
         if replies_to(next_packet(agent), turn + 2) && next_packet(agent).is_none() {
             replies = replies.saturating_add(1);
         }
-        if next_wake(agent).is_some() {
+        if next_timeout(agent).is_some() {
             wakes = wakes.saturating_add(1);
         }
     }
@@ -86,7 +86,7 @@ fn write_packet<W: Write>(agent: &mut Agent, now: u64, output: &mut W) -> Result
 /// What else it sends, and when it wants to be called.
 fn write_wake<W: Write>(agent: &mut Agent, output: &mut W) -> Result<(), Broken> {
     let more = packets(agent);
-    match next_wake(agent) {
+    match next_timeout(agent) {
         Some(Instant(at)) => writeln!(output, "    {more} more packets, woken at {at} ns")?,
         None => writeln!(output, "    {more} more packets, not woken")?,
     }

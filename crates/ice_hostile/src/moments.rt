@@ -1,6 +1,6 @@
 //! Moments and delays at their ends.
 use crate::agents::{
-    Agent, FAR_LINE, events, ms, next_packet, next_wake, packets, renew_lonely, renew_paired, wake,
+    Agent, FAR_LINE, events, ms, next_packet, next_timeout, packets, renew_lonely, renew_paired, wake,
 };
 use crate::broken::Broken;
 use crate::limits::pair_prio;
@@ -29,7 +29,7 @@ fn count(agent: &mut Agent, now: Instant, ten: &mut Ten) -> Result<(), Broken> {
     if next_packet(agent).is_some() {
         ten.checks = ten.checks.saturating_add(1);
     }
-    if next_wake(agent) == Some(now) {
+    if next_timeout(agent) == Some(now) {
         ten.wakes = ten.wakes.saturating_add(1);
     }
     Ok(())
@@ -108,7 +108,7 @@ fn write_back_in_time<W: Write>(
     let checks = packets(agent);
     wake(agent, ms(0), 1)?;
     let more = packets(agent);
-    let Some(Instant(due)) = next_wake(agent) else {
+    let Some(Instant(due)) = next_timeout(agent) else {
         return Err(Broken);
     };
     writeln!(

@@ -6,18 +6,18 @@ use Rattle.is_proto.specs.Lists.{Has}
 use Rattle.is_proto.specs.Packets.{Packet}
 use Rattle.is_candidate.specs.Candidates.{CandidateRecord}
 use Rattle.is_stun.specs.declared.header.Class.TheVariants.{Request, Success}
-use Rattle.is_rules.specs.declared.told.Path.{Path}
+use Rattle.is_rules.specs.declared.emitted.Path.{Path}
 use Rattle.is_rules.specs.Agent.{AgentRecord, fresh}
 use Rattle.is_rules.specs.Courses.{CourseRound, AcceptsSuccess, IsAnsweredRound, AnnouncesAmong, CourseRounds, CoursesAnnounce}
 use Rattle.is_rules.specs.Delivery.{KnowEachOther, Sends, Delivered, IsTaken}
 use Rattle.is_rules.specs.Effects.{PathLaw, TradeLaw}
 use Rattle.is_rules.specs.Exchange.{AreBetween, Course, ExchangesSucceed}
-use Rattle.is_rules.specs.Issuing.{way_out, IsQueued}
+use Rattle.is_rules.specs.Issuing.{via_out, IsQueued}
 use Rattle.is_rules.specs.Sending.{path_of}
 use Rattle.is_rules.specs.Sound.{IsSound, FreshIsSound}
 use Rattle.is_rules.specs.Steps as agent
 use Rattle.is_rules.specs.Steps.{Entry, Done, quiet, Step}
-use Rattle.is_rules.specs.Told.{issued_as}
+use Rattle.is_rules.specs.Emitted.{issued_as}
 use Rattle.is.specs.declared.world.Side.{Side}
 use Rattle.is.specs.declared.world.Side.TheVariants.{A, B}
 use Rattle.is.specs.Deliveries.{WorldRound, entries_of, MakesPolls, AreApart, Announces, Hands, Returns, Exchanges, IsDelivered, AreDelivered, DeliveredRoundsAnnounce}
@@ -26,7 +26,7 @@ use Rattle.is.specs.World.{WorldRecord, Event, Logged, Turns, Happens, Run, at, 
 use Rattle.is.specs.WorldRoles.{role_in}
 use Rattle.is.proofs.Following.{Has-front, Has-rear, AreSound}
 use Rattle.is.proofs.Settled.{sound_new}
-use Rattle.is.proofs.Owning.{only, handed_as, twice, between_both, acts, acts_between, course_on, turn_other, turn_step, sound_on, own, acts_course, owns, steers, own_between, own_told, sound_run, role_run, role_behind}
+use Rattle.is.proofs.Owning.{only, handed_as, twice, between_both, acts, acts_between, course_on, turn_other, turn_step, sound_on, own, acts_course, owns, steers, own_between, own_emitted, sound_run, role_run, role_behind}
 
 only_self : {X : Type 0} (side : Side) (x : X) → Has (only side (other (other side)) (x ∷ [])) x
 only_self A x = inl refl
@@ -36,25 +36,25 @@ module _ {H P : Type 0} (mac : H → List ℕ → List ℕ → List ℕ) (answer
   -- ---- a packet that is handed over
 
   pub handed : (side : Side) (packet : Packet) (w w' : WorldRecord H P) (s t : Stream) (x : Logged P) → (h : Hands side packet w x) → Happens mac answers w s x.event x.outcome w' t
-      → Turns mac answers w s side (agent.ReceivePacket h.now (way_out packet) packet.contents) x.outcome w' t
+      → Turns mac answers w s side (agent.ReceivePacket h.now (via_out packet) packet.contents) x.outcome w' t
   handed side packet w w' s t x h happens =
-      subst (λ z. Turns mac answers w s z (agent.ReceivePacket h.now (way_out packet) packet.contents) x.outcome w' t) (twice side)
-      (subst (λ o. world.Delivers mac answers w s o h.now (way_out packet) x.outcome w' t) h.sent
+      subst (λ z. Turns mac answers w s z (agent.ReceivePacket h.now (via_out packet) packet.contents) x.outcome w' t) (twice side)
+      (subst (λ o. world.Delivers mac answers w s o h.now (via_out packet) x.outcome w' t) h.sent
       (subst (λ (v : Event P). Happens mac answers w s v x.outcome w' t) h.event happens))
 
   pub handed_has : (side : Side) (packet : Packet) (w : WorldRecord H P) (x : Logged P) → (h : Hands side packet w x)
-      → Has (acts side w x.event x.outcome.entry) (agent.ReceivePacket h.now (way_out packet) packet.contents, x.outcome.entry)
+      → Has (acts side w x.event x.outcome.entry) (agent.ReceivePacket h.now (via_out packet) packet.contents, x.outcome.entry)
   handed_has side packet w x h =
-      subst (λ (v : Event P). Has (acts side w v x.outcome.entry) (agent.ReceivePacket h.now (way_out packet) packet.contents, x.outcome.entry)) (sym h.event)
-      (subst (λ o. Has (handed_as {P = P} side h.now (way_out packet) x.outcome.entry o) (agent.ReceivePacket h.now (way_out packet) packet.contents, x.outcome.entry)) (sym h.sent)
-      (only_self side (agent.ReceivePacket h.now (way_out packet) packet.contents, x.outcome.entry)))
+      subst (λ (v : Event P). Has (acts side w v x.outcome.entry) (agent.ReceivePacket h.now (via_out packet) packet.contents, x.outcome.entry)) (sym h.event)
+      (subst (λ o. Has (handed_as {P = P} side h.now (via_out packet) x.outcome.entry o) (agent.ReceivePacket h.now (via_out packet) packet.contents, x.outcome.entry)) (sym h.sent)
+      (only_self side (agent.ReceivePacket h.now (via_out packet) packet.contents, x.outcome.entry)))
 
   pub delivered : (side : Side) (packet : Packet) (w w' : WorldRecord H P) (s t : Stream) (x : Logged P) → (h : Hands side packet w x) → Happens mac answers w s x.event x.outcome w' t
       → Delivered mac answers packet h.now (at side w) x.outcome.entry (at side w')
   delivered side packet w w' s t x h happens = record {
     before = s;
     behind = t;
-    step = turn_step mac answers w w' s t side (agent.ReceivePacket h.now (way_out packet) packet.contents) x.outcome (handed side packet w w' s t x h happens);
+    step = turn_step mac answers w w' s t side (agent.ReceivePacket h.now (via_out packet) packet.contents) x.outcome (handed side packet w w' s t x h happens);
     granted = h.granted;
   }
 
@@ -63,7 +63,7 @@ module _ {H P : Type 0} (mac : H → List ℕ → List ℕ → List ℕ) (answer
       → at side w' ≡ at side w
   aside side packet w w' s t x h happens =
       subst (λ z. at z w' ≡ at z w) (twice side)
-      (turn_other mac answers w w' s t (other side) (agent.ReceivePacket h.now (way_out packet) packet.contents) x.outcome (handed (other side) packet w w' s t x h happens))
+      (turn_other mac answers w w' s t (other side) (agent.ReceivePacket h.now (via_out packet) packet.contents) x.outcome (handed (other side) packet w w' s t x h happens))
 
   module _ (side : Side) where
     -- ---- the premises
@@ -93,10 +93,10 @@ module _ {H P : Type 0} (mac : H → List ℕ → List ℕ → List ℕ) (answer
     returns reply near good [] w last s t n run ys fits course polls comes = absurd comes
     returns reply near good (x ∷ rest) w last s t n (mid, u, number, happens, run) ys fits course polls (inl h) =
         let taken = good (at side w) (at side mid) ys h.now x.outcome.entry fits course (delivered side reply w mid s u x h happens) in (
-          (agent.ReceivePacket h.now (way_out reply) reply.contents, x.outcome.entry),
-          Has-front (acts side w x.event x.outcome.entry) (own mac answers side mid u (suc n) rest last t run) (agent.ReceivePacket h.now (way_out reply) reply.contents, x.outcome.entry)
+          (agent.ReceivePacket h.now (via_out reply) reply.contents, x.outcome.entry),
+          Has-front (acts side w x.event x.outcome.entry) (own mac answers side mid u (suc n) rest last t run) (agent.ReceivePacket h.now (via_out reply) reply.contents, x.outcome.entry)
               (handed_has side reply w x h),
-          (h.now, way_out reply, taken.0, taken.1, taken.2),
+          (h.now, via_out reply, taken.0, taken.1, taken.2),
         )
     returns reply near good (x ∷ rest) w last s t n (mid, u, number, happens, run) ys fits course polls (inr later) =
         met_later (acts side w x.event x.outcome.entry) (own mac answers side mid u (suc n) rest last t run)
@@ -158,14 +158,14 @@ module _ {H P : Type 0} (mac : H → List ℕ → List ℕ → List ℕ) (answer
         moment : Step mac answers (at side w) s (agent.HandleTimeout r.now) r.moment.outcome.entry (at side d.mid) d.u
         moment = moved by path r w s n next t d
 
-        met : (id : List ℕ) → r.moment.outcome.entry.told.issued ≡ Some (issued_as path Request id) → Met (own mac answers side d.mid d.u (suc n) r.behind next t d.run)
+        met : (id : List ℕ) → r.moment.outcome.entry.emitted.issued ≡ Some (issued_as path Request id) → Met (own mac answers side d.mid d.u (suc n) r.behind next t d.run)
         met id out =
             let queued : IsQueued (Some (issued_as path Request id)) (at side w).packets (at side d.mid).packets =
             subst (λ o. IsQueued o (at side w).packets (at side d.mid).packets) out
             (trades (at side w) (at side d.mid) s d.u (agent.HandleTimeout r.now) r.moment.outcome.entry (sound side) tt moment).sends in
             let check : Packet = queued.0 in
             let sends : Sends (at side w) r.moment.outcome.entry Request id check (at side d.mid) =
-            record { told = out ∙ ap (λ z. Some (issued_as z Request id)) (sym queued.1); put = queued.2 } in
+            record { emitted = out ∙ ap (λ z. Some (issued_as z Request id)) (sym queued.1); put = queued.2 } in
             exchanges (at side w) (at side d.mid) s d.u r.now r.moment.outcome.entry check id (sound side) role moment sends
             r.behind d.mid next d.u t (suc n) d.run [] (λ y none. absurd none) refl
             (sound_on mac answers paths w d.mid s d.u r.moment sound d.happens)
@@ -204,9 +204,9 @@ module _ {H P : Type 0} (mac : H → List ℕ → List ℕ → List ℕ) (answer
         back = λ found. back found;
       } where
         back : AnnouncesAmong (round_of by path r w s n next v d ∷ cs) → (x : Logged P) × Has (entries_of (r ∷ later)) x × Announces side x
-        back (c, inl is, (y, has, success, told)) =
+        back (c, inl is, (y, has, success, emitted)) =
             let here : Has (own mac answers side d.mid d.u (suc n) r.behind next v d.run) y = subst (λ (z : CourseRound P). Has z.behind y) (sym is) has in
-            let m = own_told mac answers side d.mid next d.u v (suc n) r.behind d.run y here told in
+            let m = own_emitted mac answers side d.mid next d.u v (suc n) r.behind d.run y here emitted in
             (m.0, inr (Has-front r.behind (entries_of later) m.0 m.1), m.2)
         back (c, inr h, rest) =
             let m = k.back (c, h, rest) in

@@ -6,7 +6,7 @@ use Rattle.is_proto.specs.Lists.{Has}
 use Rattle.is_proto.specs.Packets.{Packet}
 use Rattle.is_candidate.specs.Candidates.{CandidateRecord}
 use Rattle.is_stun.specs.declared.header.Class.TheVariants.{Request}
-use Rattle.is_rules.specs.declared.told.Path.{Path}
+use Rattle.is_rules.specs.declared.emitted.Path.{Path}
 use Rattle.is_rules.specs.Agent.{fresh}
 use Rattle.is_rules.specs.Asked.{IsAlone}
 use Rattle.is_rules.specs.AskedCourses.{AcceptsSuccessOn, IsAnsweredAlong, GrantedAreAnnounced}
@@ -20,12 +20,12 @@ use Rattle.is_rules.specs.ReachedCourses.{IsPassed, ChecksAmong, IsAnsweredAmong
 use Rattle.is_rules.specs.Sound.{FreshIsSound}
 use Rattle.is_rules.specs.Steps as agent
 use Rattle.is_rules.specs.Steps.{Answer, Entry, Done, Refused, quiet, Step}
-use Rattle.is_rules.specs.Told.{issued_as, turned}
+use Rattle.is_rules.specs.Emitted.{issued_as, reversed}
 use Rattle.is.specs.declared.world.Side.{Side}
 use Rattle.is.specs.Connections.{Round, all_of, IsKept, HasRounds, SendsOn, IsHanded, Succeeds, BothConnect}
 use Rattle.is.specs.Grantings.{Occurrence, Arrival, HandedCheck, IsAskedOver}
 use Rattle.is.specs.World as world
-use Rattle.is.specs.World.{WorldRecord, LetterRecord, Event, Logged, Happens, Run, at, other, in_world}
+use Rattle.is.specs.World.{WorldRecord, InFlightRecord, Event, Logged, Happens, Run, at, other, in_world}
 use Rattle.is.specs.WorldRoles.{IsNewAgent}
 use Rattle.is.proofs.Following.{Has-front, Has-rear, AreSound}
 use Rattle.is.proofs.Owning.{either_has, acts, only, only_own, handed_as, polled_as, course_on, turn_step}
@@ -92,7 +92,7 @@ module _ {H P : Type 0} (mac : H → List ℕ → List ℕ → List ℕ) (answer
 
   abbrev Checks : Side → Path → List (Round H P) → Type 0
   Checks side path rounds =
-      (r : Round H P) × (id : List ℕ) × Has rounds r × (r.moment.entry.outcome.entry.told.issued ≡ Some (issued_as path Request id))
+      (r : Round H P) × (id : List ℕ) × Has rounds r × (r.moment.entry.outcome.entry.emitted.issued ≡ Some (issued_as path Request id))
 
   abbrev Answers : Side → Path → List (Round H P) → Type 0
   Answers side path rounds = (r : Round H P) × Has rounds r × IsAnsweredAlong (own mac answers side r.behind) path
@@ -108,7 +108,7 @@ module _ {H P : Type 0} (mac : H → List ℕ → List ℕ → List ℕ) (answer
       let rest : Follow mac answers begin (all_of rounds) last = subst (λ (w : WorldRecord H P). Follow mac answers w (all_of rounds) last) (sym c.2.0) c.2 in
       let many = as_many side k.later in
       let enough = k.enough in
-      let found = subst (λ way. ChecksAmong (rounds_of side rounds) way ⊎ IsAnsweredAmong (rounds_of side rounds) way) k.on
+      let found = subst (λ via. ChecksAmong (rounds_of side rounds) via ⊎ IsAnsweredAmong (rounds_of side rounds) via) k.on
       (reach (fresh (at side first).provider n.0 n.1) (at side begin) (at side last)
       ((agent.SetControlling n.2, quiet Done) ∷ (own mac answers side before ++ own mac answers side k.ahead)) (round_of side k.first) (rounds_of side k.later) k.pair k.by (n.0, n.1, refl) (
         at side first,
@@ -121,7 +121,7 @@ module _ {H P : Type 0} (mac : H → List ℕ → List ℕ → List ℕ) (answer
       )
       k.line (passes side rounds begin last rest (λ r has. (k.kept r has).comes)) (are_passed side k.by rounds k.kept) (omega (arith, many, enough))) in
       elim found [
-        | inl (x, id, has, out) ↦ (let r = back side rounds x has in inl (r.0, id, r.1, ap (λ (z : CourseRound P). z.moment.told.issued) r.2 ∙ out))
+        | inl (x, id, has, out) ↦ (let r = back side rounds x has in inl (r.0, id, r.1, ap (λ (z : CourseRound P). z.moment.emitted.issued) r.2 ∙ out))
         | inr (x, has, is) ↦ (let r = back side rounds x has in inr (r.0, r.1, subst (λ (z : CourseRound P). IsAnsweredAlong z.behind path) (sym r.2) is))
       ]
 
@@ -159,7 +159,7 @@ module _ {H P : Type 0} (mac : H → List ℕ → List ℕ → List ℕ) (answer
       pub sends : SendsOn side path r check id
 
     stood : PathLaw {H = H} {P = P} mac answers → TradeLaw {H = H} {P = P} mac answers → (r : Round H P) (id : List ℕ) → Has (k.first ∷ k.later) r
-        → r.moment.entry.outcome.entry.told.issued ≡ Some (issued_as path Request id) → Stood r id
+        → r.moment.entry.outcome.entry.emitted.issued ≡ Some (issued_as path Request id) → Stood r id
     stood paths trades r id has out =
         let p = place (k.first ∷ k.later) r has in
         let split : part ≡ (k.ahead ++ p.0) ++ r.moment ∷ (r.behind ++ p.1) = k.split ∙ (ap (λ xs. k.ahead ++ xs) p.2 ∙ sym (append_assoc k.ahead p.0 (r.moment ∷ (r.behind ++ p.1)))) in
@@ -174,7 +174,7 @@ module _ {H P : Type 0} (mac : H → List ℕ → List ℕ → List ℕ) (answer
           rear = p.1;
           split = split;
           check = queued.0;
-          sends = record { on = queued.1; sends = record { told = out ∙ ap (λ z. Some (issued_as z Request id)) (sym queued.1); put = queued.2 } };
+          sends = record { on = queued.1; sends = record { emitted = out ∙ ap (λ z. Some (issued_as z Request id)) (sym queued.1); put = queued.2 } };
         }
 
     abbrev handed : (r : Round H P) (id : List ℕ) → Has (k.first ∷ k.later) r → (z : Stood r id) → IsHanded mac side path r z.check → HandedCheck mac side path part
@@ -202,7 +202,7 @@ module _ {H P : Type 0} (mac : H → List ℕ → List ℕ → List ℕ) (answer
   poll_accepts _ ps path y (inr none) accepts = none
 
   call_accepts : (c : agent.Call P) (e : Entry) (path : Path) → in_world c ≡ true → AcceptsSuccessOn c e path → ⊥
-  call_accepts (agent.ReceivePacket now way bytes) e path is accepts = cc
+  call_accepts (agent.ReceivePacket now via bytes) e path is accepts = cc
   call_accepts _ e path is accepts = accepts.3
 
   succeeds_at : (side : Side) (path : Path) (x : Occurrence H P) (y : agent.Call P × Entry) → Has (acts_at mac answers side x) y → AcceptsSuccessOn y.0 y.1 path → Succeeds side path x
@@ -218,15 +218,15 @@ module _ {H P : Type 0} (mac : H → List ℕ → List ℕ → List ℕ) (answer
     by (world.Poll s) is there =
         absurd (poll_accepts x.entry.outcome.entry.answer (at side x.before).packets path y
         (only_own side s (polled_as x.entry.outcome.entry.answer (at side x.before).packets) y there).0 accepts)
-    by (world.Deliver n now way) is there = letter (slice_get x.before.bag n) refl there where
-      letter : (o : Option LetterRecord) → slice_get x.before.bag n ≡ o → Has (handed_as side now way x.entry.outcome.entry o) y → Succeeds side path x
-      letter None sent here = absurd here
-      letter (Some l) sent here = let o = only_own side (other l.sender) ((agent.ReceivePacket now way l.packet.contents, x.entry.outcome.entry) ∷ []) y here in elim o.0 [
+    by (world.Deliver n now via) is there = in_flight (slice_get x.before.bag n) refl there where
+      in_flight : (o : Option InFlightRecord) → slice_get x.before.bag n ≡ o → Has (handed_as side now via x.entry.outcome.entry o) y → Succeeds side path x
+      in_flight None sent here = absurd here
+      in_flight (Some l) sent here = let o = only_own side (other l.sender) ((agent.ReceivePacket now via l.packet.contents, x.entry.outcome.entry) ∷ []) y here in elim o.0 [
         | inl same ↦ record {
           place = n;
           now = now;
-          way = way;
-          letter = l;
+          via = via;
+          in_flight = l;
           event = is;
           sent = sent;
           its = o.1;
@@ -256,18 +256,18 @@ module _ {H P : Type 0} (mac : H → List ℕ → List ℕ → List ℕ) (answer
         part_roles x has = apart_at mac answers side (part ++ moment ∷ []) x roles (Has-front part (moment ∷ []) x has)
 
         ask : (start : WorldRecord H P) → Follow mac answers first before start → AreSound start → Follow mac answers start part moment.before → IsAskedOver mac side path part
-        ask start led sound follow = by (reached reach (other side) (turned path) first start moment.before s before part (new (other side)) led follow asking) where
-          goes : (r : Round H P) (id : List ℕ) → Has (asking.first ∷ asking.later) r → r.moment.entry.outcome.entry.told.issued ≡ Some (issued_as (turned path) Request id) → IsAskedOver mac side path part
+        ask start led sound follow = by (reached reach (other side) (reversed path) first start moment.before s before part (new (other side)) led follow asking) where
+          goes : (r : Round H P) (id : List ℕ) → Has (asking.first ∷ asking.later) r → r.moment.entry.outcome.entry.emitted.issued ≡ Some (issued_as (reversed path) Request id) → IsAskedOver mac side path part
           goes r id has out =
-              let z = stood (other side) (turned path) part start moment.before sound follow asking paths trades r id has out in
+              let z = stood (other side) (reversed path) part start moment.before sound follow asking paths trades r id has out in
               let so = asks_so r has in
-              (handed (other side) (turned path) part start moment.before sound follow asking r id has z (so.handed z.check id z.sends), search so.nominated)
+              (handed (other side) (reversed path) part start moment.before sound follow asking r id has z (so.handed z.check id z.sends), search so.nominated)
 
-          by : Checks (other side) (turned path) (asking.first ∷ asking.later) ⊎ Answers (other side) (turned path) (asking.first ∷ asking.later) → IsAskedOver mac side path part
+          by : Checks (other side) (reversed path) (asking.first ∷ asking.later) ⊎ Answers (other side) (reversed path) (asking.first ∷ asking.later) → IsAskedOver mac side path part
           by (inl (r, id, has, out)) = goes r id has out
           by (inr (r, has, is)) =
-              let x = succeeds_in (other side) (turned path) r.behind is in
-              let k : (id : List ℕ) × (r.moment.entry.outcome.entry.told.issued ≡ Some (issued_as (turned path) Request id)) = search ((asks_so r has).timely x.0 x.1 x.2) in
+              let x = succeeds_in (other side) (reversed path) r.behind is in
+              let k : (id : List ℕ) × (r.moment.entry.outcome.entry.emitted.issued ≡ Some (issued_as (reversed path) Request id)) = search ((asks_so r has).timely x.0 x.1 x.2) in
               goes r k.0 has k.1
 
         answer : (start : WorldRecord H P) → Follow mac answers first before start → AreSound start → Follow mac answers start part moment.before → IsAnsweredAlong (own mac answers side part) path

@@ -17,7 +17,7 @@ use Rattle.is_stun.specs.declared.trans_id.TransId.{TransId}
 use Rattle.is_stun.specs.Message.{Message}
 use Rattle.is_stun.specs.Reading.{fault_of, message_of}
 use Rattle.is_rules.proofs.Addresses.{both, same_address-sound}
-use Rattle.is_rules.specs.declared.told.Path.{Path}
+use Rattle.is_rules.specs.declared.emitted.Path.{Path}
 use Rattle.is_rules.specs.Steps as agent
 use Rattle.is_rules.specs.Steps.{Answer, Flag, Entry}
 use Rattle.is_rules.specs.Standing.{Mail, Deed, RoleEffect}
@@ -30,15 +30,15 @@ use Rattle.is_rules.specs.Steps.{Step}
 use Rattle.is_rules.specs.Sound.{IsSound}
 use Rattle.is_rules.specs.Brought.{Brings}
 use Rattle.is_rules.specs.Effects.{PathLaw}
-use Rattle.is_rules.specs.RoleView.{mail_of, mail_unless, mail_read, mail_in, kept_as, all_kept, standing_of, when_accepted, sent_as, some_paths, sets_role, sets_lite, way_of, accepted_by, deed_of, RoleLaw}
+use Rattle.is_rules.specs.RoleView.{mail_of, mail_unless, mail_read, mail_in, kept_as, all_kept, standing_of, when_accepted, sent_as, some_paths, sets_role, sets_lite, packet_path, accepted_by, deed_of, RoleLaw}
 use Rattle.is.specs.declared.world.Side.{Side}
 use Rattle.is.specs.declared.world.Side.TheVariants.{A, B}
 use Rattle.is.specs.World as world
-use Rattle.is.specs.World.{WorldRecord, LetterRecord, Event, Outcome, Logged, other, in_world, plain, read_unless, moved_by, PolledInto, Turns, Stands, Polls, Delivers, Happens}
+use Rattle.is.specs.World.{WorldRecord, InFlightRecord, Event, Outcome, Logged, other, in_world, plain, read_unless, moved_by, PolledInto, Turns, Stands, Polls, Delivers, Happens}
 use Rattle.is.specs.WorldRoles.{Makes}
 use Rattle.is.specs.Traces.{StaysFull, IsNeverLite}
 use Rattle.is.proofs.Seen as seen
-use Rattle.is.proofs.Seen.{Letter, Seen, Roles, Moved, Told, Kind, Still, Move, Moves, IsAwaited, Happening, told_of, NeverLite}
+use Rattle.is.proofs.Seen.{InFlight, Seen, Roles, Moved, Emitted, Kind, Still, Move, Moves, IsAwaited, Happening, emitted_of, NeverLite}
 
 -- ---- lists
 
@@ -74,11 +74,11 @@ passing test (x ∷ xs) h = elim (test x) as (λ b. test x ≡ b → b || list_a
 
 -- ---- what is seen of a world
 
-abbrev pub letter_as : LetterRecord → Letter
-letter_as l = record { sender = l.sender; mail = mail_in l.packet }
+abbrev pub in_flight_as : InFlightRecord → InFlight
+in_flight_as l = record { sender = l.sender; mail = mail_in l.packet }
 
 abbrev pub seen_of : {H P : Type 0} → WorldRecord H P → Seen
-seen_of w = record { a = standing_of w.a; b = standing_of w.b; bag = map letter_as w.bag }
+seen_of w = record { a = standing_of w.a; b = standing_of w.b; bag = map in_flight_as w.bag }
 
 abbrev pub roles_as : List Bool → Roles
 roles_as (a ∷ b ∷ rest) = record { a = a; b = b }
@@ -92,18 +92,18 @@ abbrev pub is_yes : Answer → Bool
 is_yes (Flag true) = true
 is_yes _ = false
 
-abbrev pub way_in : {P : Type 0} → Event P → Option Path
-way_in (world.Deliver place now way) = Some way
-way_in _ = None
+abbrev pub via_in : {P : Type 0} → Event P → Option Path
+via_in (world.Deliver place now via) = Some via
+via_in _ = None
 
-abbrev pub told_at : {P : Type 0} → Logged P → Told
-told_at x = record {
+abbrev pub emitted_at : {P : Type 0} → Logged P → Emitted
+emitted_at x = record {
   side = x.outcome.side;
   accepted = is_yes x.outcome.entry.answer;
-  way = way_in x.event;
+  via = via_in x.event;
   moved = option_map moved_as x.outcome.moved;
-  issued = option_map sent_as x.outcome.entry.told.issued;
-  announced = some_paths x.outcome.entry.told.announced;
+  issued = option_map sent_as x.outcome.entry.emitted.issued;
+  announced = some_paths x.outcome.entry.emitted.announced;
   clear = x.outcome.clear;
   roles = roles_as x.outcome.controlling;
 }
@@ -131,15 +131,15 @@ moved_mail (Some fault) m x h = absurd (let wrong : None ≡ Some x = h in cc)
 -- calls of a world but deliveries
 module _ {P : Type 0} where
   unaccepting : (c : agent.Call P) (answer : Answer) → in_world c ≡ true → accepted_by c answer ≡ None
-  unaccepting (agent.ReceivePacket now way bytes) answer h = absurd (let wrong : false ≡ true = h in cc)
+  unaccepting (agent.ReceivePacket now via bytes) answer h = absurd (let wrong : false ≡ true = h in cc)
   unaccepting c answer h = refl
 
   unmoving : (c : agent.Call P) → in_world c ≡ true → moved_by c ≡ None
-  unmoving (agent.ReceivePacket now way bytes) h = absurd (let wrong : false ≡ true = h in cc)
+  unmoving (agent.ReceivePacket now via bytes) h = absurd (let wrong : false ≡ true = h in cc)
   unmoving c h = refl
 
-  wayless : (c : agent.Call P) → in_world c ≡ true → way_of c ≡ None
-  wayless (agent.ReceivePacket now way bytes) h = absurd (let wrong : false ≡ true = h in cc)
+  wayless : (c : agent.Call P) → in_world c ≡ true → packet_path c ≡ None
+  wayless (agent.ReceivePacket now via bytes) h = absurd (let wrong : false ≡ true = h in cc)
   wayless c h = refl
 
   unset : (c : agent.Call P) → in_world c ≡ true → sets_role c ≡ false
@@ -160,31 +160,31 @@ module _ {H P : Type 0} where
   kept_to a (q ∷ ps) p c (inr h) keeps = Has-rear (map (kept_as (path_of a q)) q.checks) (all_kept a ps) (kept_as (path_of a p) c) (kept_to a ps p c h keeps)
 
   -- an accepted success has the id of a check that is kept on the path by which it came back
-  awaits : (a : AgentRecord H P) (d : Deed) (way : Path) (id : List ℕ) → list_any (keeps_check_on a way id) a.pairs ≡ true → d.way ≡ Some way → IsAwaited (standing_of a) d id
-  awaits a d way id keeps came =
-      let p = passing (keeps_check_on a way id) a.pairs keeps in
-      let two = both (is_kept id p.0.checks) (goes_back way (path_of a p.0)) p.2 in
+  awaits : (a : AgentRecord H P) (d : Deed) (via : Path) (id : List ℕ) → list_any (keeps_check_on a via id) a.pairs ≡ true → d.via ≡ Some via → IsAwaited (standing_of a) d id
+  awaits a d via id keeps came =
+      let p = passing (keeps_check_on a via id) a.pairs keeps in
+      let two = both (is_kept id p.0.checks) (goes_back via (path_of a p.0)) p.2 in
       let c = passing (has_id id) p.0.checks two.0 in
-      let ends = both (same_address way.source (path_of a p.0).destination) (same_address way.destination (path_of a p.0).source) two.1 in
+      let ends = both (same_address via.source (path_of a p.0).destination) (same_address via.destination (path_of a p.0).source) two.1 in
       record {
         path = path_of a p.0;
         role = c.0.controlling;
         kept = subst (λ i. Has (all_kept a a.pairs) (record { path = path_of a p.0; id = i; controlling = c.0.controlling })) ((bytes_eq-Decides c.0.id id).0 c.2) (kept_to a a.pairs p.0 c.0 p.1 c.1);
-        way = way;
+        via = via;
         came = came;
-        back = (same_address-sound way.source (path_of a p.0).destination ends.0, same_address-sound way.destination (path_of a p.0).source ends.1);
+        back = (same_address-sound via.source (path_of a p.0).destination ends.0, same_address-sound via.destination (path_of a p.0).source ends.1);
       }
 
   at_side : (s : Side) (w : WorldRecord H P) → seen.at s (seen_of w) ≡ standing_of (world.at s w)
   at_side A w = refl
   at_side B w = refl
 
-  put_side : (s : Side) (r : AgentRecord H P) (w : WorldRecord H P) (bag : List LetterRecord)
-      → seen_of (record (world.put s r w) { bag = bag }) ≡ record (seen.put s (standing_of r) (seen_of w)) { bag = map letter_as bag }
+  put_side : (s : Side) (r : AgentRecord H P) (w : WorldRecord H P) (bag : List InFlightRecord)
+      → seen_of (record (world.put s r w) { bag = bag }) ≡ record (seen.put s (standing_of r) (seen_of w)) { bag = map in_flight_as bag }
   put_side A r w bag = refl
   put_side B r w bag = refl
 
-  put_back : (s : Side) (v : WorldRecord H P) (new : AgentRecord H P) (bag : List LetterRecord) → new ≡ world.at s v → bag ≡ v.bag
+  put_back : (s : Side) (v : WorldRecord H P) (new : AgentRecord H P) (bag : List InFlightRecord) → new ≡ world.at s v → bag ≡ v.bag
       → ◌≡◌ {A = WorldRecord H P} (record (world.put s new v) { bag = bag }) v
   put_back A v new bag p q = ap (λ r. let x : WorldRecord H P = record { a = r; b = v.b; bag = bag } in x) p ∙ ap (λ b. let x : WorldRecord H P = record { a = v.a; b = v.b; bag = b } in x) q
   put_back B v new bag p q = ap (λ r. let x : WorldRecord H P = record { a = v.a; b = r; bag = bag } in x) p ∙ ap (λ b. let x : WorldRecord H P = record { a = v.a; b = v.b; bag = b } in x) q
@@ -196,7 +196,7 @@ module _ {H P : Type 0} where
   abbrev pub AreSound : WorldRecord H P → Type 0
   AreSound w = (side : Side) → IsSound (world.at side w)
 
-  sound_put : (side : Side) (new : AgentRecord H P) (w : WorldRecord H P) (bag : List LetterRecord) → AreSound w → IsSound new → AreSound (record (world.put side new w) { bag = bag })
+  sound_put : (side : Side) (new : AgentRecord H P) (w : WorldRecord H P) (bag : List InFlightRecord) → AreSound w → IsSound new → AreSound (record (world.put side new w) { bag = bag })
   sound_put A new w bag h is A = is
   sound_put A new w bag h is B = h B
   sound_put B new w bag h is A = h A
@@ -207,22 +207,22 @@ module _ {H P : Type 0} where
 -- what an event comes to
 pub record Comes {H P : Type 0} (w w' : WorldRecord H P) (x : Logged P) : Type 0 where
   pub kind : Kind
-  pub happens : seen.Happens (seen_of w) kind (told_at x) (seen_of w')
+  pub happens : seen.Happens (seen_of w) kind (emitted_at x) (seen_of w')
   pub made : (side : Side) (c : agent.Call P) → Makes w x.event side c → kind ≡ Move side (deed_of (world.at side w) c x.outcome.entry)
   pub full : (side : Side) → StaysFull side x.event → seen.StaysFull side kind
   pub sound : AreSound w'
 
 -- what a side does, and the letters that move into the bag
-record Did {H P : Type 0} (w : WorldRecord H P) (side : Side) (d : Deed) (e : Told) (new : AgentRecord H P) (bag posted : List LetterRecord) : Type 0 where
+record Did {H P : Type 0} (w : WorldRecord H P) (side : Side) (d : Deed) (e : Emitted) (new : AgentRecord H P) (bag posted : List InFlightRecord) : Type 0 where
   effect : RoleEffect (standing_of (world.at side w)) d (standing_of new)
   bag_is : bag ≡ w.bag ++ posted
-  from : (l : Letter) → Has (map letter_as posted) l → (l.sender ≡ side) × Has (standing_of (world.at side w)).packets l.mail
-  delivered : (m : Mail) → d.accepts ≡ Some m → (l : LetterRecord) × Has w.bag l × (l.sender ≡ other side) × (mail_in l.packet ≡ Some m) × (e.accepted ≡ true) × (e.moved ≡ Some record { class = m.class; id = m.id })
+  from : (l : InFlight) → Has (map in_flight_as posted) l → (l.sender ≡ side) × Has (standing_of (world.at side w)).packets l.mail
+  delivered : (m : Mail) → d.accepts ≡ Some m → (l : InFlightRecord) × Has w.bag l × (l.sender ≡ other side) × (mail_in l.packet ≡ Some m) × (e.accepted ≡ true) × (e.moved ≡ Some record { class = m.class; id = m.id })
   accepts : (x : Moved) → e.accepted ≡ true → e.moved ≡ Some x → (m : Mail) × (d.accepts ≡ Some m) × (m.class ≡ x.class) × (m.id ≡ x.id)
   awaited : (m : Mail) → d.accepts ≡ Some m → m.class ≡ class.Success → IsAwaited (standing_of (world.at side w)) d m.id
   unset_is : d.sets ≡ false
   side_is : e.side ≡ Some side
-  way_is : e.way ≡ d.way
+  via_is : e.via ≡ d.via
   issued_is : e.issued ≡ d.issued
   announced_is : e.announced ≡ d.announced
   clear_is : e.clear ≡ d.clears
@@ -233,17 +233,17 @@ map-append f [] ys = refl
 map-append f (x ∷ xs) ys = ap (λ zs. f x ∷ zs) (map-append f xs ys)
 
 module _ {H P : Type 0} where
-  moves_so : (w : WorldRecord H P) (side : Side) (d : Deed) (e : Told) (new : AgentRecord H P) (bag posted : List LetterRecord) → Did w side d e new bag posted
+  moves_so : (w : WorldRecord H P) (side : Side) (d : Deed) (e : Emitted) (new : AgentRecord H P) (bag posted : List InFlightRecord) → Did w side d e new bag posted
       → Moves (seen_of w) side d e (seen_of (record (world.put side new w) { bag = bag }))
   moves_so w side d e new bag posted k = record {
     new = standing_of new;
     effect = subst (λ s. RoleEffect s d (standing_of new)) (sym (at_side side w)) k.effect;
-    posted = map letter_as posted;
-    world = put_side side new w bag ∙ ap (λ b. record (seen.put side (standing_of new) (seen_of w)) { bag = b }) (ap (map letter_as) k.bag_is ∙ map-append letter_as w.bag posted);
+    posted = map in_flight_as posted;
+    world = put_side side new w bag ∙ ap (λ b. record (seen.put side (standing_of new) (seen_of w)) { bag = b }) (ap (map in_flight_as) k.bag_is ∙ map-append in_flight_as w.bag posted);
     from_queue = λ l has. (let o = k.from l has in (o.0, subst (λ s. Has s.packets l.mail) (sym (at_side side w)) o.1));
     delivered = λ m accepted. (let o = k.delivered m accepted in record {
-      letter = letter_as o.0;
-      there = Has-mapped letter_as w.bag o.0 o.1;
+      in_flight = in_flight_as o.0;
+      there = Has-mapped in_flight_as w.bag o.0 o.1;
       sender = o.2;
       mail = o.3;
       accepted = o.4;
@@ -253,7 +253,7 @@ module _ {H P : Type 0} where
     awaited = λ m accepted success. subst (λ s. IsAwaited s d m.id) (sym (at_side side w)) (k.awaited m accepted success);
     not_set = k.unset_is;
     side_is = k.side_is;
-    way_is = k.way_is;
+    via_is = k.via_is;
     issued_is = k.issued_is;
     announced_is = k.announced_is;
     clear_is = k.clear_is;
@@ -268,8 +268,8 @@ module _ {H P : Type 0} where
     happens = record {
       world = refl;
       moved_is = ap (λ (o : Outcome). option_map moved_as o.moved) is;
-      issued_is = ap (λ (o : Outcome). option_map sent_as o.entry.told.issued) is;
-      announced_is = ap (λ (o : Outcome). some_paths o.entry.told.announced) is;
+      issued_is = ap (λ (o : Outcome). option_map sent_as o.entry.emitted.issued) is;
+      announced_is = ap (λ (o : Outcome). some_paths o.entry.emitted.announced) is;
       clear_is = ap (λ (o : Outcome). o.clear) is;
       roles_are = ap (λ (o : Outcome). roles_as o.controlling) is;
     };
@@ -283,12 +283,12 @@ module _ {H P : Type 0} where
 
     -- what is known of a deed's packet, by the call
     record Packets (w : WorldRecord H P) (side : Side) (c : agent.Call P) (x : Logged P) : Type 0 where
-      delivered : (m : Mail) → accepted_by c x.outcome.entry.answer ≡ Some m → (l : LetterRecord) × Has w.bag l × (l.sender ≡ other side) × (mail_in l.packet ≡ Some m) × (is_yes x.outcome.entry.answer ≡ true)
+      delivered : (m : Mail) → accepted_by c x.outcome.entry.answer ≡ Some m → (l : InFlightRecord) × Has w.bag l × (l.sender ≡ other side) × (mail_in l.packet ≡ Some m) × (is_yes x.outcome.entry.answer ≡ true)
           × (option_map moved_as x.outcome.moved ≡ Some record { class = m.class; id = m.id })
       accepts : (y : Moved) → is_yes x.outcome.entry.answer ≡ true → option_map moved_as x.outcome.moved ≡ Some y → (m : Mail) × (accepted_by c x.outcome.entry.answer ≡ Some m) × (m.class ≡ y.class) × (m.id ≡ y.id)
       awaited : (m : Mail) → accepted_by c x.outcome.entry.answer ≡ Some m → m.class ≡ class.Success → IsAwaited (standing_of (world.at side w)) (deed_of (world.at side w) c x.outcome.entry) m.id
       unset_is : sets_role c ≡ false
-      way_is : way_in x.event ≡ way_of c
+      via_is : via_in x.event ≡ packet_path c
       made : (s : Side) (d : agent.Call P) → Makes w x.event s d → (side ≡ s) × (c ≡ d)
       full : (s : Side) → StaysFull s x.event → side ≡ s → sets_lite c ≡ false
 
@@ -298,7 +298,7 @@ module _ {H P : Type 0} where
         let d = deed_of old c x.outcome.entry in
         let path = paths old k.new s t c x.outcome.entry (sound side) k.given k.step in
         let role = roles old k.new s t c x.outcome.entry (sound side) k.given k.step in
-        let did : Did w side d (told_at x) k.new w.bag [] = record {
+        let did : Did w side d (emitted_at x) k.new w.bag [] = record {
           effect = role;
           bag_is = sym (append-nil w.bag);
           from = λ l none. absurd none;
@@ -307,7 +307,7 @@ module _ {H P : Type 0} where
           awaited = p.awaited;
           unset_is = p.unset_is;
           side_is = k.side_is;
-          way_is = p.way_is;
+          via_is = p.via_is;
           issued_is = refl;
           announced_is = refl;
           clear_is = k.clear;
@@ -315,7 +315,7 @@ module _ {H P : Type 0} where
         } in
         subst (λ v. Comes w v x) (sym (k.world ∙ sym (same_bag side k.new w))) (record {
           kind = Move side d;
-          happens = moves_so w side d (told_at x) k.new w.bag [] did;
+          happens = moves_so w side d (emitted_at x) k.new w.bag [] did;
           made = λ s' c' made.
               let is = p.made s' c' made in
               ap (λ y. Move y (deed_of (world.at y w) c x.outcome.entry)) is.0 ∙ ap (λ y. Move s' (deed_of (world.at s' w) y x.outcome.entry)) is.1;
@@ -330,7 +330,7 @@ module _ {H P : Type 0} where
       accepts = λ y yes moved. absurd (let none = ap (option_map moved_as) (k.moved ∙ unmoving c is) in cc);
       awaited = λ m accepted success. absurd (let none = unaccepting c x.outcome.entry.answer is in cc);
       unset_is = unset c is;
-      way_is = ap way_in event_is ∙ sym (wayless c is);
+      via_is = ap via_in event_is ∙ sym (wayless c is);
       made = λ s' d made. (let m : Makes w (world.Call side c) s' d = subst (λ v. Makes w v s' d) event_is made in (m.0, sym m.1));
       full = λ s' full same. stays c side s' (subst (λ v. StaysFull s' v) event_is full) same;
     })
@@ -339,15 +339,15 @@ module _ {H P : Type 0} where
     other-other A = refl
     other-other B = refl
 
-    delivers : (o : Option LetterRecord) (w w' : WorldRecord H P) (s t : Stream) (place now : ℕ) (way : Path) (x : Logged P) → x.event ≡ world.Deliver place now way → slice_get w.bag place ≡ o
-        → AreSound w → Delivers mac answers w s o now way x.outcome w' t → Comes w w' x
-    delivers None w w' s t place now way x event_is found sound k =
+    delivers : (o : Option InFlightRecord) (w w' : WorldRecord H P) (s t : Stream) (place now : ℕ) (via : Path) (x : Logged P) → x.event ≡ world.Deliver place now via → slice_get w.bag place ≡ o
+        → AreSound w → Delivers mac answers w s o now via x.outcome w' t → Comes w w' x
+    delivers None w w' s t place now via x event_is found sound k =
         stands_still w w' x agent.NoSuchPacket None sound k.2 k.0
-        (λ s' c made. (let m : Makes w (world.Deliver place now way) s' c = subst (λ v. Makes w v s' c) event_is made in let found_one = m.1 in cc))
-    delivers (Some l) w w' s t place now way x event_is found sound k =
+        (λ s' c made. (let m : Makes w (world.Deliver place now via) s' c = subst (λ v. Makes w v s' c) event_is made in let found_one = m.1 in cc))
+    delivers (Some l) w w' s t place now via x event_is found sound k =
         let side = other l.sender in
         let bytes = l.packet.contents in
-        let c : agent.Call P = agent.ReceivePacket now way bytes in
+        let c : agent.Call P = agent.ReceivePacket now via bytes in
         let old = world.at side w in
         turns w w' s t side c x sound k (record {
           delivered = λ m accepted. (
@@ -356,31 +356,31 @@ module _ {H P : Type 0} where
           accepts = λ y yes moved. (
               let mail = moved_mail (fault_of bytes) (message_of bytes) y (ap (option_map moved_as) (sym k.moved) ∙ moved) in
               (mail.0, ap (λ a. when_accepted a (mail_read bytes)) (yes_is x.outcome.entry.answer yes) ∙ mail.1, mail.2, mail.3));
-          awaited = λ m accepted success. received w s t side now way bytes x sound k m accepted success;
+          awaited = λ m accepted success. received w s t side now via bytes x sound k m accepted success;
           unset_is = refl;
-          way_is = ap way_in event_is;
+          via_is = ap via_in event_is;
           made = λ s' d made. (
-              let m : Makes w (world.Deliver place now way) s' d = subst (λ v. Makes w v s' d) event_is made in
-              let same_letter : l ≡ m.0 = (let found_one = m.1 in cc) in
-              (ap (λ (y : LetterRecord). other y.sender) same_letter ∙ m.2, ap (λ (y : LetterRecord). agent.ReceivePacket now way y.packet.contents) same_letter ∙ sym m.3));
+              let m : Makes w (world.Deliver place now via) s' d = subst (λ v. Makes w v s' d) event_is made in
+              let same_in_flight : l ≡ m.0 = (let found_one = m.1 in cc) in
+              (ap (λ (y : InFlightRecord). other y.sender) same_in_flight ∙ m.2, ap (λ (y : InFlightRecord). agent.ReceivePacket now via y.packet.contents) same_in_flight ∙ sym m.3));
           full = λ s' full same. refl;
         })
       where
-        received : (w : WorldRecord H P) (s t : Stream) (side : Side) (now : ℕ) (way : Path) (bytes : List ℕ) (x : Logged P) → AreSound w
-            → Turns mac answers w s side (agent.ReceivePacket now way bytes) x.outcome w' t → (m : Mail) → when_accepted x.outcome.entry.answer (mail_read bytes) ≡ Some m → m.class ≡ class.Success
-            → IsAwaited (standing_of (world.at side w)) (deed_of (world.at side w) (agent.ReceivePacket now way bytes) x.outcome.entry) m.id
-        received w s t side now way bytes x sound k m accepted success =
+        received : (w : WorldRecord H P) (s t : Stream) (side : Side) (now : ℕ) (via : Path) (bytes : List ℕ) (x : Logged P) → AreSound w
+            → Turns mac answers w s side (agent.ReceivePacket now via bytes) x.outcome w' t → (m : Mail) → when_accepted x.outcome.entry.answer (mail_read bytes) ≡ Some m → m.class ≡ class.Success
+            → IsAwaited (standing_of (world.at side w)) (deed_of (world.at side w) (agent.ReceivePacket now via bytes) x.outcome.entry) m.id
+        received w s t side now via bytes x sound k m accepted success =
             let old = world.at side w in
-            let c : agent.Call P = agent.ReceivePacket now way bytes in
+            let c : agent.Call P = agent.ReceivePacket now via bytes in
             let is = when_is x.outcome.entry.answer (mail_read bytes) m accepted in
             let r = reads_so (fault_of bytes) (message_of bytes) m is.1 in
-            let brings : Brings c x.outcome.entry now way (message_of bytes) = (refl, refl, record { faultless = r.0; spelled = refl }, is.0) in
+            let brings : Brings c x.outcome.entry now via (message_of bytes) = (refl, refl, record { faultless = r.0; spelled = refl }, is.0) in
             let path = paths old k.new s t c x.outcome.entry (sound side) k.given k.step in
-            let taken = path.0.accepted now way (message_of bytes) brings in
-            let as_success : IsAcceptedAs mac class.Success (keeps_check_on old way (message_of bytes).id) old (message_of bytes) =
-            subst (λ y. IsAcceptedAs mac y (keeps_check_on old way (message_of bytes).id) old (message_of bytes)) (ap (λ (y : Mail). y.class) r.1 ∙ success) taken.1 in
+            let taken = path.0.accepted now via (message_of bytes) brings in
+            let as_success : IsAcceptedAs mac class.Success (keeps_check_on old via (message_of bytes).id) old (message_of bytes) =
+            subst (λ y. IsAcceptedAs mac y (keeps_check_on old via (message_of bytes).id) old (message_of bytes)) (ap (λ (y : Mail). y.class) r.1 ∙ success) taken.1 in
             subst (λ i. IsAwaited (standing_of old) (deed_of old c x.outcome.entry) i) (ap (λ (y : Mail). y.id) r.1)
-            (awaits old (deed_of old c x.outcome.entry) way (message_of bytes).id as_success.0 refl)
+            (awaits old (deed_of old c x.outcome.entry) via (message_of bytes).id as_success.0 refl)
           where
             reads_so : (f : Option ParseFault) (n : Message) (y : Mail) → mail_unless f n ≡ Some y → (f ≡ None) × (mail_of n ≡ y)
             reads_so None n y h = (refl, cc)
@@ -389,14 +389,14 @@ module _ {H P : Type 0} where
     -- ---- a poll
 
     polls : (w w' : WorldRecord H P) (s t : Stream) (side : Side) (x : Logged P) → AreSound w → x.event ≡ world.Poll side → Polls mac answers w s side x.outcome w' t → Comes w w' x
-    polls w w' s t side x sound event_is k = subst (λ v. Comes w v x) (sym k.world) (by k.new k.bag k.answer k.polled (k.told ∙ ap (λ v. plain k.answer (Some side) (world.roles_of v)) k.world)) where
+    polls w w' s t side x sound event_is k = subst (λ v. Comes w v x) (sym k.world) (by k.new k.bag k.answer k.polled (k.emitted ∙ ap (λ v. plain k.answer (Some side) (world.roles_of v)) k.world)) where
       no_one : (s' : Side) (c : agent.Call P) → Makes w x.event s' c → ⊥
       no_one s' c made = subst (λ v. Makes w v s' c) event_is made
 
       -- what the agent did, whatever it handed out
-      polled_so : (new : AgentRecord H P) (bag posted : List LetterRecord) (answer : Answer) (given : Option Packet) → PollsTransmit (world.at side w) given new
+      polled_so : (new : AgentRecord H P) (bag posted : List InFlightRecord) (answer : Answer) (given : Option Packet) → PollsTransmit (world.at side w) given new
           → x.outcome ≡ plain answer (Some side) (world.roles_of (record (world.put side new w) { bag = bag })) → bag ≡ w.bag ++ posted
-          → ((l : Letter) → Has (map letter_as posted) l → (l.sender ≡ side) × Has (standing_of (world.at side w)).packets l.mail)
+          → ((l : InFlight) → Has (map in_flight_as posted) l → (l.sender ≡ side) × Has (standing_of (world.at side w)).packets l.mail)
           → Comes w (record (world.put side new w) { bag = bag }) x
       polled_so new bag posted answer given polled is bag_is from =
           let old = world.at side w in
@@ -405,7 +405,7 @@ module _ {H P : Type 0} where
           let step : Step mac answers old s agent.PollTransmit e new s = (given, refl, polled, refl) in
           let path = paths old new s s agent.PollTransmit e (sound side) tt step in
           let role = roles old new s s agent.PollTransmit e (sound side) tt step in
-          let did : Did w side d (told_at x) new bag posted = record {
+          let did : Did w side d (emitted_at x) new bag posted = record {
             effect = role;
             bag_is = bag_is;
             from = from;
@@ -414,31 +414,31 @@ module _ {H P : Type 0} where
             awaited = λ m accepted success. absurd (let wrong : None ≡ Some m = accepted in cc);
             unset_is = refl;
             side_is = ap (λ (o : Outcome). o.side) is;
-            way_is = ap way_in event_is;
-            issued_is = ap (λ (o : Outcome). option_map sent_as o.entry.told.issued) is;
-            announced_is = ap (λ (o : Outcome). some_paths o.entry.told.announced) is;
+            via_is = ap via_in event_is;
+            issued_is = ap (λ (o : Outcome). option_map sent_as o.entry.emitted.issued) is;
+            announced_is = ap (λ (o : Outcome). some_paths o.entry.emitted.announced) is;
             clear_is = ap (λ (o : Outcome). o.clear) is;
             roles_are = ap (λ (o : Outcome). roles_as o.controlling) is;
           } in
           record {
             kind = Move side d;
-            happens = moves_so w side d (told_at x) new bag posted did;
+            happens = moves_so w side d (emitted_at x) new bag posted did;
             made = λ s' c made. absurd (no_one s' c made);
             full = λ s' full same. refl;
             sound = sound_put side new w bag sound path.1;
           }
 
-      by : (new : AgentRecord H P) (bag : List LetterRecord) (answer : Answer) → PolledInto (world.at side w) w.bag side answer new bag
+      by : (new : AgentRecord H P) (bag : List InFlightRecord) (answer : Answer) → PolledInto (world.at side w) w.bag side answer new bag
           → x.outcome ≡ plain answer (Some side) (world.roles_of (record (world.put side new w) { bag = bag })) → Comes w (record (world.put side new w) { bag = bag }) x
       by new bag answer (inl (_, new_is, bag_is)) is =
           let same_world = put_back side w new bag new_is bag_is in
           stands_still w (record (world.put side new w) { bag = bag }) x answer (Some side) sound (is ∙ ap (λ v. plain answer (Some side) (world.roles_of v)) same_world) same_world no_one
       by new bag answer (inr (inl (_, polled, bag_is))) is = polled_so new bag [] answer None polled is (bag_is ∙ sym (append-nil w.bag)) (λ l none. absurd none)
       by new bag answer (inr (inr (p, polled, _, bag_is))) is =
-          let l : LetterRecord = record { sender = side; packet = p } in
+          let l : InFlightRecord = record { sender = side; packet = p } in
           polled_so new bag (l ∷ []) answer (Some p) polled is bag_is
           (λ y has. elim has [
-            | inl same ↦ subst (λ (z : Letter). (z.sender ≡ side) × Has (standing_of (world.at side w)).packets z.mail) same
+            | inl same ↦ subst (λ (z : InFlight). (z.sender ≡ side) × Has (standing_of (world.at side w)).packets z.mail) same
                 (refl, subst (λ ps. Has (map mail_in ps) (mail_in p)) (sym polled.0) (inl refl))
             | inr none ↦ absurd none
           ])
@@ -455,25 +455,25 @@ module _ {H P : Type 0} where
                 (λ s' d made. (let m : Makes w (world.Call side c) s' d = subst (λ v. Makes w v s' d) is made in let no = m.2 in cc))
           ] refl k
       by (world.Poll side) is k = polls w w' s t side x sound is k
-      by (world.Deliver place now way) is k = delivers (slice_get w.bag place) w w' s t place now way x is refl sound k
+      by (world.Deliver place now via) is k = delivers (slice_get w.bag place) w w' s t place now via x is refl sound k
 
     -- a run, as it is seen
     pub record Follows (first : WorldRecord H P) (log : List (Logged P)) (last : WorldRecord H P) : Type 0 where
       pub seen_log : List Happening
       pub ran : seen.Run (seen_of first) seen_log (seen_of last)
-      pub told : told_of seen_log ≡ map told_at log
+      pub emitted : emitted_of seen_log ≡ map emitted_at log
       pub full : (side : Side) → IsNeverLite side log → NeverLite side seen_log
       pub sound : AreSound last
 
     pub follow : (log : List (Logged P)) (first last : WorldRecord H P) (s t : Stream) (n : ℕ) → AreSound first → world.Run mac answers first s n log last t → Follows first log last
-    follow [] first last s t n sound (is, _) = record { seen_log = []; ran = ap seen_of is; told = refl; full = λ side h. tt; sound = subst AreSound (sym is) sound }
+    follow [] first last s t n sound (is, _) = record { seen_log = []; ran = ap seen_of is; emitted = refl; full = λ side h. tt; sound = subst AreSound (sym is) sound }
     follow (x ∷ log) first last s t n sound (mid, u, number, happens, ran) =
         let c = event first mid s u x sound happens in
         let more = follow log mid last u t (suc n) c.sound ran in
         record {
-          seen_log = record { kind = c.kind; told = told_at x } ∷ more.seen_log;
+          seen_log = record { kind = c.kind; emitted = emitted_at x } ∷ more.seen_log;
           ran = (seen_of mid, c.happens, more.ran);
-          told = ap (λ es. told_at x ∷ es) more.told;
+          emitted = ap (λ es. emitted_at x ∷ es) more.emitted;
           full = λ side never. (c.full side never.0, more.full side never.1);
           sound = more.sound;
         }

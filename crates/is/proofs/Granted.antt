@@ -6,7 +6,7 @@ use Rattle.rand_core.specs.Stream.{Stream}
 use Rattle.is_proto.specs.Lists.{Has}
 use Rattle.is_proto.specs.Packets.{Packet}
 use Rattle.is_candidate.specs.Candidates.{CandidateRecord}
-use Rattle.is_rules.specs.declared.told.Path.{Path}
+use Rattle.is_rules.specs.declared.emitted.Path.{Path}
 use Rattle.is_rules.specs.Agent.{AgentRecord, fresh}
 use Rattle.is_rules.specs.Answers.{goes_back}
 use Rattle.is_rules.specs.Asked.{IsAlone}
@@ -16,23 +16,23 @@ use Rattle.is_rules.specs.Asking.{AreNominatedOn, Grants, ChecksAsk}
 use Rattle.is_rules.specs.Delivery.{IsReachedBy}
 use Rattle.is_rules.specs.Effects.{PathLaw, last_of}
 use Rattle.is_rules.specs.Exchange.{AreBetween, Course, ExchangesSucceed}
-use Rattle.is_rules.specs.Issuing.{way_out}
+use Rattle.is_rules.specs.Issuing.{via_out}
 use Rattle.is_rules.specs.Queue.{request_at}
 use Rattle.is_rules.specs.Sound.{FreshIsSound}
 use Rattle.is_rules.specs.Steps as agent
 use Rattle.is_rules.specs.Steps.{Answer, Entry, Refused, Done, quiet, Step}
-use Rattle.is_rules.specs.Told.{turned}
+use Rattle.is_rules.specs.Emitted.{reversed}
 use Rattle.is_rules.proofs.KeptChecks.{back_again}
 use Rattle.is.specs.declared.world.Side.{Side}
 use Rattle.is.specs.declared.world.Side.TheVariants.{A, B}
 use Rattle.is.specs.Deliveries.{MakesPolls, Announces, Hands}
 use Rattle.is.specs.Grantings.{Occurrence, IsControlled, Arrival, HandedCheck, IsAskedOver, IsExchangedOver, MayEndAt, occurrences_in, GrantedPathsAnnounce}
 use Rattle.is.specs.World as world
-use Rattle.is.specs.World.{WorldRecord, LetterRecord, Event, Logged, Turns, Happens, Run, at, other, in_world}
+use Rattle.is.specs.World.{WorldRecord, InFlightRecord, Event, Logged, Turns, Happens, Run, at, other, in_world}
 use Rattle.is.specs.WorldRoles.{IsNewAgent}
 use Rattle.is.proofs.Following.{Has-front, Has-rear, AreSound}
 use Rattle.is.proofs.Settled.{sound_new}
-use Rattle.is.proofs.Owning.{either_has, only, handed_as, polled_as, between_both, acts, acts_between, course_on, turn_step, acts_course, acts_told, sound_on}
+use Rattle.is.proofs.Owning.{either_has, only, handed_as, polled_as, between_both, acts, acts_between, course_on, turn_step, acts_course, acts_emitted, sound_on}
 use Rattle.is.proofs.Connected.{handed_has, delivered, aside}
 
 middle : {X : Type 0} (xs ys : List X) (x : X) → Has (xs ++ x ∷ ys) x
@@ -104,21 +104,21 @@ module _ {H P : Type 0} (mac : H → List ℕ → List ℕ → List ℕ) (answer
   own_has side (z ∷ rest) x y (inl is) there = Has-front (acts_at side z) (own side rest) y (subst (λ (u : Occurrence H P). Has (acts_at side u) y) (sym is) there)
   own_has side (z ∷ rest) x y (inr has) there = Has-rear (acts_at side z) (own side rest) y (own_has side rest x y has there)
 
-  own_told : (side : Side) (xs : List (Occurrence H P)) (w last : WorldRecord H P) → Follow w xs last → (y : agent.Call P × Entry) → Has (own side xs) y
-      → is_some (last_of y.1.told.announced) ≡ true → (x : Occurrence H P) × Has xs x × Announces side x.entry
-  own_told side [] w last is y has told = absurd has
-  own_told side (x ∷ rest) w last (from, s, t, happens, more) y has told = elim (either_has (acts_at side x) (own side rest) y has) [
-    | inl k ↦ (x, inl refl, acts_told mac answers x.before x.behind s t side x.entry y x.entry.event happens k told)
-    | inr k ↦ (let m = own_told side rest x.behind last more y k told in (m.0, inr m.1, m.2))
+  own_emitted : (side : Side) (xs : List (Occurrence H P)) (w last : WorldRecord H P) → Follow w xs last → (y : agent.Call P × Entry) → Has (own side xs) y
+      → is_some (last_of y.1.emitted.announced) ≡ true → (x : Occurrence H P) × Has xs x × Announces side x.entry
+  own_emitted side [] w last is y has emitted = absurd has
+  own_emitted side (x ∷ rest) w last (from, s, t, happens, more) y has emitted = elim (either_has (acts_at side x) (own side rest) y has) [
+    | inl k ↦ (x, inl refl, acts_emitted mac answers x.before x.behind s t side x.entry y x.entry.event happens k emitted)
+    | inr k ↦ (let m = own_emitted side rest x.behind last more y k emitted in (m.0, inr m.1, m.2))
   ]
 
   -- what is handed to a side is a call of it
   handed_is : (side : Side) (packet : Packet) (w : WorldRecord H P) (x : Logged P) → (h : Hands side packet w x)
-      → acts side w x.event x.outcome.entry ≡ (agent.ReceivePacket h.now (way_out packet) packet.contents, x.outcome.entry) ∷ []
+      → acts side w x.event x.outcome.entry ≡ (agent.ReceivePacket h.now (via_out packet) packet.contents, x.outcome.entry) ∷ []
   handed_is side packet w x h =
-      subst (λ (v : Event P). acts side w v x.outcome.entry ≡ (agent.ReceivePacket h.now (way_out packet) packet.contents, x.outcome.entry) ∷ []) (sym h.event)
-      (subst (λ o. handed_as {P = P} side h.now (way_out packet) x.outcome.entry o ≡ (agent.ReceivePacket h.now (way_out packet) packet.contents, x.outcome.entry) ∷ []) (sym h.sent)
-      (only_one side (agent.ReceivePacket h.now (way_out packet) packet.contents, x.outcome.entry)))
+      subst (λ (v : Event P). acts side w v x.outcome.entry ≡ (agent.ReceivePacket h.now (via_out packet) packet.contents, x.outcome.entry) ∷ []) (sym h.event)
+      (subst (λ o. handed_as {P = P} side h.now (via_out packet) x.outcome.entry o ≡ (agent.ReceivePacket h.now (via_out packet) packet.contents, x.outcome.entry) ∷ []) (sym h.sent)
+      (only_one side (agent.ReceivePacket h.now (via_out packet) packet.contents, x.outcome.entry)))
 
   -- ---- the premises
 
@@ -178,10 +178,10 @@ module _ {H P : Type 0} (mac : H → List ℕ → List ℕ → List ℕ) (answer
 
   grants : PathLaw {H = H} {P = P} mac answers → ChecksAsk {H = H} {P = P} mac answers → (from : Side) (path : Path) (all : List (Occurrence H P)) (last : WorldRecord H P) (k : HandedCheck mac from path all)
       → Checked from path all last k → AreNominatedOn (at from k.sent.behind) path → (at from k.sent.before).controlling ≡ true → (at (other from) k.comes.handed.before).controlling ≡ false
-      → Grants (at (other from) k.comes.handed.before) (agent.ReceivePacket k.comes.hands.now (way_out k.check) k.check.contents) k.comes.handed.entry.outcome.entry (turned path)
+      → Grants (at (other from) k.comes.handed.before) (agent.ReceivePacket k.comes.hands.now (via_out k.check) k.check.contents) k.comes.handed.entry.outcome.entry (reversed path)
   grants paths asks from path all last k c nominated steers controlled =
       let handed = k.comes.handed in
-      subst (λ w. Grants (at (other from) handed.before) (agent.ReceivePacket k.comes.hands.now (way_out k.check) k.check.contents) handed.entry.outcome.entry (turned w)) k.on
+      subst (λ w. Grants (at (other from) handed.before) (agent.ReceivePacket k.comes.hands.now (via_out k.check) k.check.contents) handed.entry.outcome.entry (reversed w)) k.on
       (asks (at from k.sent.before) (at from k.sent.behind) (at from handed.before) (at (other from) handed.before) (at (other from) handed.behind) c.s c.t k.now k.comes.hands.now
       k.check k.id k.sent.entry.outcome.entry handed.entry.outcome.entry (own from k.comes.between) (c.sound_sent from) (c.sound (other from)) c.step k.sends steers
       (subst (λ w. AreNominatedOn (at from k.sent.behind) w) (sym k.on) nominated) c.between c.course k.know controlled
@@ -244,11 +244,11 @@ module _ {H P : Type 0} (mac : H → List ℕ → List ℕ → List ℕ) (answer
       by false on there = absurd (ends_only side s [] (at side w) b on there).1.1
     ends_at w (world.Poll s) e b course ends =
         let k = ends_only side s (polled_as e.answer (at side w).packets) (at side w) b course ends in absurd (ends_polled e.answer (at side w).packets (at side w) b k.1.0 k.1.1)
-    ends_at w (world.Deliver place now way) e b course ends = by (slice_get w.bag place) course ends where
-      by : (o : Option LetterRecord) (on : Course mac answers (handed_as side now way e o) (at side w) b)
-          → EndsAlong mac answers (handed_as side now way e o) (at side w) b on path → (d : agent.Call P) × (world.Deliver place now way ≡ world.Call side d) × Ends (at side w) d e path
+    ends_at w (world.Deliver place now via) e b course ends = by (slice_get w.bag place) course ends where
+      by : (o : Option InFlightRecord) (on : Course mac answers (handed_as side now via e o) (at side w) b)
+          → EndsAlong mac answers (handed_as side now via e o) (at side w) b on path → (d : agent.Call P) × (world.Deliver place now via ≡ world.Call side d) × Ends (at side w) d e path
       by None on there = absurd there
-      by (Some l) on there = elim (ends_only side (other l.sender) ((agent.ReceivePacket now way l.packet.contents, e) ∷ []) (at side w) b on there).1.1 [
+      by (Some l) on there = elim (ends_only side (other l.sender) ((agent.ReceivePacket now via l.packet.contents, e) ∷ []) (at side w) b on there).1.1 [
         | inl here ↦ absurd here.3
         | inr none ↦ absurd none
       ]
@@ -290,24 +290,24 @@ module _ {H P : Type 0} (mac : H → List ℕ → List ℕ → List ℕ) (answer
     module _ (part whole : List (Occurrence H P)) (w last : WorldRecord H P) (sound : AreSound w) (follow : Follow w part last) (among : (x : Occurrence H P) → Has part x → Has whole x) where
       asked : (from : Side) (path : Path) → ((x : Occurrence H P) → Has part x → ((at (other from) x.before).controlling ≡ false) × ((at from x.before).controlling ≡ true))
           → (at (other from) last).controlling ≡ false → (k : HandedCheck mac from path part) → AreNominatedOn (at from k.sent.behind) path
-          → Granted (other from) (turned path) whole (own (other from) part) (at (other from) w) (at (other from) last)
+          → Granted (other from) (reversed path) whole (own (other from) part) (at (other from) w) (at (other from) last)
       asked from path roles role k nominated =
           let c = checked paths from path part w last k sound follow in
           let handed = k.comes.handed in
           let split : part ≡ (k.before ++ k.sent ∷ k.comes.between) ++ handed ∷ k.comes.rest =
           k.split ∙ (ap (λ xs. k.before ++ k.sent ∷ xs) k.comes.split ∙ sym (append_assoc k.before (k.sent ∷ k.comes.between) (handed ∷ k.comes.rest))) in
           let controlled = role_next (other from) k.comes.rest handed.behind last c.rest (λ x has. (roles x (behind_in from path part k x (inr has))).0) role in
-          subst (λ xs. Granted (other from) (turned path) whole (own (other from) xs) (at (other from) w) (at (other from) last)) (sym split)
-          (granted (other from) (turned path) whole (k.before ++ k.sent ∷ k.comes.between) k.comes.rest handed w last
-          (agent.ReceivePacket k.comes.hands.now (way_out k.check) k.check.contents) (subst (λ xs. Follow w xs last) split follow)
+          subst (λ xs. Granted (other from) (reversed path) whole (own (other from) xs) (at (other from) w) (at (other from) last)) (sym split)
+          (granted (other from) (reversed path) whole (k.before ++ k.sent ∷ k.comes.between) k.comes.rest handed w last
+          (agent.ReceivePacket k.comes.hands.now (via_out k.check) k.check.contents) (subst (λ xs. Follow w xs last) split follow)
           (λ y has. among y (subst (λ xs. Has xs y) (sym split) has)) (handed_is (other from) k.check handed.before handed.entry k.comes.hands)
           (grants paths asks from path part last k c nominated (roles k.sent (sent_in from path part k)).1 (roles handed (behind_in from path part k handed (inl refl))).0)
           controlled)
 
       asked_for : (side : Side) (path : Path) → ((x : Occurrence H P) → Has part x → ((at side x.before).controlling ≡ false) × ((at (other side) x.before).controlling ≡ true))
           → (at side last).controlling ≡ false → IsAskedOver mac side path part → Granted side path whole (own side part) (at side w) (at side last)
-      asked_for A path roles role (k, nominated) = asked B (turned path) roles role k (search nominated)
-      asked_for B path roles role (k, nominated) = asked A (turned path) roles role k (search nominated)
+      asked_for A path roles role (k, nominated) = asked B (reversed path) roles role k (search nominated)
+      asked_for B path roles role (k, nominated) = asked A (reversed path) roles role k (search nominated)
 
       pub answered : (side : Side) (path : Path) → ((x : Occurrence H P) → Has part x → ((at side x.before).controlling ≡ false) × ((at (other side) x.before).controlling ≡ true))
           → IsExchangedOver mac side path part → IsAnsweredAlong (own side part) path
@@ -323,32 +323,32 @@ module _ {H P : Type 0} (mac : H → List ℕ → List ℕ → List ℕ) (answer
           let reply = there.1.0 in
           let back : Arrival side side reply k.comes.rest = search (returns reply there.1.2) in
           let m = meet back.between back.rest back.handed handed.behind last (subst (λ xs. Follow handed.behind xs last) back.split c.rest) in
-          let call : agent.Call P = agent.ReceivePacket back.hands.now (way_out reply) reply.contents in
+          let call : agent.Call P = agent.ReceivePacket back.hands.now (via_out reply) reply.contents in
           let taken = there.1.3 (at side back.handed.before) (at side back.handed.behind) (own side back.between) back.hands.now back.handed.entry.outcome.entry
           (own_between side back.between (polls_between side side reply k.comes.rest back))
           (subst (λ (z : AgentRecord H P). Course mac answers (own side back.between) z (at side back.handed.before))
           (aside mac answers side k.check handed.before handed.behind c.u c.v handed.entry k.comes.hands c.happens)
           (own_course side back.between handed.behind back.handed.before m.led))
           (delivered mac answers side reply back.handed.before back.handed.behind m.s m.t back.handed.entry back.hands m.happens) in
-          let goes : goes_back (way_out reply) path ≡ true = subst (λ y. goes_back y path ≡ true) (sym (there.1.1 ∙ ap turned k.on)) (back_again path) in
+          let goes : goes_back (via_out reply) path ≡ true = subst (λ y. goes_back y path ≡ true) (sym (there.1.1 ∙ ap reversed k.on)) (back_again path) in
           let has : Has part back.handed = behind_in side path part k back.handed (inr (subst (λ xs. Has xs back.handed) (sym back.split) (middle back.between back.rest back.handed))) in (
             (call, back.handed.entry.outcome.entry),
             own_has side part back.handed (call, back.handed.entry.outcome.entry) has (handed_has mac answers side reply back.handed.before back.handed.entry back.hands),
-            (back.hands.now, way_out reply, taken.0, taken.1, taken.2, goes),
+            (back.hands.now, via_out reply, taken.0, taken.1, taken.2, goes),
           )
 
   -- what was told in the course was announced in the world
-  told_back : (side : Side) (before part : List (Occurrence H P)) (moment : Occurrence H P) (first start near : WorldRecord H P) (c d : agent.Call P) → Follow first before start → Follow start part near
+  emitted_back : (side : Side) (before part : List (Occurrence H P)) (moment : Occurrence H P) (first start near : WorldRecord H P) (c d : agent.Call P) → Follow first before start → Follow start part near
       → moment.entry.outcome.side ≡ Some side → AnnouncesAlong ((c, quiet Done) ∷ (own side before ++ (own side part ++ (d, moment.entry.outcome.entry) ∷ [])))
       → (x : Occurrence H P) × Has (before ++ (part ++ moment ∷ [])) x × Announces side x.entry
-  told_back side before part moment first start near c d led on side_is (y, inl is, told) =
-      absurd (let no : false ≡ true = ap (λ (z : agent.Call P × Entry). is_some (last_of z.1.told.announced)) is ∙ told in cc)
-  told_back side before part moment first start near c d led on side_is (y, inr has, told) = elim (either_has (own side before) (own side part ++ (d, moment.entry.outcome.entry) ∷ []) y has) [
-    | inl h ↦ (let m = own_told side before first start led y h told in (m.0, Has-front before (part ++ moment ∷ []) m.0 m.1, m.2))
+  emitted_back side before part moment first start near c d led on side_is (y, inl is, emitted) =
+      absurd (let no : false ≡ true = ap (λ (z : agent.Call P × Entry). is_some (last_of z.1.emitted.announced)) is ∙ emitted in cc)
+  emitted_back side before part moment first start near c d led on side_is (y, inr has, emitted) = elim (either_has (own side before) (own side part ++ (d, moment.entry.outcome.entry) ∷ []) y has) [
+    | inl h ↦ (let m = own_emitted side before first start led y h emitted in (m.0, Has-front before (part ++ moment ∷ []) m.0 m.1, m.2))
     | inr h ↦ elim (either_has (own side part) ((d, moment.entry.outcome.entry) ∷ []) y h) [
-      | inl i ↦ (let m = own_told side part start near on y i told in (m.0, Has-rear before (part ++ moment ∷ []) m.0 (Has-front part (moment ∷ []) m.0 m.1), m.2))
+      | inl i ↦ (let m = own_emitted side part start near on y i emitted in (m.0, Has-rear before (part ++ moment ∷ []) m.0 (Has-front part (moment ∷ []) m.0 m.1), m.2))
       | inr i ↦ elim i [
-        | inl is ↦ (moment, Has-rear before (part ++ moment ∷ []) moment (middle part [] moment), (side_is, ap (λ (z : agent.Call P × Entry). is_some (last_of z.1.told.announced)) is ∙ told))
+        | inl is ↦ (moment, Has-rear before (part ++ moment ∷ []) moment (middle part [] moment), (side_is, ap (λ (z : agent.Call P × Entry). is_some (last_of z.1.emitted.announced)) is ∙ emitted))
         | inr none ↦ absurd none
       ]
     ]
@@ -382,7 +382,7 @@ module _ {H P : Type 0} (mac : H → List ℕ → List ℕ → List ℕ) (answer
       (own side part) m.s m.t now moment.entry.outcome.entry path (n.0, n.1, refl)
       (at side first, s, s, tt, (refl, n.3, refl), own_course side before first start led.1)
       g.0 (turn_step mac answers moment.before moment.behind m.s m.t side (agent.HandleTimeout now) moment.entry.outcome turn) done none g.2 h.1 alone) [
-        | inl told ↦ inl (told_back side before part moment first start moment.before (agent.SetControlling n.2) (agent.HandleTimeout now) led.1 m.led turn.side_is told.0, told.1)
+        | inl emitted ↦ inl (emitted_back side before part moment first start moment.before (agent.SetControlling n.2) (agent.HandleTimeout now) led.1 m.led turn.side_is emitted.0, emitted.1)
         | inr ends ↦ inr (elim ends [
           | inl e ↦ g.1 e
           | inr e ↦ (moment, middle part [] moment, (agent.HandleTimeout now, comes, e))

@@ -6,8 +6,8 @@ use Rattle.std.proofs.lemmas.Option.{slice_get_within}
 use Rattle.is_stun.specs.declared.header.Class.{Class}
 use Rattle.is_stun.specs.declared.header.Class.TheVariants as class
 use Rattle.is_stun.specs.declared.trans_id.TransId.{TransId}
-use Rattle.is_rules.specs.declared.told.Issued as told
-use Rattle.is_rules.specs.declared.told.Path.{Path}
+use Rattle.is_rules.specs.declared.emitted.Issued as emitted
+use Rattle.is_rules.specs.declared.emitted.Path.{Path}
 use Rattle.is.specs.declared.traces.Mark.{Mark}
 use Rattle.is.specs.declared.traces.Mark.TheVariants.{Taken, Issued, Cleared}
 use Rattle.is.specs.declared.traces.Trace.{Trace}
@@ -28,19 +28,19 @@ compared (suc m) (suc n) = elim (compared m n) [
 
 -- ---- what an entry issued
 
-class_or : Class → Option told.Issued → Class
-class_or c o = option_map_or (λ (i : told.Issued). i.class) o c
+class_or : Class → Option emitted.Issued → Class
+class_or c o = option_map_or (λ (i : emitted.Issued). i.class) o c
 
-id_or : TransId → Option told.Issued → TransId
-id_or id o = option_map_or (λ (i : told.Issued). i.id) o id
+id_or : TransId → Option emitted.Issued → TransId
+id_or id o = option_map_or (λ (i : emitted.Issued). i.id) o id
 
-pub issued_iff : (o : Option told.Issued) (i : told.Issued) (c : Class) (id : TransId) (b : Bool) → o ≡ Some i → (IsTrue b ↔ ((i.class ≡ c) × (i.id ≡ id)))
+pub issued_iff : (o : Option emitted.Issued) (i : emitted.Issued) (c : Class) (id : TransId) (b : Bool) → o ≡ Some i → (IsTrue b ↔ ((i.class ≡ c) × (i.id ≡ id)))
     → (IsTrue b ↔ ((path : Path) × (o ≡ Some record { path = path; class = c; id = id })))
 unfolding class_or id_or
 issued_iff o i c id b is iff = (
   λ holds. (
       let k = iff.0 holds in
-      (i.path, is ∙ ap (λ x. let y : told.Issued = record { path = i.path; class = x; id = i.id } in Some y) k.0 ∙ ap (λ x. let y : told.Issued = record { path = i.path; class = c; id = x } in Some y) k.1)),
+      (i.path, is ∙ ap (λ x. let y : emitted.Issued = record { path = i.path; class = x; id = i.id } in Some y) k.0 ∙ ap (λ x. let y : emitted.Issued = record { path = i.path; class = c; id = x } in Some y) k.1)),
   λ some. iff.1 (ap (class_or i.class) (sym is ∙ some.1), ap (id_or i.id) (sym is ∙ some.1)),
 )
 

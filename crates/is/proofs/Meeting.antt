@@ -9,7 +9,7 @@ use Rattle.is_proto.specs.Packets.{Packet}
 use Rattle.is_candidate.specs.Candidates.{CandidateRecord}
 use Rattle.is_stun.specs.declared.header.Class.TheVariants.{Request, Failure}
 use Rattle.is_rules.specs.Agent.{AgentRecord}
-use Rattle.is_rules.specs.Conflicts.{ConflictsSettle, IsInsisted, handing}
+use Rattle.is_rules.specs.Conflicts.{ConflictsSettle, IsConflictSent, handing}
 use Rattle.is_rules.specs.Delivery.{Sends}
 use Rattle.is_rules.specs.Effects.{PathLaw}
 use Rattle.is_rules.specs.Exchange.{AreBetween, Course}
@@ -24,16 +24,16 @@ use Rattle.is.specs.Meetings.{AreOpposite, Confronts, IsMeeting, RolesMeet}
 use Rattle.is.specs.World.{WorldRecord, Event, Logged, Happens, Run, at, other}
 use Rattle.is.specs.WorldRoles.{IsFairWorld, Makes, Meets, role_in}
 use Rattle.is.proofs.Connected.{delivered, aside}
-use Rattle.is.proofs.Following.{seen_of, told_at, AreSound, event}
+use Rattle.is.proofs.Following.{seen_of, emitted_at, AreSound, event}
 use Rattle.is.proofs.Owning.{twice, between_both, acts, acts_between, course_on, turn_step, acts_course, role_behind}
 use Rattle.is.proofs.Seen as seen
-use Rattle.is.proofs.Seen.{Seen, Happening, told_of}
+use Rattle.is.proofs.Seen.{Seen, Happening, emitted_of}
 use Rattle.is.proofs.SeenCarried.{sides}
 use Rattle.is.proofs.SeenRuns.{reaches, event_apart}
 use Rattle.is.proofs.Settled.{premises_seen, sound_first, role_of, met_seen, map-append}
 
-run_on : (first mid last : Seen) (log : List Happening) (x : Happening) → seen.Run first log mid → seen.Happens mid x.kind x.told last → seen.Run first (log ++ x ∷ []) last
-run_on first mid last [] x is happens = (last, subst (λ (v : Seen). seen.Happens v x.kind x.told last) is happens, refl)
+run_on : (first mid last : Seen) (log : List Happening) (x : Happening) → seen.Run first log mid → seen.Happens mid x.kind x.emitted last → seen.Run first (log ++ x ∷ []) last
+run_on first mid last [] x is happens = (last, subst (λ (v : Seen). seen.Happens v x.kind x.emitted last) is happens, refl)
 run_on first mid last (y ∷ log) x (next, there, more) happens = (next, there, run_on next mid last log x more happens)
 
 one_or_other : (b c : Bool) → (b ≡ c) ⊎ (b ≡ not c)
@@ -68,14 +68,14 @@ module _ {H P : Type 0} where
     record Comes (w : WorldRecord H P) (left : List (Logged P)) : Type 0 where
       front : List Happening
       led : seen.Run (seen_of first) front (seen_of w)
-      fair : seen.Premises (seen_of first) greater (told_of front ++ map told_at left)
+      fair : seen.Premises (seen_of first) greater (emitted_of front ++ map emitted_at left)
       sound : AreSound w
 
     role_kept : (w : WorldRecord H P) (left : List (Logged P)) → Comes w left → (at greater w).controlling ≡ (at greater first).controlling
-    role_kept w left k = sym (role_of greater w) ∙ (reaches (seen_of first) (seen_of w) k.front (map told_at left) greater k.fair k.led).role ∙ role_of greater first
+    role_kept w left k = sym (role_of greater w) ∙ (reaches (seen_of first) (seen_of w) k.front (map emitted_at left) greater k.fair k.led).role ∙ role_of greater first
 
     tie_kept : (w : WorldRecord H P) (left : List (Logged P)) (side : Side) → Comes w left → (at side w).tie_breaker ≡ (at side first).tie_breaker
-    tie_kept w left side k = sym (tie_of side w) ∙ (reaches (seen_of first) (seen_of w) k.front (map told_at left) greater k.fair k.led).tie side ∙ tie_of side first
+    tie_kept w left side k = sym (tie_of side w) ∙ (reaches (seen_of first) (seen_of w) k.front (map emitted_at left) greater k.fair k.led).tie side ∙ tie_of side first
 
     module _ (mac : H → List ℕ → List ℕ → List ℕ) (answers : P → CandidateRecord → ℕ → ℕ → Type 0) (paths : PathLaw {H = H} {P = P} mac answers) (roles : RoleLaw {H = H} {P = P} mac answers) where
       -- ---- one event
@@ -83,23 +83,23 @@ module _ {H P : Type 0} where
       comes_on : (w w' : WorldRecord H P) (s t : Stream) (x : Logged P) (left : List (Logged P)) → Comes w (x ∷ left) → Happens mac answers w s x.event x.outcome w' t → Comes w' left
       comes_on w w' s t x left k happens =
           let c = event mac answers paths roles w w' s t x k.sound happens in
-          let h : Happening = record { kind = c.kind; told = told_at x } in record {
+          let h : Happening = record { kind = c.kind; emitted = emitted_at x } in record {
             front = k.front ++ h ∷ [];
             led = run_on (seen_of first) (seen_of w) (seen_of w') k.front h k.led c.happens;
             fair = subst (λ es. seen.Premises (seen_of first) greater es)
-                (sym (ap (λ es. es ++ map told_at left) (map-append (λ (y : Happening). y.told) k.front (h ∷ [])) ∙ append_assoc (told_of k.front) (told_at x ∷ []) (map told_at left))) k.fair;
+                (sym (ap (λ es. es ++ map emitted_at left) (map-append (λ (y : Happening). y.emitted) k.front (h ∷ [])) ∙ append_assoc (emitted_of k.front) (emitted_at x ∷ []) (map emitted_at left))) k.fair;
             sound = c.sound;
           }
 
       apart_on : (w w' : WorldRecord H P) (s t : Stream) (x : Logged P) (left : List (Logged P)) → Comes w (x ∷ left) → Happens mac answers w s x.event x.outcome w' t → Apart w → Apart w'
       apart_on w w' s t x left k happens differs =
           let c = event mac answers paths roles w w' s t x k.sound happens in
-          event_apart (seen_of first) (seen_of w) (seen_of w') k.front (map told_at left) c.kind (told_at x) greater k.fair k.led c.happens (inr differs)
+          event_apart (seen_of first) (seen_of w) (seen_of w') k.front (map emitted_at left) c.kind (emitted_at x) greater k.fair k.led c.happens (inr differs)
 
       met_on : (w w' : WorldRecord H P) (s t : Stream) (x : Logged P) (left : List (Logged P)) → Comes w (x ∷ left) → Happens mac answers w s x.event x.outcome w' t → Meets (other greater) w x → Apart w'
       met_on w w' s t x left k happens (c, makes, met) =
           let e = event mac answers paths roles w w' s t x k.sound happens in
-          event_apart (seen_of first) (seen_of w) (seen_of w') k.front (map told_at left) e.kind (told_at x) greater k.fair k.led e.happens
+          event_apart (seen_of first) (seen_of w) (seen_of w') k.front (map emitted_at left) e.kind (emitted_at x) greater k.fair k.led e.happens
           (inl (met_seen (other greater) w c x.outcome.entry e.kind (e.made (other greater) c makes) met))
 
       -- ---- events
@@ -118,17 +118,17 @@ module _ {H P : Type 0} where
 
       -- ---- the check of a side, and its 487
 
-      module _ (settles : ConflictsSettle {H = H} {P = P} mac answers) (side : Side) (left : List (Logged P)) (less : (at (other greater) first).tie_breaker < (at greater first).tie_breaker) where
+      module _ (resolves : ConflictsSettle {H = H} {P = P} mac answers) (side : Side) (left : List (Logged P)) (less : (at (other greater) first).tie_breaker < (at greater first).tie_breaker) where
         -- the 487 comes back to the lesser one
-        returns : (near a b served : AgentRecord H P) (check : Packet) (id : List ℕ) (handed : Entry) → side ≡ other greater → (i : IsInsisted mac answers a near b served check id handed)
+        returns : (near a b served : AgentRecord H P) (check : Packet) (id : List ℕ) (handed : Entry) → side ≡ other greater → (i : IsConflictSent mac answers a near b served check id handed)
             → (log : List (Logged P)) (w last : WorldRecord H P) (s t : Stream) (n : ℕ) (run : Run mac answers w s n log last t) (ys : List (agent.Call P × Entry))
             → AreBetween ys → Course mac answers ys near (at side w) → ((x : Logged P) → Has log x → MakesPolls side x.event) → Comes w (log ++ left)
             → Returns mac answers side i.refusal w s n log last t run → Apart last
         returns near a b served check id handed lesser i [] w last s t n run ys fits course polls k comes = absurd comes
         returns near a b served check id handed lesser i (x ∷ rest) w last s t n (mid, u, number, happens, run) ys fits course polls k (inl h) =
-            let (now, way, path, m, role, brings, failure, conflict, kept, gives) =
+            let (now, via, path, m, role, brings, failure, conflict, kept, gives) =
             (i.returns (at side w) (at side mid) ys h.now x.outcome.entry fits course (delivered mac answers side i.refusal w mid s u x h happens)).0 in
-            let met : Meets side w x = (handing i.refusal h.now, handed_makes side i.refusal w x h, inr (now, way, m, brings, failure, conflict)) in
+            let met : Meets side w x = (handing i.refusal h.now, handed_makes side i.refusal w x h, inr (now, via, m, brings, failure, conflict)) in
             let differs : Apart mid = met_on w mid s u x (rest ++ left) k happens (subst (λ z. Meets z w x) lesser met) in
             (apart_run rest left mid last u t (suc n) (comes_on w mid s u x (rest ++ left) k happens) run differs).0
         returns near a b served check id handed lesser i (x ∷ rest) w last s t n (mid, u, number, happens, run) ys fits course polls k (inr later) =
@@ -141,12 +141,12 @@ module _ {H P : Type 0} where
             (step : Step mac answers a s₀ (agent.HandleTimeout now) moment sent t₀) (sends : Sends a moment Request id check sent)
             (role_a : a.controlling ≡ (at greater first).controlling) (tie_a : a.tie_breaker ≡ (at side first).tie_breaker) where
           -- the lesser one's check comes to the greater one, which has its role
-          insisted : (w mid last : WorldRecord H P) (s u t : Stream) (n : ℕ) (x : Logged P) (rest : List (Logged P)) (run : Run mac answers mid u (suc n) rest last t) → side ≡ other greater
+          conflict_sent : (w mid last : WorldRecord H P) (s u t : Stream) (n : ℕ) (x : Logged P) (rest : List (Logged P)) (run : Run mac answers mid u (suc n) rest last t) → side ≡ other greater
               → Comes w (x ∷ (rest ++ left)) → Happens mac answers w s x.event x.outcome mid u → ((y : Logged P) → Has rest y → MakesPolls side y.event)
-              → IsInsisted mac answers a (at side w) (at (other side) w) (at (other side) mid) check id x.outcome.entry
+              → IsConflictSent mac answers a (at side w) (at (other side) w) (at (other side) mid) check id x.outcome.entry
               → ((refusal : Packet) → Sends (at (other side) w) x.outcome.entry Failure id refusal (at (other side) mid) → Returns mac answers side refusal mid u (suc n) rest last t run)
               → at side mid ≡ at side w → Apart last
-          insisted w mid last s u t n x rest run lesser k happens polls i back same =
+          conflict_sent w mid last s u t n x rest run lesser k happens polls i back same =
               returns (at side w) a (at (other side) w) (at (other side) mid) check id x.outcome.entry lesser i rest mid last u t (suc n) run []
               (λ y none. absurd none) same polls (comes_on w mid s u x (rest ++ left) k happens) (back i.refusal i.sends)
 
@@ -155,7 +155,7 @@ module _ {H P : Type 0} where
               → Confronts mac answers side check id w s n log last t run → Apart last
           confronts [] w last s t n run xs fits course polls k comes = absurd comes
           confronts (x ∷ rest) w last s t n (mid, u, number, happens, run) xs fits course polls k (inl (h, know, reached, back)) =
-              let there = settles a sent (at side w) (at (other side) w) (at (other side) mid) s₀ t₀ now h.now check id moment x.outcome.entry xs sound_a (k.sound (other side))
+              let there = resolves a sent (at side w) (at (other side) w) (at (other side) mid) s₀ t₀ now h.now check id moment x.outcome.entry xs sound_a (k.sound (other side))
               step sends fits course know reached (delivered mac answers (other side) check w mid s u x h happens) in
               elim (sides side greater) [
                 | inl is ↦ (
@@ -172,7 +172,7 @@ module _ {H P : Type 0} where
                     (subst (λ z. (at (other greater) first).tie_breaker < (at z first).tie_breaker) (sym there_is) less) in
                     elim (there.1 alike) [
                       | inl (below, _) ↦ absurd (let none : ⊥ = omega (arith, below, above, tie_a, tie_b) in none)
-                      | inr i ↦ insisted w mid last s u t n x rest run lesser k happens (λ y has. polls y (inr has)) i (λ refusal gives. search (back refusal gives))
+                      | inr i ↦ conflict_sent w mid last s u t n x rest run lesser k happens (λ y has. polls y (inr has)) i (λ refusal gives. search (back refusal gives))
                           (aside mac answers side check w mid s u x h happens)
                     ])
               ]
@@ -183,7 +183,7 @@ module _ {H P : Type 0} where
               (λ y has. polls y (inr has)) (comes_on w mid s u x (rest ++ left) k happens) later
 
 module _ {H P : Type 0} (mac : H → List ℕ → List ℕ → List ℕ) (answers : P → CandidateRecord → ℕ → ℕ → Type 0) (paths : PathLaw {H = H} {P = P} mac answers) (roles : RoleLaw {H = H} {P = P} mac answers)
-    (new_sound : FreshIsSound H P) (settles : ConflictsSettle {H = H} {P = P} mac answers) where
+    (new_sound : FreshIsSound H P) (resolves : ConflictsSettle {H = H} {P = P} mac answers) where
   -- roles alike at the start of the moment
   met : (first : WorldRecord H P) (greater side : Side) (left : List (Logged P)) (r : WorldRound P) (check : Packet) (id : List ℕ) (start last : WorldRecord H P) (u t : Stream) (n : ℕ)
       → (at (other greater) first).tie_breaker < (at greater first).tie_breaker → Comes first greater start (r.moment ∷ (r.behind ++ left)) → IsMeeting mac answers side check id r start u n last t
@@ -191,7 +191,7 @@ module _ {H P : Type 0} (mac : H → List ℕ → List ℕ → List ℕ) (answer
   met first greater side left r check id start last u t n less k m role =
       let moved : Step mac answers (at side start) u (agent.HandleTimeout r.now) r.moment.outcome.entry (at side m.mid) m.u =
       turn_step mac answers start m.mid u m.u side (agent.HandleTimeout r.now) r.moment.outcome (subst (λ (v : Event P). Happens mac answers start u v r.moment.outcome m.mid m.u) m.comes m.happens) in
-      confronts first greater mac answers paths roles settles side left less (at side start) (at side m.mid) u m.u r.now r.moment.outcome.entry check id (k.sound side) moved m.sends role
+      confronts first greater mac answers paths roles resolves side left less (at side start) (at side m.mid) u m.u r.now r.moment.outcome.entry check id (k.sound side) moved m.sends role
       (tie_kept first greater start (r.moment ∷ (r.behind ++ left)) side k) r.behind m.mid last m.u t (suc n) m.run [] (λ y none. absurd none) refl (λ x has. search (m.polls x has))
       (comes_on first greater mac answers paths roles start m.mid u m.u r.moment (r.behind ++ left) k m.happens) m.confronts
 
@@ -202,7 +202,7 @@ module _ {H P : Type 0} (mac : H → List ℕ → List ℕ → List ℕ) (answer
       let k0 : Comes first greater first whole = record {
         front = [];
         led = refl;
-        fair = premises_seen first greater whole (map told_at whole) refl fair_whole;
+        fair = premises_seen first greater whole (map emitted_at whole) refl fair_whole;
         sound = sound_first new_sound first greater whole fair_whole;
       } in
       let k = comes_run first greater mac answers paths roles before (r.moment ∷ (r.behind ++ rest)) first start s u 0 k0 led in

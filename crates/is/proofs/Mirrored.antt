@@ -6,7 +6,7 @@ use Rattle.rand_core.specs.Stream.{Stream}
 use Rattle.is_proto.specs.Lists.{Has}
 use Rattle.is_candidate.specs.Candidates.{CandidateRecord}
 use Rattle.is_pair.specs.Pairs.{PairRecord}
-use Rattle.is_rules.specs.declared.told.Path.{Path}
+use Rattle.is_rules.specs.declared.emitted.Path.{Path}
 use Rattle.is_rules.specs.Agent.{AgentRecord}
 use Rattle.is_rules.specs.Brought.{IsValidOn, IsAnswered}
 use Rattle.is_rules.specs.Effects.{PathLaw}
@@ -14,13 +14,13 @@ use Rattle.is_rules.specs.Sending.{path_of}
 use Rattle.is_rules.specs.Sound.{FreshIsSound}
 use Rattle.is_rules.specs.Steps as agent
 use Rattle.is_rules.specs.Steps.{Answer, Entry}
-use Rattle.is_rules.specs.Told.{turned}
+use Rattle.is_rules.specs.Emitted.{reversed}
 use Rattle.is.specs.declared.world.Side.{Side}
 use Rattle.is.specs.declared.world.Side.TheVariants.{A, B}
 use Rattle.is.specs.Grantings.{Occurrence, occurrences_in}
 use Rattle.is.specs.Mirrors.{Tells, KeepsTo, LonePathsMirror}
 use Rattle.is.specs.World as world
-use Rattle.is.specs.World.{WorldRecord, LetterRecord, Event, Outcome, Logged, Turns, Stands, Happens, Run, at, other, in_world, plain}
+use Rattle.is.specs.World.{WorldRecord, InFlightRecord, Event, Outcome, Logged, Turns, Stands, Happens, Run, at, other, in_world, plain}
 use Rattle.is.specs.WorldRoles.{IsNewAgent}
 use Rattle.is.proofs.Following.{AreSound}
 use Rattle.is.proofs.Settled.{sound_new}
@@ -35,7 +35,7 @@ some_is : {X : Type 0} (x y : X) → Some x ≡ Some y → x ≡ y
 some_is x y is = cc
 
 plain_tells : {H P : Type 0} (x : Occurrence H P) (answer : Answer) (o : Option Side) (roles : List Bool) (side : Side) (path : Path) → x.entry.outcome ≡ plain answer o roles → Tells side path x → ⊥
-plain_tells x answer o roles side path is (its, has) = elim (subst (λ (e : Outcome). Has e.entry.told.announced (Some path)) is has) [
+plain_tells x answer o roles side path is (its, has) = elim (subst (λ (e : Outcome). Has e.entry.emitted.announced (Some path)) is has) [
   | inl is ↦ (let none : None ≡ Some path = is in cc)
   | inr more ↦ elim more [
     | inl is ↦ (let none : None ≡ Some path = is in cc)
@@ -64,32 +64,32 @@ module _ {H P : Type 0} (mac : H → List ℕ → List ℕ → List ℕ) (answer
     -- all that the side announces is the path
     tells : (x : Occurrence H P) (s t : Stream) (v : Event P) (side : Side) (path one : Path) → AreSound x.before → KeepsTo side path x.before → Tells side one x
         → Happens mac answers x.before s v x.entry.outcome x.behind t → one ≡ path
-    tells x s t (world.Call z c) side path one sound keeps told h = by (in_world c) h where
+    tells x s t (world.Call z c) side path one sound keeps emitted h = by (in_world c) h where
       by : (b : Bool) → MatchBool b (Turns mac answers x.before s z c x.entry.outcome x.behind t) (Stands mac answers x.before s agent.NotInWorld (Some z) x.entry.outcome x.behind t) → one ≡ path
-      by true k = turn_tells x s t side z c path one sound keeps told k
-      by false k = absurd (plain_tells x agent.NotInWorld (Some z) (world.roles_of x.before) side one k.2 told)
-    tells x s t (world.Poll z) side path one sound keeps told k = absurd (plain_tells x k.answer (Some z) (world.roles_of x.behind) side one k.told told)
-    tells x s t (world.Deliver place now way) side path one sound keeps told h = by (slice_get x.before.bag place) h where
-      by : (o : Option LetterRecord) → world.Delivers mac answers x.before s o now way x.entry.outcome x.behind t → one ≡ path
-      by None k = absurd (plain_tells x agent.NoSuchPacket None (world.roles_of x.before) side one k.2 told)
-      by (Some l) k = turn_tells x s t side (other l.sender) (agent.ReceivePacket now way l.packet.contents) path one sound keeps told k
+      by true k = turn_tells x s t side z c path one sound keeps emitted k
+      by false k = absurd (plain_tells x agent.NotInWorld (Some z) (world.roles_of x.before) side one k.2 emitted)
+    tells x s t (world.Poll z) side path one sound keeps emitted k = absurd (plain_tells x k.answer (Some z) (world.roles_of x.behind) side one k.emitted emitted)
+    tells x s t (world.Deliver place now via) side path one sound keeps emitted h = by (slice_get x.before.bag place) h where
+      by : (o : Option InFlightRecord) → world.Delivers mac answers x.before s o now via x.entry.outcome x.behind t → one ≡ path
+      by None k = absurd (plain_tells x agent.NoSuchPacket None (world.roles_of x.before) side one k.2 emitted)
+      by (Some l) k = turn_tells x s t side (other l.sender) (agent.ReceivePacket now via l.packet.contents) path one sound keeps emitted k
 
     tells_in : (xs : List (Occurrence H P)) (w last : WorldRecord H P) → Follow mac answers w xs last → AreSound w → (x : Occurrence H P) → Has xs x
         → (side : Side) (path one : Path) → KeepsTo side path x.before → Tells side one x → one ≡ path
-    tells_in [] w last is sound x has side path one keeps told = absurd has
-    tells_in (y ∷ rest) w last (from, s, t, happens, more) sound x (inl is) side path one keeps told =
+    tells_in [] w last is sound x has side path one keeps emitted = absurd has
+    tells_in (y ∷ rest) w last (from, s, t, happens, more) sound x (inl is) side path one keeps emitted =
         subst (λ (u : Occurrence H P). KeepsTo side path u.before → Tells side one u → one ≡ path) is
-        (λ k m. tells y s t y.entry.event side path one (subst AreSound (sym from) sound) k m happens) keeps told
-    tells_in (y ∷ rest) w last (from, s, t, happens, more) sound x (inr has) side path one keeps told =
-        tells_in rest y.behind last more (sound_on mac answers paths y.before y.behind s t y.entry (subst AreSound (sym from) sound) happens) x has side path one keeps told
+        (λ k m. tells y s t y.entry.event side path one (subst AreSound (sym from) sound) k m happens) keeps emitted
+    tells_in (y ∷ rest) w last (from, s, t, happens, more) sound x (inr has) side path one keeps emitted =
+        tells_in rest y.behind last more (sound_on mac answers paths y.before y.behind s t y.entry (subst AreSound (sym from) sound) happens) x has side path one keeps emitted
 
   pub lone_paths_mirror : PathLaw {H = H} {P = P} mac answers → FreshIsSound H P → (first : WorldRecord H P) (s : Stream) (log : List (Logged P)) → LonePathsMirror mac answers first s log
-  lone_paths_mirror paths new_sound first s log last t run x y side path one two new keep has_x has_y told_x told_y =
+  lone_paths_mirror paths new_sound first s log last t run x y side path one two new keep has_x has_y emitted_x emitted_y =
       let sound : AreSound first = λ z. sound_new new_sound (at z first) (new z) in
       let all = occurrences_in mac answers first s 0 log last t run in
       let follow = follows mac answers first last s t 0 log run in
       let here : KeepsTo side path x.before = search (keep x has_x) in
-      let there : KeepsTo (other side) (turned path) y.before = search (keep y has_y) in
-      let a : one ≡ path = tells_in paths all first last follow sound x has_x side path one here told_x in
-      let b : two ≡ turned path = tells_in paths all first last follow sound y has_y (other side) (turned path) two there told_y in
+      let there : KeepsTo (other side) (reversed path) y.before = search (keep y has_y) in
+      let a : one ≡ path = tells_in paths all first last follow sound x has_x side path one here emitted_x in
+      let b : two ≡ reversed path = tells_in paths all first last follow sound y has_y (other side) (reversed path) two there emitted_y in
       cc

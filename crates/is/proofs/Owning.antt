@@ -5,7 +5,7 @@ use Rattle.rand_core.specs.Stream.{Stream}
 use Rattle.is_proto.specs.Lists.{Has}
 use Rattle.is_proto.specs.Packets.{Packet}
 use Rattle.is_candidate.specs.Candidates.{CandidateRecord}
-use Rattle.is_rules.specs.declared.told.Path.{Path}
+use Rattle.is_rules.specs.declared.emitted.Path.{Path}
 use Rattle.is_rules.specs.Agent.{AgentRecord}
 use Rattle.is_rules.specs.Courses.{ControlsAlong}
 use Rattle.is_rules.specs.Effects.{PathLaw, last_of}
@@ -19,7 +19,7 @@ use Rattle.is.specs.declared.world.Side.{Side}
 use Rattle.is.specs.declared.world.Side.TheVariants.{A, B}
 use Rattle.is.specs.Deliveries.{MakesPolls, Announces}
 use Rattle.is.specs.World as world
-use Rattle.is.specs.World.{WorldRecord, LetterRecord, Event, Outcome, Logged, PolledInto, Turns, Stands, Happens, Run, at, other, in_world, roles_of}
+use Rattle.is.specs.World.{WorldRecord, InFlightRecord, Event, Outcome, Logged, PolledInto, Turns, Stands, Happens, Run, at, other, in_world, roles_of}
 use Rattle.is.specs.WorldRoles.{role_at, role_in}
 use Rattle.is.proofs.Following.{AreSound}
 
@@ -57,7 +57,7 @@ twice B = refl
 -- ---- calls
 
 poll_between : {P : Type 0} (c : agent.Call P) → is_poll c ≡ true → is_between c ≡ true
-poll_between (agent.ReceivePacket now way bytes) is = refl
+poll_between (agent.ReceivePacket now path bytes) is = refl
 poll_between _ is = is
 
 pub between_both : {P : Type 0} (xs ys : List (agent.Call P × Entry)) → AreBetween xs → AreBetween ys → AreBetween (xs ++ ys)
@@ -73,14 +73,14 @@ abbrev pub polled_as : {P : Type 0} → Answer → List Packet → List (agent.C
 polled_as (Refused error) ps = []
 polled_as _ ps = (agent.PollTransmit, quiet (Polled (first_of ps))) ∷ []
 
-abbrev pub handed_as : {P : Type 0} → Side → ℕ → Path → Entry → Option LetterRecord → List (agent.Call P × Entry)
-handed_as side now way e None = []
-handed_as side now way e (Some l) = only side (other l.sender) ((agent.ReceivePacket now way l.packet.contents, e) ∷ [])
+abbrev pub handed_as : {P : Type 0} → Side → ℕ → Path → Entry → Option InFlightRecord → List (agent.Call P × Entry)
+handed_as side now path e None = []
+handed_as side now path e (Some l) = only side (other l.sender) ((agent.ReceivePacket now path l.packet.contents, e) ∷ [])
 
-poll_told : {P : Type 0} (answer : Answer) (ps : List Packet) (y : agent.Call P × Entry) → Has (polled_as answer ps) y → is_some (last_of y.1.told.announced) ≡ true → ⊥
-poll_told (Refused error) ps y has told = has
-poll_told _ ps y (inl is) told = let no : false ≡ true = ap (λ (z : agent.Call _ × Entry). is_some (last_of z.1.told.announced)) is ∙ told in cc
-poll_told _ ps y (inr none) told = none
+poll_emitted : {P : Type 0} (answer : Answer) (ps : List Packet) (y : agent.Call P × Entry) → Has (polled_as answer ps) y → is_some (last_of y.1.emitted.announced) ≡ true → ⊥
+poll_emitted (Refused error) ps y has emitted = has
+poll_emitted _ ps y (inl is) emitted = let no : false ≡ true = ap (λ (z : agent.Call _ × Entry). is_some (last_of z.1.emitted.announced)) is ∙ emitted in cc
+poll_emitted _ ps y (inr none) emitted = none
 
 polled_between : {P : Type 0} (answer : Answer) (ps : List Packet) → AreBetween {P = P} (polled_as answer ps)
 polled_between (Refused error) ps y has = absurd has
@@ -91,7 +91,7 @@ module _ {H P : Type 0} where
   abbrev pub acts : Side → WorldRecord H P → Event P → Entry → List (agent.Call P × Entry)
   acts side w (world.Call s c) e = only side s (if in_world c then (c, e) ∷ [] else [])
   acts side w (world.Poll s) e = only side s (polled_as e.answer (at side w).packets)
-  acts side w (world.Deliver place now way) e = handed_as side now way e (slice_get w.bag place)
+  acts side w (world.Deliver place now path) e = handed_as side now path e (slice_get w.bag place)
 
   pub acts_between : (side : Side) (w : WorldRecord H P) (v : Event P) (e : Entry) → MakesPolls side v → AreBetween (acts side w v e)
   acts_between side w (world.Call s c) e polls y has = by (in_world c) has where
@@ -102,10 +102,10 @@ module _ {H P : Type 0} where
     ]
     by false k = absurd (only_own side s [] y k).0
   acts_between side w (world.Poll s) e polls y has = polled_between e.answer (at side w).packets y (only_own side s (polled_as e.answer (at side w).packets) y has).0
-  acts_between side w (world.Deliver place now way) e polls y has = by (slice_get w.bag place) has where
-    by : (o : Option LetterRecord) → Has (handed_as side now way e o) y → is_between y.0 ≡ true
+  acts_between side w (world.Deliver place now path) e polls y has = by (slice_get w.bag place) has where
+    by : (o : Option InFlightRecord) → Has (handed_as side now path e o) y → is_between y.0 ≡ true
     by None k = absurd k
-    by (Some l) k = elim (only_own side (other l.sender) ((agent.ReceivePacket now way l.packet.contents, e) ∷ []) y k).0 [
+    by (Some l) k = elim (only_own side (other l.sender) ((agent.ReceivePacket now path l.packet.contents, e) ∷ []) y k).0 [
       | inl is ↦ ap (λ (z : agent.Call P × Entry). is_between z.0) (sym is)
       | inr none ↦ absurd none
     ]
@@ -169,7 +169,7 @@ module _ {H P : Type 0} where
     hands_out old new given s polled =
         ((new, s, s, tt, (given, ap (λ o. quiet (Polled o)) (first_is given old.packets new.packets polled.0), polled, refl), refl), λ role. (role, tt))
 
-    polls_so : (old new : AgentRecord H P) (bag bag' : List LetterRecord) (side : Side) (answer : Answer) (s : Stream) → PolledInto old bag side answer new bag'
+    polls_so : (old new : AgentRecord H P) (bag bag' : List InFlightRecord) (side : Side) (answer : Answer) (s : Stream) → PolledInto old bag side answer new bag'
         → Acts (polled_as answer old.packets) old new
     polls_so old new bag bag' side answer s (inl (is, same, kept)) = subst (λ a. Acts (polled_as a old.packets) old new) (sym is) (same, λ role. tt)
     polls_so old new bag bag' side answer s (inr (inl (is, polled, kept))) = subst (λ a. Acts (polled_as a old.packets) old new) (sym is) (hands_out old new None s polled)
@@ -178,10 +178,10 @@ module _ {H P : Type 0} where
     poll : (w w' : WorldRecord H P) (s t : Stream) (side z : Side) (e : Outcome) → world.Polls mac answers w s z e w' t → Acts (only side z (polled_as e.entry.answer (at side w).packets)) (at side w) (at side w')
     poll w w' s t A A e k =
         subst (λ (a : AgentRecord H P). Acts (polled_as e.entry.answer w.a.packets) w.a a) (sym (ap (λ (v : WorldRecord H P). at A v) k.world))
-        (subst (λ x. Acts (polled_as x w.a.packets) w.a k.new) (sym (ap (λ (o : Outcome). o.entry.answer) k.told)) (polls_so w.a k.new w.bag k.bag A k.answer s k.polled))
+        (subst (λ x. Acts (polled_as x w.a.packets) w.a k.new) (sym (ap (λ (o : Outcome). o.entry.answer) k.emitted)) (polls_so w.a k.new w.bag k.bag A k.answer s k.polled))
     poll w w' s t B B e k =
         subst (λ (a : AgentRecord H P). Acts (polled_as e.entry.answer w.b.packets) w.b a) (sym (ap (λ (v : WorldRecord H P). at B v) k.world))
-        (subst (λ x. Acts (polled_as x w.b.packets) w.b k.new) (sym (ap (λ (o : Outcome). o.entry.answer) k.told)) (polls_so w.b k.new w.bag k.bag B k.answer s k.polled))
+        (subst (λ x. Acts (polled_as x w.b.packets) w.b k.new) (sym (ap (λ (o : Outcome). o.entry.answer) k.emitted)) (polls_so w.b k.new w.bag k.bag B k.answer s k.polled))
     poll w w' s t A B e k = (ap (λ (v : WorldRecord H P). at A v) k.world, λ role. tt)
     poll w w' s t B A e k = (ap (λ (v : WorldRecord H P). at B v) k.world, λ role. tt)
 
@@ -192,42 +192,42 @@ module _ {H P : Type 0} where
       by true k = turn w w' s t side z c e k
       by false k = subst (λ xs. Acts xs (at side w) (at side w')) (sym (only_none side z)) (still w w' side k.0)
     act w w' s t side (world.Poll z) e k = poll w w' s t side z e k
-    act w w' s t side (world.Deliver place now way) e h = by (slice_get w.bag place) h where
-      by : (o : Option LetterRecord) → world.Delivers mac answers w s o now way e w' t → Acts (handed_as side now way e.entry o) (at side w) (at side w')
+    act w w' s t side (world.Deliver place now path) e h = by (slice_get w.bag place) h where
+      by : (o : Option InFlightRecord) → world.Delivers mac answers w s o now path e w' t → Acts (handed_as side now path e.entry o) (at side w) (at side w')
       by None k = still w w' side k.0
-      by (Some l) k = turn w w' s t side (other l.sender) (agent.ReceivePacket now way l.packet.contents) e k
+      by (Some l) k = turn w w' s t side (other l.sender) (agent.ReceivePacket now path l.packet.contents) e k
 
     -- ---- what the entry tells
 
-    turn_told : (w w' : WorldRecord H P) (s t : Stream) (side z : Side) (c : agent.Call P) (x : Logged P) (y : agent.Call P × Entry) → Turns mac answers w s z c x.outcome w' t
-        → Has (only side z ((c, x.outcome.entry) ∷ [])) y → is_some (last_of y.1.told.announced) ≡ true → Announces side x
-    turn_told w w' s t side z c x y k has told = let o = only_own side z ((c, x.outcome.entry) ∷ []) y has in elim o.0 [
-      | inl is ↦ (k.side_is ∙ ap Some o.1, ap (λ (u : agent.Call P × Entry). is_some (last_of u.1.told.announced)) is ∙ told)
+    turn_emitted : (w w' : WorldRecord H P) (s t : Stream) (side z : Side) (c : agent.Call P) (x : Logged P) (y : agent.Call P × Entry) → Turns mac answers w s z c x.outcome w' t
+        → Has (only side z ((c, x.outcome.entry) ∷ [])) y → is_some (last_of y.1.emitted.announced) ≡ true → Announces side x
+    turn_emitted w w' s t side z c x y k has emitted = let o = only_own side z ((c, x.outcome.entry) ∷ []) y has in elim o.0 [
+      | inl is ↦ (k.side_is ∙ ap Some o.1, ap (λ (u : agent.Call P × Entry). is_some (last_of u.1.emitted.announced)) is ∙ emitted)
       | inr none ↦ absurd none
     ]
 
-    pub acts_told : (w w' : WorldRecord H P) (s t : Stream) (side : Side) (x : Logged P) (y : agent.Call P × Entry) (v : Event P) → Happens mac answers w s v x.outcome w' t
-        → Has (acts side w v x.outcome.entry) y → is_some (last_of y.1.told.announced) ≡ true → Announces side x
-    acts_told w w' s t side x y (world.Call z c) h has told = by (in_world c) h has where
+    pub acts_emitted : (w w' : WorldRecord H P) (s t : Stream) (side : Side) (x : Logged P) (y : agent.Call P × Entry) (v : Event P) → Happens mac answers w s v x.outcome w' t
+        → Has (acts side w v x.outcome.entry) y → is_some (last_of y.1.emitted.announced) ≡ true → Announces side x
+    acts_emitted w w' s t side x y (world.Call z c) h has emitted = by (in_world c) h has where
       by : (b : Bool) → MatchBool b (Turns mac answers w s z c x.outcome w' t) (Stands mac answers w s agent.NotInWorld (Some z) x.outcome w' t)
           → Has (only side z (if b then (c, x.outcome.entry) ∷ [] else [])) y → Announces side x
-      by true k there = turn_told w w' s t side z c x y k there told
+      by true k there = turn_emitted w w' s t side z c x y k there emitted
       by false k there = absurd (only_own side z [] y there).0
-    acts_told w w' s t side x y (world.Poll z) k has told =
-        absurd (poll_told x.outcome.entry.answer (at side w).packets y (only_own side z (polled_as x.outcome.entry.answer (at side w).packets) y has).0 told)
-    acts_told w w' s t side x y (world.Deliver place now way) h has told = by (slice_get w.bag place) h has where
-      by : (o : Option LetterRecord) → world.Delivers mac answers w s o now way x.outcome w' t → Has (handed_as side now way x.outcome.entry o) y → Announces side x
+    acts_emitted w w' s t side x y (world.Poll z) k has emitted =
+        absurd (poll_emitted x.outcome.entry.answer (at side w).packets y (only_own side z (polled_as x.outcome.entry.answer (at side w).packets) y has).0 emitted)
+    acts_emitted w w' s t side x y (world.Deliver place now path) h has emitted = by (slice_get w.bag place) h has where
+      by : (o : Option InFlightRecord) → world.Delivers mac answers w s o now path x.outcome w' t → Has (handed_as side now path x.outcome.entry o) y → Announces side x
       by None k there = absurd there
-      by (Some l) k there = turn_told w w' s t side (other l.sender) (agent.ReceivePacket now way l.packet.contents) x y k there told
+      by (Some l) k there = turn_emitted w w' s t side (other l.sender) (agent.ReceivePacket now path l.packet.contents) x y k there emitted
 
-    roles_told : (w w' : WorldRecord H P) (s t : Stream) (v : Event P) (e : Outcome) → Happens mac answers w s v e w' t → e.controlling ≡ roles_of w'
-    roles_told w w' s t (world.Call z c) e h = by (in_world c) h where
+    roles_emitted : (w w' : WorldRecord H P) (s t : Stream) (v : Event P) (e : Outcome) → Happens mac answers w s v e w' t → e.controlling ≡ roles_of w'
+    roles_emitted w w' s t (world.Call z c) e h = by (in_world c) h where
       by : (b : Bool) → MatchBool b (Turns mac answers w s z c e w' t) (Stands mac answers w s agent.NotInWorld (Some z) e w' t) → e.controlling ≡ roles_of w'
       by true k = k.roles
       by false k = ap (λ (o : Outcome). o.controlling) k.2 ∙ ap (λ (u : WorldRecord H P). roles_of u) (sym k.0)
-    roles_told w w' s t (world.Poll z) e k = ap (λ (o : Outcome). o.controlling) k.told
-    roles_told w w' s t (world.Deliver place now way) e h = by (slice_get w.bag place) h where
-      by : (o : Option LetterRecord) → world.Delivers mac answers w s o now way e w' t → e.controlling ≡ roles_of w'
+    roles_emitted w w' s t (world.Poll z) e k = ap (λ (o : Outcome). o.controlling) k.emitted
+    roles_emitted w w' s t (world.Deliver place now path) e h = by (slice_get w.bag place) h where
+      by : (o : Option InFlightRecord) → world.Delivers mac answers w s o now path e w' t → e.controlling ≡ roles_of w'
       by None k = ap (λ (o : Outcome). o.controlling) k.2 ∙ ap (λ (u : WorldRecord H P). roles_of u) (sym k.0)
       by (Some l) k = k.roles
 
@@ -236,7 +236,7 @@ module _ {H P : Type 0} where
     role_is B w = refl
 
     pub role_behind : (w w' : WorldRecord H P) (s t : Stream) (side : Side) (x : Logged P) (role : Bool) → Happens mac answers w s x.event x.outcome w' t → role_in side x ≡ role → (at side w').controlling ≡ role
-    role_behind w w' s t side x role h is = sym (role_is side w') ∙ (ap (λ rs. role_at side rs) (sym (roles_told w w' s t x.event x.outcome h)) ∙ is)
+    role_behind w w' s t side x role h is = sym (role_is side w') ∙ (ap (λ rs. role_at side rs) (sym (roles_emitted w w' s t x.event x.outcome h)) ∙ is)
 
     -- ---- a run
 
@@ -274,13 +274,13 @@ module _ {H P : Type 0} where
         between_both (acts side w x.event x.outcome.entry) (own side mid u (suc n) rest last t run)
         (acts_between side w x.event x.outcome.entry (polls x (inl refl))) (own_between side mid last u t (suc n) rest run (λ z there. polls z (inr there))) y has
 
-    pub own_told : (side : Side) (w last : WorldRecord H P) (s t : Stream) (n : ℕ) (log : List (Logged P)) → (run : Run mac answers w s n log last t) → (y : agent.Call P × Entry)
-        → Has (own side w s n log last t run) y → is_some (last_of y.1.told.announced) ≡ true → (x : Logged P) × Has log x × Announces side x
-    own_told side w last s t n [] run y has told = absurd has
-    own_told side w last s t n (x ∷ rest) (mid, u, number, happens, run) y has told =
+    pub own_emitted : (side : Side) (w last : WorldRecord H P) (s t : Stream) (n : ℕ) (log : List (Logged P)) → (run : Run mac answers w s n log last t) → (y : agent.Call P × Entry)
+        → Has (own side w s n log last t run) y → is_some (last_of y.1.emitted.announced) ≡ true → (x : Logged P) × Has log x × Announces side x
+    own_emitted side w last s t n [] run y has emitted = absurd has
+    own_emitted side w last s t n (x ∷ rest) (mid, u, number, happens, run) y has emitted =
         elim (either_has (acts side w x.event x.outcome.entry) (own side mid u (suc n) rest last t run) y has) [
-          | inl k ↦ (x, inl refl, acts_told w mid s u side x y x.event happens k told)
-          | inr k ↦ (let m = own_told side mid last u t (suc n) rest run y k told in (m.0, inr m.1, m.2))
+          | inl k ↦ (x, inl refl, acts_emitted w mid s u side x y x.event happens k emitted)
+          | inr k ↦ (let m = own_emitted side mid last u t (suc n) rest run y k emitted in (m.0, inr m.1, m.2))
         ]
 
     pub sound_run : PathLaw {H = H} {P = P} mac answers → (w last : WorldRecord H P) (s t : Stream) (n : ℕ) (log : List (Logged P)) → Run mac answers w s n log last t → AreSound w → AreSound last

@@ -10,8 +10,8 @@ use Rattle.is_rules.specs.Reporting.{QueuesLaw}
 use Rattle.is.specs.Queues.{IssuesNone, OthersIssueNone, QueuesAreKept}
 
 -- a quiet entry tells of no packet
-silent : (e : Entry) (answer : Answer) → e ≡ quiet answer → e.told.issued ≡ None
-silent e answer is = ap (λ (x : Entry). x.told.issued) is
+silent : (e : Entry) (answer : Answer) → e ≡ quiet answer → e.emitted.issued ≡ None
+silent e answer is = ap (λ (x : Entry). x.emitted.issued) is
 
 either : (b : Bool) {P Q R : Type 0} → MatchBool b P Q → (P → R) → (Q → R) → R
 either true h f g = f h
@@ -37,7 +37,7 @@ module _ {H P : Type 0} (mac : H → List ℕ → List ℕ → List ℕ) (answer
   issues_none old new s t (InvalidateCandidate c) e h _ = silent e _ h.1
   issues_none old new s t (RestartIce creds keep) e h _ = silent e _ h.1
   issues_none old new s t RecreateCandidatePairs e h _ = silent e _ h.1
-  issues_none old new s t (ReceivePacket now way bytes) e did h = cc
+  issues_none old new s t (ReceivePacket now path bytes) e did h = cc
   issues_none old new s t (HandleTimeout now) e did h = cc
   issues_none old new s t PollTransmit e h _ = silent e _ h.1
   issues_none old new s t PollTimeout e h _ = silent e _ h.1

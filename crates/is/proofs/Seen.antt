@@ -4,7 +4,7 @@ use Rattle.std.specs.Prelude.{◌≡◌, ◌≢◌, ℕ, ◌<◌, ◌≤◌, Boo
 use Rattle.is_proto.specs.Lists.{Has}
 use Rattle.is_stun.specs.declared.header.Class.{Class}
 use Rattle.is_stun.specs.declared.header.Class.TheVariants as class
-use Rattle.is_rules.specs.declared.told.Path.{Path}
+use Rattle.is_rules.specs.declared.emitted.Path.{Path}
 use Rattle.is_rules.specs.Request.{RequestRecord}
 use Rattle.is_rules.specs.Standing.{Mail, Sent, Standing, Deed, RoleEffect, IsNew}
 use Rattle.is.specs.declared.world.Side.{Side}
@@ -13,14 +13,14 @@ use Rattle.is.specs.World.{other}
 use Rattle.is.specs.WorldRoles.{changes}
 
 -- a packet of the bag, by what its bytes read as
-pub record Letter : Type 0 where
+pub record InFlight : Type 0 where
   pub sender : Side
   pub mail : Option Mail
 
 pub record Seen : Type 0 where
   pub a : Standing
   pub b : Standing
-  pub bag : List Letter
+  pub bag : List InFlight
 
 pub record Roles : Type 0 where
   pub a : Bool
@@ -32,10 +32,10 @@ pub record Moved : Type 0 where
   pub id : List ℕ
 
 -- what an entry of the log tells, and the way of what it delivers
-pub record Told : Type 0 where
+pub record Emitted : Type 0 where
   pub side : Option Side
   pub accepted : Bool
-  pub way : Option Path
+  pub via : Option Path
   pub moved : Option Moved
   pub issued : Option Sent
   pub announced : List Path
@@ -60,11 +60,11 @@ role_at B roles = roles.b
 -- ---- what happens
 
 -- the packet comes from the bag, where the other side had sent it
-pub record IsDelivered (w : Seen) (side : Side) (m : Mail) (e : Told) : Type 0 where
-  pub letter : Letter
-  pub there : Has w.bag letter
-  pub sender : letter.sender ≡ other side
-  pub mail : letter.mail ≡ Some m
+pub record IsDelivered (w : Seen) (side : Side) (m : Mail) (e : Emitted) : Type 0 where
+  pub in_flight : InFlight
+  pub there : Has w.bag in_flight
+  pub sender : in_flight.sender ≡ other side
+  pub mail : in_flight.mail ≡ Some m
   pub accepted : e.accepted ≡ true
   pub moved : e.moved ≡ Some record { class = m.class; id = m.id }
 
@@ -73,30 +73,30 @@ pub record IsAwaited (s : Standing) (d : Deed) (id : List ℕ) : Type 0 where
   pub path : Path
   pub role : Bool
   pub kept : Has s.kept (record { path = path; id = id; controlling = role })
-  pub way : Path
-  pub came : d.way ≡ Some way
-  pub back : (way.source ≡ path.destination) × (way.destination ≡ path.source)
+  pub via : Path
+  pub came : d.via ≡ Some via
+  pub back : (via.source ≡ path.destination) × (via.destination ≡ path.source)
 
 -- the side does something; what is moved into the bag it had to be polled
-pub record Moves (w : Seen) (side : Side) (d : Deed) (e : Told) (w' : Seen) : Type 0 where
+pub record Moves (w : Seen) (side : Side) (d : Deed) (e : Emitted) (w' : Seen) : Type 0 where
   pub new : Standing
   pub effect : RoleEffect (at side w) d new
-  pub posted : List Letter
+  pub posted : List InFlight
   pub world : w' ≡ record (put side new w) { bag = w.bag ++ posted }
-  pub from_queue : (l : Letter) → Has posted l → (l.sender ≡ side) × Has (at side w).packets l.mail
+  pub from_queue : (l : InFlight) → Has posted l → (l.sender ≡ side) × Has (at side w).packets l.mail
   pub delivered : (m : Mail) → d.accepts ≡ Some m → IsDelivered w side m e
   pub accepts : (x : Moved) → e.accepted ≡ true → e.moved ≡ Some x → (m : Mail) × (d.accepts ≡ Some m) × (m.class ≡ x.class) × (m.id ≡ x.id)
   pub awaited : (m : Mail) → d.accepts ≡ Some m → m.class ≡ class.Success → IsAwaited (at side w) d m.id
   pub not_set : d.sets ≡ false
   pub side_is : e.side ≡ Some side
-  pub way_is : e.way ≡ d.way
+  pub via_is : e.via ≡ d.via
   pub issued_is : e.issued ≡ d.issued
   pub announced_is : e.announced ≡ d.announced
   pub clear_is : e.clear ≡ d.clears
   pub roles_are : e.roles ≡ roles_of w'
 
 -- nothing happens
-pub record Stands (w : Seen) (e : Told) (w' : Seen) : Type 0 where
+pub record Stands (w : Seen) (e : Emitted) (w' : Seen) : Type 0 where
   pub world : w' ≡ w
   pub moved_is : e.moved ≡ None
   pub issued_is : e.issued ≡ None
@@ -111,45 +111,45 @@ pub data Kind : Type 0 where
 
 pub record Happening : Type 0 where
   pub kind : Kind
-  pub told : Told
+  pub emitted : Emitted
 
-abbrev pub Happens : Seen → Kind → Told → Seen → Type 0
+abbrev pub Happens : Seen → Kind → Emitted → Seen → Type 0
 Happens w Still e w' = Stands w e w'
 Happens w (Move side d) e w' = Moves w side d e w'
 
 -- the log, in order, may be that of a run from the first world to the last
 abbrev pub Run : Seen → List Happening → Seen → Type 0
 Run first [] last = last ≡ first
-Run first (x ∷ rest) last = (mid : Seen) × Happens first x.kind x.told mid × Run mid rest last
+Run first (x ∷ rest) last = (mid : Seen) × Happens first x.kind x.emitted mid × Run mid rest last
 
-abbrev pub told_of : List Happening → List Told
-told_of log = map (λ x. x.told) log
+abbrev pub emitted_of : List Happening → List Emitted
+emitted_of log = map (λ x. x.emitted) log
 
 -- ---- by the numbers of the entries
 
 -- at entry n this side issued a packet of this class and id on the path, with this role after it
-pub record Issues (es : List Told) (n : ℕ) (side : Side) (class : Class) (id : List ℕ) (path : Path) (role : Bool) : Type 0 where
-  pub entry : Told
+pub record Issues (es : List Emitted) (n : ℕ) (side : Side) (class : Class) (id : List ℕ) (path : Path) (role : Bool) : Type 0 where
+  pub entry : Emitted
   pub found : slice_get es n ≡ Some entry
   pub side_is : entry.side ≡ Some side
   pub issued : entry.issued ≡ Some record { path = path; class = class; id = id }
   pub role_is : role_at side entry.roles ≡ role
 
 -- at entry n a packet of this class and id was delivered to this side, and accepted
-pub record Takes (es : List Told) (n : ℕ) (side : Side) (class : Class) (id : List ℕ) : Type 0 where
-  pub entry : Told
+pub record Takes (es : List Emitted) (n : ℕ) (side : Side) (class : Class) (id : List ℕ) : Type 0 where
+  pub entry : Emitted
   pub found : slice_get es n ≡ Some entry
   pub side_is : entry.side ≡ Some side
   pub accepted : entry.accepted ≡ true
   pub moved : entry.moved ≡ Some record { class = class; id = id }
 
 -- no clear of this side from entry n on
-abbrev pub NoClear : List Told → ℕ → Side → Type 0
-NoClear es n side = (m : ℕ) (e : Told) → n ≤ m → slice_get es m ≡ Some e → e.side ≡ Some side → e.clear ≡ false
+abbrev pub NoClear : List Emitted → ℕ → Side → Type 0
+NoClear es n side = (m : ℕ) (e : Emitted) → n ≤ m → slice_get es m ≡ Some e → e.side ≡ Some side → e.clear ≡ false
 
 -- a check of this side on the path reached the other agent, which answered it, and the answer came back; no clear of its own
 -- since the check
-pub record Trace (es : List Told) (side : Side) (path : Path) : Type 0 where
+pub record Trace (es : List Emitted) (side : Side) (path : Path) : Type 0 where
   pub id : List ℕ
   pub checked : ℕ
   pub delivered : ℕ
@@ -166,24 +166,24 @@ pub record Trace (es : List Told) (side : Side) (path : Path) : Type 0 where
   pub no_clear : NoClear es checked side
 
 -- a check of this side with the id went out on the path by which an answer came back
-pub record Back (es : List Told) (side : Side) (id : List ℕ) (by : Option Path) : Type 0 where
+pub record Back (es : List Emitted) (side : Side) (id : List ℕ) (by : Option Path) : Type 0 where
   pub number : ℕ
   pub path : Path
   pub role : Bool
   pub check : Issues es number side class.Request id path role
-  pub way : Path
-  pub came : by ≡ Some way
-  pub back : (way.source ≡ path.destination) × (way.destination ≡ path.source)
+  pub via : Path
+  pub came : by ≡ Some via
+  pub back : (via.source ≡ path.destination) × (via.destination ≡ path.source)
 
 -- no two checks that were issued have the same id
-abbrev pub DistinctChecks : List Told → Type 0
+abbrev pub DistinctChecks : List Emitted → Type 0
 DistinctChecks es =
     (i j : ℕ) (id : List ℕ) (p q : Path) (s t : Side) (b c : Bool) → Issues es i s class.Request id p b → Issues es j t class.Request id q c → i ≡ j
 
 -- ---- the premises
 
 -- `greater` has the greater tie-breaker, and no check's id comes twice
-pub record Premises (first : Seen) (greater : Side) (es : List Told) : Type 0 where
+pub record Premises (first : Seen) (greater : Side) (es : List Emitted) : Type 0 where
   pub new : (s : Side) → IsNew (at s first)
   pub empty : first.bag ≡ []
   pub tie : (at (other greater) first).tie_breaker < (at greater first).tie_breaker
@@ -199,18 +199,18 @@ NeverLite side log = AllByRecursion (λ x. StaysFull side x.kind) log
 
 -- ---- what holds of a run
 
-abbrev pub roles_along : Side → List Told → List Bool
+abbrev pub roles_along : Side → List Emitted → List Bool
 roles_along side es = map (λ e. role_at side e.roles) es
 
 -- the greater's role is the same after every event
 abbrev pub KeepsRole : Seen → List Happening → Type 0
 KeepsRole first log =
-    (greater : Side) → Premises first greater (told_of log) → AllByRecursion (λ e. role_at greater e.roles ≡ (at greater first).controlling) (told_of log)
+    (greater : Side) → Premises first greater (emitted_of log) → AllByRecursion (λ e. role_at greater e.roles ≡ (at greater first).controlling) (emitted_of log)
 
 -- the other's changes in at most one event
 abbrev pub YieldsOnce : Seen → List Happening → Type 0
 YieldsOnce first log =
-    (greater : Side) → Premises first greater (told_of log) → changes (at (other greater) first).controlling (roles_along (other greater) (told_of log)) ≤ 1
+    (greater : Side) → Premises first greater (emitted_of log) → changes (at (other greater) first).controlling (roles_along (other greater) (emitted_of log)) ≤ 1
 
 -- the side serves a request past the tests of its user name and its destination, or accepts a 487
 abbrev pub Meets : Side → Seen → Kind → Type 0
@@ -226,24 +226,24 @@ pub record Point (first : Seen) (log before : List Happening) (mid : Seen) (x : 
   pub after : Seen
   pub last : Seen
   pub led : Run first before mid
-  pub happens : Happens mid x.kind x.told after
+  pub happens : Happens mid x.kind x.emitted after
   pub leads : Run after rest last
 
 -- from the event on at which the lesser one met the greater's role, the roles differ
 abbrev pub DifferOnceMet : Seen → List Happening → Type 0
 DifferOnceMet first log =
-    (greater : Side) → Premises first greater (told_of log) → (before : List Happening) (mid : Seen) (x : Happening) (rest : List Happening)
-    → Point first log before mid x rest → Meets (other greater) mid x.kind → AllByRecursion (λ e. e.roles.a ≢ e.roles.b) (told_of (x ∷ rest))
+    (greater : Side) → Premises first greater (emitted_of log) → (before : List Happening) (mid : Seen) (x : Happening) (rest : List Happening)
+    → Point first log before mid x rest → Meets (other greater) mid x.kind → AllByRecursion (λ e. e.roles.a ≢ e.roles.b) (emitted_of (x ∷ rest))
 
 -- each path that a side announced which was never lite was answered by the other agent
 abbrev pub Traced : Seen → List Happening → Type 0
 Traced first log =
-    (greater side : Side) → Premises first greater (told_of log) → NeverLite side log → (before : List Happening) (mid : Seen) (x : Happening) (rest : List Happening)
-    → Point first log before mid x rest → (path : Path) → x.told.side ≡ Some side → Has x.told.announced path → Trace (told_of before ++ x.told ∷ []) side path
+    (greater side : Side) → Premises first greater (emitted_of log) → NeverLite side log → (before : List Happening) (mid : Seen) (x : Happening) (rest : List Happening)
+    → Point first log before mid x rest → (path : Path) → x.emitted.side ≡ Some side → Has x.emitted.announced path → Trace (emitted_of before ++ x.emitted ∷ []) side path
 
 -- each success that a side accepted came back on the path of a check with its id
 abbrev pub AnswersComeBack : Seen → List Happening → Type 0
 AnswersComeBack first log =
-    (greater side : Side) → Premises first greater (told_of log) → (before : List Happening) (mid : Seen) (x : Happening) (rest : List Happening)
-    → Point first log before mid x rest → (id : List ℕ) → x.told.side ≡ Some side → x.told.accepted ≡ true
-    → x.told.moved ≡ Some record { class = class.Success; id = id } → Back (told_of before) side id x.told.way
+    (greater side : Side) → Premises first greater (emitted_of log) → (before : List Happening) (mid : Seen) (x : Happening) (rest : List Happening)
+    → Point first log before mid x rest → (id : List ℕ) → x.emitted.side ≡ Some side → x.emitted.accepted ≡ true
+    → x.emitted.moved ≡ Some record { class = class.Success; id = id } → Back (emitted_of before) side id x.emitted.via

@@ -5,13 +5,13 @@ use Rattle.std.proofs.lemmas.Option.{slice_get_within}
 use Rattle.is_proto.specs.Lists.{Has}
 use Rattle.is_stun.specs.declared.header.Class.{Class}
 use Rattle.is_stun.specs.declared.header.Class.TheVariants as class
-use Rattle.is_rules.specs.declared.told.Path.{Path}
+use Rattle.is_rules.specs.declared.emitted.Path.{Path}
 use Rattle.is_rules.specs.Request.{RequestRecord}
 use Rattle.is.specs.declared.world.Side.{Side}
 use Rattle.is.specs.declared.world.Side.TheVariants.{A, B}
 use Rattle.is_rules.specs.Standing.{Mail, Kept, Standing, Deed, RoleEffect, Claims, Conveys, IsCarriedIn, MeetsSuccess, MeetsConflict}
 use Rattle.is.specs.World.{other}
-use Rattle.is.proofs.Seen.{Letter, Seen, Told, at, roles_of, role_at}
+use Rattle.is.proofs.Seen.{InFlight, Seen, Emitted, at, roles_of, role_at}
 use Rattle.is.proofs.Seen.{Issues, Takes, NoClear, Trace, DistinctChecks}
 use Rattle.is.proofs.SeenGrow.{get-last, get-push_cases, issues-grow, takes-grow, no_clear-grow, trace-grow}
 use Rattle.is.proofs.SeenClaims.{insists-claims, yields-claims, settled-claims}
@@ -51,13 +51,13 @@ pub record Setting : Type 0 where
 -- ---- what is known of ids
 
 -- a check with this id went out from the side under the role
-pub record Gone (es : List Told) (side : Side) (id : List ℕ) (role : Bool) : Type 0 where
+pub record Gone (es : List Emitted) (side : Side) (id : List ℕ) (role : Bool) : Type 0 where
   pub number : ℕ
   pub path : Path
   pub check : Issues es number side class.Request id path role
 
 -- a request with this id came to the side from the other one, which had sent it
-pub record Came (es : List Told) (side : Side) (id : List ℕ) : Type 0 where
+pub record Came (es : List Emitted) (side : Side) (id : List ℕ) : Type 0 where
   pub sent : ℕ
   pub path : Path
   pub role : Bool
@@ -67,7 +67,7 @@ pub record Came (es : List Told) (side : Side) (id : List ℕ) : Type 0 where
   pub in_order : sent < taken
 
 -- and the side answered it
-pub record Replied (es : List Told) (side : Side) (id : List ℕ) : Type 0 where
+pub record Replied (es : List Emitted) (side : Side) (id : List ℕ) : Type 0 where
   pub came : Came es side id
   pub number : ℕ
   pub path : Path
@@ -76,14 +76,14 @@ pub record Replied (es : List Told) (side : Side) (id : List ℕ) : Type 0 where
   pub in_order : came.taken ≤ number
 
 -- a request of the side: it claims the role that it went out under, with the side's tie-breaker
-pub record IsCheck (z : Setting) (es : List Told) (side : Side) (id : List ℕ) (controlling controlled : _) : Type 0 where
+pub record IsCheck (z : Setting) (es : List Emitted) (side : Side) (id : List ℕ) (controlling controlled : _) : Type 0 where
   pub role : Bool
   pub claims : Claims controlling controlled role (z.tie side)
   pub gone : Gone es side id role
   pub greater : side ≡ z.greater → role ≡ z.role
 
 -- what is known of a message that the side sent, by its class
-abbrev pub Fact : Setting → List Told → Side → Class → Mail → Type 0
+abbrev pub Fact : Setting → List Emitted → Side → Class → Mail → Type 0
 Fact z es side class.Request m = IsCheck z es side m.id m.ice_controlling m.ice_controlled
 Fact z es side class.Success m = Replied es side m.id
 Fact z es side class.Failure m = (side ≡ z.greater) × Gone es (other side) m.id z.role
@@ -91,18 +91,18 @@ Fact z es side class.Indication m = ⊥
 Fact z es side class.Unknown m = ⊥
 
 -- a request that waits at the side
-pub record Queued (z : Setting) (es : List Told) (side : Side) (q : RequestRecord) : Type 0 where
+pub record Queued (z : Setting) (es : List Emitted) (side : Side) (q : RequestRecord) : Type 0 where
   pub check : IsCheck z es (other side) q.id q.ice_controlling q.ice_controlled
   pub came : Came es side q.id
 
 -- a check that the side keeps
-pub record KeptBy (es : List Told) (side : Side) (k : Kept) : Type 0 where
+pub record KeptBy (es : List Emitted) (side : Side) (k : Kept) : Type 0 where
   pub number : ℕ
   pub check : Issues es number side class.Request k.id k.path k.controlling
   pub no_clear : NoClear es number side
 
 -- what is said of one side
-pub record Half (z : Setting) (es : List Told) (side : Side) (s : Standing) : Type 0 where
+pub record Half (z : Setting) (es : List Emitted) (side : Side) (s : Standing) : Type 0 where
   pub tie : s.tie_breaker ≡ z.tie side
   pub lite : z.full side ≡ true → s.lite ≡ false
   pub packets : (m : Mail) → Has s.packets (Some m) → Fact z es side m.class m
@@ -111,14 +111,14 @@ pub record Half (z : Setting) (es : List Told) (side : Side) (s : Standing) : Ty
   pub traced : z.full side ≡ true → (path : Path) → Has s.valid path → Trace es side path
 
 -- what is said of the world
-pub record Carried (z : Setting) (es : List Told) (w : Seen) : Type 0 where
+pub record Carried (z : Setting) (es : List Emitted) (w : Seen) : Type 0 where
   pub half : (s : Side) → Half z es s (at s w)
-  pub bag : (l : Letter) (m : Mail) → Has w.bag l → l.mail ≡ Some m → Fact z es l.sender m.class m
+  pub bag : (l : InFlight) (m : Mail) → Has w.bag l → l.mail ≡ Some m → Fact z es l.sender m.class m
   pub role : (at z.greater w).controlling ≡ z.role
 
 -- ---- the log grows
 
-module _ (z : Setting) (es : List Told) (e : Told) where
+module _ (z : Setting) (es : List Emitted) (e : Emitted) where
   gone-grow : (side : Side) (id : List ℕ) (role : Bool) → Gone es side id role → Gone (es ++ e ∷ []) side id role
   gone-grow side id role g = record { number = g.number; path = g.path; check = issues-grow es e g.number side class.Request id g.path role g.check }
 
@@ -178,30 +178,30 @@ module _ (z : Setting) (es : List Told) (e : Told) where
 -- ---- a side does something
 
 -- a packet of the other side is brought
-pub record Brought (z : Setting) (es : List Told) (side : Side) (e : Told) (m : Mail) : Type 0 where
+pub record Brought (z : Setting) (es : List Emitted) (side : Side) (e : Emitted) (m : Mail) : Type 0 where
   pub fact : Fact z es (other side) m.class m
   pub accepted : e.accepted ≡ true
   pub moved : e.moved ≡ Some record { class = m.class; id = m.id }
 
-pub record Turn (z : Setting) (es : List Told) (side : Side) (old : Standing) (d : Deed) (e : Told) (new : Standing) : Type 0 where
+pub record Turn (z : Setting) (es : List Emitted) (side : Side) (old : Standing) (d : Deed) (e : Emitted) (new : Standing) : Type 0 where
   pub effect : RoleEffect old d new
   pub brought : (m : Mail) → d.accepts ≡ Some m → Brought z es side e m
   pub not_set : d.sets ≡ false
   pub full : z.full side ≡ true → d.makes_lite ≡ false
   pub side_is : e.side ≡ Some side
-  pub way_is : e.way ≡ d.way
+  pub via_is : e.via ≡ d.via
   pub issued_is : e.issued ≡ d.issued
   pub announced_is : e.announced ≡ d.announced
   pub clear_is : e.clear ≡ d.clears
   pub role_is : role_at side e.roles ≡ new.controlling
 
 -- the request that is served, or comes to wait
-pub record Arrived (z : Setting) (es : List Told) (side : Side) (e : Told) (q : RequestRecord) : Type 0 where
+pub record Arrived (z : Setting) (es : List Emitted) (side : Side) (e : Emitted) (q : RequestRecord) : Type 0 where
   pub check : IsCheck z es (other side) q.id q.ice_controlling q.ice_controlled
   pub came : Came (es ++ e ∷ []) side q.id
   pub in_time : came.taken ≤ length es
 
-module _ (z : Setting) (es : List Told) (side : Side) (old new : Standing) (d : Deed) (e : Told) (t : Turn z es side old d e new) (h : Half z es side old) where
+module _ (z : Setting) (es : List Emitted) (side : Side) (old new : Standing) (d : Deed) (e : Emitted) (t : Turn z es side old d e new) (h : Half z es side old) where
   -- the new entry
   issues_now : (c : Class) (id : List ℕ) (path : Path) (role : Bool) → d.issued ≡ Some record { path = path; class = c; id = id } → new.controlling ≡ role
       → Issues (es ++ e ∷ []) (length es) side c id path role
@@ -360,10 +360,10 @@ module _ (z : Setting) (es : List Told) (side : Side) (old new : Standing) (d : 
   -- a path that is announced
   pub announced_turn : z.full side ≡ true → DistinctChecks es → (path : Path) → Has e.announced path → Trace (es ++ e ∷ []) side path
   announced_turn full distinct path has =
-      let told : Has d.announced path = subst (λ ps. Has ps path) t.announced_is has in
+      let emitted : Has d.announced path = subst (λ ps. Has ps path) t.announced_is has in
       elim cleared_or [
-        | inr bare ↦ absurd (subst (λ ps. Has ps path) bare.2 told)
-        | inl go ↦ elim (t.effect.announced (h.lite full) (t.full full) path told) [
+        | inr bare ↦ absurd (subst (λ ps. Has ps path) bare.2 emitted)
+        | inl go ↦ elim (t.effect.announced (h.lite full) (t.full full) path emitted) [
           | inl was ↦ trace-grow es e side path (λ _. go) (h.traced full path was)
           | inr met ↦ met_trace path distinct go met
         ]
@@ -401,7 +401,7 @@ module _ (z : Setting) (es : List Told) (side : Side) (old new : Standing) (d : 
       let q = h.kept k by.kept.1 in
       let same_number = distinct q.number gone.number m.id k.path gone.path side side by.role z.role q.check gone.check in
       let same_entry : q.check.entry ≡ gone.check.entry = (let x = q.check.found in let y = gone.check.found in cc) in
-      let role : by.role ≡ z.role = sym q.check.role_is ∙ ap (λ (y : Told). role_at side y.roles) same_entry ∙ gone.check.role_is in
+      let role : by.role ≡ z.role = sym q.check.role_is ∙ ap (λ (y : Emitted). role_at side y.roles) same_entry ∙ gone.check.role_is in
       by.gives_up ∙ ap not role
 
   -- a request that the lesser serves carries the greater's role

@@ -3,10 +3,10 @@ use Rattle.std.proofs.Common.{◌≡◌, ℕ, zero, suc, Bool, false, List, [], 
 use Rattle.std.specs.Prelude.{slice_get}
 use Rattle.is_stun.specs.declared.header.Class.{Class}
 use Rattle.is_stun.specs.declared.header.Class.TheVariants as class
-use Rattle.is_rules.specs.declared.told.Path.{Path}
+use Rattle.is_rules.specs.declared.emitted.Path.{Path}
 use Rattle.is.specs.declared.world.Side.{Side}
 use Rattle.is.specs.World.{other}
-use Rattle.is.proofs.Seen.{Told}
+use Rattle.is.proofs.Seen.{Emitted}
 use Rattle.is.proofs.Seen.{Issues, Takes, NoClear, Trace, DistinctChecks}
 
 pub get-push : {X : Type 0} (xs : List X) (n : ℕ) (x y : X) → slice_get xs n ≡ Some x → slice_get (xs ++ y ∷ []) n ≡ Some x
@@ -29,7 +29,7 @@ get-append [] ys n x h = cc
 get-append (a ∷ xs) ys zero x h = h
 get-append (a ∷ xs) ys (suc n) x h = get-append xs ys n x h
 
-module _ (es : List Told) (e : Told) where
+module _ (es : List Emitted) (e : Emitted) where
   pub issues-grow : (n : ℕ) (side : Side) (c : Class) (id : List ℕ) (path : Path) (role : Bool) → Issues es n side c id path role → Issues (es ++ e ∷ []) n side c id path role
   issues-grow n side c id path role i = record { entry = i.entry; found = get-push es n i.entry e i.found; side_is = i.side_is; issued = i.issued; role_is = i.role_is }
 
@@ -59,8 +59,8 @@ module _ (es : List Told) (e : Told) where
     no_clear = no_clear-grow t.checked side go t.no_clear;
   }
 
-issues-append : (es fs : List Told) (n : ℕ) (side : Side) (c : Class) (id : List ℕ) (path : Path) (role : Bool) → Issues es n side c id path role → Issues (es ++ fs) n side c id path role
+issues-append : (es fs : List Emitted) (n : ℕ) (side : Side) (c : Class) (id : List ℕ) (path : Path) (role : Bool) → Issues es n side c id path role → Issues (es ++ fs) n side c id path role
 issues-append es fs n side c id path role i = record { entry = i.entry; found = get-append es fs n i.entry i.found; side_is = i.side_is; issued = i.issued; role_is = i.role_is }
 
-pub distinct-append : (es fs : List Told) → DistinctChecks (es ++ fs) → DistinctChecks es
+pub distinct-append : (es fs : List Emitted) → DistinctChecks (es ++ fs) → DistinctChecks es
 distinct-append es fs d i j id p q s t b c x y = d i j id p q s t b c (issues-append es fs i s class.Request id p b x) (issues-append es fs j t class.Request id q c y)

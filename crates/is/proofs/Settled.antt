@@ -10,8 +10,8 @@ use Rattle.is_stun.specs.declared.header.Class.TheVariants as class
 use Rattle.is_stun.specs.Message.{Message}
 use Rattle.is_stun.specs.Reading.{fault_of, message_of}
 use Rattle.is_rules.specs.declared.credentials.IceCreds.{IceCreds}
-use Rattle.is_rules.specs.declared.told.Issued.{Issued}
-use Rattle.is_rules.specs.declared.told.Path.{Path}
+use Rattle.is_rules.specs.declared.emitted.Issued.{Issued}
+use Rattle.is_rules.specs.declared.emitted.Path.{Path}
 use Rattle.is_rules.specs.Places.{local_place}
 use Rattle.is_rules.specs.Request.{RequestRecord, request_in}
 use Rattle.is_rules.specs.Steps.{Entry}
@@ -22,7 +22,7 @@ use Rattle.is_rules.specs.Queue.{request_at}
 use Rattle.is_rules.specs.Steps as agent
 use Rattle.is_rules.specs.Sound.{IsSound, FreshIsSound}
 use Rattle.is_rules.specs.Brought.{Brings, IsServing, IsServedPastTests}
-use Rattle.is_rules.specs.Told.{issued_as}
+use Rattle.is_rules.specs.Emitted.{issued_as}
 use Rattle.is_rules.specs.Effects.{PathLaw}
 use Rattle.is_rules.specs.RoleView.{mail_of, mail_unless, mail_read, standing_of, when_accepted, when_done, request_when, sent_as, accepted_by, served_by, deed_of, RoleLaw}
 use Rattle.is.specs.declared.world.Side.{Side}
@@ -32,9 +32,9 @@ use Rattle.is.specs.World.{WorldRecord, Logged, other}
 use Rattle.is.specs.WorldRoles.{IsNewAgent, HaveDistinctIds, IsFairWorld, role_at, role_in, changes, GreaterKeeps, LesserYieldsOnce, Makes, Point, RolesDifferOnceMet}
 use Rattle.is.specs.Traces.{StaysFull, IsNeverLite}
 use Rattle.is.proofs.Seen as seen
-use Rattle.is.proofs.Seen.{Seen, Told, Kind, Move, Happening, told_of, roles_along, NeverLite}
+use Rattle.is.proofs.Seen.{Seen, Emitted, Kind, Move, Happening, emitted_of, roles_along, NeverLite}
 use Rattle.is.proofs.SeenRuns as runs
-use Rattle.is.proofs.Following.{seen_of, letter_as, roles_as, told_at, AreSound, follow, event}
+use Rattle.is.proofs.Following.{seen_of, in_flight_as, roles_as, emitted_at, AreSound, follow, event}
 
 -- ---- entries, as they are seen
 
@@ -51,16 +51,16 @@ issued_back (Some i) path c id h =
     ap Some (ap (λ (x : Sent). issued_as x.path x.class x.id) e)
 
 module _ {P : Type 0} where
-  entry_at : (log : List (Logged P)) (n : ℕ) (e : Told) → slice_get (map told_at log) n ≡ Some e → (x : Logged P) × (slice_get log n ≡ Some x) × (told_at x ≡ e)
-  entry_at log n e h = get-map_back told_at log n e h
+  entry_at : (log : List (Logged P)) (n : ℕ) (e : Emitted) → slice_get (map emitted_at log) n ≡ Some e → (x : Logged P) × (slice_get log n ≡ Some x) × (emitted_at x ≡ e)
+  entry_at log n e h = get-map_back emitted_at log n e h
 
-  distinct_seen : (log : List (Logged P)) → HaveDistinctIds log → seen.DistinctChecks (map told_at log)
+  distinct_seen : (log : List (Logged P)) → HaveDistinctIds log → seen.DistinctChecks (map emitted_at log)
   distinct_seen log distinct i j id p q s t b c x y =
       let k = entry_at log i x.entry x.found in
       let l = entry_at log j y.entry y.found in
       distinct i j id p q k.0 l.0 k.1 l.1
-      (issued_back k.0.outcome.entry.told.issued p class.Request id (ap (λ (e : Told). e.issued) k.2 ∙ x.issued))
-      (issued_back l.0.outcome.entry.told.issued q class.Request id (ap (λ (e : Told). e.issued) l.2 ∙ y.issued))
+      (issued_back k.0.outcome.entry.emitted.issued p class.Request id (ap (λ (e : Emitted). e.issued) k.2 ∙ x.issued))
+      (issued_back l.0.outcome.entry.emitted.issued q class.Request id (ap (λ (e : Emitted). e.issued) l.2 ∙ y.issued))
 
 -- ---- from the start
 
@@ -82,11 +82,11 @@ sound_new sound a (creds, tie, role, is) =
       based = s.based;
     })
 
-pub premises_seen : {H P : Type 0} (first : WorldRecord H P) (greater : Side) (log : List (Logged P)) (es : List Told) → es ≡ map told_at log → IsFairWorld first greater log
+pub premises_seen : {H P : Type 0} (first : WorldRecord H P) (greater : Side) (log : List (Logged P)) (es : List Emitted) → es ≡ map emitted_at log → IsFairWorld first greater log
     → seen.Premises (seen_of first) greater es
 premises_seen first greater log es same p = record {
   new = new_at;
-  empty = ap (map letter_as) p.empty;
+  empty = ap (map in_flight_as) p.empty;
   tie = less greater (omega (arith, p.tie));
   distinct = subst seen.DistinctChecks (sym same) (distinct_seen log p.distinct);
 }
@@ -116,15 +116,15 @@ pub role_of : {H P : Type 0} (side : Side) (w : WorldRecord H P) → (seen.at si
 role_of A w = refl
 role_of B w = refl
 
-all_keep : {P : Type 0} (side : Side) (role : Bool) (log : List (Logged P)) → AllByRecursion (λ (e : Told). seen.role_at side e.roles ≡ role) (map told_at log) → AllByRecursion (λ x. role_in side x ≡ role) log
+all_keep : {P : Type 0} (side : Side) (role : Bool) (log : List (Logged P)) → AllByRecursion (λ (e : Emitted). seen.role_at side e.roles ≡ role) (map emitted_at log) → AllByRecursion (λ x. role_in side x ≡ role) log
 all_keep side role [] all = tt
 all_keep side role (x ∷ log) (is, all) = (sym (role_as side x.outcome.controlling) ∙ is, all_keep side role log all)
 
-along : {P : Type 0} (side : Side) (log : List (Logged P)) → roles_along side (map told_at log) ≡ map (role_in side) log
+along : {P : Type 0} (side : Side) (log : List (Logged P)) → roles_along side (map emitted_at log) ≡ map (role_in side) log
 along side [] = refl
-along side (x ∷ log) = ap (λ r. r ∷ roles_along side (map told_at log)) (role_as side x.outcome.controlling) ∙ ap (λ rs. role_in side x ∷ rs) (along side log)
+along side (x ∷ log) = ap (λ r. r ∷ roles_along side (map emitted_at log)) (role_as side x.outcome.controlling) ∙ ap (λ rs. role_in side x ∷ rs) (along side log)
 
-all_differ : {P : Type 0} (log : List (Logged P)) → AllByRecursion (λ (e : Told). e.roles.a ≢ e.roles.b) (map told_at log) → AllByRecursion (λ x. role_in A x ≢ role_in B x) log
+all_differ : {P : Type 0} (log : List (Logged P)) → AllByRecursion (λ (e : Emitted). e.roles.a ≢ e.roles.b) (map emitted_at log) → AllByRecursion (λ x. role_in A x ≢ role_in B x) log
 all_differ [] all = tt
 all_differ (x ∷ log) (is, all) = (λ both. is (role_as A x.outcome.controlling ∙ both ∙ sym (role_as B x.outcome.controlling)), all_differ log all)
 
@@ -152,18 +152,18 @@ served_request f class.Indication peer q faultless request known = cc
 served_request f class.Unknown peer q faultless request known = cc
 
 brings_to : {P : Type 0} (c : agent.Call P) (e : Entry) (at : ℕ) (by : Path) (m : Message) → Brings c e at by m → accepted_by c e.answer ≡ Some (mail_of m)
-brings_to (agent.ReceivePacket now way bytes) e at by m (at_is, by_is, reads, flag) =
+brings_to (agent.ReceivePacket now via bytes) e at by m (at_is, by_is, reads, flag) =
     ap (λ a. when_accepted a (mail_read bytes)) flag ∙ ap (λ f. mail_unless f (message_of bytes)) reads.faultless ∙ ap (λ (x : Message). Some (mail_of x)) (sym reads.spelled)
 brings_to c e at by m h = absurd h
 
 module _ {H P : Type 0} where
   serves_to : (old : AgentRecord H P) (c : agent.Call P) (e : Entry) (q : RequestRecord) → IsServing old c e q → served_by old c e.answer ≡ Some q
-  serves_to old (agent.ReceivePacket now way bytes) e q (at, by, m, (at_is, by_is, reads, flag), request, known, is) =
-      let r = request_in now way (message_of bytes) in
+  serves_to old (agent.ReceivePacket now via bytes) e q (at, by, m, (at_is, by_is, reads, flag), request, known, is) =
+      let r = request_in now via (message_of bytes) in
       let request_is : (message_of bytes).class ≡ class.Request = ap (λ (x : Message). x.class) (sym reads.spelled) ∙ request in
       ap (λ a. when_accepted a (request_when (fault_of bytes) (message_of bytes).class old.remote_creds r)) flag
       ∙ served_request (fault_of bytes) (message_of bytes).class old.remote_creds r reads.faultless request_is known
-      ∙ ap Some (ap (λ (x : Message). request_in now way x) (sym reads.spelled) ∙ ap (λ n. request_in n way m) at_is ∙ ap (λ w. request_in at w m) by_is ∙ sym is)
+      ∙ ap Some (ap (λ (x : Message). request_in now via x) (sym reads.spelled) ∙ ap (λ n. request_in n via m) at_is ∙ ap (λ w. request_in at w m) by_is ∙ sym is)
   serves_to old (agent.HandleTimeout now) e q (is, flag) = ap (λ a. when_done a (request_at now old)) flag ∙ is
   serves_to old c e q h = absurd h.3
 
@@ -172,13 +172,13 @@ module _ {H P : Type 0} where
 
   pub met_seen : (side : Side) (w : WorldRecord H P) (c : agent.Call P) (e : Entry) (kind : Kind) → kind ≡ Move side (deed_of (world.at side w) c e)
       → ((q : RequestRecord) × IsServing (world.at side w) c e q × IsServedPastTests (world.at side w) q)
-      ⊎ ((now : ℕ) × (way : Path) × (m : Message) × Brings c e now way m × (m.class ≡ class.Failure) × (is_role_conflict m ≡ true))
+      ⊎ ((now : ℕ) × (via : Path) × (m : Message) × Brings c e now via m × (m.class ≡ class.Failure) × (is_role_conflict m ≡ true))
       → seen.Meets side (seen_of w) kind
   met_seen side w c e kind is met = subst (λ k. seen.Meets side (seen_of w) k) (sym is) (
     refl,
     elim met [
       | inl served ↦ inl (served.0, serves_to (world.at side w) c e served.0 served.1, passes_at side w served.0 (passes_so (world.at side w) served.0 served.2))
-      | inr refused ↦ (let (now, way, m, brings, failure, conflict) = refused in inr (mail_of m, brings_to c e now way m brings, failure, conflict))
+      | inr refused ↦ (let (now, via, m, brings, failure, conflict) = refused in inr (mail_of m, brings_to c e now via m brings, failure, conflict))
     ],
   )
     where
@@ -193,10 +193,10 @@ module _ {H P : Type 0} where
     pub here : Happening
     pub behind : List Happening
     pub point : seen.Point (seen_of first) whole before (seen_of mid) here behind
-    pub told : told_of whole ≡ map told_at log
-    pub told_before : told_of before ≡ map told_at front
-    pub told_here : here.told ≡ told_at x
-    pub told_behind : told_of behind ≡ map told_at rest
+    pub emitted : emitted_of whole ≡ map emitted_at log
+    pub emitted_before : emitted_of before ≡ map emitted_at front
+    pub emitted_here : here.emitted ≡ emitted_at x
+    pub emitted_behind : emitted_of behind ≡ map emitted_at rest
     pub made : (side : Side) (c : agent.Call P) → Makes mid x.event side c → here.kind ≡ Move side (deed_of (world.at side mid) c x.outcome.entry)
     pub full : (side : Side) → IsNeverLite side log → NeverLite side whole
 
@@ -204,36 +204,36 @@ module _ {H P : Type 0} where
     pub greater_keeps : (first last : WorldRecord H P) (s t : Stream) (n : ℕ) (log : List (Logged P)) → world.Run mac answers first s n log last t → GreaterKeeps first log
     greater_keeps first last s t n log ran greater p =
         let k = follow mac answers paths roles log first last s t n (sound_first fresh_sound first greater log p) ran in
-        let all = runs.keeps_role (seen_of first) (seen_of last) k.seen_log k.ran greater (premises_seen first greater log (told_of k.seen_log) k.told p) in
+        let all = runs.keeps_role (seen_of first) (seen_of last) k.seen_log k.ran greater (premises_seen first greater log (emitted_of k.seen_log) k.emitted p) in
         all_keep greater (world.at greater first).controlling log
-        (subst (λ r. AllByRecursion (λ (e : Told). seen.role_at greater e.roles ≡ r) (map told_at log)) (role_of greater first)
-        (subst (λ es. AllByRecursion (λ (e : Told). seen.role_at greater e.roles ≡ (seen.at greater (seen_of first)).controlling) es) k.told all))
+        (subst (λ r. AllByRecursion (λ (e : Emitted). seen.role_at greater e.roles ≡ r) (map emitted_at log)) (role_of greater first)
+        (subst (λ es. AllByRecursion (λ (e : Emitted). seen.role_at greater e.roles ≡ (seen.at greater (seen_of first)).controlling) es) k.emitted all))
 
     pub lesser_yields_once : (first last : WorldRecord H P) (s t : Stream) (n : ℕ) (log : List (Logged P)) → world.Run mac answers first s n log last t → LesserYieldsOnce first log
     lesser_yields_once first last s t n log ran greater p =
         let k = follow mac answers paths roles log first last s t n (sound_first fresh_sound first greater log p) ran in
-        let once = runs.yields_once (seen_of first) (seen_of last) k.seen_log k.ran greater (premises_seen first greater log (told_of k.seen_log) k.told p) in
+        let once = runs.yields_once (seen_of first) (seen_of last) k.seen_log k.ran greater (premises_seen first greater log (emitted_of k.seen_log) k.emitted p) in
         subst (λ r. changes r (map (role_in (other greater)) log) ≤ 1) (role_of (other greater) first)
-        (subst (λ rs. changes (seen.at (other greater) (seen_of first)).controlling rs ≤ 1) (ap (roles_along (other greater)) k.told ∙ along (other greater) log) once)
+        (subst (λ rs. changes (seen.at (other greater) (seen_of first)).controlling rs ≤ 1) (ap (roles_along (other greater)) k.emitted ∙ along (other greater) log) once)
 
     pub sight : (first mid : WorldRecord H P) (s : Stream) (log rest : List (Logged P)) (x : Logged P) → AreSound first → (point : Point mac answers first s log mid x rest) → Sight first log point.before mid x rest
     sight first mid s log rest x sound point =
         let one = follow mac answers paths roles point.before first mid s point.u 0 sound point.led in
         let two = event mac answers paths roles mid point.after point.u point.v x one.sound point.happens in
         let three = follow mac answers paths roles rest point.after point.last point.v point.t point.n two.sound point.leads in
-        let h : Happening = record { kind = two.kind; told = told_at x } in
+        let h : Happening = record { kind = two.kind; emitted = emitted_at x } in
         record {
           whole = one.seen_log ++ h ∷ three.seen_log;
           before = one.seen_log;
           here = h;
           behind = three.seen_log;
           point = record { split = refl; after = seen_of point.after; last = seen_of point.last; led = one.ran; happens = two.happens; leads = three.ran };
-          told = map-append (λ (y : Happening). y.told) one.seen_log (h ∷ three.seen_log)
-              ∙ ap (λ es. es ++ told_at x ∷ told_of three.seen_log) one.told ∙ ap (λ es. map told_at point.before ++ told_at x ∷ es) three.told
-              ∙ sym (map-append told_at point.before (x ∷ rest)) ∙ ap (map told_at) (sym point.split);
-          told_before = one.told;
-          told_here = refl;
-          told_behind = three.told;
+          emitted = map-append (λ (y : Happening). y.emitted) one.seen_log (h ∷ three.seen_log)
+              ∙ ap (λ es. es ++ emitted_at x ∷ emitted_of three.seen_log) one.emitted ∙ ap (λ es. map emitted_at point.before ++ emitted_at x ∷ es) three.emitted
+              ∙ sym (map-append emitted_at point.before (x ∷ rest)) ∙ ap (map emitted_at) (sym point.split);
+          emitted_before = one.emitted;
+          emitted_here = refl;
+          emitted_behind = three.emitted;
           made = two.made;
           full = λ side never. (
               let parts = all-cut (λ (y : Logged P). StaysFull side y.event) point.before (x ∷ rest) (subst (λ xs. IsNeverLite side xs) point.split never) in
@@ -244,5 +244,5 @@ module _ {H P : Type 0} where
     roles_differ_once_met first s log greater p mid x rest point (c, makes, met) =
         let k = sight first mid s log rest x (sound_first fresh_sound first greater log p) point in
         let meeting = met_seen (other greater) mid c x.outcome.entry k.here.kind (k.made (other greater) c makes) met in
-        let all = runs.differ_once_met (seen_of first) k.whole greater (premises_seen first greater log (told_of k.whole) k.told p) k.before (seen_of mid) k.here k.behind k.point meeting in
-        all_differ (x ∷ rest) (subst (λ es. AllByRecursion (λ (e : Told). e.roles.a ≢ e.roles.b) es) (ap (λ e. e ∷ told_of k.behind) k.told_here ∙ ap (λ es. told_at x ∷ es) k.told_behind) all)
+        let all = runs.differ_once_met (seen_of first) k.whole greater (premises_seen first greater log (emitted_of k.whole) k.emitted p) k.before (seen_of mid) k.here k.behind k.point meeting in
+        all_differ (x ∷ rest) (subst (λ es. AllByRecursion (λ (e : Emitted). e.roles.a ≢ e.roles.b) es) (ap (λ e. e ∷ emitted_of k.behind) k.emitted_here ∙ ap (λ es. emitted_at x ∷ es) k.emitted_behind) all)

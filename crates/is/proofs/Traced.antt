@@ -10,10 +10,10 @@ use Rattle.is_candidate.specs.Candidates.{CandidateRecord}
 use Rattle.is_stun.specs.declared.header.Class.{Class}
 use Rattle.is_stun.specs.declared.header.Class.TheVariants as class
 use Rattle.is_stun.specs.declared.trans_id.TransId.{TransId}
-use Rattle.is_rules.specs.declared.told.Issued.{Issued}
-use Rattle.is_rules.specs.declared.told.Path.{Path}
+use Rattle.is_rules.specs.declared.emitted.Issued.{Issued}
+use Rattle.is_rules.specs.declared.emitted.Path.{Path}
 use Rattle.is_rules.specs.Sound.{FreshIsSound}
-use Rattle.is_rules.specs.Told.{issued_as}
+use Rattle.is_rules.specs.Emitted.{issued_as}
 use Rattle.is_rules.specs.Effects.{PathLaw}
 use Rattle.is_rules.specs.RoleView.{some_paths, RoleLaw}
 use Rattle.is.specs.declared.calls.Answer as code
@@ -29,9 +29,9 @@ use Rattle.is.specs.World.{WorldRecord, Event, Logged, logged_as, logged, other,
 use Rattle.is.specs.WorldRoles.{HaveDistinctIds, IsFairWorld, Point, role_in, changes, GreaterKeeps, LesserYieldsOnce}
 use Rattle.is.specs.Traces.{Issues, Takes, Announces, IsAt, IsUncleared, IsTrace, IsNeverLite, ComesBack, AnnouncedAreTraced}
 use Rattle.is.proofs.Seen as seen
-use Rattle.is.proofs.Seen.{Moved, Told, told_of}
+use Rattle.is.proofs.Seen.{Moved, Emitted, emitted_of}
 use Rattle.is.proofs.SeenRuns as runs
-use Rattle.is.proofs.Following.{seen_of, moved_as, is_yes, way_in, told_at}
+use Rattle.is.proofs.Following.{seen_of, moved_as, is_yes, via_in, emitted_at}
 use Rattle.is.proofs.Settled.{get-map_back, issued_back, premises_seen, sound_first, Sight, sight, greater_keeps, lesser_yields_once}
 
 -- ---- lists
@@ -107,11 +107,11 @@ moved_back (Some m) c id h =
     let e : moved_as m ≡ n = (let w : Some (moved_as m) ≡ Some n = h in cc) in
     ap (λ (y : Moved). let pair : Class × TransId = (y.class, record { 0 = y.id }) in Some pair) e
 
-came_back : {P : Type 0} (path way : Path) (v : Event P) → way_in v ≡ Some way → (way.source ≡ path.destination) × (way.destination ≡ path.source) → ComesBack path v
-came_back path way (world.Deliver place now w) came back =
-    let same : w ≡ way = cc in (ap (λ (x : Path). x.source) same ∙ back.0, ap (λ (x : Path). x.destination) same ∙ back.1)
-came_back path way (world.Call side c) came back = absurd (let wrong : None ≡ Some way = came in cc)
-came_back path way (world.Poll side) came back = absurd (let wrong : None ≡ Some way = came in cc)
+came_back : {P : Type 0} (path via : Path) (v : Event P) → via_in v ≡ Some via → (via.source ≡ path.destination) × (via.destination ≡ path.source) → ComesBack path v
+came_back path via (world.Deliver place now w) came back =
+    let same : w ≡ via = cc in (ap (λ (x : Path). x.source) same ∙ back.0, ap (λ (x : Path). x.destination) same ∙ back.1)
+came_back path via (world.Call side c) came back = absurd (let wrong : None ≡ Some via = came in cc)
+came_back path via (world.Poll side) came back = absurd (let wrong : None ≡ Some via = came in cc)
 
 -- an entry of the list, and its place in the log
 record Entered {P : Type 0} (events : List (TwoAgentsEvent P)) (entries : List WorldEntry) (n : ℕ) (x : Logged P) : Type 0 where
@@ -143,10 +143,10 @@ entry_same : {X : Type 0} (xs : List X) (i j : ℕ) (x y : X) → slice_get xs i
 entry_same xs i j x y at_i at_j same = cc
 
 one_path : {P : Type 0} (log : List (Logged P)) → HaveDistinctIds log → (i j : ℕ) (id : List ℕ) (p q : Path) (x y : Logged P) → slice_get log i ≡ Some x → slice_get log j ≡ Some y
-    → x.outcome.entry.told.issued ≡ Some (issued_as p class.Request id) → y.outcome.entry.told.issued ≡ Some (issued_as q class.Request id) → p ≡ q
+    → x.outcome.entry.emitted.issued ≡ Some (issued_as p class.Request id) → y.outcome.entry.emitted.issued ≡ Some (issued_as q class.Request id) → p ≡ q
 one_path log distinct i j id p q x y at_i at_j issued_i issued_j =
     let same = entry_same log i j x y at_i at_j (distinct i j id p q x y at_i at_j issued_i issued_j) in
-    path_same p q id (sym issued_i ∙ ap (λ (z : Logged _). z.outcome.entry.told.issued) same ∙ issued_j)
+    path_same p q id (sym issued_i ∙ ap (λ (z : Logged _). z.outcome.entry.emitted.issued) same ∙ issued_j)
 
 -- ---- an event of a run
 
@@ -203,31 +203,31 @@ module _ {H P : Type 0} (mac : H → List ℕ → List ℕ → List ℕ) (answer
     -- ---- entries up to a number
 
     module _ (n : ℕ) (x : Logged P) (here : At n x) where
-      abbrev Es : List Told
-      Es = told_of here.sees.before ++ here.sees.here.told ∷ []
+      abbrev Es : List Emitted
+      Es = emitted_of here.sees.before ++ here.sees.here.emitted ∷ []
 
-      upto : Es ≡ map told_at (here.cut.front ++ x ∷ [])
-      upto = ap (λ es. es ++ here.sees.here.told ∷ []) here.sees.told_before ∙ ap (λ e. map told_at here.cut.front ++ e ∷ []) here.sees.told_here ∙ sym (map-push told_at here.cut.front x)
+      upto : Es ≡ map emitted_at (here.cut.front ++ x ∷ [])
+      upto = ap (λ es. es ++ here.sees.here.emitted ∷ []) here.sees.emitted_before ∙ ap (λ e. map emitted_at here.cut.front ++ e ∷ []) here.sees.emitted_here ∙ sym (map-push emitted_at here.cut.front x)
 
       whole_is : Log ≡ (here.cut.front ++ x ∷ []) ++ here.cut.rest
       whole_is = here.cut.whole ∙ sym_assoc here.cut.front x here.cut.rest
 
       -- what is seen in the front is an entry of the log, at this number at the latest
-      record Shows (m : ℕ) (e : Told) : Type 0 where
+      record Shows (m : ℕ) (e : Emitted) : Type 0 where
         event : TwoAgentsEvent P
         entry : WorldEntry
         found : slice_get entries m ≡ Some entry
-        is : told_at (logged_as event entry) ≡ e
+        is : emitted_at (logged_as event entry) ≡ e
         within : m < suc n
 
-      shows : (m : ℕ) (e : Told) → slice_get Es m ≡ Some e → Shows m e
+      shows : (m : ℕ) (e : Emitted) → slice_get Es m ≡ Some e → Shows m e
       shows m e found =
-          let k = get-map_back told_at (here.cut.front ++ x ∷ []) m e (subst (λ es. slice_get es m ≡ Some e) upto found) in
+          let k = get-map_back emitted_at (here.cut.front ++ x ∷ []) m e (subst (λ es. slice_get es m ≡ Some e) upto found) in
           let o = entered events entries m k.0 (subst (λ xs. slice_get xs m ≡ Some k.0) (sym whole_is) (get-append (here.cut.front ++ x ∷ []) here.cut.rest m k.0 k.1)) in
           let less = slice_get_within (here.cut.front ++ x ∷ []) m k.0 k.1 in
           let counted = length-push here.cut.front x in
           let at_n = here.cut.count in
-          record { event = o.event; entry = o.entry; found = o.found; is = ap told_at (sym o.is) ∙ k.2; within = omega (arith, less, counted, at_n) }
+          record { event = o.event; entry = o.entry; found = o.found; is = ap emitted_at (sym o.is) ∙ k.2; within = omega (arith, less, counted, at_n) }
 
       issues_at : (m : ℕ) (side : Side) (c : Class) (id : List ℕ) (path : Path) (role : Bool) → seen.Issues Es m side c id path role
           → IsAt entries m (Issues side path c (record { 0 = id })) × (m < suc n)
@@ -236,7 +236,7 @@ module _ {H P : Type 0} (mac : H → List ℕ → List ℕ → List ℕ) (answer
             (
               k.entry,
               k.found,
-              (ap (λ (e : Told). e.side) k.is ∙ i.side_is, issued_back k.entry.issued path c id (ap (λ (e : Told). e.issued) k.is ∙ i.issued)),
+              (ap (λ (e : Emitted). e.side) k.is ∙ i.side_is, issued_back k.entry.issued path c id (ap (λ (e : Emitted). e.issued) k.is ∙ i.issued)),
             ),
             k.within,
           )
@@ -248,9 +248,9 @@ module _ {H P : Type 0} (mac : H → List ℕ → List ℕ → List ℕ) (answer
               k.entry,
               k.found,
               (
-                ap (λ (e : Told). e.side) k.is ∙ i.side_is,
-                yes_view k.entry.answer (ap (λ (e : Told). e.accepted) k.is ∙ i.accepted),
-                moved_back k.entry.moved c id (ap (λ (e : Told). e.moved) k.is ∙ i.moved),
+                ap (λ (e : Emitted). e.side) k.is ∙ i.side_is,
+                yes_view k.entry.answer (ap (λ (e : Emitted). e.accepted) k.is ∙ i.accepted),
+                moved_back k.entry.moved c id (ap (λ (e : Emitted). e.moved) k.is ∙ i.moved),
               ),
             ),
             k.within,
@@ -263,7 +263,7 @@ module _ {H P : Type 0} (mac : H → List ℕ → List ℕ → List ℕ) (answer
           let counted = length-push here.cut.front x in
           let at_n = here.cut.count in
           let in_front = get-front (here.cut.front ++ x ∷ []) here.cut.rest k y (subst (λ xs. slice_get xs k ≡ Some y) whole_is o.1) (omega (arith, to, counted, at_n)) in
-          none k (told_at y) from (subst (λ es. slice_get es k ≡ Some (told_at y)) (sym upto) (get-map told_at (here.cut.front ++ x ∷ []) k y in_front)) side_is
+          none k (emitted_at y) from (subst (λ es. slice_get es k ≡ Some (emitted_at y)) (sym upto) (get-map emitted_at (here.cut.front ++ x ∷ []) k y in_front)) side_is
 
       -- the trace, by the numbers of entries
       traced_by : (side : Side) (path : Path) (t : seen.Trace Es side path) → IsTrace entries side path (suc n) (record { checked = t.checked; delivered = t.delivered; replied = t.replied; answered = t.answered })
@@ -290,9 +290,9 @@ module _ {H P : Type 0} (mac : H → List ℕ → List ℕ → List ℕ) (answer
         let x = logged_as o.0 e in
         let here = at_number n x o.1 in
         let k = here.sees in
-        let t = runs.traced (seen_of first) k.whole greater side (premises_seen first greater Log (told_of k.whole) k.told fair) (k.full side never)
+        let t = runs.traced (seen_of first) k.whole greater side (premises_seen first greater Log (emitted_of k.whole) k.emitted fair) (k.full side never)
         k.before (seen_of here.mid) k.here k.behind k.point path
-        (ap (λ (y : Told). y.side) k.told_here ∙ side_is) (subst (λ (y : Told). Has y.announced path) (sym k.told_here) (paths_has e.announced place path announced)) in
+        (ap (λ (y : Emitted). y.side) k.emitted_here ∙ side_is) (subst (λ (y : Emitted). Has y.announced path) (sym k.emitted_here) (paths_has e.announced place path announced)) in
         (_, traced_by n x here side path t)
 
     comes_back : (side : Side) (n : ℕ) (path : Path) (t : Trace) → IsTrace entries side path (suc n) t → (x : Logged P) × (slice_get Log t.answered ≡ Some x) × ComesBack path x.event
@@ -302,19 +302,19 @@ module _ {H P : Type 0} (mac : H → List ℕ → List ℕ → List ℕ) (answer
         let x = logged_as o.0 e in
         let here = at_number t.answered x o.1 in
         let k = here.sees in
-        let back = runs.answers_come_back (seen_of first) k.whole greater side (premises_seen first greater Log (told_of k.whole) k.told fair) k.before (seen_of here.mid) k.here k.behind k.point trace.id.0
-        (ap (λ (y : Told). y.side) k.told_here ∙ side_is)
-        (ap (λ (y : Told). y.accepted) k.told_here ∙ ap (λ a. is_yes (answer_view a)) accepted)
-        (ap (λ (y : Told). y.moved) k.told_here ∙ ap (option_map moved_as) moved) in
-        let sent = get-map_back told_at here.cut.front back.number back.check.entry (subst (λ es. slice_get es back.number ≡ Some back.check.entry) k.told_before back.check.found) in
+        let back = runs.answers_come_back (seen_of first) k.whole greater side (premises_seen first greater Log (emitted_of k.whole) k.emitted fair) k.before (seen_of here.mid) k.here k.behind k.point trace.id.0
+        (ap (λ (y : Emitted). y.side) k.emitted_here ∙ side_is)
+        (ap (λ (y : Emitted). y.accepted) k.emitted_here ∙ ap (λ a. is_yes (answer_view a)) accepted)
+        (ap (λ (y : Emitted). y.moved) k.emitted_here ∙ ap (option_map moved_as) moved) in
+        let sent = get-map_back emitted_at here.cut.front back.number back.check.entry (subst (λ es. slice_get es back.number ≡ Some back.check.entry) k.emitted_before back.check.found) in
         let there : slice_get Log back.number ≡ Some sent.0 = subst (λ xs. slice_get xs back.number ≡ Some sent.0) (sym here.cut.whole) (get-append here.cut.front (x ∷ here.cut.rest) back.number sent.0 sent.1) in
-        let issued = issued_back sent.0.outcome.entry.told.issued back.path class.Request trace.id.0 (ap (λ (y : Told). y.issued) sent.2 ∙ back.check.issued) in
+        let issued = issued_back sent.0.outcome.entry.emitted.issued back.path class.Request trace.id.0 (ap (λ (y : Emitted). y.issued) sent.2 ∙ back.check.issued) in
         let (f, f_found, (f_side, f_issued)) = trace.check in
         let p = logged_at events entries count t.checked f f_found in
         let y = logged_as p.0 f in
         let same_path = one_path Log fair.distinct back.number t.checked trace.id.0 back.path path sent.0 y there p.1 issued f_issued in
-        let came : way_in x.event ≡ Some back.way = ap (λ (z : Told). z.way) (sym k.told_here) ∙ back.came in
-        (x, o.1, came_back path back.way x.event came (subst (λ (q : Path). (back.way.source ≡ q.destination) × (back.way.destination ≡ q.source)) same_path back.back))
+        let came : via_in x.event ≡ Some back.via = ap (λ (z : Emitted). z.via) (sym k.emitted_here) ∙ back.came in
+        (x, o.1, came_back path back.via x.event came (subst (λ (q : Path). (back.via.source ≡ q.destination) × (back.via.destination ≡ q.source)) same_path back.back))
 
     pub announced_are_traced : (side : Side) → IsNeverLite side Log → (n place : ℕ) (path : Path) → IsAt entries n (Announces side path place)
         → ((t : Trace) × IsTrace entries side path (suc n) t)

@@ -3,7 +3,7 @@ use Rattle.std.proofs.Common.{◌≡◌, ℕ, zero, suc, Bool, true, false, List
 use Rattle.std.specs.Prelude.{slice_get, option_map}
 use Rattle.rand_core.specs.Stream.{Stream}
 use Rattle.is_candidate.specs.Candidates.{CandidateRecord}
-use Rattle.is_rules.specs.declared.told.Path.{Path}
+use Rattle.is_rules.specs.declared.emitted.Path.{Path}
 use Rattle.is_rules.specs.Agent.{AgentRecord}
 use Rattle.is_rules.specs.Steps as agent
 use Rattle.is_rules.specs.Steps.{Step, Receives, Answer, NoSuchPacket}
@@ -14,7 +14,7 @@ use Rattle.is_stun.specs.declared.header.Class.{Class}
 use Rattle.is_stun.specs.declared.trans_id.TransId.{TransId}
 use Rattle.is_stun.specs.Reading.{fault_of, message_of}
 use Rattle.is_rules.specs.Effects.{clears}
-use Rattle.is.specs.World.{WorldRecord, LetterRecord, Outcome, plain, in_world, moved_by, read_unless, Poll, Deliver, PolledInto, Turns, Delivers, Happens, at, put, other, roles_of}
+use Rattle.is.specs.World.{WorldRecord, InFlightRecord, Outcome, plain, in_world, moved_by, read_unless, Poll, Deliver, PolledInto, Turns, Delivers, Happens, at, put, other, roles_of}
 
 pub get-map : {X Y : Type 0} (f : X → Y) (xs : List X) (n : ℕ) (o : Option X) → slice_get xs n ≡ o → slice_get (map f xs) n ≡ option_map f o
 get-map f [] n o is = ap (option_map f) is
@@ -26,35 +26,35 @@ other-other A = refl
 other-other B = refl
 
 module _ {H P : Type 0} (mac : H → List ℕ → List ℕ → List ℕ) (answers : P → CandidateRecord → ℕ → ℕ → Type 0) where
-  pub turned : (side : Side) (w : WorldRecord H P) (s t : Stream) (c : agent.Call P) (new : AgentRecord H P) (entry : agent.Entry) (e : Outcome) (clear : Bool) (moved : Option (Class × TransId))
+  pub reversed : (side : Side) (w : WorldRecord H P) (s t : Stream) (c : agent.Call P) (new : AgentRecord H P) (entry : agent.Entry) (e : Outcome) (clear : Bool) (moved : Option (Class × TransId))
       → Step mac answers (at side w) s c entry new t → GivesBased c → clear ≡ clears c entry.answer → moved ≡ moved_by c
       → e ≡ record { entry = entry; controlling = roles_of (put side new w); side = Some side; clear = clear; moved = moved }
       → Turns mac answers w s side c e (put side new w) t
-  turned side w s t c new entry e clear moved step given clear_is moved_is is = subst (λ x. Turns mac answers w s side c x (put side new w) t) (sym is)
+  reversed side w s t c new entry e clear moved step given clear_is moved_is is = subst (λ x. Turns mac answers w s side c x (put side new w) t) (sym is)
       (record { new = new; step = step; given = given; world = refl; roles = refl; side_is = refl; clear = clear_is; moved = moved_is })
 
-  pub polled : (side : Side) (w : WorldRecord H P) (s : Stream) (answer : Answer) (new : AgentRecord H P) (bag : List LetterRecord) (e : Outcome)
+  pub polled : (side : Side) (w : WorldRecord H P) (s : Stream) (answer : Answer) (new : AgentRecord H P) (bag : List InFlightRecord) (e : Outcome)
       → PolledInto (at side w) w.bag side answer new bag
       → e ≡ plain answer (Some side) (roles_of (record (put side new w) { bag = bag }))
       → Happens mac answers w s (Poll side) e (record (put side new w) { bag = bag }) s
   polled side w s answer new bag e into is =
-      record { answer = answer; new = new; bag = bag; polled = into; world = refl; told = is; stream = refl }
+      record { answer = answer; new = new; bag = bag; polled = into; world = refl; emitted = is; stream = refl }
 
   -- a delivery to the side that did not send the letter
-  pub delivered : (side : Side) (w : WorldRecord H P) (s : Stream) (place now : ℕ) (way : Path) (l : LetterRecord) (new : AgentRecord H P) (entry : agent.Entry) (e : Outcome) (moved : Option (Class × TransId))
-      → slice_get w.bag place ≡ Some l → l.sender ≡ other side → Receives mac answers now (at side w) way l.packet.contents entry new
+  pub delivered : (side : Side) (w : WorldRecord H P) (s : Stream) (place now : ℕ) (path : Path) (l : InFlightRecord) (new : AgentRecord H P) (entry : agent.Entry) (e : Outcome) (moved : Option (Class × TransId))
+      → slice_get w.bag place ≡ Some l → l.sender ≡ other side → Receives mac answers now (at side w) path l.packet.contents entry new
       → moved ≡ read_unless (fault_of l.packet.contents) (message_of l.packet.contents)
       → e ≡ record { entry = entry; controlling = roles_of (put side new w); side = Some side; clear = false; moved = moved }
-      → Happens mac answers w s (Deliver place now way) e (put side new w) s
-  delivered side w s place now way l new entry e moved found sender received moved_is is =
-      subst (λ o. Delivers mac answers w s o now way e (put side new w) s) (sym found)
-      (subst (λ r. Turns mac answers w s r (agent.ReceivePacket now way l.packet.contents) e (put side new w) s) (sym (ap other sender ∙ other-other side))
-      (turned side w s s (agent.ReceivePacket now way l.packet.contents) new entry e false moved (received, refl) tt refl moved_is is))
+      → Happens mac answers w s (Deliver place now path) e (put side new w) s
+  delivered side w s place now path l new entry e moved found sender received moved_is is =
+      subst (λ o. Delivers mac answers w s o now path e (put side new w) s) (sym found)
+      (subst (λ r. Turns mac answers w s r (agent.ReceivePacket now path l.packet.contents) e (put side new w) s) (sym (ap other sender ∙ other-other side))
+      (reversed side w s s (agent.ReceivePacket now path l.packet.contents) new entry e false moved (received, refl) tt refl moved_is is))
 
-  pub not_found : (w : WorldRecord H P) (s : Stream) (place now : ℕ) (way : Path) (e : Outcome)
-      → slice_get w.bag place ≡ None → e ≡ plain NoSuchPacket None (roles_of w) → Happens mac answers w s (Deliver place now way) e w s
-  not_found w s place now way e found is = subst (λ o. Delivers mac answers w s o now way e w s) (sym found) (refl, refl, is)
+  pub not_found : (w : WorldRecord H P) (s : Stream) (place now : ℕ) (path : Path) (e : Outcome)
+      → slice_get w.bag place ≡ None → e ≡ plain NoSuchPacket None (roles_of w) → Happens mac answers w s (Deliver place now path) e w s
+  not_found w s place now path e found is = subst (λ o. Delivers mac answers w s o now path e w s) (sym found) (refl, refl, is)
 
 pub unmoving : {P : Type 0} (c : agent.Call P) → in_world c ≡ true → None ≡ moved_by c
-unmoving (agent.ReceivePacket now way bytes) h = absurd (let wrong : false ≡ true = h in cc)
+unmoving (agent.ReceivePacket now path bytes) h = absurd (let wrong : false ≡ true = h in cc)
 unmoving c h = refl

@@ -6,10 +6,10 @@ use Rattle.is_proto.specs.declared.error.ParseFault.{ParseFault}
 use Rattle.is_stun.specs.Message.{Message}
 use Rattle.is_stun.specs.Reading.{Reads}
 use Rattle.is_candidate.specs.Candidates.{CandidateRecord}
-use Rattle.is_rules.specs.declared.told.Path.{Path}
+use Rattle.is_rules.specs.declared.emitted.Path.{Path}
 use Rattle.is_rules.specs.Agent.{AgentRecord}
 use Rattle.is_rules.specs.Accepting.{IsAcceptedOn}
-use Rattle.is_rules.specs.Told.{nothing_told}
+use Rattle.is_rules.specs.Emitted.{nothing_emitted}
 use Rattle.is_rules.specs.Steps.{ReceivePacket, Answer, Flag, Unparsed, Refused, Entry}
 use Rattle.is_rules.specs.Logs.{Logged}
 use Rattle.is_rules.specs.Runs.{AtEach}
@@ -25,21 +25,21 @@ SaysYes answer = (answer ≡ Flag true) ⊎ ((error : IceError) × (answer ≡ R
 -- the record stays, nothing is issued or announced, and the answer is a no
 pub record ChangesNothing {H P : Type 0} (old : AgentRecord H P) (e : Entry) (new : AgentRecord H P) : Type 0 where
   pub same : new ≡ old
-  pub told : e.told ≡ nothing_told
+  pub emitted : e.emitted ≡ nothing_emitted
   pub answer : SaysNo e.answer
 
 module _ {H P : Type 0} (mac : H → List ℕ → List ℕ → List ℕ) where
   -- the bytes read as a message that the agent accepts on the way that they came
   abbrev pub Accepts : AgentRecord H P → Path → List ℕ → Type 0
-  Accepts a way bytes = (m : Message) × Reads bytes m × IsAcceptedOn mac a way m
+  Accepts a path bytes = (m : Message) × Reads bytes m × IsAcceptedOn mac a path m
 
   -- bytes that are not accepted change nothing, and those that are get a yes
-  pub record IsSettled (old : AgentRecord H P) (way : Path) (bytes : List ℕ) (e : Entry) (new : AgentRecord H P) : Type 0 where
-    pub unaccepted : ¬ Accepts old way bytes → ChangesNothing old e new
-    pub accepted : Accepts old way bytes → SaysYes e.answer
+  pub record IsSettled (old : AgentRecord H P) (path : Path) (bytes : List ℕ) (e : Entry) (new : AgentRecord H P) : Type 0 where
+    pub unaccepted : ¬ Accepts old path bytes → ChangesNothing old e new
+    pub accepted : Accepts old path bytes → SaysYes e.answer
 
   -- wherever a packet stands in the log
   abbrev pub PacketsAreSettled : (P → CandidateRecord → ℕ → ℕ → Type 0) → AgentRecord H P → Stream → List (Logged P) → Type 0
   PacketsAreSettled answers first s log =
-      AtEach mac answers first s log (λ before mid x after. (now : ℕ) (way : Path) (bytes : List ℕ)
-      → x.call ≡ ReceivePacket now way bytes → IsSettled mid way bytes x.entry after)
+      AtEach mac answers first s log (λ before mid x after. (now : ℕ) (path : Path) (bytes : List ℕ)
+      → x.call ≡ ReceivePacket now path bytes → IsSettled mid path bytes x.entry after)

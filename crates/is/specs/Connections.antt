@@ -7,22 +7,22 @@ use Rattle.is_proto.specs.Packets.{Packet}
 use Rattle.is_candidate.specs.Candidates.{CandidateRecord}
 use Rattle.is_pair.specs.Pairs.{PairRecord}
 use Rattle.is_stun.specs.declared.header.Class.TheVariants.{Request, Success}
-use Rattle.is_rules.specs.declared.told.Path.{Path}
+use Rattle.is_rules.specs.declared.emitted.Path.{Path}
 use Rattle.is_rules.specs.Asked.{IsAlone}
 use Rattle.is_rules.specs.AskedCourses.{AcceptsSuccessOn}
 use Rattle.is_rules.specs.Asking.{AreNominatedOn}
 use Rattle.is_rules.specs.Delivery.{KnowEachOther, IsReachedBy, Sends}
-use Rattle.is_rules.specs.Issuing.{way_out}
+use Rattle.is_rules.specs.Issuing.{via_out}
 use Rattle.is_rules.specs.Progress.{HasAnnounced}
 use Rattle.is_rules.specs.Queue.{request_at}
 use Rattle.is_rules.specs.Reached.{IsInLine}
 use Rattle.is_rules.specs.Sending.{path_of}
 use Rattle.is_rules.specs.Steps as agent
-use Rattle.is_rules.specs.Told.{issued_as, turned}
+use Rattle.is_rules.specs.Emitted.{issued_as, reversed}
 use Rattle.is.specs.declared.world.Side.{Side}
 use Rattle.is.specs.Deliveries.{MakesPolls, Announces}
 use Rattle.is.specs.Grantings.{Occurrence, IsControlled, Arrival, MayEndAt, occurrences_in}
-use Rattle.is.specs.World.{WorldRecord, LetterRecord, Call, Deliver, Logged, Run, at, other}
+use Rattle.is.specs.World.{WorldRecord, InFlightRecord, Call, Deliver, Logged, Run, at, other}
 use Rattle.is.specs.WorldRoles.{IsNewAgent}
 
 -- a moment of a side, and what occurs behind it, oldest first
@@ -61,7 +61,7 @@ module _ {H P : Type 0} where
 
   -- the moment sends this check on the path
   pub record SendsOn (side : Side) (path : Path) (r : Round H P) (check : Packet) (id : List ℕ) : Type 0 where
-    pub on : way_out check ≡ path
+    pub on : via_out check ≡ path
     pub sends : Sends (at side r.moment.before) r.moment.entry.outcome.entry Request id check (at side r.moment.behind)
 
   -- the check comes to the other side before the next moment, and reaches it, while both know each other
@@ -74,12 +74,12 @@ module _ {H P : Type 0} where
   pub record Succeeds (side : Side) (path : Path) (x : Occurrence H P) : Type 0 where
     pub place : ℕ
     pub now : ℕ
-    pub way : Path
-    pub letter : LetterRecord
-    pub event : x.entry.event ≡ Deliver place now way
-    pub sent : slice_get x.before.bag place ≡ Some letter
-    pub its : other letter.sender ≡ side
-    pub accepts : AcceptsSuccessOn {P = P} (agent.ReceivePacket now way letter.packet.contents) x.entry.outcome.entry path
+    pub via : Path
+    pub in_flight : InFlightRecord
+    pub event : x.entry.event ≡ Deliver place now via
+    pub sent : slice_get x.before.bag place ≡ Some in_flight
+    pub its : other in_flight.sender ≡ side
+    pub accepts : AcceptsSuccessOn {P = P} (agent.ReceivePacket now via in_flight.packet.contents) x.entry.outcome.entry path
 
   -- A round of the side that asks: a check that goes out on the path is delivered, and the path's pairs are nominated by then. No success comes
   -- on the path in a round in which no check goes out on it.
@@ -87,7 +87,7 @@ module _ {H P : Type 0} where
     pub handed : (check : Packet) (id : List ℕ) → SendsOn side path r check id → IsHanded mac side path r check
     pub nominated : AreNominatedOn (at side r.moment.behind) path
     pub timely : (x : Occurrence H P) → Has r.behind x → Succeeds side path x
-        → (id : List ℕ) × (r.moment.entry.outcome.entry.told.issued ≡ Some (issued_as path Request id))
+        → (id : List ℕ) × (r.moment.entry.outcome.entry.emitted.issued ≡ Some (issued_as path Request id))
 
   -- a round of the side that is asked: a check that goes out on the path is delivered, and its success comes back before the next moment
   abbrev pub IsAnswered : (H → List ℕ → List ℕ → List ℕ) → Side → Path → Round H P → Type 0
@@ -108,8 +108,8 @@ module _ {H P : Type 0} where
         (now : ℕ) (side : Side) (path : Path)
         → ((x : Side) → IsNewAgent (at x first)) → occurrences_in mac answers first s 0 log last t run ≡ before ++ ((part ++ moment ∷ []) ++ rest)
         → IsControlled side (part ++ moment ∷ [])
-        → (asking : HasRounds (other side) (turned path) part moment.before)
-        → ((r : Round H P) → Has (asking.first ∷ asking.later) r → Asks mac (other side) (turned path) r)
+        → (asking : HasRounds (other side) (reversed path) part moment.before)
+        → ((r : Round H P) → Has (asking.first ∷ asking.later) r → Asks mac (other side) (reversed path) r)
         → (asked : HasRounds side path part moment.before)
         → ((r : Round H P) → Has (asked.first ∷ asked.later) r → IsAnswered mac side path r)
         → moment.entry.event ≡ Call side (agent.HandleTimeout now) → moment.entry.outcome.entry.answer ≡ agent.Done → request_at now (at side moment.before) ≡ None

@@ -9,10 +9,10 @@ use Rattle.is_candidate.specs.Candidates.{CandidateRecord}
 use Rattle.is_pair.specs.Pairs.{PairRecord}
 use Rattle.is_pair.specs.Turns.{due_by}
 use Rattle.is_stun.specs.declared.header.Class.TheVariants.{Request, Success}
-use Rattle.is_rules.specs.declared.told.Path.{Path}
+use Rattle.is_rules.specs.declared.emitted.Path.{Path}
 use Rattle.is_rules.specs.Delivery.{KnowEachOther, IsReachedBy, Sends}
 use Rattle.is_rules.specs.Effects.{last_of}
-use Rattle.is_rules.specs.Issuing.{way_out}
+use Rattle.is_rules.specs.Issuing.{via_out}
 use Rattle.is_rules.specs.Progress.{Awaits, IsUnanswered}
 use Rattle.is_rules.specs.Rounds.{is_poll}
 use Rattle.is_rules.specs.Sending.{path_of}
@@ -43,14 +43,14 @@ AreApart side x = (role_in side x ≡ true) × (role_in (other side) x ≡ false
 
 -- the side announced a path
 abbrev pub Announces : {P : Type 0} → Side → Logged P → Type 0
-Announces side x = (x.outcome.side ≡ Some side) × (is_some (last_of x.outcome.entry.told.announced) ≡ true)
+Announces side x = (x.outcome.side ≡ Some side) × (is_some (last_of x.outcome.entry.emitted.announced) ≡ true)
 
 module _ {H P : Type 0} where
   -- the event brings the packet to the side, as the other one sent it off, and the call is not refused
   pub record Hands (side : Side) (packet : Packet) (w : WorldRecord H P) (x : Logged P) : Type 0 where
     pub place : ℕ
     pub now : ℕ
-    pub event : x.event ≡ Deliver place now (way_out packet)
+    pub event : x.event ≡ Deliver place now (via_out packet)
     pub sent : slice_get w.bag place ≡ Some record { sender = other side; packet = packet }
     pub granted : is_refusal x.outcome.entry.answer ≡ false
 
@@ -66,7 +66,7 @@ module _ {H P : Type 0} where
         → Run mac answers w s n log last t → Type 0
     Exchanges check id w s n [] last t run = ⊥
     Exchanges check id w s n (x ∷ rest) last t run =
-        (Hands (other side) check w x × KnowEachOther mac (at side w) (at (other side) w) × IsReachedBy (at (other side) w) (way_out check)
+        (Hands (other side) check w x × KnowEachOther mac (at side w) (at (other side) w) × IsReachedBy (at (other side) w) (via_out check)
         × ((reply : Packet) → Sends (at (other side) w) x.outcome.entry Success id reply (at (other side) run.0)
         → Returns reply run.0 run.1 (suc n) rest last t run.4))
         ⊎ Exchanges check id run.0 run.1 (suc n) rest last t run.4
@@ -83,7 +83,7 @@ module _ {H P : Type 0} where
       pub early : r.now < MAX
       pub polls : (x : Logged P) → Has r.behind x → MakesPolls side x.event
       pub apart : (x : Logged P) → Has (r.moment ∷ r.behind) x → AreApart side x
-      pub exchanged : (check : Packet) (id : List ℕ) → way_out check ≡ path → Sends (at side w) r.moment.outcome.entry Request id check (at side mid)
+      pub exchanged : (check : Packet) (id : List ℕ) → via_out check ≡ path → Sends (at side w) r.moment.outcome.entry Request id check (at side mid)
           → Exchanges check id mid u (suc n) r.behind next t run
 
     -- round after round

@@ -6,16 +6,16 @@ use Rattle.is_proto.specs.Lists.{Has}
 use Rattle.is_proto.specs.Packets.{Packet}
 use Rattle.is_candidate.specs.Candidates.{CandidateRecord}
 use Rattle.is_stun.specs.declared.header.Class.TheVariants.{Request, Success}
-use Rattle.is_rules.specs.declared.told.Path.{Path}
+use Rattle.is_rules.specs.declared.emitted.Path.{Path}
 use Rattle.is_rules.specs.Asked.{IsAlone}
 use Rattle.is_rules.specs.AskedCourses.{Ends}
 use Rattle.is_rules.specs.Asking.{AreNominatedOn}
 use Rattle.is_rules.specs.Delivery.{KnowEachOther, IsReachedBy, Sends}
-use Rattle.is_rules.specs.Issuing.{way_out}
+use Rattle.is_rules.specs.Issuing.{via_out}
 use Rattle.is_rules.specs.Progress.{HasAnnounced}
 use Rattle.is_rules.specs.Queue.{request_at}
 use Rattle.is_rules.specs.Steps as agent
-use Rattle.is_rules.specs.Told.{turned}
+use Rattle.is_rules.specs.Emitted.{reversed}
 use Rattle.is.specs.declared.world.Side.{Side}
 use Rattle.is.specs.Deliveries.{MakesPolls, Announces, Hands}
 use Rattle.is.specs.World.{WorldRecord, Call, Logged, Run, at, other}
@@ -51,7 +51,7 @@ module _ {H P : Type 0} where
     pub check : Packet
     pub id : List ℕ
     pub moment : sent.entry.event ≡ Call side (agent.HandleTimeout now)
-    pub on : way_out check ≡ path
+    pub on : via_out check ≡ path
     pub sends : Sends (at side sent.before) sent.entry.outcome.entry Request id check (at side sent.behind)
     pub comes : Arrival side (other side) check behind
     pub know : KnowEachOther mac (at side comes.handed.before) (at (other side) comes.handed.before)
@@ -59,7 +59,7 @@ module _ {H P : Type 0} where
 
   -- the other side asks for the path: it checks the way back, whose pairs are nominated
   abbrev pub IsAskedOver : (H → List ℕ → List ℕ → List ℕ) → Side → Path → List (Occurrence H P) → Type 0
-  IsAskedOver mac side path all = (k : HandedCheck mac (other side) (turned path) all) × AreNominatedOn (at (other side) k.sent.behind) (turned path)
+  IsAskedOver mac side path all = (k : HandedCheck mac (other side) (reversed path) all) × AreNominatedOn (at (other side) k.sent.behind) (reversed path)
 
   -- the side checks the path, and the success comes back to it before its next moment
   abbrev pub IsExchangedOver : (H → List ℕ → List ℕ → List ℕ) → Side → Path → List (Occurrence H P) → Type 0

@@ -2,7 +2,7 @@
 use Rattle.std.specs.Prelude.{◌≡◌, ℕ, ◌<◌, ◌≤◌, true, List, Option, Some, MatchOption}
 use Rattle.is_stun.specs.declared.header.Class.TheVariants as class
 use Rattle.is_stun.specs.declared.trans_id.TransId.{TransId}
-use Rattle.is_rules.specs.declared.told.Path.{Path}
+use Rattle.is_rules.specs.declared.emitted.Path.{Path}
 use Rattle.is.specs.declared.world.Side.{Side}
 use Rattle.is.specs.declared.world.WorldEntry.{WorldEntry}
 use Rattle.is.specs.declared.traces.Mark.{Mark}

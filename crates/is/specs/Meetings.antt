@@ -7,7 +7,7 @@ use Rattle.is_proto.specs.Packets.{Packet}
 use Rattle.is_candidate.specs.Candidates.{CandidateRecord}
 use Rattle.is_stun.specs.declared.header.Class.TheVariants.{Request, Failure}
 use Rattle.is_rules.specs.Delivery.{KnowEachOther, IsReachedBy, Sends}
-use Rattle.is_rules.specs.Issuing.{way_out}
+use Rattle.is_rules.specs.Issuing.{via_out}
 use Rattle.is_rules.specs.Steps as agent
 use Rattle.is.specs.declared.world.Side.{Side}
 use Rattle.is.specs.declared.world.Side.TheVariants.{A, B}
@@ -26,7 +26,7 @@ module _ {H P : Type 0} (mac : H → List ℕ → List ℕ → List ℕ) (answer
         → Run mac answers w s n log last t → Type 0
     Confronts check id w s n [] last t run = ⊥
     Confronts check id w s n (x ∷ rest) last t run =
-        (Hands (other side) check w x × KnowEachOther mac (at side w) (at (other side) w) × IsReachedBy (at (other side) w) (way_out check)
+        (Hands (other side) check w x × KnowEachOther mac (at side w) (at (other side) w) × IsReachedBy (at (other side) w) (via_out check)
         × ((refusal : Packet) → Sends (at (other side) w) x.outcome.entry Failure id refusal (at (other side) run.0)
         → Returns mac answers side refusal run.0 run.1 (suc n) rest last t run.4))
         ⊎ Confronts check id run.0 run.1 (suc n) rest last t run.4

@@ -4,9 +4,9 @@ use Rattle.rand_core.specs.Stream.{Stream}
 use Rattle.is_proto.specs.Lists.{Has}
 use Rattle.is_candidate.specs.Candidates.{CandidateRecord}
 use Rattle.is_pair.specs.Pairs.{PairRecord}
-use Rattle.is_rules.specs.declared.told.Path.{Path}
+use Rattle.is_rules.specs.declared.emitted.Path.{Path}
 use Rattle.is_rules.specs.Sending.{path_of}
-use Rattle.is_rules.specs.Told.{turned}
+use Rattle.is_rules.specs.Emitted.{reversed}
 use Rattle.is.specs.declared.world.Side.{Side}
 use Rattle.is.specs.Grantings.{Occurrence, occurrences_in}
 use Rattle.is.specs.World.{WorldRecord, Logged, Run, at, other}
@@ -15,7 +15,7 @@ use Rattle.is.specs.WorldRoles.{IsNewAgent}
 module _ {H P : Type 0} where
   -- the side announced the path
   abbrev pub Tells : Side → Path → Occurrence H P → Type 0
-  Tells side path x = (x.entry.outcome.side ≡ Some side) × Has x.entry.outcome.entry.told.announced (Some path)
+  Tells side path x = (x.entry.outcome.side ≡ Some side) × Has x.entry.outcome.entry.emitted.announced (Some path)
 
   -- the side is not lite, and its pairs are all on the path
   abbrev pub KeepsTo : Side → Path → WorldRecord H P → Type 0
@@ -29,6 +29,6 @@ module _ {H P : Type 0} where
         (last : WorldRecord H P) (t : Stream) (run : Run mac answers first s 0 log last t) (x y : Occurrence H P) (side : Side) (path one two : Path)
         → ((z : Side) → IsNewAgent (at z first))
         → ((z : Occurrence H P) → Has (occurrences_in mac answers first s 0 log last t run) z
-        → KeepsTo side path z.before × KeepsTo (other side) (turned path) z.before)
+        → KeepsTo side path z.before × KeepsTo (other side) (reversed path) z.before)
         → Has (occurrences_in mac answers first s 0 log last t run) x → Has (occurrences_in mac answers first s 0 log last t run) y
-        → Tells side one x → Tells (other side) two y → two ≡ turned one
+        → Tells side one x → Tells (other side) two y → two ≡ reversed one

@@ -11,12 +11,12 @@ use Rattle.is_rules.specs.Runs.{AtEach}
 
 -- a packet and a moment; what they issue is at most one packet, since an entry has room for no more
 abbrev pub may_issue : {P : Type 0} → Call P → Bool
-may_issue (ReceivePacket now way bytes) = true
+may_issue (ReceivePacket now path bytes) = true
 may_issue (HandleTimeout now) = true
 may_issue _ = false
 
 abbrev pub IssuesNone : {P : Type 0} → Call P → Entry → Type 0
-IssuesNone call e = may_issue call ≡ false → e.told.issued ≡ None
+IssuesNone call e = may_issue call ≡ false → e.emitted.issued ≡ None
 
 module _ {H P : Type 0} (mac : H → List ℕ → List ℕ → List ℕ) (answers : P → CandidateRecord → ℕ → ℕ → Type 0) where
   -- no call issues a packet but a packet and a moment

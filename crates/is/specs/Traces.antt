@@ -4,7 +4,7 @@ use Rattle.std.specs.List.{AllByRecursion}
 use Rattle.is_stun.specs.declared.header.Class.{Class}
 use Rattle.is_stun.specs.declared.header.Class.TheVariants as class
 use Rattle.is_stun.specs.declared.trans_id.TransId.{TransId}
-use Rattle.is_rules.specs.declared.told.Path.{Path}
+use Rattle.is_rules.specs.declared.emitted.Path.{Path}
 use Rattle.is_rules.specs.Steps as agent
 use Rattle.is.specs.declared.calls.Answer.TheVariants as answer
 use Rattle.is.specs.declared.world.Side.{Side}
@@ -83,7 +83,7 @@ IsNeverLite side log = AllByRecursion (λ x. StaysFull side x.event) log
 
 -- the event is a delivery from the path's remote address to its base
 abbrev pub ComesBack : {P : Type 0} → Path → Event P → Type 0
-ComesBack path (world.Deliver packet now way) = (way.source ≡ path.destination) × (way.destination ≡ path.source)
+ComesBack path (world.Deliver packet now via) = (via.source ≡ path.destination) × (via.destination ≡ path.source)
 ComesBack path _ = ⊥
 
 -- each path that a side announced which is never lite has a trace, and the answer of each of its traces came back on the path

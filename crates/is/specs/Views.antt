@@ -56,4 +56,4 @@ answer_view NotInWorld = agent.NotInWorld
 answer_view NoSuchPacket = agent.NoSuchPacket
 
 abbrev pub entry_view : Entry → agent.Entry
-entry_view e = record { answer = answer_view e.answer; told = record { issued = e.issued; announced = e.announced } }
+entry_view e = record { answer = answer_view e.answer; emitted = record { issued = e.issued; announced = e.announced } }

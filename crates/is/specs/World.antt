@@ -11,7 +11,7 @@ use Rattle.is_stun.specs.declared.header.Class.{Class}
 use Rattle.is_stun.specs.declared.trans_id.TransId.{TransId}
 use Rattle.is_stun.specs.Message.{Message}
 use Rattle.is_stun.specs.Reading.{fault_of, message_of}
-use Rattle.is_rules.specs.declared.told.Path.{Path}
+use Rattle.is_rules.specs.declared.emitted.Path.{Path}
 use Rattle.is_rules.specs.Steps as agent
 use Rattle.is_rules.specs.Steps.{quiet, Answer, Flag, Refused, NotInWorld, NoSuchPacket}
 use Rattle.is_rules.specs.Agent.{AgentRecord, fresh, MakesAgent}
@@ -24,7 +24,7 @@ use Rattle.is_rules.specs.Effects.{clears}
 use Rattle.is.specs.declared.world.Side.{Side}
 use Rattle.is.specs.declared.world.Side.TheVariants.{A, B}
 use Rattle.is.specs.declared.world.AgentSpec.{AgentSpec}
-use Rattle.is.specs.declared.world.Letter as code
+use Rattle.is.specs.declared.world.InFlight as code
 use Rattle.is.specs.declared.world.TwoAgents.{TwoAgents}
 use Rattle.is.specs.declared.world.TwoAgentsEvent.{TwoAgentsEvent}
 use Rattle.is.specs.declared.world.TwoAgentsEvent.TheVariants as event
@@ -35,20 +35,20 @@ use Rattle.is.specs.Views.{call_view, answer_view}
 -- ---- what is seen of a world
 
 -- a packet that was sent off, and its sender
-pub record LetterRecord : Type 0 where
+pub record InFlightRecord : Type 0 where
   pub sender : Side
   pub packet : Packet
 
 pub record WorldRecord (H P : Type 0) : Type 0 where
   pub a : AgentRecord H P
   pub b : AgentRecord H P
-  pub bag : List LetterRecord
+  pub bag : List InFlightRecord
 
-abbrev pub letter_of : code.Letter → LetterRecord
-letter_of l = record { sender = l.sender; packet = packet_of l.packet }
+abbrev pub in_flight_of : code.InFlight → InFlightRecord
+in_flight_of l = record { sender = l.sender; packet = packet_of l.packet }
 
 abbrev pub world_of : {H P : Type 0} → TwoAgents H P → WorldRecord H P
-world_of w = record { a = record_of w.a; b = record_of w.b; bag = map letter_of w.bag.items }
+world_of w = record { a = record_of w.a; b = record_of w.b; bag = map in_flight_of w.bag.items }
 
 abbrev pub other : Side → Side
 other A = B
@@ -109,7 +109,7 @@ pub record Outcome : Type 0 where
 
 abbrev pub outcome_of : WorldEntry → Outcome
 outcome_of e = record {
-  entry = record { answer = answer_view e.answer; told = record { issued = e.issued; announced = e.announced } };
+  entry = record { answer = answer_view e.answer; emitted = record { issued = e.issued; announced = e.announced } };
   controlling = e.controlling;
   side = e.side;
   clear = e.clear;
@@ -122,20 +122,20 @@ read_unless None m = Some (m.class, record { 0 = m.id })
 read_unless (Some fault) m = None
 
 abbrev pub moved_by : {P : Type 0} → agent.Call P → Option (Class × TransId)
-moved_by (agent.ReceivePacket now way bytes) = read_unless (fault_of bytes) (message_of bytes)
+moved_by (agent.ReceivePacket now path bytes) = read_unless (fault_of bytes) (message_of bytes)
 moved_by _ = None
 
 -- ---- what happens
 
 -- calls that are steps of a world: packets come from the bag alone, and no role or tie-breaker is set
 abbrev pub in_world : {P : Type 0} → agent.Call P → Bool
-in_world (agent.ReceivePacket now way bytes) = false
+in_world (agent.ReceivePacket now path bytes) = false
 in_world (agent.SetControlling controlling) = false
 in_world (agent.SetControlTieBreaker tie_breaker) = false
 in_world _ = true
 
 -- an agent's packet moves into the bag, or there is none, or no room
-abbrev pub PolledInto : {H P : Type 0} → AgentRecord H P → List LetterRecord → Side → Answer → AgentRecord H P → List LetterRecord → Type 0
+abbrev pub PolledInto : {H P : Type 0} → AgentRecord H P → List InFlightRecord → Side → Answer → AgentRecord H P → List InFlightRecord → Type 0
 PolledInto old bag side answer new bag' =
     ((answer ≡ Refused OutOfMemory) × (new ≡ old) × (bag' ≡ bag))
     ⊎ (((answer ≡ Flag false) × PollsTransmit old None new × (bag' ≡ bag))
@@ -166,21 +166,21 @@ module _ {H P : Type 0} (mac : H → List ℕ → List ℕ → List ℕ) (answer
   pub record Polls (w : WorldRecord H P) (s : Stream) (side : Side) (e : Outcome) (w' : WorldRecord H P) (t : Stream) : Type 0 where
     pub answer : Answer
     pub new : AgentRecord H P
-    pub bag : List LetterRecord
+    pub bag : List InFlightRecord
     pub polled : PolledInto (at side w) w.bag side answer new bag
     pub world : w' ≡ record (put side new w) { bag = bag }
-    pub told : e ≡ plain answer (Some side) (roles_of w')
+    pub emitted : e ≡ plain answer (Some side) (roles_of w')
     pub stream : t ≡ s
 
-  abbrev pub Delivers : WorldRecord H P → Stream → Option LetterRecord → ℕ → Path → Outcome → WorldRecord H P → Stream → Type 0
-  Delivers w s None now way e w' t = Stands w s NoSuchPacket None e w' t
-  Delivers w s (Some l) now way e w' t = Turns w s (other l.sender) (agent.ReceivePacket now way l.packet.contents) e w' t
+  abbrev pub Delivers : WorldRecord H P → Stream → Option InFlightRecord → ℕ → Path → Outcome → WorldRecord H P → Stream → Type 0
+  Delivers w s None now path e w' t = Stands w s NoSuchPacket None e w' t
+  Delivers w s (Some l) now path e w' t = Turns w s (other l.sender) (agent.ReceivePacket now path l.packet.contents) e w' t
 
   -- one event
   abbrev pub Happens : WorldRecord H P → Stream → Event P → Outcome → WorldRecord H P → Stream → Type 0
   Happens w s (Call side c) e w' t = MatchBool (in_world c) (Turns w s side c e w' t) (Stands w s NotInWorld (Some side) e w' t)
   Happens w s (Poll side) e w' t = Polls w s side e w' t
-  Happens w s (Deliver place now way) e w' t = Delivers w s (slice_get w.bag place) now way e w' t
+  Happens w s (Deliver place now path) e w' t = Delivers w s (slice_get w.bag place) now path e w' t
 
 -- ---- the log
 

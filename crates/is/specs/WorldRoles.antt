@@ -7,17 +7,17 @@ use Rattle.is_candidate.specs.Candidates.{CandidateRecord}
 use Rattle.is_stun.specs.declared.header.Class.TheVariants as class
 use Rattle.is_stun.specs.Message.{Message}
 use Rattle.is_rules.specs.declared.credentials.IceCreds.{IceCreds}
-use Rattle.is_rules.specs.declared.told.Path.{Path}
+use Rattle.is_rules.specs.declared.emitted.Path.{Path}
 use Rattle.is_rules.specs.Request.{RequestRecord}
 use Rattle.is_rules.specs.Agent.{AgentRecord, fresh}
 use Rattle.is_rules.specs.Answers.{is_role_conflict}
 use Rattle.is_rules.specs.Steps as agent
 use Rattle.is_rules.specs.Brought.{Brings, IsServing, IsServedPastTests}
-use Rattle.is_rules.specs.Told.{issued_as}
+use Rattle.is_rules.specs.Emitted.{issued_as}
 use Rattle.is.specs.declared.world.Side.{Side}
 use Rattle.is.specs.declared.world.Side.TheVariants.{A, B}
 use Rattle.is.specs.World as world
-use Rattle.is.specs.World.{WorldRecord, LetterRecord, Logged, Event, at, other, in_world}
+use Rattle.is.specs.World.{WorldRecord, InFlightRecord, Logged, Event, at, other, in_world}
 
 -- ---- the premises
 
@@ -31,7 +31,7 @@ module _ {H P : Type 0} where
 abbrev pub HaveDistinctIds : {P : Type 0} → List (Logged P) → Type 0
 HaveDistinctIds log =
     (i j : ℕ) (id : List ℕ) (p q : Path) (x y : Logged _) → slice_get log i ≡ Some x → slice_get log j ≡ Some y
-    → x.outcome.entry.told.issued ≡ Some (issued_as p class.Request id) → y.outcome.entry.told.issued ≡ Some (issued_as q class.Request id) → i ≡ j
+    → x.outcome.entry.emitted.issued ≡ Some (issued_as p class.Request id) → y.outcome.entry.emitted.issued ≡ Some (issued_as q class.Request id) → i ≡ j
 
 -- both agents are as they are made, nothing is between them, `greater` has the greater tie-breaker, and no check's id comes twice
 pub record IsFairWorld {H P : Type 0} (first : WorldRecord H P) (greater : Side) (log : List (Logged P)) : Type 0 where
@@ -73,8 +73,8 @@ module _ {H P : Type 0} where
   abbrev pub Makes : WorldRecord H P → Event P → Side → agent.Call P → Type 0
   Makes w (world.Call s c) side d = (s ≡ side) × (d ≡ c) × (in_world c ≡ true)
   Makes w (world.Poll s) side d = ⊥
-  Makes w (world.Deliver place now way) side d =
-      (l : LetterRecord) × (slice_get w.bag place ≡ Some l) × (other l.sender ≡ side) × (d ≡ agent.ReceivePacket now way l.packet.contents)
+  Makes w (world.Deliver place now path) side d =
+      (l : InFlightRecord) × (slice_get w.bag place ≡ Some l) × (other l.sender ≡ side) × (d ≡ agent.ReceivePacket now path l.packet.contents)
 
   -- at this event the side serves a request past the tests of its user name and its destination, directly or from its queue, or
   -- accepts a failure answer of code 487
@@ -82,7 +82,7 @@ module _ {H P : Type 0} where
   Meets side w x =
       (c : agent.Call P) × Makes w x.event side c
       × (((q : RequestRecord) × IsServing (at side w) c x.outcome.entry q × IsServedPastTests (at side w) q)
-      ⊎ ((now : ℕ) × (way : Path) × (m : Message) × Brings c x.outcome.entry now way m × (m.class ≡ class.Failure) × (is_role_conflict m ≡ true)))
+      ⊎ ((now : ℕ) × (path : Path) × (m : Message) × Brings c x.outcome.entry now path m × (m.class ≡ class.Failure) × (is_role_conflict m ≡ true)))
 
 module _ {H P : Type 0} (mac : H → List ℕ → List ℕ → List ℕ) (answers : P → CandidateRecord → ℕ → ℕ → Type 0) where
   -- x stands in the log, with the world before it

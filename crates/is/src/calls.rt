@@ -2,7 +2,7 @@
 use is_agent::{IceAgentEvent, IceCreds};
 use is_candidate::{Candidate, LocalPreference};
 use is_proto::{Duration, IceError, Instant, ParseFault, Protocol, Transmit};
-use is_rules::told::{Issued, Path};
+use is_rules::emitted::{Issued, Path};
 use std::net::SocketAddr;
 use std::ops::RangeInclusive;
 

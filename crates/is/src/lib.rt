@@ -28,11 +28,11 @@ pub use is_proto::{
     DefaultSha1HmacProvider, Duration, IceError, Instant, ParseFault, Protocol, Sha1HmacProvider,
     SocketText, StunError, TcpType, Text, Transmit,
 };
-pub use is_rules::told::{Issued, Path};
+pub use is_rules::emitted::{Issued, Path};
 pub use runs::{RunLog, run};
 pub use traces::Trace;
 pub use world::{
-    AgentSpec, Letter, Side, TwoAgents, TwoAgentsEvent, World, WorldEntry, WorldEvent, WorldLog,
+    AgentSpec, InFlight, Side, TwoAgents, TwoAgentsEvent, World, WorldEntry, WorldEvent, WorldLog,
 };
 
 /// The type states of `CandidateBuilder`.

@@ -1,7 +1,7 @@
 //! One call of a run.
 ghost use Rattle.std.specs.Prelude.{◌≡◌};
 ghost use Rattle.rand_core.specs.Stream.{Stream};
-ghost use Rattle.is_agent.specs.View.{record_of, told_of};
+ghost use Rattle.is_agent.specs.View.{record_of, emitted_of};
 ghost use Rattle.is_rules.specs.Steps as steps;
 ghost use Rattle.is_rules.specs.Steps.{Receives, Step};
 ghost use Rattle.is_rules.specs.Sound.{GivesBased};
@@ -9,17 +9,17 @@ ghost use Rattle.is.specs.Views.{call_view, answer_view, entry_view};
 
 use crate::calls::{AgentCall, Answer, Entry};
 use is_agent::Agent;
+use is_agent::emitted::{last_announced, last_issued};
 use is_agent::local::add_local;
-use is_agent::told::{last_announced, last_issued};
 use is_candidate::LocalPreference;
 use is_proto::{IceError, Instant, Sha1HmacProvider, StunError};
-use is_rules::told::Path;
+use is_rules::emitted::Path;
 use is_stun::stun::{StunMessage, StunPacket};
 use rand_core::Rng;
 
 /// The entry of a call that issues and announces nothing.
 pub(crate) fn quiet(number: usize, answer: Answer) -> Entry
-    ensures told { entry_view result ≡ steps.quiet (answer_view answer) }
+    ensures emitted { entry_view result ≡ steps.quiet (answer_view answer) }
     ensures numbered { result.number ≡ number }
 {
     Entry {
@@ -32,7 +32,7 @@ pub(crate) fn quiet(number: usize, answer: Answer) -> Entry
 
 /// The entry of a packet or a moment: what it made the agent do is asked for.
 fn telling<H, P>(agent: &Agent<H, P>, number: usize, answer: Answer) -> Entry
-    ensures told { entry_view result ≡ record { answer = answer_view answer; told = told_of agent.now } }
+    ensures emitted { entry_view result ≡ record { answer = answer_view answer; emitted = emitted_of agent.now } }
     ensures numbered { result.number ≡ number }
 {
     let issued = last_issued(agent);

@@ -10,7 +10,7 @@ ghost use Rattle.is.specs.Marks.{IsMarked, IsFirstMarked, IsAnnounced, IsCheckAt
 use crate::calls::Answer;
 use crate::world::{Side, WorldEntry, WorldLog};
 use is_candidate::candidate::address::same_address;
-use is_rules::told::{Issued, Path};
+use is_rules::emitted::{Issued, Path};
 use is_stun::stun::{Class, TransId};
 
 /// How the path that an entry announced was answered by the other agent, by the numbers of entries.
@@ -109,9 +109,9 @@ fn first_marked(entries: &[WorldEntry], from: usize, end: usize, mark: &Mark) ->
 fn announced_at(entries: &[WorldEntry], entry: usize, place: usize) -> Option<(Side, Path)>
     ensures { IsAnnounced entries.now entry place result }
 {
-    let told = entries.get(entry)?;
-    let side = told.side?;
-    match told.announced.get(place) {
+    let emitted = entries.get(entry)?;
+    let side = emitted.side?;
+    match emitted.announced.get(place) {
         Some(Some(path)) => Some((side, *path)),
         _ => None,
     }
@@ -135,11 +135,11 @@ fn is_check(issued: &Issued, path: Path) -> bool
 fn check_at(entries: &[WorldEntry], side: Side, path: Path, entry: usize) -> Option<TransId>
     ensures { IsCheckAt entries.now side path entry result }
 {
-    let told = entries.get(entry)?;
-    if !is_side(told, side) {
+    let emitted = entries.get(entry)?;
+    if !is_side(emitted, side) {
         return None;
     }
-    match &told.issued {
+    match &emitted.issued {
         Some(issued) if is_check(issued, path) => Some(issued.id),
         _ => None,
     }
@@ -159,8 +159,8 @@ fn answer_of(
 {
     let asked = Mark::Taken(other(side), Class::Request, id);
     let delivered = first_marked(entries, checked + 1, end, &asked)?;
-    let told = Mark::Issued(other(side), Class::Success, id);
-    let replied = first_marked(entries, delivered, end, &told)?;
+    let emitted = Mark::Issued(other(side), Class::Success, id);
+    let replied = first_marked(entries, delivered, end, &emitted)?;
     let came = Mark::Taken(side, Class::Success, id);
     let answered = first_marked(entries, replied + 1, end, &came)?;
     Some(Trace {

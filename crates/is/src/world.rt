@@ -9,7 +9,7 @@ ghost use Rattle.is_rules.specs.Steps.{is_done};
 ghost use Rattle.is_rules.specs.Effects.{is_clearing};
 ghost use Rattle.is.specs.Views.{call_view, answer_view, entry_view};
 ghost use Rattle.is.specs.World as world;
-ghost use Rattle.is.specs.World.{world_of, letter_of, event_view, outcome_of, read_unless, roles_of, Happens, Turns};
+ghost use Rattle.is.specs.World.{world_of, in_flight_of, event_view, outcome_of, read_unless, roles_of, Happens, Turns};
 ghost use Rattle.is.specs.World.{PolledInto, MakesMember, MakesWorld, made_world, logged, IsWorldLog};
 ghost use Rattle.is_agent.specs.View.{made};
 ghost use Rattle.is.specs.WorldRoles.{GreaterKeeps, LesserYieldsOnce, RolesDifferOnceMet};
@@ -29,7 +29,7 @@ use crate::world_laws::{
 use is_agent::{Agent, IceCreds};
 use is_candidate::LocalPreference;
 use is_proto::{IceError, Instant, Protocol, Sha1HmacProvider, Transmit};
-use is_rules::told::{Issued, Path};
+use is_rules::emitted::{Issued, Path};
 use is_stun::stun::{Class, StunMessage, TransId};
 use rand_core::Rng;
 use std::alloc::Global;
@@ -44,7 +44,7 @@ pub enum Side {
 
 /// A packet between the agents, and who sent it.
 #[derive(Debug, Drop)]
-pub struct Letter {
+pub struct InFlight {
     pub(crate) sender: Side,
     pub(crate) packet: Transmit,
 }
@@ -112,7 +112,7 @@ pub type World<H> = TwoAgents<H, Box<dyn LocalPreference>>;
 pub struct TwoAgents<H, P> {
     pub(crate) a: Agent<H, P>,
     pub(crate) b: Agent<H, P>,
-    pub(crate) bag: Vec<Letter>,
+    pub(crate) bag: Vec<InFlight>,
 }
 
 /// How an agent of a world is made.
@@ -163,14 +163,14 @@ fn read_as(bytes: &[u8]) -> Option<(Class, TransId)>
 }
 
 /// The entry of what an agent did.
-fn told_as(
+fn emitted_as(
     entry: Entry,
     controlling: [bool; 2],
     side: Option<Side>,
     clear: bool,
     moved: Option<(Class, TransId)>,
 ) -> WorldEntry
-    ensures told { outcome_of result ≡ record { entry = entry_view entry; controlling = controlling; side = side; clear = clear; moved = moved } }
+    ensures emitted { outcome_of result ≡ record { entry = entry_view entry; controlling = controlling; side = side; clear = clear; moved = moved } }
     ensures numbered { result.number ≡ entry.number }
 {
     let Entry {
@@ -194,25 +194,25 @@ fn told_as(
 /// Moves an agent's packet, if there is one, into the bag, and answers whether; refused where the bag can't grow.
 fn poll_into<H: Sha1HmacProvider + Drop, P: LocalPreference>(
     agent: &mut Agent<H, P>,
-    bag: &mut Vec<Letter>,
+    bag: &mut Vec<InFlight>,
     sender: Side,
 ) -> Answer
-    ensures { PolledInto (record_of agent.old) (map letter_of bag.old.items) sender (answer_view result) (record_of agent.new)
-        (map letter_of bag.new.items) }
+    ensures { PolledInto (record_of agent.old) (map in_flight_of bag.old.items) sender (answer_view result) (record_of agent.new)
+        (map in_flight_of bag.new.items) }
 {
     if bag.reserve(1).is_err() {
         return Answer::Refused(IceError::OutOfMemory);
     }
     match agent.poll_transmit() {
         Some(packet) => {
-            bag.push_reserved(Letter { sender, packet });
+            bag.push_reserved(InFlight { sender, packet });
             Answer::Flag(true)
         }
         None => Answer::Flag(false),
     }
 }
 
-fn letter_at(bag: &[Letter], place: usize) -> Option<&Letter>
+fn in_flight_at(bag: &[InFlight], place: usize) -> Option<&InFlight>
     ensures { MatchOption result (slice_get bag.now place ≡ None) (λ l. slice_get bag.now place ≡ Some l.now) }
 {
     bag.get(place)
@@ -253,14 +253,14 @@ impl<H: Sha1HmacProvider + Drop, P: LocalPreference> TwoAgents<H, P> {
     }
 
     /// The entry of what an agent did.
-    fn told(
+    fn emitted(
         &self,
         entry: Entry,
         side: Option<Side>,
         clear: bool,
         moved: Option<(Class, TransId)>,
     ) -> WorldEntry
-        ensures told { outcome_of result ≡ record {
+        ensures emitted { outcome_of result ≡ record {
           entry = entry_view entry;
           controlling = roles_of (world_of self.now);
           side = side;
@@ -269,12 +269,12 @@ impl<H: Sha1HmacProvider + Drop, P: LocalPreference> TwoAgents<H, P> {
         } }
         ensures numbered { result.number ≡ entry.number }
     {
-        told_as(entry, self.roles(), side, clear, moved)
+        emitted_as(entry, self.roles(), side, clear, moved)
     }
 
     /// The entry of a call that an agent made.
-    fn told_call(&self, entry: Entry, side: Side, clearing: bool) -> WorldEntry
-        ensures told { outcome_of result ≡ record {
+    fn emitted_call(&self, entry: Entry, side: Side, clearing: bool) -> WorldEntry
+        ensures emitted { outcome_of result ≡ record {
           entry = entry_view entry;
           controlling = roles_of (world_of self.now);
           side = Some side;
@@ -284,7 +284,7 @@ impl<H: Sha1HmacProvider + Drop, P: LocalPreference> TwoAgents<H, P> {
         ensures numbered { result.number ≡ entry.number }
     {
         let clear = clearing && is_done(&entry.answer);
-        self.told(entry, Some(side), clear, None)
+        self.emitted(entry, Some(side), clear, None)
     }
 
     /// One agent makes a call.
@@ -304,21 +304,21 @@ impl<H: Sha1HmacProvider + Drop, P: LocalPreference> TwoAgents<H, P> {
         match side {
             Side::A => {
                 let entry = step(&mut self.a, number, call, rng);
-                self.told_call(entry, Side::A, clearing)
+                self.emitted_call(entry, Side::A, clearing)
             }
             Side::B => {
                 let entry = step(&mut self.b, number, call, rng);
-                self.told_call(entry, Side::B, clearing)
+                self.emitted_call(entry, Side::B, clearing)
             }
         }
     }
 
     /// Nothing happens.
     fn stand(&self, number: usize, answer: Answer, side: Option<Side>) -> WorldEntry
-        ensures told { outcome_of result ≡ world.plain (answer_view answer) side (roles_of (world_of self.now)) }
+        ensures emitted { outcome_of result ≡ world.plain (answer_view answer) side (roles_of (world_of self.now)) }
         ensures numbered { result.number ≡ number }
     {
-        self.told(quiet(number, answer), side, false, None)
+        self.emitted(quiet(number, answer), side, false, None)
     }
 
     /// A packet moves into the bag.
@@ -344,18 +344,18 @@ impl<H: Sha1HmacProvider + Drop, P: LocalPreference> TwoAgents<H, P> {
             (world_of self.new) s }
         ensures numbered { result.number ≡ number }
     {
-        match letter_at(&self.bag, place) {
-            Some(letter) => {
-                let bytes = &letter.packet.contents;
+        match in_flight_at(&self.bag, place) {
+            Some(in_flight) => {
+                let bytes = &in_flight.packet.contents;
                 let moved = read_as(bytes);
-                match letter.sender {
+                match in_flight.sender {
                     Side::B => {
                         let entry = take_packet(&mut self.a, number, now, path, bytes);
-                        self.told(entry, Some(Side::A), false, moved)
+                        self.emitted(entry, Some(Side::A), false, moved)
                     }
                     Side::A => {
                         let entry = take_packet(&mut self.b, number, now, path, bytes);
-                        self.told(entry, Some(Side::B), false, moved)
+                        self.emitted(entry, Some(Side::B), false, moved)
                     }
                 }
             }

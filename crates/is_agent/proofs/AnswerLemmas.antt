@@ -13,42 +13,42 @@ use Rattle.is_stun.specs.declared.header.Method.TheVariants.{Binding}
 use Rattle.is_stun.specs.Message.{Message}
 use Rattle.is_agent.proofs.NumberLemmas.{put-place}
 use Rattle.is_agent.proofs.NumberLemmas.{find-Some}
-use Rattle.is_rules.specs.declared.told.Path.{Path}
-use Rattle.is_rules.specs.declared.told.Told.{Told}
+use Rattle.is_rules.specs.declared.emitted.Path.{Path}
+use Rattle.is_rules.specs.declared.emitted.Emitted.{Emitted}
 use Rattle.is_rules.specs.Agent.{AgentRecord}
-use Rattle.is_rules.specs.Told.{nothing_told}
+use Rattle.is_rules.specs.Emitted.{nothing_emitted}
 use Rattle.is_rules.specs.Due.{IsRecorded, IsSentUnder}
 use Rattle.is_rules.specs.Roles.{switched}
 use Rattle.is_rules.specs.Serving.{Drops}
 use Rattle.is_rules.specs.Accepting.{IsAcceptedAs, IsAcceptedOn, Arrives}
 use Rattle.is_rules.specs.Answers.{keeps_check_on, local_with, success_counted, Concludes, GivesUpRole, TakesSuccess}
 
-pub role-given_up : {H P : Type 0} (old new : AgentRecord H P) (way : Path) (m : Message) (number : ℕ) (p : PairRecord) (present : Bool)
-    → pair_numbered number old.pairs ≡ Some p → keeps_check_on old way m.id p ≡ true
+pub role-given_up : {H P : Type 0} (old new : AgentRecord H P) (path : Path) (m : Message) (number : ℕ) (p : PairRecord) (present : Bool)
+    → pair_numbered number old.pairs ≡ Some p → keeps_check_on old path m.id p ≡ true
     → IsSentUnder p m.id old.controlling present → MatchBool present (new ≡ switched old) (new ≡ old)
-    → GivesUpRole old way m nothing_told new
-role-given_up old new way m number p present found kept w becomes =
-    let drops : MatchBool present (Drops (switched old) nothing_told new) (Drops old nothing_told new) = dropped present becomes in (
+    → GivesUpRole old path m nothing_emitted new
+role-given_up old new path m number p present found kept w becomes =
+    let drops : MatchBool present (Drops (switched old) nothing_emitted new) (Drops old nothing_emitted new) = dropped present becomes in (
       p,
       w.0,
       (find-Some (is_numbered number) old.pairs p found).0,
       kept,
       w.1,
       w.2,
-      subst (λ b. MatchBool b (Drops (switched old) nothing_told new) (Drops old nothing_told new)) w.3 drops,
+      subst (λ b. MatchBool b (Drops (switched old) nothing_emitted new) (Drops old nothing_emitted new)) w.3 drops,
     ) where
-      dropped : (b : Bool) → MatchBool b (new ≡ switched old) (new ≡ old) → MatchBool b (Drops (switched old) nothing_told new) (Drops old nothing_told new)
+      dropped : (b : Bool) → MatchBool b (new ≡ switched old) (new ≡ old) → MatchBool b (Drops (switched old) nothing_emitted new) (Drops old nothing_emitted new)
       dropped true h = (refl, h)
       dropped false h = (refl, h)
 
 same-pair : (number : ℕ) (ps : List PairRecord) (p q : PairRecord) → pair_numbered number ps ≡ Some p → pair_numbered number ps ≡ Some q → q ≡ p
 same-pair number ps p q one other = ap (λ o. unwrap_or o p) (sym other ∙ one)
 
-pub success-taken : {H P : Type 0} (now : ℕ) (old recorded new : AgentRecord H P) (way : Path) (m : Message) (told : Told) (number : ℕ) (p : PairRecord) (local : List CandidateRecord)
-    → rises old.pairs ≡ true → pair_numbered number old.pairs ≡ Some p → keeps_check_on old way m.id p ≡ true
+pub success-taken : {H P : Type 0} (now : ℕ) (old recorded new : AgentRecord H P) (path : Path) (m : Message) (emitted : Emitted) (number : ℕ) (p : PairRecord) (local : List CandidateRecord)
+    → rises old.pairs ≡ true → pair_numbered number old.pairs ≡ Some p → keeps_check_on old path m.id p ≡ true
     → local ≡ local_with p m.attributes.xor_mapped_address (success_counted old)
-    → IsRecorded number now m.id local old recorded → Concludes now recorded told new → TakesSuccess now old way m told new
-success-taken now old recorded new way m told number p local rising found kept learnt (pairs, (q, after, there, takes, put), is) concludes =
+    → IsRecorded number now m.id local old recorded → Concludes now recorded emitted new → TakesSuccess now old path m emitted new
+success-taken now old recorded new path m emitted number p local rising found kept learnt (pairs, (q, after, there, takes, put), is) concludes =
     let same = same-pair number old.pairs p q found there in
     let taken = subst (λ (x : PairRecord). TakesAnswer x now m.id after) same takes in
     let its : after.number ≡ number = ap (λ (x : PairRecord). x.number) taken.3 ∙ eqb-true p.number number (find-Some (is_numbered number) old.pairs p found).1 in
@@ -70,14 +70,14 @@ success-taken now old recorded new way m told number p local rising found kept l
     )
 
 -- a failure that arrives, by its method and its class
-pub failure-arrives : {H P : Type 0} (mac : H → List ℕ → List ℕ → List ℕ) (now : ℕ) (old new : AgentRecord H P) (way : Path) (m : Message) (result : Result (Option Told) IceError)
+pub failure-arrives : {H P : Type 0} (mac : H → List ℕ → List ℕ → List ℕ) (now : ℕ) (old new : AgentRecord H P) (path : Path) (m : Message) (result : Result (Option Emitted) IceError)
     → m.method ≡ Binding → m.class ≡ Failure
-    → Arrives (IsAcceptedAs mac Failure (keeps_check_on old way m.id) old m) mac Failure now old way m result new
-    → Arrives (IsAcceptedOn mac old way m) mac m.class now old way m result new
-failure-arrives mac now old new way m result method class arrives =
-    subst (λ (k : Class). Arrives ((m.method ≡ Binding) × IsAcceptedAs mac k (keeps_check_on old way m.id) old m) mac k now old way m result new) (sym class) (of_binding result arrives) where
-      of_binding : (r : Result (Option Told) IceError) → Arrives (IsAcceptedAs mac Failure (keeps_check_on old way m.id) old m) mac Failure now old way m r new
-          → Arrives ((m.method ≡ Binding) × IsAcceptedAs mac Failure (keeps_check_on old way m.id) old m) mac Failure now old way m r new
+    → Arrives (IsAcceptedAs mac Failure (keeps_check_on old path m.id) old m) mac Failure now old path m result new
+    → Arrives (IsAcceptedOn mac old path m) mac m.class now old path m result new
+failure-arrives mac now old new path m result method class arrives =
+    subst (λ (k : Class). Arrives ((m.method ≡ Binding) × IsAcceptedAs mac k (keeps_check_on old path m.id) old m) mac k now old path m result new) (sym class) (of_binding result arrives) where
+      of_binding : (r : Result (Option Emitted) IceError) → Arrives (IsAcceptedAs mac Failure (keeps_check_on old path m.id) old m) mac Failure now old path m r new
+          → Arrives ((m.method ≡ Binding) × IsAcceptedAs mac Failure (keeps_check_on old path m.id) old m) mac Failure now old path m r new
       of_binding (Ok None) (foreign, stays) = (λ accepted. foreign accepted.1, stays)
-      of_binding (Ok (Some told)) (accepted, takes) = ((method, accepted), takes)
+      of_binding (Ok (Some emitted)) (accepted, takes) = ((method, accepted), takes)
       of_binding (Err error) (accepted, may, stays) = ((method, accepted), may, stays)

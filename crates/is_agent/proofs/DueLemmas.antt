@@ -7,7 +7,7 @@ use Rattle.is_pair.specs.Due.{asked, is_due, IsNextDue}
 use Rattle.is_pair.specs.Bag.{without, pair_numbered, rises}
 use Rattle.rand_core.specs.Stream.{Stream}
 use Rattle.is_rules.specs.declared.credentials.IceCreds.{IceCreds}
-use Rattle.is_rules.specs.declared.told.Issued.{Issued}
+use Rattle.is_rules.specs.declared.emitted.Issued.{Issued}
 use Rattle.is_rules.specs.Agent.{AgentRecord}
 use Rattle.is_rules.specs.Checking.{all_asked, all_heard, ChecksNext, MayCheck}
 use Rattle.is_rules.specs.Due.{awaits_nomination, falls_due}

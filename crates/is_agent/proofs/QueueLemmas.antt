@@ -15,8 +15,8 @@ use Rattle.is_rules.specs.Queue.{is_outdated, queue_left, queue_cleared, first_t
 use Rattle.is_rules.specs.States.{same_state, evaluated}
 use Rattle.is_rules.specs.declared.event.IceAgentEvent.TheVariants.{IceRestart}
 use Rattle.is_rules.specs.declared.event.IceConnectionState.TheVariants.{New}
-use Rattle.is_rules.specs.Waking.{with_start, start_event, outdated}
-use Rattle.is_rules.specs.Timeouts.{awake, start_told, MayRefuseMoment}
+use Rattle.is_rules.specs.TimeoutStart.{with_start, start_event, outdated}
+use Rattle.is_rules.specs.Timeouts.{timeout_begun, start_emitted, MayRefuseMoment}
 use Rattle.is_rules.specs.Serving.{MayRefuseRequest}
 use Rattle.is_proto.specs.declared.error.IceError.{IceError}
 use Rattle.is_proto.specs.declared.error.IceError.TheVariants.{BadCandidate, OutOfMemory, PairIdsExhausted, MtuTooSmall, CredentialsTooLong, PriorityTooHigh}
@@ -43,14 +43,14 @@ module _ {H P : Type 0} where
   outdated-left now t (Some peer) a = refl
 
   -- the start is told of in New alone
-  pub start-told : (a : AgentRecord H P) → with_start (start_event a.state a.local_creds) a.events ≡ (start_told a).events
-  start-told a = told (same_state a.state New) where
-    told : (b : Bool) → with_start (if b then Some (IceRestart a.local_creds) else None) a.events ≡ (if b then a.events ++ IceRestart a.local_creds ∷ [] else a.events)
-    told true = refl
-    told false = refl
+  pub start-emitted : (a : AgentRecord H P) → with_start (start_event a.state a.local_creds) a.events ≡ (start_emitted a).events
+  start-emitted a = emitted (same_state a.state New) where
+    emitted : (b : Bool) → with_start (if b then Some (IceRestart a.local_creds) else None) a.events ≡ (if b then a.events ++ IceRestart a.local_creds ∷ [] else a.events)
+    emitted true = refl
+    emitted false = refl
 
   -- behind New it is told of no more
-  pub started : (a : AgentRecord H P) → same_state a.state New ≡ false → start_told a ≡ a
+  pub started : (a : AgentRecord H P) → same_state a.state New ≡ false → start_emitted a ≡ a
   started a behind = rw (behind) refl
 
   -- what waking changes
@@ -67,19 +67,19 @@ module _ {H P : Type 0} where
       rw (creds, head-behind, ← front, views, slice_get-map) refl
 
   -- waking changes nothing that a refusal looks at
-  pub refused-awake : (now : ℕ) (a : AgentRecord H P) (q : RequestRecord) (error : IceError) → MayRefuseRequest a q error → MayRefuseRequest (first_taken (awake now a)) q error
-  refused-awake now a q PairIdsExhausted may = may
-  refused-awake now a q OutOfMemory may = may
-  refused-awake now a q (BadCandidate message) may = may
-  refused-awake now a q MtuTooSmall may = may
-  refused-awake now a q CredentialsTooLong may = may
-  refused-awake now a q PriorityTooHigh may = may
+  pub refused-timeout_begun : (now : ℕ) (a : AgentRecord H P) (q : RequestRecord) (error : IceError) → MayRefuseRequest a q error → MayRefuseRequest (first_taken (timeout_begun now a)) q error
+  refused-timeout_begun now a q PairIdsExhausted may = may
+  refused-timeout_begun now a q OutOfMemory may = may
+  refused-timeout_begun now a q (BadCandidate message) may = may
+  refused-timeout_begun now a q MtuTooSmall may = may
+  refused-timeout_begun now a q CredentialsTooLong may = may
+  refused-timeout_begun now a q PriorityTooHigh may = may
 
   -- why the moment is refused that serves this request, or none
   pub refused-late : (now : ℕ) (a : AgentRecord H P) (o : Option RequestRecord) (error : IceError) → o ≡ request_at now a
       → MatchOption o (error ≡ OutOfMemory) (λ q. MayRefuseRequest a q error) → MayRefuseMoment now a error
   refused-late now a None error is may = rw (← is) may
-  refused-late now a (Some q) error is may = rw (← is) (refused-awake now a q error may)
+  refused-late now a (Some q) error is may = rw (← is) (refused-timeout_begun now a q error may)
 
   pub refused-moment : {X : Type 0} (now : ℕ) (a : AgentRecord H P) (o : Option RequestRecord) (r : Result X IceError) → o ≡ request_at now a
       → IfErr r (λ error. MatchOption o (error ≡ OutOfMemory) (λ q. MayRefuseRequest a q error)) → IfErr r (λ error. MayRefuseMoment now a error)

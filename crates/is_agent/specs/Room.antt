@@ -16,7 +16,7 @@ module _ {H P : Type 0} where
 
   -- one more source, and so many events
   abbrev pub HasNewsRoom : ℕ → Agent H P → Type 0
-  HasNewsRoom n a = (vec_len a.seen < vec_capacity a.seen) × HasEventRoom n a
+  HasNewsRoom n a = (vec_len a.discovered_sources < vec_capacity a.discovered_sources) × HasEventRoom n a
 
   -- one more packet
   abbrev pub HasPacketRoom : Agent H P → Type 0

@@ -4,7 +4,7 @@ use Rattle.is_proto.specs.declared.error.IceError.{IceError}
 use Rattle.is_proto.specs.Packets.{packet_of}
 use Rattle.is_pair.specs.Checklists.{bag_of}
 use Rattle.is_agent.specs.declared.agent.Agent as code
-use Rattle.is_rules.specs.declared.told.Told.{Told}
+use Rattle.is_rules.specs.declared.emitted.Emitted.{Emitted}
 use Rattle.is_rules.specs.RequestView.{waiting_view}
 use Rattle.is_rules.specs.Agent.{AgentRecord}
 
@@ -26,19 +26,19 @@ record_of a = record {
   remote = a.remote.items;
   pairs = bag_of a.pairs;
   next_number = a.next_number;
-  announced = a.announced;
+  selected_pair = a.selected_pair;
   queue = map waiting_view a.queue.items;
   state = a.state;
   last_moment = option_map (λ at. at.0) a.last_moment;
   packets = map packet_of a.packets.items;
   events = a.events.items;
-  seen = a.seen.items;
+  discovered_sources = a.discovered_sources.items;
   stats = a.stats;
 }
 
 -- what the last packet made the agent issue and announce
-abbrev pub told_of : {H P : Type 0} → code.Agent H P → Told
-told_of a = a.told
+abbrev pub emitted_of : {H P : Type 0} → code.Agent H P → Emitted
+emitted_of a = a.emitted
 
 -- the record of what a constructor made
 abbrev pub made : {H P : Type 0} → Result (code.Agent H P) IceError → Result (AgentRecord H P) IceError

@@ -4,21 +4,21 @@ ghost use Rattle.std.specs.Prelude.{◌≡◌, ◌↔◌, ℕ, IsTrue, IfSome, I
 ghost use Rattle.is_stun.specs.declared.header.Class.TheVariants as classes;
 ghost use Rattle.is_stun.specs.Integrity.{IsSignedBy};
 ghost use Rattle.is_stun.specs.MessageView.{message_view};
-ghost use Rattle.is_agent.specs.View.{record_of, told_of};
-ghost use Rattle.is_rules.specs.RequestView.{request_view, way_of};
+ghost use Rattle.is_agent.specs.View.{record_of, emitted_of};
+ghost use Rattle.is_rules.specs.RequestView.{request_view, packet_path};
 ghost use Rattle.is_rules.specs.Serving.{TakesRequest, MayRefuseArrival};
 ghost use Rattle.is_rules.specs.Answers.{keeps_check_on};
 ghost use Rattle.is_agent.specs.Room.{HasNewsRoom};
-ghost use Rattle.is_rules.specs.Accepting.{IsAddressed, IsAcceptedAs, IsAccepted, IsAcceptedOn, Arrives, source_told, HandlesPacket};
+ghost use Rattle.is_rules.specs.Accepting.{IsAddressed, IsAcceptedAs, IsAccepted, IsAcceptedOn, Arrives, discovered_emitted, HandlesPacket};
 
 use crate::agent::Agent;
 use is_candidate::LocalPreference;
 use is_proto::{IceError, Instant, Sha1HmacProvider};
-use is_rules::accepting::{Source, is_same, is_seen};
+use is_rules::accepting::{Source, is_discovered, is_same};
 use is_rules::answers::keeps_any;
+use is_rules::emitted::{Emitted, Path};
 use is_rules::event::IceAgentEvent;
-use is_rules::request::{Request, way_of};
-use is_rules::told::{Path, Told};
+use is_rules::request::{Request, packet_path};
 use is_stun::stun::{Class, Method, StunMessage, StunPacket};
 
 impl<H: Sha1HmacProvider + Drop, P: LocalPreference> Agent<H, P> {
@@ -73,7 +73,7 @@ impl<H: Sha1HmacProvider + Drop, P: LocalPreference> Agent<H, P> {
     /// Whether `handle_packet` takes the packet: the message is accepted (`accepts_message`), and an answer came back on
     /// the path of the pair that keeps its check, from the remote address to the local base. Takes no memory.
     pub fn accepts_packet(&self, packet: &StunPacket<'_>) -> bool
-        ensures { IsTrue result ↔ IsAcceptedOn H.mac (record_of self.now) (way_of packet.now) (message_view packet.now.message) }
+        ensures { IsTrue result ↔ IsAcceptedOn H.mac (record_of self.now) (packet_path packet.now) (message_view packet.now.message) }
     {
         let message = &packet.message;
         if message.method() != Method::Binding {
@@ -82,28 +82,28 @@ impl<H: Sha1HmacProvider + Drop, P: LocalPreference> Agent<H, P> {
         match message.class() {
             Class::Request => self.accepts_request(message),
             Class::Success | Class::Failure => {
-                self.awaited_pair(&way_of(packet), message).is_some()
+                self.awaited_pair(&packet_path(packet), message).is_some()
             }
             _ => false,
         }
     }
 
     /// Tells of the source of a packet, where it was not told of since the last restart.
-    fn tell_source(&mut self, way: &Path)
+    fn emit_discovered(&mut self, path: &Path)
         requires { HasNewsRoom 1 self.old }
-        ensures { record_of self.new ≡ source_told way.now (record_of self.old) }
+        ensures { record_of self.new ≡ discovered_emitted path.now (record_of self.old) }
     {
-        if is_seen(&self.seen, way) {
+        if is_discovered(&self.discovered_sources, path) {
             return;
         }
-        self.seen.push_reserved(Source {
-            proto: way.proto,
-            address: way.source,
+        self.discovered_sources.push_reserved(Source {
+            proto: path.proto,
+            address: path.source,
         });
         self.events
             .push_back_reserved(IceAgentEvent::DiscoveredRecv {
-                proto: way.proto,
-                source: way.source,
+                proto: path.proto,
+                source: path.source,
             });
         self.stats.discovered_recv_count = self.stats.discovered_recv_count.saturating_add(1);
     }
@@ -115,21 +115,21 @@ impl<H: Sha1HmacProvider + Drop, P: LocalPreference> Agent<H, P> {
     /// Refused with `PairIdsExhausted` where a pair must be added and no number is left, and with `OutOfMemory`; the
     /// agent is then as it was.
     pub fn handle_packet(&mut self, now: Instant, packet: StunPacket<'_>) -> Result<bool, IceError>
-        ensures { HandlesPacket H.mac now.0 (record_of self.old) (way_of packet.entry) (message_view packet.entry.message) result
-            (told_of self.new) (record_of self.new) }
+        ensures { HandlesPacket H.mac now.0 (record_of self.old) (packet_path packet.entry) (message_view packet.entry.message) result
+            (emitted_of self.new) (record_of self.new) }
     {
         match self.take_packet(now, &packet) {
-            Ok(Some(told)) => {
-                self.tell_source(&way_of(&packet));
-                self.told = told;
+            Ok(Some(emitted)) => {
+                self.emit_discovered(&packet_path(&packet));
+                self.emitted = emitted;
                 Ok(true)
             }
             Ok(None) => {
-                self.told = Told::nothing();
+                self.emitted = Emitted::nothing();
                 Ok(false)
             }
             Err(error) => {
-                self.told = Told::nothing();
+                self.emitted = Emitted::nothing();
                 Err(error)
             }
         }
@@ -140,9 +140,9 @@ impl<H: Sha1HmacProvider + Drop, P: LocalPreference> Agent<H, P> {
         &mut self,
         now: Instant,
         packet: &StunPacket<'_>,
-    ) -> Result<Option<Told>, IceError>
-        ensures arrives { Arrives (IsAcceptedOn H.mac (record_of self.old) (way_of packet.now) (message_view packet.now.message)) H.mac
-            (message_view packet.now.message).class now.0 (record_of self.old) (way_of packet.now) (message_view packet.now.message) result
+    ) -> Result<Option<Emitted>, IceError>
+        ensures arrives { Arrives (IsAcceptedOn H.mac (record_of self.old) (packet_path packet.now) (message_view packet.now.message)) H.mac
+            (message_view packet.now.message).class now.0 (record_of self.old) (packet_path packet.now) (message_view packet.now.message) result
             (record_of self.new) }
         ensures room { IfOk result (λ taken. IfSome taken (λ _. HasNewsRoom 1 self.new)) }
     {
@@ -161,22 +161,22 @@ impl<H: Sha1HmacProvider + Drop, P: LocalPreference> Agent<H, P> {
         &mut self,
         now: Instant,
         packet: &StunPacket<'_>,
-    ) -> Result<Option<Told>, IceError>
-        ensures arrives { Arrives (IsAcceptedAs H.mac classes.Request (keeps_check_on (record_of self.old) (way_of packet.now)
+    ) -> Result<Option<Emitted>, IceError>
+        ensures arrives { Arrives (IsAcceptedAs H.mac classes.Request (keeps_check_on (record_of self.old) (packet_path packet.now)
             (message_view packet.now.message).id) (record_of self.old) (message_view packet.now.message)) H.mac classes.Request now.0
-            (record_of self.old) (way_of packet.now) (message_view packet.now.message) result (record_of self.new) }
+            (record_of self.old) (packet_path packet.now) (message_view packet.now.message) result (record_of self.new) }
         ensures room { IfOk result (λ taken. IfSome taken (λ _. HasNewsRoom 1 self.new)) }
     {
         if !self.accepts_request(&packet.message) {
             return Ok(None);
         }
-        let told = self.take_request(&Request::new(now, packet))?;
-        Ok(Some(told))
+        let emitted = self.take_request(&Request::new(now, packet))?;
+        Ok(Some(emitted))
     }
 
     /// A request is served, or waits until remote credentials are known.
-    fn take_request(&mut self, request: &Request<'_>) -> Result<Told, IceError>
-        ensures taken { IfOk result (λ told. TakesRequest H.mac (request_view request.now) (record_of self.old) told (record_of self.new)) }
+    fn take_request(&mut self, request: &Request<'_>) -> Result<Emitted, IceError>
+        ensures taken { IfOk result (λ emitted. TakesRequest H.mac (request_view request.now) (record_of self.old) emitted (record_of self.new)) }
         ensures room { OnOk result (HasNewsRoom 1 self.new) }
         ensures refused { IfErr result (λ error. MayRefuseArrival (record_of self.old) (request_view request.now) error
             × (record_of self.new ≡ record_of self.old)) }
@@ -191,32 +191,32 @@ impl<H: Sha1HmacProvider + Drop, P: LocalPreference> Agent<H, P> {
         &mut self,
         now: Instant,
         packet: &StunPacket<'_>,
-    ) -> Result<Option<Told>, IceError>
-        ensures arrives { Arrives (IsAcceptedAs H.mac classes.Success (keeps_check_on (record_of self.old) (way_of packet.now)
+    ) -> Result<Option<Emitted>, IceError>
+        ensures arrives { Arrives (IsAcceptedAs H.mac classes.Success (keeps_check_on (record_of self.old) (packet_path packet.now)
             (message_view packet.now.message).id) (record_of self.old) (message_view packet.now.message)) H.mac classes.Success now.0
-            (record_of self.old) (way_of packet.now) (message_view packet.now.message) result (record_of self.new) }
+            (record_of self.old) (packet_path packet.now) (message_view packet.now.message) result (record_of self.new) }
         ensures room { IfOk result (λ taken. IfSome taken (λ _. HasNewsRoom 1 self.new)) }
     {
-        let way = way_of(packet);
-        let Some(number) = self.awaited_pair(&way, &packet.message) else {
+        let path = packet_path(packet);
+        let Some(number) = self.awaited_pair(&path, &packet.message) else {
             return Ok(None);
         };
-        let told = self.take_success(number, now, &way, &packet.message)?;
-        Ok(Some(told))
+        let emitted = self.take_success(number, now, &path, &packet.message)?;
+        Ok(Some(emitted))
     }
 
-    fn take_failure_packet(&mut self, packet: &StunPacket<'_>) -> Result<Option<Told>, IceError>
-        ensures arrives { (now : ℕ) → Arrives (IsAcceptedAs H.mac classes.Failure (keeps_check_on (record_of self.old) (way_of packet.now)
+    fn take_failure_packet(&mut self, packet: &StunPacket<'_>) -> Result<Option<Emitted>, IceError>
+        ensures arrives { (now : ℕ) → Arrives (IsAcceptedAs H.mac classes.Failure (keeps_check_on (record_of self.old) (packet_path packet.now)
             (message_view packet.now.message).id) (record_of self.old) (message_view packet.now.message)) H.mac classes.Failure now
-            (record_of self.old) (way_of packet.now) (message_view packet.now.message) result (record_of self.new) }
+            (record_of self.old) (packet_path packet.now) (message_view packet.now.message) result (record_of self.new) }
         ensures room { IfOk result (λ taken. IfSome taken (λ _. HasNewsRoom 1 self.new)) }
     {
-        let way = way_of(packet);
-        let Some(number) = self.awaited_pair(&way, &packet.message) else {
+        let path = packet_path(packet);
+        let Some(number) = self.awaited_pair(&path, &packet.message) else {
             return Ok(None);
         };
         self.take_source_room()?;
-        self.take_failure(number, &way, &packet.message);
-        Ok(Some(Told::nothing()))
+        self.take_failure(number, &path, &packet.message);
+        Ok(Some(Emitted::nothing()))
     }
 }

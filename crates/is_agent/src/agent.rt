@@ -13,9 +13,9 @@ use is_proto::{
 };
 use is_rules::accepting::Source;
 use is_rules::credentials::{IceCreds, are_too_long};
+use is_rules::emitted::Emitted;
 use is_rules::event::{IceAgentEvent, IceAgentStats, IceConnectionState};
 use is_rules::request::Waiting;
-use is_rules::told::Told;
 use is_stun::stun::StunTiming;
 use std::alloc::Global;
 use std::collections::VecDeque;
@@ -65,7 +65,7 @@ pub struct Agent<H, P> {
     /// The number of the next pair. No number is given twice.
     pub(crate) next_number: u64,
     /// The number of the pair that was announced last.
-    pub(crate) announced: Option<u64>,
+    pub(crate) selected_pair: Option<u64>,
     /// The requests that wait for remote credentials.
     pub(crate) queue: VecDeque<Waiting>,
     pub(crate) state: IceConnectionState,
@@ -74,9 +74,9 @@ pub struct Agent<H, P> {
     pub(crate) packets: VecDeque<Transmit>,
     pub(crate) events: VecDeque<IceAgentEvent>,
     /// The sources that were told of.
-    pub(crate) seen: Vec<Source>,
+    pub(crate) discovered_sources: Vec<Source>,
     pub(crate) stats: IceAgentStats,
-    pub(crate) told: Told,
+    pub(crate) emitted: Emitted,
     // a check's user name can be written
     ghost credentials_fit: { are_too_long local_creds remote_creds ≡ false },
     // with each remote candidate a local one has a pair priority that fits 64 bits
@@ -89,14 +89,14 @@ pub struct Agent<H, P> {
 
 impl<P: LocalPreference> Agent<DefaultSha1HmacProvider, P> {
     ghost use Rattle.is_rules.specs.Agent.{MakesAgent};
-    ghost use Rattle.is_rules.specs.Told.{nothing_told};
-    ghost use Rattle.is_agent.specs.View.{made, told_of};
+    ghost use Rattle.is_rules.specs.Emitted.{nothing_emitted};
+    ghost use Rattle.is_agent.specs.View.{made, emitted_of};
     ghost use Rattle.is_proto.specs.declared.hmac_provider.DefaultSha1HmacProvider.{DefaultSha1HmacProvider};
 
     /// A controlled agent without candidates that signs by HMAC-SHA1. See `with_hmac`.
     pub fn new(alloc: Global, creds: IceCreds, tie_breaker: u64) -> Result<Self, IceError>
         ensures record { MakesAgent (record {}) creds tie_breaker (made result) }
-        ensures told { IfOk result (λ a. told_of a ≡ nothing_told) }
+        ensures emitted { IfOk result (λ a. emitted_of a ≡ nothing_emitted) }
     {
         Self::with_hmac(alloc, creds, DefaultSha1HmacProvider, tie_breaker)
     }
@@ -104,8 +104,8 @@ impl<P: LocalPreference> Agent<DefaultSha1HmacProvider, P> {
 
 impl<H: Sha1HmacProvider + Drop, P: LocalPreference> Agent<H, P> {
     ghost use Rattle.is_rules.specs.Agent.{MakesAgent};
-    ghost use Rattle.is_rules.specs.Told.{nothing_told};
-    ghost use Rattle.is_agent.specs.View.{made, told_of};
+    ghost use Rattle.is_rules.specs.Emitted.{nothing_emitted};
+    ghost use Rattle.is_agent.specs.View.{made, emitted_of};
 
     /// A controlled agent without candidates, under these credentials, that signs by this provider. The tie-breaker is
     /// a random number that settles role conflicts (RFC 8445, section 7.3.1.1).
@@ -118,7 +118,7 @@ impl<H: Sha1HmacProvider + Drop, P: LocalPreference> Agent<H, P> {
         tie_breaker: u64,
     ) -> Result<Self, IceError>
         ensures record { MakesAgent provider creds tie_breaker (made result) }
-        ensures told { IfOk result (λ a. told_of a ≡ nothing_told) }
+        ensures emitted { IfOk result (λ a. emitted_of a ≡ nothing_emitted) }
     {
         if are_too_long(&creds, &None) {
             return Err(IceError::CredentialsTooLong);
@@ -145,15 +145,15 @@ impl<H: Sha1HmacProvider + Drop, P: LocalPreference> Agent<H, P> {
             username: String::new(alloc),
             contents: Vec::new(alloc),
             next_number: 0,
-            announced: None,
+            selected_pair: None,
             queue: VecDeque::new(alloc),
             state: IceConnectionState::New,
             last_moment: None,
             packets: VecDeque::new(alloc),
             events: VecDeque::new(alloc),
-            seen: Vec::new(alloc),
+            discovered_sources: Vec::new(alloc),
             stats: IceAgentStats::default(),
-            told: Told::nothing(),
+            emitted: Emitted::nothing(),
         })
     }
 }

@@ -8,7 +8,7 @@ ghost use Rattle.is_pair.specs.Pairs.{PairRecord};
 ghost use Rattle.is_pair.specs.Bag.{keeps, pair_numbered};
 ghost use Rattle.is_stun.specs.Integrity.{IsSignedBy};
 ghost use Rattle.is_stun.specs.MessageView.{message_view};
-ghost use Rattle.is_rules.specs.Told.{nothing_told};
+ghost use Rattle.is_rules.specs.Emitted.{nothing_emitted};
 ghost use Rattle.is_agent.specs.View.{record_of};
 ghost use Rattle.is_rules.specs.Kept.{TOO_HIGH};
 ghost use Rattle.is_agent.specs.Room.{HasNewsRoom};
@@ -21,10 +21,10 @@ use crate::agent::Agent;
 use is_candidate::candidate::making::peer_reflexive;
 use is_candidate::{Candidate, LocalPreference};
 use is_proto::{Instant, Sha1HmacProvider};
-use is_rules::answers::{is_known_address, is_of_role, is_role_conflict, join, keeper_on};
+use is_rules::answers::{is_known_address, is_of_role, is_role_conflict, join, pair_awaiting};
+use is_rules::emitted::{Emitted, Path};
 use is_rules::places::{base_at, check_priority_at, proto_at};
 use is_rules::sides::Sides;
-use is_rules::told::{Path, Told};
 use is_stun::stun::{StunMessage, TransId};
 use std::alloc::AllocError;
 use std::net::SocketAddr;
@@ -33,9 +33,9 @@ use std::net::SocketAddr;
 
 impl<H: Sha1HmacProvider + Drop, P: LocalPreference> Agent<H, P> {
     /// The number of such a pair, where there is one.
-    fn keeper_on(&self, way: &Path, id: TransId) -> Option<u64>
-        ensures any { list_any (keeps_check_on (record_of self.now) way.now id.0) (record_of self.now).pairs ≡ is_some result }
-        ensures kept { IfSome result (λ number. KeepsCheckOn (record_of self.now) way.now id.0 number) }
+    fn pair_awaiting(&self, path: &Path, id: TransId) -> Option<u64>
+        ensures any { list_any (keeps_check_on (record_of self.now) path.now id.0) (record_of self.now).pairs ≡ is_some result }
+        ensures kept { IfSome result (λ number. KeepsCheckOn (record_of self.now) path.now id.0 number) }
     {
         let sides = Sides {
             local: &self.local,
@@ -43,7 +43,7 @@ impl<H: Sha1HmacProvider + Drop, P: LocalPreference> Agent<H, P> {
             controlling: self.controlling,
             lite: self.lite,
         };
-        keeper_on(&self.pairs, sides, way, id)
+        pair_awaiting(&self.pairs, sides, path, id)
     }
 
     /// The message is signed with the peer's password.
@@ -58,14 +58,14 @@ impl<H: Sha1HmacProvider + Drop, P: LocalPreference> Agent<H, P> {
 
     /// The number of the pair that the answer is for: it keeps a check of its id, the answer came back on its path, and
     /// the peer signed it.
-    pub(crate) fn awaited_pair(&self, way: &Path, message: &StunMessage<'_>) -> Option<u64>
-        ensures awaited { IfSome result (λ _. IsAwaited H.mac (keeps_check_on (record_of self.now) way.now (message_view message.now).id)
+    pub(crate) fn awaited_pair(&self, path: &Path, message: &StunMessage<'_>) -> Option<u64>
+        ensures awaited { IfSome result (λ _. IsAwaited H.mac (keeps_check_on (record_of self.now) path.now (message_view message.now).id)
             (record_of self.now) (message_view message.now)) }
-        ensures foreign { IfNone result (¬ IsAwaited H.mac (keeps_check_on (record_of self.now) way.now (message_view message.now).id)
+        ensures foreign { IfNone result (¬ IsAwaited H.mac (keeps_check_on (record_of self.now) path.now (message_view message.now).id)
             (record_of self.now) (message_view message.now)) }
-        ensures kept { IfSome result (λ number. KeepsCheckOn (record_of self.now) way.now (message_view message.now).id number) }
+        ensures kept { IfSome result (λ number. KeepsCheckOn (record_of self.now) path.now (message_view message.now).id number) }
     {
-        let number = self.keeper_on(way, message.trans_id())?;
+        let number = self.pair_awaiting(path, message.trans_id())?;
         if self.is_by_peer(message) {
             Some(number)
         } else {
@@ -126,7 +126,7 @@ impl<H: Sha1HmacProvider + Drop, P: LocalPreference> Agent<H, P> {
         ensures news { OnOk result (HasNewsRoom 3 self.new) }
     {
         self.local.reserve(1)?;
-        self.seen.reserve(1)?;
+        self.discovered_sources.reserve(1)?;
         self.events.reserve(3)?;
         Ok(())
     }
@@ -146,14 +146,14 @@ impl<H: Sha1HmacProvider + Drop, P: LocalPreference> Agent<H, P> {
     }
 
     /// Nomination and state are evaluated.
-    fn conclude(&mut self, now: Instant) -> Told
+    fn conclude(&mut self, now: Instant) -> Emitted
         requires room { HasNewsRoom 3 self.old }
         ensures concludes { Concludes now.0 (record_of self.old) result (record_of self.new) }
         ensures room { HasNewsRoom 1 self.new }
     {
         let path = self.evaluate_nomination();
         self.evaluate_state(now);
-        Told::announced_alone(path)
+        Emitted::announced_only(path)
     }
 
     /// The pair of the number takes the success, the mapped address is learnt, and nomination and state are evaluated.
@@ -161,11 +161,11 @@ impl<H: Sha1HmacProvider + Drop, P: LocalPreference> Agent<H, P> {
         &mut self,
         number: u64,
         now: Instant,
-        way: &Path,
+        path: &Path,
         message: &StunMessage<'_>,
-    ) -> Result<Told, AllocError>
-        requires kept { KeepsCheckOn (record_of self.old) way.now (message_view message.now).id number }
-        ensures taken { IfOk result (λ told. TakesSuccess now.0 (record_of self.old) way.now (message_view message.now) told (record_of self.new)) }
+    ) -> Result<Emitted, AllocError>
+        requires kept { KeepsCheckOn (record_of self.old) path.now (message_view message.now).id number }
+        ensures taken { IfOk result (λ emitted. TakesSuccess now.0 (record_of self.old) path.now (message_view message.now) emitted (record_of self.new)) }
         ensures room { OnOk result (HasNewsRoom 1 self.new) }
         ensures refused { IfErr result (λ _. record_of self.new ≡ record_of self.old) }
     {
@@ -194,10 +194,10 @@ impl<H: Sha1HmacProvider + Drop, P: LocalPreference> Agent<H, P> {
 
     /// The role switches where the check of the pair of the number was sent under the present one (RFC 8445,
     /// section 7.2.5.1).
-    fn give_up_role(&mut self, number: u64, way: &Path, message: &StunMessage<'_>)
-        requires kept { KeepsCheckOn (record_of self.old) way.now (message_view message.now).id number }
+    fn give_up_role(&mut self, number: u64, path: &Path, message: &StunMessage<'_>)
+        requires kept { KeepsCheckOn (record_of self.old) path.now (message_view message.now).id number }
         requires room { HasNewsRoom 1 self.old }
-        ensures gives_up { GivesUpRole (record_of self.old) way.now (message_view message.now) nothing_told (record_of self.new) }
+        ensures gives_up { GivesUpRole (record_of self.old) path.now (message_view message.now) nothing_emitted (record_of self.new) }
         ensures room { HasNewsRoom 1 self.new }
     {
         if self.is_of_present_role(number, message.trans_id()) {
@@ -206,14 +206,14 @@ impl<H: Sha1HmacProvider + Drop, P: LocalPreference> Agent<H, P> {
     }
 
     /// A failure of code 487 may switch the role, and any other does nothing.
-    pub(crate) fn take_failure(&mut self, number: u64, way: &Path, message: &StunMessage<'_>)
-        requires kept { KeepsCheckOn (record_of self.old) way.now (message_view message.now).id number }
+    pub(crate) fn take_failure(&mut self, number: u64, path: &Path, message: &StunMessage<'_>)
+        requires kept { KeepsCheckOn (record_of self.old) path.now (message_view message.now).id number }
         requires room { HasNewsRoom 1 self.old }
-        ensures taken { TakesFailure (record_of self.old) way.now (message_view message.now) nothing_told (record_of self.new) }
+        ensures taken { TakesFailure (record_of self.old) path.now (message_view message.now) nothing_emitted (record_of self.new) }
         ensures room { HasNewsRoom 1 self.new }
     {
         if is_role_conflict(message) {
-            self.give_up_role(number, way, message);
+            self.give_up_role(number, path, message);
         }
     }
 }

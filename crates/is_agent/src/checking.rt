@@ -18,9 +18,9 @@ use is_candidate::LocalPreference;
 use is_pair::pair::CandidatePair;
 use is_proto::Sha1HmacProvider;
 use is_rules::checking::Draft;
+use is_rules::emitted::Path;
 use is_rules::places::{address_at, base_at, check_priority_at, proto_at};
 use is_rules::reply::write_signed;
-use is_rules::told::Path;
 use is_stun::laws::checks_fit;
 use is_stun::stun::{StunMessage, TransId};
 

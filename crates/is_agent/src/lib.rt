@@ -9,6 +9,7 @@ pub mod answers;
 pub mod checking;
 pub mod credentials;
 pub mod discarding;
+pub mod emitted;
 pub mod local;
 pub mod nomination;
 mod polls;
@@ -21,8 +22,7 @@ pub mod serving;
 mod settings;
 pub mod states;
 pub mod timeout;
-pub mod told;
-mod waking;
+mod timeout_start;
 
 pub use agent::{Agent, IceAgent};
 pub use is_rules::credentials::IceCreds;

@@ -3,21 +3,21 @@
 ghost use Rattle.std.specs.Prelude.{◌≡◌, ℕ};
 ghost use Rattle.is_agent.specs.View.{record_of};
 ghost use Rattle.is_agent.specs.Room.{HasEventRoom, HasNewsRoom, HasPacketRoom, HasCheckRoomAt};
-ghost use Rattle.is_rules.specs.Nominating.{path_told, Nominates, NominatesWhere};
+ghost use Rattle.is_rules.specs.Nominating.{nominated_emitted, Nominates, NominatesWhere};
 
 use crate::agent::Agent;
 use is_candidate::LocalPreference;
 use is_proto::Sha1HmacProvider;
+use is_rules::emitted::Path;
 use is_rules::event::IceAgentEvent;
-use is_rules::nomination::name;
+use is_rules::nomination::select_pair;
 use is_rules::sides::Sides;
-use is_rules::told::Path;
 
 impl<H: Sha1HmacProvider + Drop, P: LocalPreference> Agent<H, P> {
     /// The path was announced, where there is one.
-    pub(crate) fn tell_path(&mut self, path: Option<Path>)
+    pub(crate) fn emit_nominated(&mut self, path: Option<Path>)
         requires room { HasEventRoom 1 self.old }
-        ensures told { record_of self.new ≡ path_told path (record_of self.old) }
+        ensures emitted { record_of self.new ≡ nominated_emitted path (record_of self.old) }
         ensures events { HasEventRoom 2 self.old → HasEventRoom 1 self.new }
         ensures more { HasEventRoom 3 self.old → HasEventRoom 2 self.new }
         ensures news { HasNewsRoom 2 self.old → HasNewsRoom 1 self.new }
@@ -53,8 +53,8 @@ impl<H: Sha1HmacProvider + Drop, P: LocalPreference> Agent<H, P> {
             controlling: self.controlling,
             lite: self.lite,
         };
-        let path = name(sides, &mut self.pairs, &mut self.announced);
-        self.tell_path(path);
+        let path = select_pair(sides, &mut self.pairs, &mut self.selected_pair);
+        self.emit_nominated(path);
         path
     }
 

@@ -15,7 +15,7 @@ use is_pair::checklist::PairTest;
 use is_pair::pair::{CandidatePair, CheckState};
 use is_proto::{Duration, Sha1HmacProvider};
 use is_rules::event::IceAgentStats;
-use is_rules::nomination::announced_pair;
+use is_rules::nomination::pair_selected;
 use is_rules::places::address_at;
 use is_rules::remote::Equivalent;
 use std::net::SocketAddr;
@@ -159,7 +159,7 @@ impl<H: Sha1HmacProvider + Drop, P: LocalPreference> Agent<H, P> {
     fn nominated_pair(&self) -> Option<&CandidatePair>
         ensures { option_copied result ≡ nominated_pair (record_of self.now) }
     {
-        announced_pair(self.announced, &self.pairs)
+        pair_selected(self.selected_pair, &self.pairs)
     }
 
     /// How long the last answered check took of the pair that was announced last. None where that pair is gone, or has

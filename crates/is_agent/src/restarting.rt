@@ -15,7 +15,7 @@ use is_rules::credentials::{IceCreds, are_too_long};
 use is_rules::event::{IceAgentEvent, IceAgentStats, IceConnectionState};
 use is_rules::forming::{has_numbers_for_all, live_combinations};
 use is_rules::restarting::kept_local;
-use is_rules::states::tell_state;
+use is_rules::states::emit_state;
 use std::alloc::AllocError;
 
 /// What a restart takes.
@@ -52,7 +52,10 @@ impl<H: Sha1HmacProvider + Drop, P: LocalPreference> Agent<H, P> {
         requires creds { beginning.creds ≡ creds }
         ensures { record_of self.new ≡ restarted creds keep (record_of self.old) }
     {
-        let Beginning { local, creds: told } = beginning;
+        let Beginning {
+            local,
+            creds: emitted,
+        } = beginning;
         self.local_key = HmacKey::new(creds.pass.as_str().as_bytes());
         self.remote_key = HmacKey::new(&[]);
         self.local_creds = creds;
@@ -61,12 +64,12 @@ impl<H: Sha1HmacProvider + Drop, P: LocalPreference> Agent<H, P> {
         self.remote.clear();
         self.pairs.clear();
         self.packets.clear();
-        self.seen.clear();
+        self.discovered_sources.clear();
         self.stats = IceAgentStats::default();
         self.events.clear();
         self.events
-            .push_back_reserved(IceAgentEvent::IceRestart(told));
-        tell_state(
+            .push_back_reserved(IceAgentEvent::IceRestart(emitted));
+        emit_state(
             &mut self.state,
             &mut self.events,
             IceConnectionState::Checking,
@@ -128,7 +131,7 @@ impl<H: Sha1HmacProvider + Drop, P: LocalPreference> Agent<H, P> {
         let all = self.live_combinations()?;
         self.take_recreation_room(all.len())?;
         self.pairs.clear();
-        tell_state(
+        emit_state(
             &mut self.state,
             &mut self.events,
             IceConnectionState::Checking,

@@ -16,8 +16,8 @@ ghost use Rattle.is_stun.specs.Writing.{written};
 ghost use Rattle.is_rules.specs.Sending.{carried, with_packet};
 ghost use Rattle.is_rules.specs.Roles.{switched};
 ghost use Rattle.is_agent.specs.Ready.{IsReady};
-ghost use Rattle.is_rules.specs.Serving.{names_another, is_misled, is_admitted, sender_at, pair_served, replied, ServesPair, AddsPair};
-ghost use Rattle.is_rules.specs.Serving.{TakesAt, JoinsAt, Admits, InsistsOnRole, Settles, Serves, Chooses, wants_pair_at, wants_pair};
+ghost use Rattle.is_rules.specs.Serving.{names_another, is_misled, is_admitted, sender_at, pair_served, replied, RecordsAndResponds, AddsPairAndResponds};
+ghost use Rattle.is_rules.specs.Serving.{FindsOrAddsPair, AddsUnknownSender, CountsAndServes, SendsRoleConflict, ResolvesRoleConflict, Serves, Chooses, wants_pair_at, wants_pair};
 ghost use Rattle.is_rules.specs.Serving.{lacks_number, MayRefuseRequest};
 
 use crate::agent::Agent;
@@ -26,6 +26,7 @@ use is_candidate::candidate::making::peer_reflexive;
 use is_candidate::{Candidate, LocalPreference};
 use is_pair::pair::CandidatePair;
 use is_proto::{IceError, Sha1HmacProvider, Text, Transmit};
+use is_rules::emitted::{Emitted, Issued, Path};
 use is_rules::forming::pair_of;
 use is_rules::pairs::{Standing, is_valid_at, pair_between, serve_pair};
 use is_rules::places::{RemotePlace, is_discarded_at, local_place, remote_index, remote_place};
@@ -34,7 +35,6 @@ use is_rules::request::Request;
 use is_rules::roles::Conflict;
 use is_rules::serving::{Places, Supplies, is_admitted, is_misled, wants_pair_at};
 use is_rules::sides::Sides;
-use is_rules::told::{Issued, Path, Told};
 use is_stun::stun::Class;
 use std::alloc::AllocError;
 
@@ -94,7 +94,7 @@ impl<H: Sha1HmacProvider + Drop, P: LocalPreference> Agent<H, P> {
         ensures room { OnOk result (HasNewsRoom 1 self.new) }
         ensures refused { IsOkUnless result errors.OutOfMemory }
     {
-        self.seen.reserve(1)?;
+        self.discovered_sources.reserve(1)?;
         self.events.reserve(1)?;
         Ok(())
     }
@@ -108,7 +108,7 @@ impl<H: Sha1HmacProvider + Drop, P: LocalPreference> Agent<H, P> {
         self.remote.reserve(1)?;
         self.pairs.reserve(1)?;
         self.packets.reserve(1)?;
-        self.seen.reserve(1)?;
+        self.discovered_sources.reserve(1)?;
         self.events.reserve(2)?;
         Ok(())
     }
@@ -216,18 +216,18 @@ impl<H: Sha1HmacProvider + Drop, P: LocalPreference> Agent<H, P> {
     }
 
     /// The pair takes the request; a controlling agent evaluates nomination where it is valid; and the reply goes out.
-    fn take(
+    fn record_and_respond(
         &mut self,
         request: &Request<'_>,
         l: usize,
         r: usize,
         number: u64,
         reply: Vec<u8>,
-    ) -> Told
+    ) -> Emitted
         requires packets { HasPacketRoom self.old }
         requires news { HasNewsRoom 2 self.old }
         requires reply { length reply.items ≡ LONGEST_REPLY }
-        ensures served { ServesPair H.mac (request_view request.now) l r number (record_of self.old) result (record_of self.new) }
+        ensures served { RecordsAndResponds H.mac (request_view request.now) l r number (record_of self.old) result (record_of self.new) }
         ensures news { HasNewsRoom 1 self.new }
     {
         let path = self.path_between(l, r);
@@ -236,7 +236,7 @@ impl<H: Sha1HmacProvider + Drop, P: LocalPreference> Agent<H, P> {
         let announced = self.nominate_where(evaluates);
         self.reply(request, path, reply);
         let issued = Issued::new(path, Class::Success, request.id);
-        Told::by(Some(issued), announced, None)
+        Emitted::by(Some(issued), announced, None)
     }
 
     /// The pair of two places, under the next number.
@@ -268,140 +268,163 @@ impl<H: Sha1HmacProvider + Drop, P: LocalPreference> Agent<H, P> {
     }
 
     /// A new pair takes the request.
-    fn take_new(&mut self, request: &Request<'_>, l: usize, r: usize, reply: Vec<u8>) -> Told
+    fn add_pair_and_respond(
+        &mut self,
+        request: &Request<'_>,
+        l: usize,
+        r: usize,
+        reply: Vec<u8>,
+    ) -> Emitted
         requires pairs { HasRoom 1 self.old.pairs }
         requires packets { HasPacketRoom self.old }
         requires news { HasNewsRoom 2 self.old }
         requires reply { length reply.items ≡ LONGEST_REPLY }
         requires number { self.old.next_number < 18446744073709551615 }
-        ensures served { AddsPair H.mac (request_view request.now) l r (record_of self.old) result (record_of self.new) }
+        ensures served { AddsPairAndResponds H.mac (request_view request.now) l r (record_of self.old) result (record_of self.new) }
         ensures news { HasNewsRoom 1 self.new }
     {
         let number = self.next_number;
         self.add_pair(l, r);
-        self.take(request, l, r, number, reply)
+        self.record_and_respond(request, l, r, number, reply)
     }
 
     /// A pair of the places takes the request; where there is none, one is added, but none at a discarded local place (RFC
     /// 8445, section 7.3.1.4).
-    fn take_at(
+    fn find_or_add_pair(
         &mut self,
         request: &Request<'_>,
         l: usize,
         r: usize,
         pair: Option<u64>,
         reply: Vec<u8>,
-    ) -> Told
+    ) -> Emitted
         requires pairs { HasRoom 1 self.old.pairs }
         requires packets { HasPacketRoom self.old }
         requires news { HasNewsRoom 2 self.old }
         requires reply { length reply.items ≡ LONGEST_REPLY }
         requires number { pair ≡ None → (candidate_at self.old.local.items l).discarded ≡ false → self.old.next_number < 18446744073709551615 }
-        ensures served { TakesAt H.mac (request_view request.now) l r pair (record_of self.old) result (record_of self.new) }
+        ensures served { FindsOrAddsPair H.mac (request_view request.now) l r pair (record_of self.old) result (record_of self.new) }
         ensures news { HasNewsRoom 1 self.new }
     {
         match pair {
-            Some(number) => self.take(request, l, r, number, reply),
+            Some(number) => self.record_and_respond(request, l, r, number, reply),
             None => {
                 if is_discarded_at(&self.local, l) {
-                    return Told::nothing();
+                    return Emitted::nothing();
                 }
-                self.take_new(request, l, r, reply)
+                self.add_pair_and_respond(request, l, r, reply)
             }
         }
     }
 
     /// Serving goes on at a remote place: an unknown sender is appended (RFC 8445, section 7.3.1.3), and discarded candidates
     /// alone drop it.
-    fn join_at(&mut self, request: &Request<'_>, at: Places, supplies: Supplies) -> Told
+    fn add_unknown_sender(
+        &mut self,
+        request: &Request<'_>,
+        at: Places,
+        supplies: Supplies,
+    ) -> Emitted
         requires { IsReady (wants_pair_at at.remote at.pair (candidate_at self.old.local.items at.local).discarded) self.old
             (request_view request.now) at supplies }
-        ensures served { JoinsAt H.mac (request_view request.now) at.local at.remote (record_of self.old) result (record_of self.new) }
+        ensures served { AddsUnknownSender H.mac (request_view request.now) at.local at.remote (record_of self.old) result (record_of self.new) }
         ensures news { HasNewsRoom 1 self.new }
     {
         let Supplies { reply, sender } = supplies;
         match (at.remote, sender) {
-            (RemotePlace::Known(r), _) => self.take_at(request, at.local, r, at.pair, reply),
+            (RemotePlace::Known(r), _) => self.find_or_add_pair(
+                request, at.local, r, at.pair, reply,
+            ),
             (RemotePlace::Unknown, Some(sender)) => {
                 let r = self.remote.len();
                 self.remote.push_reserved(sender);
-                self.take_at(request, at.local, r, at.pair, reply)
+                self.find_or_add_pair(request, at.local, r, at.pair, reply)
             }
-            (RemotePlace::Barred | RemotePlace::Unknown, _) => Told::nothing(),
+            (RemotePlace::Barred | RemotePlace::Unknown, _) => Emitted::nothing(),
         }
     }
 
     /// USE-CANDIDATE while controlling is dropped, since the controlling agent alone nominates (RFC 8445, section 8.1.1); any
     /// other request counts, and serving goes on.
-    fn admit(&mut self, request: &Request<'_>, at: Places, supplies: Supplies) -> Told
+    fn count_and_serve(&mut self, request: &Request<'_>, at: Places, supplies: Supplies) -> Emitted
         requires { IsReady (not (is_misled self.old.controlling (request_view request.now)) && wants_pair_at at.remote at.pair
             (candidate_at self.old.local.items at.local).discarded) self.old (request_view request.now) at supplies }
-        ensures served { Admits H.mac (request_view request.now) at.local (record_of self.old) result (record_of self.new) }
+        ensures served { CountsAndServes H.mac (request_view request.now) at.local (record_of self.old) result (record_of self.new) }
         ensures news { HasNewsRoom 1 self.new }
     {
         if is_misled(self.controlling, request) {
-            return Told::nothing();
+            return Emitted::nothing();
         }
         self.stats.bind_request_recv = self.stats.bind_request_recv.saturating_add(1);
-        self.join_at(request, at, supplies)
+        self.add_unknown_sender(request, at, supplies)
     }
 
     /// The 487 goes back the way that the request came, signed with the local password (RFC 8445, section 7.3.1.1).
-    fn insist(&mut self, request: &Request<'_>, supplies: Supplies) -> Told
+    fn send_role_conflict(&mut self, request: &Request<'_>, supplies: Supplies) -> Emitted
         requires packets { HasPacketRoom self.old }
         requires news { HasNewsRoom 2 self.old }
         requires reply { length supplies.reply.items ≡ LONGEST_REPLY }
-        ensures insisted { InsistsOnRole H.mac (request_view request.now) (record_of self.old) result (record_of self.new) }
+        ensures conflict_sent { SendsRoleConflict H.mac (request_view request.now) (record_of self.old) result (record_of self.new) }
         ensures news { HasNewsRoom 1 self.new }
     {
         let Supplies { mut reply, .. } = supplies;
         let password = self.local_creds.pass.as_str();
         write_conflict(&mut reply, request.id, password, &self.by_local_key());
-        let path = request.path.turned();
+        let path = request.path.reversed();
         self.send_reply(path, reply);
-        Told::issued_alone(path, Class::Failure, request.id)
+        Emitted::issued_only(path, Class::Failure, request.id)
     }
 
     /// The role switches, and serving goes on.
-    fn yield_role(&mut self, request: &Request<'_>, at: Places, supplies: Supplies) -> Told
+    fn switch_role_and_serve(
+        &mut self,
+        request: &Request<'_>,
+        at: Places,
+        supplies: Supplies,
+    ) -> Emitted
         requires { IsReady (not (is_misled (not self.old.controlling) (request_view request.now)) && wants_pair_at at.remote at.pair
             (candidate_at self.old.local.items at.local).discarded) self.old (request_view request.now) at supplies }
-        ensures served { Admits H.mac (request_view request.now) at.local (switched (record_of self.old)) result (record_of self.new) }
+        ensures served { CountsAndServes H.mac (request_view request.now) at.local (switched (record_of self.old)) result (record_of self.new) }
         ensures news { HasNewsRoom 1 self.new }
     {
         self.switch_role();
-        self.admit(request, at, supplies)
+        self.count_and_serve(request, at, supplies)
     }
 
     /// A sender of the agent's own role: the greater tie-breaker keeps it (RFC 8445, section 7.3.1.1).
-    pub(crate) fn settle(&mut self, request: &Request<'_>, at: Places, supplies: Supplies) -> Told
+    pub(crate) fn resolve_role_conflict(
+        &mut self,
+        request: &Request<'_>,
+        at: Places,
+        supplies: Supplies,
+    ) -> Emitted
         requires { IsReady (wants_pair (record_of self.old) (request_view request.now) at) self.old (request_view request.now) at supplies }
-        ensures served { Settles H.mac (request_view request.now) at.local (record_of self.old) result (record_of self.new) }
+        ensures served { ResolvesRoleConflict H.mac (request_view request.now) at.local (record_of self.old) result (record_of self.new) }
         ensures news { HasNewsRoom 1 self.new }
     {
         match self.conflict(request) {
-            Conflict::Absent => self.admit(request, at, supplies),
-            Conflict::Insists => self.insist(request, supplies),
-            Conflict::Yields => self.yield_role(request, at, supplies),
+            Conflict::Absent => self.count_and_serve(request, at, supplies),
+            Conflict::Insists => self.send_role_conflict(request, supplies),
+            Conflict::Yields => self.switch_role_and_serve(request, at, supplies),
         }
     }
 
     /// Serves a request (RFC 8445, section 7.3), or drops it, and tells what came of it. Numbers are looked at before memory.
-    pub(crate) fn serve(&mut self, request: &Request<'_>) -> Result<Told, IceError>
-        ensures served { IfOk result (λ told. Serves H.mac (request_view request.now) (record_of self.old) told (record_of self.new)) }
+    pub(crate) fn serve(&mut self, request: &Request<'_>) -> Result<Emitted, IceError>
+        ensures served { IfOk result (λ emitted. Serves H.mac (request_view request.now) (record_of self.old) emitted (record_of self.new)) }
         ensures room { OnOk result (HasNewsRoom 1 self.new) }
         ensures refused { IfErr result (λ error. MayRefuseRequest (record_of self.old) (request_view request.now) error
             × (record_of self.new ≡ record_of self.old)) }
     {
         let Some(at) = self.places_of(request) else {
             self.take_source_room()?;
-            return Ok(Told::nothing());
+            return Ok(Emitted::nothing());
         };
         if self.lacks_number(request, at) {
             return Err(IceError::PairIdsExhausted);
         }
         let supplies = self.supplies_for(request, at)?;
         self.take_serving_room()?;
-        Ok(self.settle(request, at, supplies))
+        Ok(self.resolve_role_conflict(request, at, supplies))
     }
 }

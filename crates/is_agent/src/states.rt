@@ -2,18 +2,18 @@
 
 ghost use Rattle.std.specs.Prelude.{◌≡◌, ◌<◌, ◌+◌};
 ghost use Rattle.is_agent.specs.View.{record_of};
-ghost use Rattle.is_rules.specs.States.{next_state, has_selected, has_possible, evaluated};
+ghost use Rattle.is_rules.specs.States.{next_state, has_nominated, has_possible, evaluated};
 ghost use Rattle.is_agent.specs.Room.{HasNewsRoom};
 
 use crate::agent::Agent;
 use is_candidate::LocalPreference;
 use is_proto::{Instant, Sha1HmacProvider};
 use is_rules::event::IceConnectionState;
-use is_rules::states::{PossibleBeside, Selected, next_state, tell_state};
+use is_rules::states::{PossibleBeside, Selected, emit_state, next_state};
 
 impl<H: Sha1HmacProvider + Drop, P: LocalPreference> Agent<H, P> {
-    fn has_selected(&self) -> bool
-        ensures { result ≡ has_selected (record_of self.now) }
+    fn has_nominated(&self) -> bool
+        ensures { result ≡ has_nominated (record_of self.now) }
     {
         self.pairs.any(&Selected)
     }
@@ -29,12 +29,12 @@ impl<H: Sha1HmacProvider + Drop, P: LocalPreference> Agent<H, P> {
 
     /// What the state is when it is evaluated at this moment.
     pub(crate) fn state_at(&self, now: Instant) -> IceConnectionState
-        ensures { result ≡ next_state (record_of self.now).state (has_selected (record_of self.now))
+        ensures { result ≡ next_state (record_of self.now).state (has_nominated (record_of self.now))
             (has_possible now.0 (record_of self.now)) (record_of self.now).lite }
     {
         next_state(
             self.state,
-            self.has_selected(),
+            self.has_nominated(),
             self.has_possible(now),
             self.lite,
         )
@@ -47,7 +47,7 @@ impl<H: Sha1HmacProvider + Drop, P: LocalPreference> Agent<H, P> {
         ensures room { HasNewsRoom 1 self.new }
     {
         let state = self.state_at(now);
-        tell_state(&mut self.state, &mut self.events, state);
+        emit_state(&mut self.state, &mut self.events, state);
     }
 
     /// The connection state. Takes no memory.

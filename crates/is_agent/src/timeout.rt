@@ -8,7 +8,7 @@ ghost use Rattle.is_stun.specs.Laws.{IsPut};
 ghost use Rattle.is_stun.specs.Writing.{written};
 ghost use Rattle.is_stun.specs.declared.header.Class.TheVariants as classes;
 ghost use Rattle.is_rules.specs.declared.credentials.IceCreds as model;
-ghost use Rattle.is_agent.specs.View.{record_of, told_of};
+ghost use Rattle.is_agent.specs.View.{record_of, emitted_of};
 ghost use Rattle.is_agent.specs.Room.{HasPacketRoom, HasEventRoom, HasCheckRoom, HasCheckRoomAt, IsPrepared};
 ghost use Rattle.is_rules.specs.Checking.{check_message, ChecksPair, ChecksNext, MayCheck};
 ghost use Rattle.is_pair.specs.Bag.{has_number, pair_numbered, rises};
@@ -20,10 +20,10 @@ ghost use Rattle.is_pair.specs.Pairs.{PairRecord};
 ghost use Rattle.is_rules.specs.Queue.{request_at, queue_cleared};
 ghost use Rattle.is_rules.specs.Sending.{with_packet};
 ghost use Rattle.is_rules.specs.States.{evaluated};
-ghost use Rattle.is_rules.specs.Told.{issued_as, told_by};
-ghost use Rattle.is_rules.specs.declared.told.Issued.{Issued};
-ghost use Rattle.is_rules.specs.declared.told.Path.{Path};
-ghost use Rattle.is_rules.specs.Timeouts.{awake, is_given_up, given_up_gone, GivesUp, MayRefuseMoment, ServesQueued, Proceeds, TimesOut};
+ghost use Rattle.is_rules.specs.Emitted.{issued_as, emitted_by};
+ghost use Rattle.is_rules.specs.declared.emitted.Issued.{Issued};
+ghost use Rattle.is_rules.specs.declared.emitted.Path.{Path};
+ghost use Rattle.is_rules.specs.Timeouts.{timeout_begun, is_given_up, given_up_gone, GivesUp, MayRefuseMoment, ServesQueued, MaintainsPairs, TimesOut};
 
 use crate::agent::Agent;
 use crate::settings::MTU_FLOOR;
@@ -31,10 +31,10 @@ use is_candidate::LocalPreference;
 use is_pair::checklist::GivenUp;
 use is_proto::{IceError, Instant, Sha1HmacProvider, Transmit};
 use is_rules::checking::{Draft, write_username};
+use is_rules::emitted::{Emitted, Issued, Path};
 use is_rules::event::IceConnectionState;
-use is_rules::states::{same_state, tell_state};
+use is_rules::states::{emit_state, same_state};
 use is_rules::timeout::FallsDue;
-use is_rules::told::{Issued, Path, Told};
 use is_stun::stun::{Class, TransId};
 use rand_core::Rng;
 use std::alloc::AllocError;
@@ -70,22 +70,22 @@ impl<H: Sha1HmacProvider + Drop, P: LocalPreference> Agent<H, P> {
         ensures checks { (t : ℕ) → HasCheckRoomAt t self.old → HasCheckRoomAt t self.new }
     {
         let state = self.state_at(now);
-        tell_state(&mut self.state, &mut self.events, state);
+        emit_state(&mut self.state, &mut self.events, state);
     }
 
     /// Pairs that are given up go, and nomination and state are evaluated. It stands apart, so that moments at which none is cost
     /// nothing for it.
     #[inline(never)]
-    fn give_up_and_tell(&mut self, first: Option<Path>, now: Instant)
+    fn give_up_and_emit(&mut self, first: Option<Path>, now: Instant)
         requires room { HasEventRoom 2 self.old }
         ensures given_up { (second : Option Path) × (mid : AgentRecord H P) × Nominates (given_up_gone now.0 (record_of self.old)) second mid
-            × (record_of self.new ≡ evaluated now.0 mid) × (told_of self.new ≡ told_by None first second) }
+            × (record_of self.new ≡ evaluated now.0 mid) × (emitted_of self.new ≡ emitted_by None first second) }
         ensures checks { (t : ℕ) → HasCheckRoomAt t self.old → HasCheckRoomAt t self.new }
     {
         self.drop_given_up(now);
         let second = self.evaluate_nomination();
         self.evaluate_at(now);
-        self.told = Told::by(None, first, second);
+        self.emitted = Emitted::by(None, first, second);
     }
 
     /// Pairs that are not possible any more go; where one does, nomination and state are evaluated. What is announced is told of
@@ -93,14 +93,14 @@ impl<H: Sha1HmacProvider + Drop, P: LocalPreference> Agent<H, P> {
     fn give_up(&mut self, first: Option<Path>, now: Instant)
         requires room { HasEventRoom 2 self.old }
         ensures given_up { (second : Option Path) × GivesUp now.0 (record_of self.old) second (record_of self.new)
-            × (told_of self.new ≡ told_by None first second) }
+            × (emitted_of self.new ≡ emitted_by None first second) }
         ensures checks { (t : ℕ) → HasCheckRoomAt t self.old → HasCheckRoomAt t self.new }
     {
         if !self.any_given_up(now) {
-            self.told = Told::announced_alone(first);
+            self.emitted = Emitted::announced_only(first);
             return;
         }
-        self.give_up_and_tell(first, now);
+        self.give_up_and_emit(first, now);
     }
 }
 
@@ -115,7 +115,7 @@ impl<H: Sha1HmacProvider + Drop, P: LocalPreference> Agent<H, P> {
         ensures put { (peer : model.IceCreds) (p : PairRecord) → self.old.remote_creds ≡ Some peer → Drafts (record_of self.old) p draft
             → IsPut (written (H.mac self.old.provider) (Some peer.pass) (check_message (record_of self.old) peer p id.0))
             (check_message (record_of self.old) peer p id.0) }
-        ensures told { told_of self.new ≡ told_of self.old }
+        ensures emitted { emitted_of self.new ≡ emitted_of self.old }
         ensures sent { (peer : model.IceCreds) (p : PairRecord) → self.old.remote_creds ≡ Some peer → Drafts (record_of self.old) p draft
             → record_of self.new ≡ with_packet draft.path (written (H.mac self.old.provider) (Some peer.pass)
             (check_message (record_of self.old) peer p id.0)) (check_counted (record_of self.old)) }
@@ -138,7 +138,7 @@ impl<H: Sha1HmacProvider + Drop, P: LocalPreference> Agent<H, P> {
     fn check<R: Rng>(&mut self, number: u64, draft: Draft, now: Instant, rng: &mut R) -> Issued
         requires has { has_number number (record_of self.old).pairs ≡ true }
         requires room { HasCheckRoom self.old }
-        ensures told { told_of self.new ≡ told_of self.old }
+        ensures emitted { emitted_of self.new ≡ emitted_of self.old }
         ensures checked { (peer : model.IceCreds) (p : PairRecord) → self.old.remote_creds ≡ Some peer → p.number ≡ number
             → Drafts (record_of self.old) p draft → ChecksPair H.mac now.0 peer p (record_of self.old) (R.stream rng.old) (Some result)
             (record_of self.new) (R.stream rng.new) }
@@ -164,17 +164,17 @@ impl<H: Sha1HmacProvider + Drop, P: LocalPreference> Agent<H, P> {
     /// The pair of the number is checked, and that is told of beside the paths that were. It stands apart, so that moments without
     /// a check cost nothing for it.
     #[inline(never)]
-    fn check_and_tell<R: Rng>(&mut self, number: u64, now: Instant, rng: &mut R)
+    fn check_and_emit<R: Rng>(&mut self, number: u64, now: Instant, rng: &mut R)
         requires has { has_number number (record_of self.old).pairs ≡ true }
         requires room { HasCheckRoom self.old }
         ensures { (peer : model.IceCreds) (p : PairRecord) (first second : Option Path) → self.old.remote_creds ≡ Some peer
-            → p.number ≡ number → pair_numbered number (record_of self.old).pairs ≡ Some p → told_of self.old ≡ told_by None first second
+            → p.number ≡ number → pair_numbered number (record_of self.old).pairs ≡ Some p → emitted_of self.old ≡ emitted_by None first second
             → (issued : Option Issued) × ChecksPair H.mac now.0 peer p (record_of self.old) (R.stream rng.old) issued (record_of self.new)
-            (R.stream rng.new) × (told_of self.new ≡ told_by issued first second) }
+            (R.stream rng.new) × (emitted_of self.new ≡ emitted_by issued first second) }
     {
         let draft = self.draft_of(number);
         let issued = self.check(number, draft, now, rng);
-        self.told.issued = Some(issued);
+        self.emitted.issued = Some(issued);
     }
 
     /// The number of the pair that is due first.
@@ -195,21 +195,21 @@ impl<H: Sha1HmacProvider + Drop, P: LocalPreference> Agent<H, P> {
     fn check_next<R: Rng>(&mut self, now: Instant, rng: &mut R)
         requires room { list_any (is_due now.0 self.old.timing) (record_of self.old).pairs ≡ true → HasCheckRoom self.old }
         ensures { (peer : model.IceCreds) (first second : Option Path) → self.old.remote_creds ≡ Some peer
-            → told_of self.old ≡ told_by None first second → (issued : Option Issued)
+            → emitted_of self.old ≡ emitted_by None first second → (issued : Option Issued)
             × ChecksNext H.mac now.0 peer (record_of self.old) (R.stream rng.old) issued (record_of self.new) (R.stream rng.new)
-            × (told_of self.new ≡ told_by issued first second) }
+            × (emitted_of self.new ≡ emitted_by issued first second) }
     {
         if let Some(number) = self.next_number(now) {
-            self.check_and_tell(number, now, rng);
+            self.check_and_emit(number, now, rng);
         }
     }
 
     /// The same, where the peer is known: each pair is asked for its due moment first. A lite agent sends no check.
     fn may_check<R: Rng>(&mut self, now: Instant, rng: &mut R)
         requires { HasCheckRoomAt now.0 self.old }
-        ensures { (first second : Option Path) → told_of self.old ≡ told_by None first second → (issued : Option Issued)
+        ensures { (first second : Option Path) → emitted_of self.old ≡ emitted_by None first second → (issued : Option Issued)
             × MayCheck H.mac now.0 (record_of self.old).remote_creds (record_of self.old) (R.stream rng.old) issued (record_of self.new)
-            (R.stream rng.new) × (told_of self.new ≡ told_by issued first second) }
+            (R.stream rng.new) × (emitted_of self.new ≡ emitted_by issued first second) }
     {
         match self.remote_creds {
             None => {}
@@ -218,7 +218,7 @@ impl<H: Sha1HmacProvider + Drop, P: LocalPreference> Agent<H, P> {
                     self.pairs.hear_all(now);
                     return;
                 }
-                self.pairs.ask_all(now, &self.timing);
+                self.pairs.fix_due_times(now, &self.timing);
                 self.check_next(now, rng);
             }
         }
@@ -281,10 +281,10 @@ impl<H: Sha1HmacProvider + Drop, P: LocalPreference> Agent<H, P> {
 
 impl<H: Sha1HmacProvider + Drop, P: LocalPreference> Agent<H, P> {
     /// All that the moment does behind waking, with room for it. What it tells is written where it is kept.
-    fn proceed<R: Rng>(&mut self, now: Instant, rng: &mut R)
+    fn maintain_pairs<R: Rng>(&mut self, now: Instant, rng: &mut R)
         requires events { HasEventRoom 3 self.old }
         requires checks { HasCheckRoomAt now.0 self.old }
-        ensures { Proceeds H.mac now.0 (record_of self.old) (R.stream rng.old) (told_of self.new) (record_of self.new) (R.stream rng.new) }
+        ensures { MaintainsPairs H.mac now.0 (record_of self.old) (R.stream rng.old) (emitted_of self.new) (record_of self.new) (R.stream rng.new) }
     {
         self.last_moment = Some(now);
         let first = self.evaluate_nomination();
@@ -293,76 +293,84 @@ impl<H: Sha1HmacProvider + Drop, P: LocalPreference> Agent<H, P> {
     }
 
     /// The agent wakes, and all follows, with room for both. The start was told of.
-    fn wake_and_proceed<R: Rng>(&mut self, now: Instant, rng: &mut R)
+    fn update_and_maintain_pairs<R: Rng>(&mut self, now: Instant, rng: &mut R)
         requires events { HasEventRoom 4 self.old }
         requires checks { HasCheckRoomAt now.0 self.old }
-        ensures { Proceeds H.mac now.0 (queue_cleared now.0 (evaluated now.0 (record_of self.old))) (R.stream rng.old) (told_of self.new)
+        ensures { MaintainsPairs H.mac now.0 (queue_cleared now.0 (evaluated now.0 (record_of self.old))) (R.stream rng.old) (emitted_of self.new)
             (record_of self.new) (R.stream rng.new) }
     {
-        self.wake(now);
-        self.proceed(now, rng);
+        self.update_state_and_queue(now);
+        self.maintain_pairs(now, rng);
     }
 
     /// All that the first moment does, where it serves no request: the start is told of before all else.
     #[inline(never)]
-    fn advance_from_new<R: Rng>(&mut self, now: Instant, rng: &mut R) -> Result<(), AllocError>
-        ensures advanced { OnOk result (Proceeds H.mac now.0 (awake now.0 (record_of self.old)) (R.stream rng.old) (told_of self.new)
+    fn run_first_timeout<R: Rng>(&mut self, now: Instant, rng: &mut R) -> Result<(), AllocError>
+        ensures advanced { OnOk result (MaintainsPairs H.mac now.0 (timeout_begun now.0 (record_of self.old)) (R.stream rng.old) (emitted_of self.new)
             (record_of self.new) (R.stream rng.new)) }
         ensures unchanged { IfErr result (λ _. (record_of self.new ≡ record_of self.old) × (R.stream rng.new ≡ R.stream rng.old)) }
     {
         let start = self.start_event()?;
         self.take_round_room(now)?;
-        self.tell_start(start);
-        self.wake_and_proceed(now, rng);
+        self.emit_start(start);
+        self.update_and_maintain_pairs(now, rng);
         Ok(())
     }
 
     /// All that this moment does where it serves no request.
-    fn advance<R: Rng>(&mut self, now: Instant, rng: &mut R) -> Result<(), AllocError>
-        ensures advanced { OnOk result (Proceeds H.mac now.0 (awake now.0 (record_of self.old)) (R.stream rng.old) (told_of self.new)
+    fn run_timeout_without_request<R: Rng>(
+        &mut self,
+        now: Instant,
+        rng: &mut R,
+    ) -> Result<(), AllocError>
+        ensures advanced { OnOk result (MaintainsPairs H.mac now.0 (timeout_begun now.0 (record_of self.old)) (R.stream rng.old) (emitted_of self.new)
             (record_of self.new) (R.stream rng.new)) }
         ensures unchanged { IfErr result (λ _. (record_of self.new ≡ record_of self.old) × (R.stream rng.new ≡ R.stream rng.old)) }
     {
         if same_state(self.state, IceConnectionState::New) {
-            return self.advance_from_new(now, rng);
+            return self.run_first_timeout(now, rng);
         }
         self.take_round_room(now)?;
-        self.wake_and_proceed(now, rng);
+        self.update_and_maintain_pairs(now, rng);
         Ok(())
     }
 
     /// The request that waited is served; where the moment serves none, the agent advances.
     #[inline(never)]
-    fn pass_waiting<R: Rng>(&mut self, now: Instant, rng: &mut R) -> Result<(), IceError>
+    fn run_timeout_with_requests<R: Rng>(
+        &mut self,
+        now: Instant,
+        rng: &mut R,
+    ) -> Result<(), IceError>
         ensures passed { OnOk result (MatchOption (request_at now.0 (record_of self.old))
-            (Proceeds H.mac now.0 (awake now.0 (record_of self.old)) (R.stream rng.old) (told_of self.new) (record_of self.new) (R.stream rng.new))
-            (λ q. ServesQueued H.mac q (awake now.0 (record_of self.old)) (R.stream rng.old) (told_of self.new) (record_of self.new)
+            (MaintainsPairs H.mac now.0 (timeout_begun now.0 (record_of self.old)) (R.stream rng.old) (emitted_of self.new) (record_of self.new) (R.stream rng.new))
+            (λ q. ServesQueued H.mac q (timeout_begun now.0 (record_of self.old)) (R.stream rng.old) (emitted_of self.new) (record_of self.new)
             (R.stream rng.new))) }
         ensures refused { IfErr result (λ error. MayRefuseMoment now.0 (record_of self.old) error) }
         ensures unchanged { IfErr result (λ _. (record_of self.new ≡ record_of self.old) × (R.stream rng.new ≡ R.stream rng.old)) }
     {
-        match self.late_request(now)? {
+        match self.early_request(now)? {
             Some(waiting) => {
-                self.told = self.serve_waiting(now, &waiting)?;
+                self.emitted = self.serve_waiting(now, &waiting)?;
                 Ok(())
             }
-            None => Ok(self.advance(now, rng)?),
+            None => Ok(self.run_timeout_without_request(now, rng)?),
         }
     }
 
     /// The same; mostly no request waits.
-    fn pass<R: Rng>(&mut self, now: Instant, rng: &mut R) -> Result<(), IceError>
+    fn run_timeout<R: Rng>(&mut self, now: Instant, rng: &mut R) -> Result<(), IceError>
         ensures passed { OnOk result (MatchOption (request_at now.0 (record_of self.old))
-            (Proceeds H.mac now.0 (awake now.0 (record_of self.old)) (R.stream rng.old) (told_of self.new) (record_of self.new) (R.stream rng.new))
-            (λ q. ServesQueued H.mac q (awake now.0 (record_of self.old)) (R.stream rng.old) (told_of self.new) (record_of self.new)
+            (MaintainsPairs H.mac now.0 (timeout_begun now.0 (record_of self.old)) (R.stream rng.old) (emitted_of self.new) (record_of self.new) (R.stream rng.new))
+            (λ q. ServesQueued H.mac q (timeout_begun now.0 (record_of self.old)) (R.stream rng.old) (emitted_of self.new) (record_of self.new)
             (R.stream rng.new))) }
         ensures refused { IfErr result (λ error. MayRefuseMoment now.0 (record_of self.old) error) }
         ensures unchanged { IfErr result (λ _. (record_of self.new ≡ record_of self.old) × (R.stream rng.new ≡ R.stream rng.old)) }
     {
         if !self.queue.is_empty() {
-            return self.pass_waiting(now, rng);
+            return self.run_timeout_with_requests(now, rng);
         }
-        Ok(self.advance(now, rng)?)
+        Ok(self.run_timeout_without_request(now, rng)?)
     }
 
     /// Tells the agent of a moment. In New the start is told of, and the state is evaluated. A request that waited is
@@ -374,12 +382,12 @@ impl<H: Sha1HmacProvider + Drop, P: LocalPreference> Agent<H, P> {
     /// Refused with `PairIdsExhausted` where a request is served, a pair must be added and no number is left, and with
     /// `OutOfMemory`; the agent is then as it was, and nothing was drawn.
     pub fn handle_timeout<R: Rng>(&mut self, now: Instant, rng: &mut R) -> Result<(), IceError>
-        ensures { TimesOut H.mac now.0 (record_of self.old) (R.stream rng.old) result (told_of self.new) (record_of self.new) (R.stream rng.new) }
+        ensures { TimesOut H.mac now.0 (record_of self.old) (R.stream rng.old) result (emitted_of self.new) (record_of self.new) (R.stream rng.new) }
     {
-        match self.pass(now, rng) {
+        match self.run_timeout(now, rng) {
             Ok(()) => Ok(()),
             Err(error) => {
-                self.told = Told::nothing();
+                self.emitted = Emitted::nothing();
                 Err(error)
             }
         }

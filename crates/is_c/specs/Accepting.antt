@@ -3,7 +3,7 @@ use Rattle.std.specs.Prelude.{◌≡◌, ◌⊎◌, ◌↔◌, ℕ, Bool, List, 
 use Rattle.is_proto.specs.declared.error.StunError.{StunError}
 use Rattle.is_stun.specs.Message.{Message}
 use Rattle.is_stun.specs.Reading.{Reads, FailsBy}
-use Rattle.is_rules.specs.declared.told.Path.{Path}
+use Rattle.is_rules.specs.declared.emitted.Path.{Path}
 use Rattle.is_rules.specs.Accepting.{IsAccepted, IsAcceptedOn}
 use Rattle.is_c.specs.Codes.{BAD_ADDRESS, UNPARSED, found_code}
 use Rattle.is_c.specs.Held.{Held, HomeRecord}
@@ -17,11 +17,11 @@ AnswersWhether P bytes code =
 
 abbrev pub AsksOn : Mac → Held → Option Path → List ℕ → ℤ → Type 0
 AsksOn mac a None bytes code = code ≡ BAD_ADDRESS
-AsksOn mac a (Some way) bytes code = AnswersWhether (IsAcceptedOn mac a way) bytes code
+AsksOn mac a (Some path) bytes code = AnswersWhether (IsAcceptedOn mac a path) bytes code
 
 -- `is_agent_accepts_packet`
 abbrev pub AsksWay : Mac → Option Path → List ℕ → HomeRecord → ℤ → HomeRecord → Type 0
-AsksWay mac way bytes old code new = AsksOn mac old.agent way bytes code × (new ≡ old)
+AsksWay mac path bytes old code new = AsksOn mac old.agent path bytes code × (new ≡ old)
 
 -- `is_agent_accepts_message`
 abbrev pub AsksMessage : Mac → List ℕ → HomeRecord → ℤ → HomeRecord → Type 0

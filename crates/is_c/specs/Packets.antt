@@ -11,8 +11,8 @@ use Rattle.is_proto.specs.Packets as packets
 use Rattle.is_stun.specs.Message.{Message}
 use Rattle.is_stun.specs.Reading.{Reads, FailsBy}
 use Rattle.is_rules.specs.declared.credentials.IceCreds.{IceCreds}
-use Rattle.is_rules.specs.declared.told.Path.{Path}
-use Rattle.is_rules.specs.declared.told.Told.{Told}
+use Rattle.is_rules.specs.declared.emitted.Path.{Path}
+use Rattle.is_rules.specs.declared.emitted.Emitted.{Emitted}
 use Rattle.is_rules.specs.Accepting.{IsAcceptedOn, HandlesPacket}
 use Rattle.is_rules.specs.Polls.{IsPolled, PollsTimeout}
 use Rattle.is_rules.specs.Restarting.{Restarts}
@@ -31,8 +31,8 @@ Mac = DefaultSha1HmacProvider → List ℕ → List ℕ → List ℕ
 -- ---- packets that came
 
 -- the way of a packet: from where and to where, as C says
-abbrev pub way_of : ℕ → Address → Address → Option Path
-way_of protocol source destination =
+abbrev pub packet_path : ℕ → Address → Address → Option Path
+packet_path protocol source destination =
     option_and_then (λ proto.
     option_and_then (λ from. option_map (λ to. record { proto = proto; source = from; destination = to }) (socket_of destination))
     (socket_of source))
@@ -40,28 +40,28 @@ way_of protocol source destination =
 
 -- the bytes read as a message that the agent accepts on the way that they came
 abbrev pub Accepts : Mac → Held → Path → List ℕ → Type 0
-Accepts mac a way bytes = (m : Message) × Reads bytes m × IsAcceptedOn mac a way m
+Accepts mac a path bytes = (m : Message) × Reads bytes m × IsAcceptedOn mac a path m
 
 -- bytes that do not read change nothing; those that read are a step of the agent
 abbrev pub TakesBytes : Mac → ℕ → Path → List ℕ → HomeRecord → ℤ → HomeRecord → Type 0
-TakesBytes mac now way bytes old code new =
+TakesBytes mac now path bytes old code new =
     ((e : StunError) × FailsBy bytes e × Refuses UNPARSED old code new)
-    ⊎ ((m : Message) × Reads bytes m × ((r : Result Bool IceError) × ((told : Told)
-    × HandlesPacket mac now old.agent way m r told new.agent × (code ≡ flag_code r) × (new.waiting ≡ old.waiting))))
+    ⊎ ((m : Message) × Reads bytes m × ((r : Result Bool IceError) × ((emitted : Emitted)
+    × HandlesPacket mac now old.agent path m r emitted new.agent × (code ≡ flag_code r) × (new.waiting ≡ old.waiting))))
 
 -- `is_agent_handle_packet`
 abbrev pub Receives : Mac → ℕ → Option Path → List ℕ → HomeRecord → ℤ → HomeRecord → Type 0
 Receives mac now None bytes old code new = Refuses BAD_ADDRESS old code new
-Receives mac now (Some way) bytes old code new = TakesBytes mac now way bytes old code new
+Receives mac now (Some path) bytes old code new = TakesBytes mac now path bytes old code new
 
 -- the bytes are accepted on a way that C names
 abbrev pub AcceptsOn : Mac → Held → Option Path → List ℕ → Type 0
 AcceptsOn mac a None bytes = ⊥
-AcceptsOn mac a (Some way) bytes = Accepts mac a way bytes
+AcceptsOn mac a (Some path) bytes = Accepts mac a path bytes
 
 -- OK is answered for accepted bytes alone, and after any other answer all is as it was
 abbrev pub IsSettled : Mac → Option Path → List ℕ → HomeRecord → ℤ → HomeRecord → Type 0
-IsSettled mac way bytes old code new = (code ≡ OK → AcceptsOn mac old.agent way bytes) × (code ≢ OK → new ≡ old)
+IsSettled mac path bytes old code new = (code ≡ OK → AcceptsOn mac old.agent path bytes) × (code ≢ OK → new ≡ old)
 
 -- ---- moments
 
@@ -70,8 +70,8 @@ abbrev pub TimesOutBy : Mac → ℕ → List ℕ → HomeRecord → ℤ → Home
 TimesOutBy mac now random old code new =
     MatchBool (nat_lt (length random) 12)
     (Refuses TOO_FEW_RANDOM_BYTES old code new)
-    ((r : Result (Unit {0}) IceError) × ((told : Told) × ((left : Stream)
-    × TimesOut mac now old.agent (stream_of given_steps random) r told new.agent left × (code ≡ done_code r) × (new.waiting ≡ old.waiting))))
+    ((r : Result (Unit {0}) IceError) × ((emitted : Emitted) × ((left : Stream)
+    × TimesOut mac now old.agent (stream_of given_steps random) r emitted new.agent left × (code ≡ done_code r) × (new.waiting ≡ old.waiting))))
 
 -- `is_agent_poll_timeout`
 abbrev pub WakesAt : ℕ → ℕ → HomeRecord → ℤ → HomeRecord → Type 0

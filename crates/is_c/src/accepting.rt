@@ -3,27 +3,27 @@ ghost use Rattle.is_rules.specs.Accepting.{IsAccepted, IsAcceptedOn};
 ghost use Rattle.is_agent.specs.View.{record_of};
 ghost use Rattle.is_c.specs.Accepting.{AnswersWhether, AsksOn, AsksWay, AsksMessage};
 ghost use Rattle.is_c.specs.Held.{held_by, At};
-ghost use Rattle.is_c.specs.Packets.{way_of};
+ghost use Rattle.is_c.specs.Packets.{packet_path};
 
 use crate::address::Address;
 use crate::codes;
 use crate::home::Home;
-use crate::packets::way_of;
+use crate::packets::packet_path;
 use crate::slot::Slot;
 use is_proto::{DefaultSha1HmacProvider, Sha1HmacProvider};
-use is_rules::told::Path;
+use is_rules::emitted::Path;
 use is_stun::stun::{StunMessage, StunPacket};
 use std::alloc::Global;
 
-fn accepts_bytes(home: &Home, way: Path, bytes: &[u8]) -> i32
-    ensures { AnswersWhether (IsAcceptedOn ⟦<DefaultSha1HmacProvider as Sha1HmacProvider>⟧.mac (record_of home.now.agent) way) bytes.now result }
+fn accepts_bytes(home: &Home, path: Path, bytes: &[u8]) -> i32
+    ensures { AnswersWhether (IsAcceptedOn ⟦<DefaultSha1HmacProvider as Sha1HmacProvider>⟧.mac (record_of home.now.agent) path) bytes.now result }
 {
     match StunMessage::parse(bytes) {
         Ok(message) => {
             let packet = StunPacket {
-                proto: way.proto,
-                source: way.source,
-                destination: way.destination,
+                proto: path.proto,
+                source: path.source,
+                destination: path.destination,
                 message,
             };
             codes::found_code(home.agent.accepts_packet(&packet))
@@ -32,11 +32,11 @@ fn accepts_bytes(home: &Home, way: Path, bytes: &[u8]) -> i32
     }
 }
 
-fn accepts_way(home: &Home, way: Option<Path>, bytes: &[u8]) -> i32
-    ensures { AsksOn ⟦<DefaultSha1HmacProvider as Sha1HmacProvider>⟧.mac (record_of home.now.agent) way bytes.now result }
+fn accepts_via(home: &Home, path: Option<Path>, bytes: &[u8]) -> i32
+    ensures { AsksOn ⟦<DefaultSha1HmacProvider as Sha1HmacProvider>⟧.mac (record_of home.now.agent) path bytes.now result }
 {
-    match way {
-        Some(way) => accepts_bytes(home, way, bytes),
+    match path {
+        Some(path) => accepts_bytes(home, path, bytes),
         None => codes::BAD_ADDRESS,
     }
 }
@@ -51,13 +51,13 @@ pub extern "C" fn is_agent_accepts_packet(
     destination: &Address,
     bytes: &[u8],
 ) -> i32
-    ensures { At (AsksWay ⟦<DefaultSha1HmacProvider as Sha1HmacProvider>⟧.mac (way_of protocol source.now destination.now) bytes.now)
+    ensures { At (AsksWay ⟦<DefaultSha1HmacProvider as Sha1HmacProvider>⟧.mac (packet_path protocol source.now destination.now) bytes.now)
         (held_by slot.old) result (held_by slot.new) }
 {
     let Some(home) = slot.take(alloc) else {
         return codes::NO_AGENT;
     };
-    let code = accepts_way(&home, way_of(protocol, source, destination), bytes);
+    let code = accepts_via(&home, packet_path(protocol, source, destination), bytes);
     *slot = Slot::of(home);
     code
 }

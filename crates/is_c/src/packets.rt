@@ -4,7 +4,7 @@ ghost use Rattle.std.specs.Prelude.{◌≡◌, None, option_map};
 ghost use Rattle.is_rules.specs.Polls.{IsPolled};
 ghost use Rattle.is_proto.specs.Packets.{packet_of};
 ghost use Rattle.is_c.specs.Held.{home_of, held_by, At};
-ghost use Rattle.is_c.specs.Packets.{way_of, TakesBytes, Receives, IsSettled, TimesOutBy, WakesAt, queue_of, IsTold, GivesFirst, Gives};
+ghost use Rattle.is_c.specs.Packets.{packet_path, TakesBytes, Receives, IsSettled, TimesOutBy, WakesAt, queue_of, IsTold, GivesFirst, Gives};
 
 use crate::address::{Address, address_of, number_of, protocol_of, socket_of};
 use crate::codes;
@@ -12,7 +12,7 @@ use crate::home::Home;
 use crate::random::Given;
 use crate::slot::Slot;
 use is_proto::{DefaultSha1HmacProvider, Instant, Sha1HmacProvider, Transmit};
-use is_rules::told::Path;
+use is_rules::emitted::Path;
 use is_stun::stun::{StunMessage, StunPacket};
 use std::alloc::Global;
 
@@ -31,8 +31,8 @@ pub struct Packet {
 // ---- packets that came
 
 /// The way of a packet: from where and to where, as C says.
-pub(crate) fn way_of(protocol: u8, source: &Address, destination: &Address) -> Option<Path>
-    ensures { result ≡ way_of protocol source.now destination.now }
+pub(crate) fn packet_path(protocol: u8, source: &Address, destination: &Address) -> Option<Path>
+    ensures { result ≡ packet_path protocol source.now destination.now }
 {
     Some(Path {
         proto: protocol_of(protocol)?,
@@ -41,15 +41,15 @@ pub(crate) fn way_of(protocol: u8, source: &Address, destination: &Address) -> O
     })
 }
 
-fn take_bytes(home: &mut Home, now: u64, way: Path, bytes: &[u8]) -> i32
-    ensures { TakesBytes ⟦<DefaultSha1HmacProvider as Sha1HmacProvider>⟧.mac now way bytes.now (home_of home.old) result (home_of home.new) }
+fn take_bytes(home: &mut Home, now: u64, path: Path, bytes: &[u8]) -> i32
+    ensures { TakesBytes ⟦<DefaultSha1HmacProvider as Sha1HmacProvider>⟧.mac now path bytes.now (home_of home.old) result (home_of home.new) }
 {
     match StunMessage::parse(bytes) {
         Ok(message) => {
             let packet = StunPacket {
-                proto: way.proto,
-                source: way.source,
-                destination: way.destination,
+                proto: path.proto,
+                source: path.source,
+                destination: path.destination,
                 message,
             };
             codes::flag_code(home.agent.handle_packet(Instant(now), packet))
@@ -66,13 +66,13 @@ fn receive(
     destination: &Address,
     bytes: &[u8],
 ) -> i32
-    ensures step { Receives ⟦<DefaultSha1HmacProvider as Sha1HmacProvider>⟧.mac now (way_of protocol source.now destination.now) bytes.now
+    ensures step { Receives ⟦<DefaultSha1HmacProvider as Sha1HmacProvider>⟧.mac now (packet_path protocol source.now destination.now) bytes.now
         (home_of home.old) result (home_of home.new) }
-    ensures settled { IsSettled ⟦<DefaultSha1HmacProvider as Sha1HmacProvider>⟧.mac (way_of protocol source.now destination.now) bytes.now
+    ensures settled { IsSettled ⟦<DefaultSha1HmacProvider as Sha1HmacProvider>⟧.mac (packet_path protocol source.now destination.now) bytes.now
         (home_of home.old) result (home_of home.new) }
 {
-    match way_of(protocol, source, destination) {
-        Some(way) => take_bytes(home, now, way, bytes),
+    match packet_path(protocol, source, destination) {
+        Some(path) => take_bytes(home, now, path, bytes),
         None => codes::BAD_ADDRESS,
     }
 }
@@ -88,9 +88,9 @@ pub extern "C" fn is_agent_handle_packet(
     destination: &Address,
     bytes: &[u8],
 ) -> i32
-    ensures step { At (Receives ⟦<DefaultSha1HmacProvider as Sha1HmacProvider>⟧.mac now (way_of protocol source.now destination.now)
+    ensures step { At (Receives ⟦<DefaultSha1HmacProvider as Sha1HmacProvider>⟧.mac now (packet_path protocol source.now destination.now)
         bytes.now) (held_by slot.old) result (held_by slot.new) }
-    ensures settled { At (IsSettled ⟦<DefaultSha1HmacProvider as Sha1HmacProvider>⟧.mac (way_of protocol source.now destination.now)
+    ensures settled { At (IsSettled ⟦<DefaultSha1HmacProvider as Sha1HmacProvider>⟧.mac (packet_path protocol source.now destination.now)
         bytes.now) (held_by slot.old) result (held_by slot.new) }
 {
     let Some(mut home) = slot.take(alloc) else {

@@ -9,7 +9,7 @@ pub mod EntryLemmas
 pub mod GreatestLemmas
 pub mod AnewLemmas
 pub mod IdLemmas
-pub mod KeeperLemmas
+pub mod AwaitingLemmas
 pub mod WrittenLemmas
 pub mod GoneLemmas
 pub mod ChangedLemmas

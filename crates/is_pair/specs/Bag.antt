@@ -80,13 +80,13 @@ abbrev pub keeps : List ℕ → ℕ → List PairRecord → Bool
 keeps id number pairs = list_any (passes_at number (keeps_check id)) pairs
 
 -- a pair that keeps a check with the id and passes
-abbrev pub is_keeper : List ℕ → (PairRecord → Bool) → PairRecord → Bool
-is_keeper id test p = keeps_check id p && test p
+abbrev pub is_awaiting : List ℕ → (PairRecord → Bool) → PairRecord → Bool
+is_awaiting id test p = keeps_check id p && test p
 
 -- one of these, and none where there is none. Any of several may be taken
-abbrev pub IsKeeper : List ℕ → (PairRecord → Bool) → List PairRecord → Option PairRecord → Type 0
-IsKeeper id test pairs None = NonePass (is_keeper id test) pairs
-IsKeeper id test pairs (Some p) = Has pairs p × (is_keeper id test p ≡ true)
+abbrev pub IsAwaiting : List ℕ → (PairRecord → Bool) → List PairRecord → Option PairRecord → Type 0
+IsAwaiting id test pairs None = NonePass (is_awaiting id test) pairs
+IsAwaiting id test pairs (Some p) = Has pairs p × (is_awaiting id test p ≡ true)
 
 -- the pair of the number takes the answer
 abbrev pub RecordsAnswer : ℕ → ℕ → List ℕ → List PairRecord → List PairRecord → Type 0

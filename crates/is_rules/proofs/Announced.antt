@@ -8,7 +8,7 @@ use Rattle.is_proto.specs.Lists.{Has}
 use Rattle.is_candidate.specs.Candidates.{CandidateRecord}
 use Rattle.is_pair.specs.Pairs.{PairRecord, is_valid}
 use Rattle.is_pair.specs.Bag.{is_numbered, pair_numbered}
-use Rattle.is_rules.specs.declared.told.Path.{Path}
+use Rattle.is_rules.specs.declared.emitted.Path.{Path}
 use Rattle.is_rules.specs.Agent.{AgentRecord}
 use Rattle.is_rules.specs.Nominating.{is_eligible, stands_at}
 use Rattle.is_rules.specs.Sound.{IsSound}
@@ -50,49 +50,49 @@ module _ {H P : Type 0} where
       -- ---- an accepted success announces
 
       named-on : (mid last : AgentRecord H P) (x : Logged P) → PathEffect mac mid x.call x.entry last → IsSound mid
-          → ((p : PairRecord) → Has mid.pairs p → mid.announced ≡ Some p.number → is_valid p ≡ true)
-          → (o : Option Path) → last_of x.entry.told.announced ≡ o → (p : PairRecord) → Has last.pairs p → last.announced ≡ Some p.number → is_valid p ≡ true
+          → ((p : PairRecord) → Has mid.pairs p → mid.selected_pair ≡ Some p.number → is_valid p ≡ true)
+          → (o : Option Path) → last_of x.entry.emitted.announced ≡ o → (p : PairRecord) → Has last.pairs p → last.selected_pair ≡ Some p.number → is_valid p ≡ true
       named-on mid last x f sound were (Some path) is p has named = (f.number_names path is p has named).1
       named-on mid last x f sound were None is p has named =
-          let was : mid.announced ≡ Some p.number = sym (f.number_stays is) ∙ named in
+          let was : mid.selected_pair ≡ Some p.number = sym (f.number_stays is) ∙ named in
           elim (f.numbers p has) [
             | inl (q, there, number, path, valid, nominated) ↦ valid (were q there (was ∙ ap Some (sym number)))
             | inr n ↦
-                (let lt : p.number < mid.next_number = below_is mid.next_number p.number mid.announced sound.announced was in
+                (let lt : p.number < mid.next_number = below_is mid.next_number p.number mid.selected_pair sound.announced was in
                 let le : mid.next_number ≤ p.number = n.0 in
                 absurd (let no : ⊥ = omega (arith, lt, le) in no))
           ]
 
       -- the announced number names no pair that is not valid
       named-valid : (before : List (Logged P)) (last : AgentRecord H P) (t : Stream) → Run mac answers first s before last t
-          → (p : PairRecord) → Has last.pairs p → last.announced ≡ Some p.number → is_valid p ≡ true
+          → (p : PairRecord) → Has last.pairs p → last.selected_pair ≡ Some p.number → is_valid p ≡ true
       named-valid [] last t run p has named = absurd (subst (λ (a : AgentRecord H P). Has a.pairs p) (run.0 ∙ fresh.2) has)
       named-valid (x ∷ before) last t (mid, u, run, number, based, step) p has named =
           let sound = runs_sound mac answers (path_law mac answers) first mid s u before fresh run in
           let f = (path_law mac answers mid last u t x.call x.entry sound based step).0 in
-          named-on mid last x f sound (named-valid before mid u run) (last_of x.entry.told.announced) refl p has named
+          named-on mid last x f sound (named-valid before mid u run) (last_of x.entry.emitted.announced) refl p has named
 
       -- where no pair was valid, a pair that is named was announced now
       named-now : (mid after : AgentRecord H P) (x : Logged P) → PathEffect mac mid x.call x.entry after → IsSound mid → NoneValid mid.pairs
-          → ((p : PairRecord) → Has mid.pairs p → mid.announced ≡ Some p.number → is_valid p ≡ true)
-          → (o : Option Path) → last_of x.entry.told.announced ≡ o → (p : PairRecord) → Has after.pairs p → after.announced ≡ Some p.number → is_some o ≡ true
+          → ((p : PairRecord) → Has mid.pairs p → mid.selected_pair ≡ Some p.number → is_valid p ≡ true)
+          → (o : Option Path) → last_of x.entry.emitted.announced ≡ o → (p : PairRecord) → Has after.pairs p → after.selected_pair ≡ Some p.number → is_some o ≡ true
       named-now mid after x f sound none were (Some path) is p has named = refl
       named-now mid after x f sound none were None is p has named =
-          let was : mid.announced ≡ Some p.number = sym (f.number_stays is) ∙ named in
+          let was : mid.selected_pair ≡ Some p.number = sym (f.number_stays is) ∙ named in
           elim (f.numbers p has) [
             | inl (q, there, number, path, valid, nominated) ↦
                 (let no : false ≡ true = sym (none q there) ∙ were q there (was ∙ ap Some (sym number)) in no)
             | inr n ↦
-                (let lt : p.number < mid.next_number = below_is mid.next_number p.number mid.announced sound.announced was in
+                (let lt : p.number < mid.next_number = below_is mid.next_number p.number mid.selected_pair sound.announced was in
                 let le : mid.next_number ≤ p.number = n.0 in
                 absurd (let no : ⊥ = omega (arith, lt, le) in no))
           ]
 
       -- where a pair is eligible, the announced number names one
       one-named : (a : AgentRecord H P) (q : PairRecord) → Has a.pairs q → is_eligible a.controlling q ≡ true → IsTopAnnounced a
-          → (p : PairRecord) × Has a.pairs p × (a.announced ≡ Some p.number)
+          → (p : PairRecord) × Has a.pairs p × (a.selected_pair ≡ Some p.number)
       one-named a q has able (None, none, stands) = absurd (none_pass (is_eligible a.controlling) a.pairs q none has able)
-      one-named a q has able (Some best, greatest, stands) = named-at a.announced best.priority a.pairs stands
+      one-named a q has able (Some best, greatest, stands) = named-at a.selected_pair best.priority a.pairs stands
 
       pub announces-at : (before part : List (Logged P)) (mid after : AgentRecord H P) (x : Logged P) → Point mac answers first s log before mid x after
           → NoneValid mid.pairs → after.controlling ≡ true → BringsSuccess x → Has part x → AnnouncesIn mac answers first s log part
@@ -108,6 +108,6 @@ module _ {H P : Type 0} where
             point,
             within,
             (at, by, m, brings, success),
-            named-now mid after x f sound none (named-valid before mid point.at point.led) (last_of x.entry.told.announced) refl named.0 named.1 named.2,
+            named-now mid after x f sound none (named-valid before mid point.at point.led) (last_of x.entry.emitted.announced) refl named.0 named.1 named.2,
             answers-announce mac answers first s log fresh before mid after x point at by m brings success role,
           )

@@ -4,7 +4,7 @@ use Rattle.is_candidate.specs.Candidates.{CandidateRecord}
 use Rattle.is_pair.specs.Pairs.{PairRecord, is_valid, is_nominated}
 use Rattle.is_stun.specs.declared.header.Class.TheVariants as class
 use Rattle.is_stun.specs.Message.{Message}
-use Rattle.is_rules.specs.declared.told.Path.{Path}
+use Rattle.is_rules.specs.declared.emitted.Path.{Path}
 use Rattle.is_rules.specs.Agent.{AgentRecord}
 use Rattle.is_rules.specs.Nominating.{is_eligible}
 use Rattle.is_rules.specs.Queue.{request_at}
@@ -29,7 +29,7 @@ nominated-eligible false p valid nominated = both (is_valid p) (is_nominated p) 
 
 module _ {H P : Type 0} where
   pub point-of : (old : AgentRecord H P) (call : Call P) (e : Entry) (at : ℕ) (by : Path) (m : Message) → Brings call e at by m → m.class ≡ class.Success → IsNominationPoint old call e
-  point-of old (ReceivePacket now way bytes) e at by m brings is = (at, by, m, brings, is)
+  point-of old (ReceivePacket now path bytes) e at by m brings is = (at, by, m, brings, is)
   point-of old _ e at by m brings is = absurd brings
 
   pub answers-announce : (mac : H → List ℕ → List ℕ → List ℕ) (answers : P → CandidateRecord → ℕ → ℕ → Type 0) → AnswersAnnounce mac answers

@@ -17,8 +17,8 @@ use Rattle.is_rules.specs.declared.places.RemotePlace.{RemotePlace}
 use Rattle.is_rules.specs.declared.places.RemotePlace.TheVariants.{Known, Barred, Unknown}
 use Rattle.is_rules.specs.declared.roles.Conflict.{Conflict}
 use Rattle.is_rules.specs.declared.roles.Conflict.TheVariants.{Absent, Insists, Yields}
-use Rattle.is_rules.specs.declared.told.Path.{Path}
-use Rattle.is_rules.specs.declared.told.Told.{Told}
+use Rattle.is_rules.specs.declared.emitted.Path.{Path}
+use Rattle.is_rules.specs.declared.emitted.Emitted.{Emitted}
 use Rattle.is_rules.specs.Request.{RequestRecord, request_in}
 use Rattle.is_rules.specs.Places.{local_place}
 use Rattle.is_rules.specs.Agent.{AgentRecord}
@@ -26,7 +26,7 @@ use Rattle.is_rules.specs.Sending.{path_between}
 use Rattle.is_rules.specs.Forming.{formed, with_pair, priority_between}
 use Rattle.is_rules.specs.Nominating.{NominatesWhere}
 use Rattle.is_rules.specs.Roles.{conflict_of, switched}
-use Rattle.is_rules.specs.Serving.{served, is_misled, names_another, pair_served, request_counted, with_sender, sender_candidate, replied, Drops, Queues, ServesPair, TakesAt, JoinsAt, Admits, SettlesBy, Settles, Serves}
+use Rattle.is_rules.specs.Serving.{served, is_misled, names_another, pair_served, request_counted, with_sender, sender_candidate, replied, Drops, Queues, RecordsAndResponds, FindsOrAddsPair, AddsUnknownSender, CountsAndServes, ResolvesRoleConflictBy, ResolvesRoleConflict, Serves}
 use Rattle.is_rules.specs.Answers.{is_role_conflict, GivesUpRole, TakesFailure}
 use Rattle.rand_core.specs.Stream.{Stream}
 use Rattle.is_rules.specs.Steps.{Entry, Flag, ReceivePacket, Step}
@@ -242,90 +242,90 @@ module _ {H P : Type 0} where
     arrived-same old new e = arrived old new (rests-same old new e)
 
     module _ (q : RequestRecord) where
-      pair : (l r number : ℕ) (s new : AgentRecord H P) (told : Told) → s.controlling ≡ true → s.lite ≡ false → NoneValid s.pairs → ServesPair mac q l r number s told new → Rests s new
-      pair l r number s new told role full none (path, mid, nominates, (values, is, made)) =
+      pair : (l r number : ℕ) (s new : AgentRecord H P) (emitted : Emitted) → s.controlling ≡ true → s.lite ≡ false → NoneValid s.pairs → RecordsAndResponds mac q l r number s emitted new → Rests s new
+      pair l r number s new emitted role full none (path, mid, nominates, (values, is, made)) =
           let k : (path ≡ None) × (mid ≡ pair_served q number s) =
           subst (λ b. NominatesWhere b (pair_served q number s) path mid) (and-false s.controlling (is_valid_at number s.pairs) (none-passes number s.pairs none)) nominates in
           subst (λ (a : AgentRecord H P). Rests s a) (sym (made ∙ ap (λ (a : AgentRecord H P). replied mac q (path_between s l r) a) k.1))
           (refl, refl, spares-map by at s.timing s.next_number (change_at number (served s.controlling s.lite q)) s.pairs (λ p. served-alike at s.timing number s.controlling s.lite q p role full))
 
-      takes : (l r : ℕ) (number : Option ℕ) (s new : AgentRecord H P) (told : Told) → s.controlling ≡ true → s.lite ≡ false → NoneValid s.pairs → TakesAt mac q l r number s told new → Rests s new
-      takes l r (Some number) s new told role full none h = pair l r number s new told role full none h
-      takes l r None s new told role full none h = either (candidate_at s.local l).discarded h
+      takes : (l r : ℕ) (number : Option ℕ) (s new : AgentRecord H P) (emitted : Emitted) → s.controlling ≡ true → s.lite ≡ false → NoneValid s.pairs → FindsOrAddsPair mac q l r number s emitted new → Rests s new
+      takes l r (Some number) s new emitted role full none h = pair l r number s new emitted role full none h
+      takes l r None s new emitted role full none h = either (candidate_at s.local l).discarded h
           (λ _ k. rests-same s new k.1)
           (λ _ k. (
           let push = spares-push by at s.timing s.next_number l r (priority_between s l r) s.pairs behind early in
-          let rest = pair l r s.next_number (with_pair (formed s l r) s) new told role full (push.invalid none) k.1 in
+          let rest = pair l r s.next_number (with_pair (formed s l r) s) new emitted role full (push.invalid none) k.1 in
           (rest.0, rest.1, spares-on by at s.timing s.next_number (s.next_number + 1) new.next_number s.pairs (s.pairs ++ formed s l r ∷ []) new.pairs push rest.2)))
 
-      joins_at : (l : ℕ) (place : RemotePlace) (s new : AgentRecord H P) (told : Told) → s.controlling ≡ true → s.lite ≡ false → NoneValid s.pairs → JoinsAt mac q l place s told new → Arrived s new
-      joins_at l (Known r) s new told role full none (number, between, h) = arrived s new (takes l r number s new told role full none h)
-      joins_at l Barred s new told role full none h = arrived-same s new h.1
-      joins_at l Unknown s new told role full none (number, between, h) =
-          let r = takes l (length s.remote) number (with_sender q s) new told role full none h in
+      joins_at : (l : ℕ) (place : RemotePlace) (s new : AgentRecord H P) (emitted : Emitted) → s.controlling ≡ true → s.lite ≡ false → NoneValid s.pairs → AddsUnknownSender mac q l place s emitted new → Arrived s new
+      joins_at l (Known r) s new emitted role full none (number, between, h) = arrived s new (takes l r number s new emitted role full none h)
+      joins_at l Barred s new emitted role full none h = arrived-same s new h.1
+      joins_at l Unknown s new emitted role full none (number, between, h) =
+          let r = takes l (length s.remote) number (with_sender q s) new emitted role full none h in
           (r.0, inr (sender_candidate s q, r.1), r.2)
 
-      admitted : (l : ℕ) (s new : AgentRecord H P) (told : Told) → s.controlling ≡ true → s.lite ≡ false → NoneValid s.pairs → Admits mac q l s told new → Arrived s new
-      admitted l s new told role full none h = either (is_misled s.controlling q) h
+      admitted : (l : ℕ) (s new : AgentRecord H P) (emitted : Emitted) → s.controlling ≡ true → s.lite ≡ false → NoneValid s.pairs → CountsAndServes mac q l s emitted new → Arrived s new
+      admitted l s new emitted role full none h = either (is_misled s.controlling q) h
           (λ _ k. arrived-same s new k.1)
-          (λ _ k. joins_at l k.0 (request_counted s) new told role full none k.2)
+          (λ _ k. joins_at l k.0 (request_counted s) new emitted role full none k.2)
 
-      settles_by : (conflict : Conflict) (l : ℕ) (s new : AgentRecord H P) (told : Told) → s.controlling ≡ true → s.lite ≡ false → NoneValid s.pairs → new.controlling ≡ true
-          → SettlesBy mac conflict q l s told new → Arrived s new
-      settles_by Absent l s new told role full none stays h = admitted l s new told role full none h
-      settles_by Insists l s new told role full none stays (values, told_is, made) =
+      resolves_by : (conflict : Conflict) (l : ℕ) (s new : AgentRecord H P) (emitted : Emitted) → s.controlling ≡ true → s.lite ≡ false → NoneValid s.pairs → new.controlling ≡ true
+          → ResolvesRoleConflictBy mac conflict q l s emitted new → Arrived s new
+      resolves_by Absent l s new emitted role full none stays h = admitted l s new emitted role full none h
+      resolves_by Insists l s new emitted role full none stays (values, emitted_is, made) =
           subst (λ (a : AgentRecord H P). Arrived s a) (sym made) (refl, inl refl, spares-same by at s.timing s.next_number s.pairs)
-      settles_by Yields l s new told role full none stays h =
-          let f : new.controlling ≡ not s.controlling = ap (λ (f : Frame H). f.controlling) (admits mac q l (switched s) new told h).0 in
+      resolves_by Yields l s new emitted role full none stays h =
+          let f : new.controlling ≡ not s.controlling = ap (λ (f : Frame H). f.controlling) (admits mac q l (switched s) new emitted h).0 in
           let no : true ≡ false = sym stays ∙ (f ∙ ap not role) in absurd (cc)
 
-      here : (place : Option ℕ) (s new : AgentRecord H P) (told : Told) → s.controlling ≡ true → s.lite ≡ false → NoneValid s.pairs → new.controlling ≡ true
-          → MatchOption place (Drops s told new) (λ l. Settles mac q l s told new) → Arrived s new
-      here None s new told role full none stays h = arrived-same s new h.1
-      here (Some l) s new told role full none stays h = settles_by (conflict_of s q) l s new told role full none stays h
+      here : (place : Option ℕ) (s new : AgentRecord H P) (emitted : Emitted) → s.controlling ≡ true → s.lite ≡ false → NoneValid s.pairs → new.controlling ≡ true
+          → MatchOption place (Drops s emitted new) (λ l. ResolvesRoleConflict mac q l s emitted new) → Arrived s new
+      here None s new emitted role full none stays h = arrived-same s new h.1
+      here (Some l) s new emitted role full none stays h = resolves_by (conflict_of s q) l s new emitted role full none stays h
 
-      requested : (remote : Option IceCreds) (s new : AgentRecord H P) (told : Told) → is_some remote ≡ true → s.controlling ≡ true → s.lite ≡ false → NoneValid s.pairs → new.controlling ≡ true
-          → MatchOption remote (Queues q s told new) (λ _. Serves mac q s told new) → Arrived s new
-      requested None s new told known role full none stays h = absurd (cc)
-      requested (Some peer) s new told known role full none stays h = either (names_another s q) h
+      requested : (remote : Option IceCreds) (s new : AgentRecord H P) (emitted : Emitted) → is_some remote ≡ true → s.controlling ≡ true → s.lite ≡ false → NoneValid s.pairs → new.controlling ≡ true
+          → MatchOption remote (Queues q s emitted new) (λ _. Serves mac q s emitted new) → Arrived s new
+      requested None s new emitted known role full none stays h = absurd (cc)
+      requested (Some peer) s new emitted known role full none stays h = either (names_another s q) h
           (λ _ k. arrived-same s new k.1)
-          (λ _ k. here (local_place s.local q) s new told role full none stays k)
+          (λ _ k. here (local_place s.local q) s new emitted role full none stays k)
 
-    failed : (s new : AgentRecord H P) (way : Path) (m : Message) (told : Told) → s.controlling ≡ true → new.controlling ≡ true → TakesFailure s way m told new → Arrived s new
-    failed s new way m told role stays h = either (is_role_conflict m) h
+    failed : (s new : AgentRecord H P) (path : Path) (m : Message) (emitted : Emitted) → s.controlling ≡ true → new.controlling ≡ true → TakesFailure s path m emitted new → Arrived s new
+    failed s new path m emitted role stays h = either (is_role_conflict m) h
         (λ _ k. given_up k)
         (λ _ k. arrived-same s new k.1) where
-          given_up : GivesUpRole s way m told new → Arrived s new
+          given_up : GivesUpRole s path m emitted new → Arrived s new
           given_up (p, c, has, keeps, kept, is, acts) = either (same c.controlling s.controlling) acts
               (λ _ k. (let no : true ≡ false = sym stays ∙ (ap (λ (a : AgentRecord H P). a.controlling) k.1 ∙ ap not role) in absurd (cc)))
               (λ _ k. arrived-same s new k.1)
 
-    by-class : (c : Class) (now : ℕ) (old mid : AgentRecord H P) (way : Path) (m : Message) (told : Told) → is_some old.remote_creds ≡ true → old.controlling ≡ true → old.lite ≡ false
-        → NoneValid old.pairs → mid.controlling ≡ true → Takes mac c now old way m told mid → (c ≡ class.Success) ⊎ Arrived old mid
-    by-class class.Request now old mid way m told known role full none stays h = inr (requested (request_in now way m) old.remote_creds old mid told known role full none stays h)
-    by-class class.Success now old mid way m told known role full none stays h = inl refl
-    by-class class.Failure now old mid way m told known role full none stays h = inr (failed old mid way m told role stays h)
-    by-class class.Indication now old mid way m told known role full none stays h = absurd h
-    by-class class.Unknown now old mid way m told known role full none stays h = absurd h
+    by-class : (c : Class) (now : ℕ) (old mid : AgentRecord H P) (path : Path) (m : Message) (emitted : Emitted) → is_some old.remote_creds ≡ true → old.controlling ≡ true → old.lite ≡ false
+        → NoneValid old.pairs → mid.controlling ≡ true → Takes mac c now old path m emitted mid → (c ≡ class.Success) ⊎ Arrived old mid
+    by-class class.Request now old mid path m emitted known role full none stays h = inr (requested (request_in now path m) old.remote_creds old mid emitted known role full none stays h)
+    by-class class.Success now old mid path m emitted known role full none stays h = inl refl
+    by-class class.Failure now old mid path m emitted known role full none stays h = inr (failed old mid path m emitted role stays h)
+    by-class class.Indication now old mid path m emitted known role full none stays h = absurd h
+    by-class class.Unknown now old mid path m emitted known role full none stays h = absurd h
 
     -- a packet that came is an accepted success, or spares the pairs
-    pub arrives : (now : ℕ) (old new : AgentRecord H P) (way : Path) (m : Message) (accepted : Bool) (told : Told) → is_some old.remote_creds ≡ true → old.controlling ≡ true → old.lite ≡ false
-        → NoneValid old.pairs → new.controlling ≡ true → HandlesPacket mac now old way m (Ok accepted) told new
+    pub arrives : (now : ℕ) (old new : AgentRecord H P) (path : Path) (m : Message) (accepted : Bool) (emitted : Emitted) → is_some old.remote_creds ≡ true → old.controlling ≡ true → old.lite ≡ false
+        → NoneValid old.pairs → new.controlling ≡ true → HandlesPacket mac now old path m (Ok accepted) emitted new
         → ((accepted ≡ true) × (m.class ≡ class.Success)) ⊎ Arrived old new
-    arrives now old new way m false told known role full none stays (no_one, is, made) = inr (arrived-same old new made)
-    arrives now old new way m true told known role full none stays (is_accepted, (mid, takes_it, made)) =
-        elim (by-class m.class now old mid way m told known role full none (ap (λ (a : AgentRecord H P). a.controlling) (sym made) ∙ stays) takes_it) [
+    arrives now old new path m false emitted known role full none stays (no_one, is, made) = inr (arrived-same old new made)
+    arrives now old new path m true emitted known role full none stays (is_accepted, (mid, takes_it, made)) =
+        elim (by-class m.class now old mid path m emitted known role full none (ap (λ (a : AgentRecord H P). a.controlling) (sym made) ∙ stays) takes_it) [
           | inl success ↦ inl (refl, success)
           | inr k ↦ inr (subst (λ (a : AgentRecord H P). Arrived old a) (sym made) (k.0, k.1, k.2))
         ]
 
     -- raw bytes that came: an accepted success, or the pairs are spared
     pub receives : (answers : P → CandidateRecord → ℕ → ℕ → Type 0) (x : Arrival) (old new : AgentRecord H P) (s t : Stream) → is_some old.remote_creds ≡ true → old.controlling ≡ true → old.lite ≡ false
-        → NoneValid old.pairs → new.controlling ≡ true → Step mac answers old s (ReceivePacket x.at x.way x.bytes) x.entry new t → IsSuccess x ⊎ Arrived old new
+        → NoneValid old.pairs → new.controlling ≡ true → Step mac answers old s (ReceivePacket x.at x.via x.bytes) x.entry new t → IsSuccess x ⊎ Arrived old new
     receives answers x old new s t known role full none stays (inl (fault, has, is, made), drawn) = inr (arrived-same old new made)
-    receives answers x old new s t known role full none stays (inr (m, reads, (Err error, told, is, (may, told_is, made))), drawn) = inr (arrived-same old new made)
-    receives answers x old new s t known role full none stays (inr (m, reads, (Ok accepted, told, is, handles)), drawn) =
-        elim (arrives x.at old new x.way m accepted told known role full none stays handles) [
+    receives answers x old new s t known role full none stays (inr (m, reads, (Err error, emitted, is, (may, emitted_is, made))), drawn) = inr (arrived-same old new made)
+    receives answers x old new s t known role full none stays (inr (m, reads, (Ok accepted, emitted, is, handles)), drawn) =
+        elim (arrives x.at old new x.via m accepted emitted known role full none stays handles) [
           | inl (yes_it_was, success) ↦ inl (m, reads, ap (λ (e : Entry). e.answer) is ∙ ap Flag yes_it_was, success)
           | inr k ↦ inr k
         ]

@@ -6,8 +6,8 @@ use Rattle.is_candidate.specs.Candidates.{CandidateRecord}
 use Rattle.is_pair.specs.Bag.{keeps_check}
 use Rattle.is_pair.specs.Pairs.{PairRecord, is_valid, is_nominated}
 use Rattle.is_stun.specs.declared.header.Class.TheVariants as class
-use Rattle.is_rules.specs.declared.told.Issued.{Issued}
-use Rattle.is_rules.specs.declared.told.Path.{Path}
+use Rattle.is_rules.specs.declared.emitted.Issued.{Issued}
+use Rattle.is_rules.specs.declared.emitted.Path.{Path}
 use Rattle.is_rules.specs.Agent.{AgentRecord}
 use Rattle.is_rules.specs.Answers.{goes_back}
 use Rattle.is_rules.specs.Asked.{Joins}
@@ -22,7 +22,7 @@ use Rattle.is_rules.specs.Sending.{path_of}
 use Rattle.is_rules.specs.Sound.{IsSound, GivesBased}
 use Rattle.is_rules.specs.Staying.{Stays}
 use Rattle.is_rules.specs.Steps.{Call, Entry, HandleTimeout, Step}
-use Rattle.is_rules.specs.Told.{issued_as}
+use Rattle.is_rules.specs.Emitted.{issued_as}
 use Rattle.is_rules.proofs.Addresses.{both}
 use Rattle.is_rules.proofs.Announced.{named-at}
 use Rattle.is_rules.proofs.Announcing.{nominated-eligible}
@@ -35,9 +35,9 @@ use Rattle.is_rules.proofs.Staying.{sound-course}
 
 module _ {H P : Type 0} where
   -- the announced number names a pair, where one is eligible
-  named : (a : AgentRecord H P) (q : PairRecord) → Has a.pairs q → is_eligible a.controlling q ≡ true → IsTopAnnounced a → (n : ℕ) × (a.announced ≡ Some n)
+  named : (a : AgentRecord H P) (q : PairRecord) → Has a.pairs q → is_eligible a.controlling q ≡ true → IsTopAnnounced a → (n : ℕ) × (a.selected_pair ≡ Some n)
   named a q has able (None, none, stands) = absurd (none_pass (is_eligible a.controlling) a.pairs q none has able)
-  named a q has able (Some best, greatest, stands) = let k = named-at a.announced best.priority a.pairs stands in (k.0.number, k.2)
+  named a q has able (Some best, greatest, stands) = let k = named-at a.selected_pair best.priority a.pairs stands in (k.0.number, k.2)
 
   -- a pair of the path passes
   abbrev Marked : Path → (PairRecord → Bool) → AgentRecord H P → Type 0
@@ -49,14 +49,14 @@ module _ {H P : Type 0} where
     course_on (x ∷ xs) ys a b c (mid, s, t, based, step, on) more = (mid, s, t, based, step, course_on xs ys mid b c on more)
 
     -- a number that is announced was told of
-    told_along : (xs : List (Call P × Entry)) (old new : AgentRecord H P) (n : ℕ) → IsSound old → Course mac answers xs old new → old.announced ≡ None → new.announced ≡ Some n → AnnouncesAlong xs
-    told_along [] old new n sound is none some =
-        absurd (let wrong : None ≡ Some n = sym none ∙ (sym (ap (λ (a : AgentRecord H P). a.announced) is) ∙ some) in cc)
-    told_along (x ∷ rest) old new n sound (mid, s, t, based, step, more) none some =
+    emitted_along : (xs : List (Call P × Entry)) (old new : AgentRecord H P) (n : ℕ) → IsSound old → Course mac answers xs old new → old.selected_pair ≡ None → new.selected_pair ≡ Some n → AnnouncesAlong xs
+    emitted_along [] old new n sound is none some =
+        absurd (let wrong : None ≡ Some n = sym none ∙ (sym (ap (λ (a : AgentRecord H P). a.selected_pair) is) ∙ some) in cc)
+    emitted_along (x ∷ rest) old new n sound (mid, s, t, based, step, more) none some =
         let law = path_law mac answers old mid s t x.0 x.1 sound based step in
-        by (last_of x.1.told.announced) refl law.0.number_stays (λ (quiet : mid.announced ≡ None). told_along rest mid new n law.1 more quiet some) where
-          by : (o : Option Path) → last_of x.1.told.announced ≡ o → (last_of x.1.told.announced ≡ None → mid.announced ≡ old.announced)
-              → (mid.announced ≡ None → AnnouncesAlong rest) → AnnouncesAlong (x ∷ rest)
+        by (last_of x.1.emitted.announced) refl law.0.number_stays (λ (quiet : mid.selected_pair ≡ None). emitted_along rest mid new n law.1 more quiet some) where
+          by : (o : Option Path) → last_of x.1.emitted.announced ≡ o → (last_of x.1.emitted.announced ≡ None → mid.selected_pair ≡ old.selected_pair)
+              → (mid.selected_pair ≡ None → AnnouncesAlong rest) → AnnouncesAlong (x ∷ rest)
           by (Some path) is stays later = (x, inl refl, ap (λ (o : Option Path). is_some o) is)
           by None is stays later = let k = later (stays is ∙ none) in (k.0, inr k.1, k.2)
 
@@ -128,7 +128,7 @@ module _ {H P : Type 0} where
               let effect = (path_law mac answers near last s t (HandleTimeout now) moment sound_near tt step).0 in
               let number = named last n.0 n.1 (nominated-eligible last.controlling n.0 valid n.2) (effect.points (done, none)) in
               inl (
-                told_along (before ++ (xs ++ (HandleTimeout now, moment) ∷ [])) first last number.0 sound_first whole (ap (λ (a : AgentRecord H P). a.announced) fresh.2) number.1,
+                emitted_along (before ++ (xs ++ (HandleTimeout now, moment) ∷ [])) first last number.0 sound_first whole (ap (λ (a : AgentRecord H P). a.selected_pair) fresh.2) number.1,
                 (effect.points (done, none), (n.0, n.1, nominated-eligible last.controlling n.0 valid n.2)),
               )
 

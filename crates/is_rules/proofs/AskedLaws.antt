@@ -7,8 +7,8 @@ use Rattle.is_pair.specs.Pairs.{PairRecord, is_valid, is_nominated}
 use Rattle.is_pair.specs.Bag.{keeps_check}
 use Rattle.is_stun.specs.declared.header.Class.TheVariants as class
 use Rattle.is_stun.specs.Message.{Message}
-use Rattle.is_rules.specs.declared.told.Issued.{Issued}
-use Rattle.is_rules.specs.declared.told.Path.{Path}
+use Rattle.is_rules.specs.declared.emitted.Issued.{Issued}
+use Rattle.is_rules.specs.declared.emitted.Path.{Path}
 use Rattle.is_rules.specs.Agent.{AgentRecord}
 use Rattle.is_rules.specs.Answers.{goes_back}
 use Rattle.is_rules.specs.Asked.{IsAnsweredOn, Joins, IsAskedOn, IsAskedIn, MayEndIn, AskedAreAnnounced}
@@ -23,7 +23,7 @@ use Rattle.is_rules.specs.Sending.{path_of}
 use Rattle.is_rules.specs.Sound.{IsSound, GivesBased}
 use Rattle.is_rules.specs.Staying.{Stays}
 use Rattle.is_rules.specs.Steps.{Call, Entry, HandleTimeout, ReceivePacket, Step}
-use Rattle.is_rules.specs.Told.{issued_as}
+use Rattle.is_rules.specs.Emitted.{issued_as}
 use Rattle.is_rules.proofs.Addresses.{both, same_address-sound}
 use Rattle.is_rules.proofs.Announcing.{moments-announce}
 use Rattle.is_rules.proofs.EffectLaws.{path_law}
@@ -43,7 +43,7 @@ module _ {H P : Type 0} where
   -- a step serves one request
   pub uses-too : (old : AgentRecord H P) (call : Call P) (e : Entry) (q r : RequestRecord) → IsServing old call e q → IsServing old call e r → q.use_candidate ≡ true → r.use_candidate ≡ true
   uses-too old (HandleTimeout now) e q r (is_q, done_q) (is_r, done_r) uses = ap (λ (x : RequestRecord). x.use_candidate) (some_is r q (sym is_r ∙ is_q)) ∙ uses
-  uses-too old (ReceivePacket now way bytes) e q r (at, by, m, brings, request, known, is) (at2, by2, n, brings2, request2, known2, is2) uses =
+  uses-too old (ReceivePacket now path bytes) e q r (at, by, m, brings, request, known, is) (at2, by2, n, brings2, request2, known2, is2) uses =
       ap (λ (x : RequestRecord). x.use_candidate) is2
       ∙ (ap (λ (x : Message). x.attributes.use_candidate) (brings2.2.spelled ∙ sym brings.2.spelled) ∙ (sym (ap (λ (x : RequestRecord). x.use_candidate) is) ∙ uses))
   uses-too old _ e q r serving_q serving_r uses = absurd serving_q.3

@@ -13,20 +13,20 @@ use Rattle.is_stun.specs.Message.{AttributesRecord, Message}
 use Rattle.is_stun.specs.Reading.{Reads}
 use Rattle.is_stun.specs.Writing.{written}
 use Rattle.is_rules.specs.declared.credentials.IceCreds.{IceCreds}
-use Rattle.is_rules.specs.declared.told.Path.{Path}
+use Rattle.is_rules.specs.declared.emitted.Path.{Path}
 use Rattle.is_rules.specs.Agent.{AgentRecord}
 use Rattle.is_rules.specs.Asking.{AreNominatedOn, ChecksAsk}
 use Rattle.is_rules.specs.Checking.{check_message, check_sent}
 use Rattle.is_rules.specs.Carried.{CarriedAreServed, CarriedAsk}
 use Rattle.is_rules.specs.Delivery.{IsFragment, KnowEachOther}
 use Rattle.is_rules.specs.Fitting.{are_too_long}
-use Rattle.is_rules.specs.Issuing.{Says, way_out}
+use Rattle.is_rules.specs.Issuing.{Says, via_out}
 use Rattle.is_rules.specs.Request.{request_in}
 use Rattle.is_rules.specs.Sending.{path_of}
 use Rattle.is_rules.specs.Steps.{HandleTimeout}
-use Rattle.is_rules.specs.Told.{issued_as}
+use Rattle.is_rules.specs.Emitted.{issued_as}
 use Rattle.is_rules.proofs.Checks.{sent_nominated}
-use Rattle.is_rules.proofs.Delivered.{same_reading, told_as, issued_packet, check_reads}
+use Rattle.is_rules.proofs.Delivered.{same_reading, emitted_as, issued_packet, check_reads}
 use Rattle.is_rules.proofs.EffectLaws.{path_law}
 use Rattle.is_rules.proofs.Exchanged.{keys_of, known-on, keys-moment, keys-between}
 use Rattle.is_rules.proofs.KeptChecks.{Checks, checks-as, number_same}
@@ -44,16 +44,16 @@ last_alike (z ∷ xs) (w ∷ ys) x y h = last_alike xs ys x y (let same : z ∷ 
 
 module _ {H P : Type 0} (mac : H → List ℕ → List ℕ → List ℕ) (answers : P → CandidateRecord → ℕ → ℕ → Type 0) where
   -- the check asks for its path
-  leads : (now : ℕ) (way : Path) (id : List ℕ) (sent : AgentRecord H P) → (c : Checks mac answers now way id sent) → sent.controlling ≡ true → AreNominatedOn sent way
+  leads : (now : ℕ) (path : Path) (id : List ℕ) (sent : AgentRecord H P) → (c : Checks mac answers now path id sent) → sent.controlling ≡ true → AreNominatedOn sent path
       → (c.old.controlling && is_nominated c.pair) ≡ true
-  leads now way id sent c role nominated =
+  leads now path id sent c role nominated =
       let after : PairRecord = checked now c.old.timing c.old.controlling id c.pair in
       let made : AgentRecord H P = check_sent mac now c.remote c.pair id c.old in
       let own : change_at c.pair.number (checked now c.old.timing c.old.controlling id) c.pair ≡ after = ap (λ b. if b then after else c.pair) (number_same c.pair.number) in
       let there : Has made.pairs after =
       subst (λ (x : PairRecord). Has (change_pair c.pair.number (checked now c.old.timing c.old.controlling id) c.old.pairs) x) own
       (Has-mapped (change_at c.pair.number (checked now c.old.timing c.old.controlling id)) c.old.pairs c.pair c.has) in
-      let each : AreNominatedOn made way = subst (λ (a : AgentRecord H P). AreNominatedOn a way) c.made nominated in
+      let each : AreNominatedOn made via = subst (λ (a : AgentRecord H P). AreNominatedOn a path) c.made nominated in
       let asks : is_nominated c.pair ≡ true = sym (sent_nominated c.pair.nomination) ∙ each after there c.path in
       ap (λ b. b && is_nominated c.pair) (ap (λ (a : AgentRecord H P). a.controlling) (sym c.made) ∙ role) ∙ asks
 
@@ -64,25 +64,25 @@ module _ {H P : Type 0} (mac : H → List ℕ → List ℕ → List ℕ) (answer
     carried-ask served_law a sent b served s t now at check came id moment handed sound_a sound_b step sends role nominated know other unaltered reached delivered =
         let taken = served_law a sent b served check came id at handed sound_a sound_b know (other ∙ ap not (sym role)) reached
         (record { call = HandleTimeout now; entry = moment; before = s; behind = t; step = step; sends = sends }) unaltered delivered in
-        let c = checks-as mac answers a sent s t now (way_out check) id moment sends.told step in
+        let c = checks-as mac answers a sent s t now (via_out check) id moment sends.emitted step in
         let know_old : KnowEachOther mac c.old b =
         known-on mac a c.old b (ap (λ (x : AgentRecord H P). keys_of x) (sym c.made) ∙ keys-moment mac answers now moment a sent s t sound_a step) know in (
-          (request_in at (way_out came) taken.0.0),
+          (request_in at (via_out came) taken.0.0),
           id,
-          (at, way_out came, taken.0.0, taken.0.1, taken.0.2, ap (λ o. is_some o) know.its, refl),
+          (at, via_out came, taken.0.0, taken.0.1, taken.0.2, ap (λ o. is_some o) know.its, refl),
           asks c know_old taken.0.0 (subst (λ bs. Reads bs taken.0.0) unaltered taken.0.1.2),
-          taken.1.2.told ∙ ap (λ w. Some (issued_as w class.Success id)) taken.1.1,
+          taken.1.2.emitted ∙ ap (λ w. Some (issued_as w class.Success id)) taken.1.1,
         ) where
           stays : sent.controlling ≡ a.controlling
           stays =
               let i = issued_packet mac answers a sent class.Request id check sound_a
               (record { call = HandleTimeout now; entry = moment; before = s; behind = t; step = step; sends = sends }) in
-              let same = told_as (way_out check) (way_out check) class.Request i.0.class id i.0.id (sym sends.told ∙ i.2) in
-              let says : Says class.Request a (HandleTimeout now) moment check.contents i.0 (way_out check) sent.controlling =
-              subst (λ k. Says k a (HandleTimeout now) moment check.contents i.0 (way_out check) sent.controlling) (sym same.1) i.3 in
+              let same = emitted_as (via_out check) (via_out check) class.Request i.0.class id i.0.id (sym sends.emitted ∙ i.2) in
+              let says : Says class.Request a (HandleTimeout now) moment check.contents i.0 (via_out check) sent.controlling =
+              subst (λ k. Says k a (HandleTimeout now) moment check.contents i.0 (via_out check) sent.controlling) (sym same.1) i.3 in
               says.7
 
-          asks : (c : Checks mac answers now (way_out check) id sent) → KnowEachOther mac c.old b → (m : Message) → Reads check.contents m → m.attributes.use_candidate ≡ true
+          asks : (c : Checks mac answers now (via_out check) id sent) → KnowEachOther mac c.old b → (m : Message) → Reads check.contents m → m.attributes.use_candidate ≡ true
           asks c know_old m reads =
               let x : Message = check_message c.old c.remote c.pair id in
               let it : c.remote ≡ b.local_creds = some_is c.remote b.local_creds (sym c.known ∙ know_old.mine) in
@@ -101,7 +101,7 @@ module _ {H P : Type 0} (mac : H → List ℕ → List ℕ → List ℕ) (answer
               let bytes : Reads (written (mac c.old.provider) (Some c.remote.pass) x) m = subst (λ (y : Packet). Reads y.contents m) same reads in
               let is : m ≡ back.read = same_reading (written (mac c.old.provider) (Some c.remote.pass) x) back.read m back.reads bytes in
               ap (λ (y : Message). y.attributes.use_candidate) is ∙ (ap (λ (r : AttributesRecord). r.use_candidate) back.same.attributes
-              ∙ leads now (way_out check) id sent c (stays ∙ role) nominated)
+              ∙ leads now (via_out check) id sent c (stays ∙ role) nominated)
 
     pub checks-ask : CarriedAsk mac answers → ChecksAsk mac answers
     checks-ask law a sent near b served s t now at check id moment handed xs sound_a sound_b step sends role nominated between gone know other reached delivered =

@@ -15,7 +15,7 @@ use Rattle.is_rules.proofs.Addresses.{both, same_address-sound, same_protocol-so
 
 abbrev same_transaction : Transaction → Transaction → Bool
 same_transaction a b =
-    same_protocol a.way.proto b.way.proto && same_address a.way.source b.way.source && same_address a.way.destination b.way.destination && bytes_eq a.id b.id
+    same_protocol a.via.proto b.via.proto && same_address a.via.source b.via.source && same_address a.via.destination b.via.destination && bytes_eq a.id b.id
 
 and_true : (a b : Bool) → a ≡ true → b ≡ true → (a && b) ≡ true
 and_true true b h k = k
@@ -34,24 +34,24 @@ address-same (V6 a) =
 same-refl : (a : Transaction) → same_transaction a a ≡ true
 same-refl a =
     and_true _ _
-    (and_true _ _ (and_true _ _ (eq-eqb (protocol_number a.way.proto) (protocol_number a.way.proto) refl) (address-same a.way.source)) (address-same a.way.destination))
+    (and_true _ _ (and_true _ _ (eq-eqb (protocol_number a.via.proto) (protocol_number a.via.proto) refl) (address-same a.via.source)) (address-same a.via.destination))
     (same_bytes a.id)
 
 same-sound : (a b : Transaction) → same_transaction a b ≡ true → a ≡ b
 same-sound a b h =
-    let k = both (same_protocol a.way.proto b.way.proto && same_address a.way.source b.way.source && same_address a.way.destination b.way.destination) (bytes_eq a.id b.id) h in
-    let l = both (same_protocol a.way.proto b.way.proto && same_address a.way.source b.way.source) (same_address a.way.destination b.way.destination) k.0 in
-    let m = both (same_protocol a.way.proto b.way.proto) (same_address a.way.source b.way.source) l.0 in
-    let proto : a.way.proto ≡ b.way.proto = same_protocol-sound a.way.proto b.way.proto m.0 in
-    let source : a.way.source ≡ b.way.source = same_address-sound a.way.source b.way.source m.1 in
-    let destination : a.way.destination ≡ b.way.destination = same_address-sound a.way.destination b.way.destination l.1 in
+    let k = both (same_protocol a.via.proto b.via.proto && same_address a.via.source b.via.source && same_address a.via.destination b.via.destination) (bytes_eq a.id b.id) h in
+    let l = both (same_protocol a.via.proto b.via.proto && same_address a.via.source b.via.source) (same_address a.via.destination b.via.destination) k.0 in
+    let m = both (same_protocol a.via.proto b.via.proto) (same_address a.via.source b.via.source) l.0 in
+    let proto : a.via.proto ≡ b.via.proto = same_protocol-sound a.via.proto b.via.proto m.0 in
+    let source : a.via.source ≡ b.via.source = same_address-sound a.via.source b.via.source m.1 in
+    let destination : a.via.destination ≡ b.via.destination = same_address-sound a.via.destination b.via.destination l.1 in
     let id : a.id ≡ b.id = (bytes_eq-Decides a.id b.id).0 k.1 in
-    ap (λ p. made p a.way.source a.way.destination a.id) proto
-    ∙ ap (λ s. made b.way.proto s a.way.destination a.id) source
-    ∙ ap (λ d. made b.way.proto b.way.source d a.id) destination
-    ∙ ap (λ i. made b.way.proto b.way.source b.way.destination i) id where
+    ap (λ p. made p a.via.source a.via.destination a.id) proto
+    ∙ ap (λ s. made b.via.proto s a.via.destination a.id) source
+    ∙ ap (λ d. made b.via.proto b.via.source d a.id) destination
+    ∙ ap (λ i. made b.via.proto b.via.source b.via.destination i) id where
       made : Protocol → SocketAddr → SocketAddr → List ℕ → Transaction
-      made p s d i = record { way = record { proto = p; source = s; destination = d }; id = i }
+      made p s d i = record { via = record { proto = p; source = s; destination = d }; id = i }
 
 -- ---- counts
 

@@ -12,11 +12,11 @@ use Rattle.is_stun.specs.declared.header.Method.{Method}
 use Rattle.is_stun.specs.declared.header.Method.TheVariants.{Binding}
 use Rattle.is_stun.specs.Message.{Message}
 use Rattle.is_rules.specs.declared.credentials.IceCreds.{IceCreds}
-use Rattle.is_rules.specs.declared.told.Issued.{Issued}
-use Rattle.is_rules.specs.declared.told.Path.{Path}
+use Rattle.is_rules.specs.declared.emitted.Issued.{Issued}
+use Rattle.is_rules.specs.declared.emitted.Path.{Path}
 use Rattle.is_rules.specs.Request.{RequestRecord, request_in}
 use Rattle.is_rules.specs.Steps.{Answer, Done, Flag, Unparsed, Refused, Entry, quiet, is_refusal, is_turned_down}
-use Rattle.is_rules.specs.Told.{nothing_told}
+use Rattle.is_rules.specs.Emitted.{nothing_emitted}
 use Rattle.is_rules.specs.Agent.{AgentRecord}
 use Rattle.is_rules.specs.Queue.{next_request, queue_left, QUEUE_LIMIT, queued_last, request_at}
 use Rattle.is_rules.specs.Accepting.{IsAcceptedOn}
@@ -47,32 +47,32 @@ module _ {H P : Type 0} (mac : H → List ℕ → List ℕ → List ℕ) (answer
   -- ---- accepted, refused, turned down
 
   pub accepts : (call : Call P) → Step mac answers old s call e new t → (at : ℕ) (by : Path) (m : Message) → Brings call e at by m → IsAcceptedOn mac old by m
-  accepts (ReceivePacket now way bytes) (inl (fault, has, is, made), drawn) at by m (at_is, by_is, reads, flag) =
+  accepts (ReceivePacket now path bytes) (inl (fault, has, is, made), drawn) at by m (at_is, by_is, reads, flag) =
       absurd (let no : Unparsed fault ≡ Flag true = sym (ap (λ (x : Entry). x.answer) is) ∙ flag in cc)
-  accepts (ReceivePacket now way bytes) (inr (n, reads_n, (Ok false, told, is, h)), drawn) at by m (at_is, by_is, reads, flag) =
+  accepts (ReceivePacket now path bytes) (inr (n, reads_n, (Ok false, emitted, is, h)), drawn) at by m (at_is, by_is, reads, flag) =
       no_flag (sym (ap (λ (x : Entry). x.answer) is) ∙ flag)
-  accepts (ReceivePacket now way bytes) (inr (n, reads_n, (Ok true, told, is, (accepted, h))), drawn) at by m (at_is, by_is, reads, flag) =
-      subst (λ w. IsAcceptedOn mac old w m) by_is (subst (λ (x : Message). IsAcceptedOn mac old way x) (reads_n.spelled ∙ sym reads.spelled) accepted)
-  accepts (ReceivePacket now way bytes) (inr (n, reads_n, (Err error, told, is, h)), drawn) at by m (at_is, by_is, reads, flag) =
+  accepts (ReceivePacket now path bytes) (inr (n, reads_n, (Ok true, emitted, is, (accepted, h))), drawn) at by m (at_is, by_is, reads, flag) =
+      subst (λ w. IsAcceptedOn mac old w m) by_is (subst (λ (x : Message). IsAcceptedOn mac old path x) (reads_n.spelled ∙ sym reads.spelled) accepted)
+  accepts (ReceivePacket now path bytes) (inr (n, reads_n, (Err error, emitted, is, h)), drawn) at by m (at_is, by_is, reads, flag) =
       absurd (let no : Refused error ≡ Flag true = sym (ap (λ (x : Entry). x.answer) is) ∙ flag in cc)
   accepts _ h at by m brings = absurd brings
 
-  pub turns_down : (call : Call P) → Step mac answers old s call e new t → IsTurnedDown mac old call → (new ≡ old) × (e.told ≡ nothing_told) × (is_turned_down e.answer ≡ true)
-  turns_down (ReceivePacket now way bytes) (inl (fault, has, is, made), drawn) down = (made, ap (λ (x : Entry). x.told) is, ap (λ (x : Entry). is_turned_down x.answer) is)
-  turns_down (ReceivePacket now way bytes) (inr (n, reads_n, (Ok false, told, is, (unaccepted, nothing, made))), drawn) down =
-      (made, ap (λ (x : Entry). x.told) is ∙ nothing, ap (λ (x : Entry). is_turned_down x.answer) is)
-  turns_down (ReceivePacket now way bytes) (inr (n, reads_n, (Ok true, told, is, (accepted, h))), drawn) down = absurd (down (n, reads_n, accepted))
-  turns_down (ReceivePacket now way bytes) (inr (n, reads_n, (Err error, told, is, (may, nothing, made))), drawn) down = absurd (down (n, reads_n, may.0))
+  pub turns_down : (call : Call P) → Step mac answers old s call e new t → IsTurnedDown mac old call → (new ≡ old) × (e.emitted ≡ nothing_emitted) × (is_turned_down e.answer ≡ true)
+  turns_down (ReceivePacket now path bytes) (inl (fault, has, is, made), drawn) down = (made, ap (λ (x : Entry). x.emitted) is, ap (λ (x : Entry). is_turned_down x.answer) is)
+  turns_down (ReceivePacket now path bytes) (inr (n, reads_n, (Ok false, emitted, is, (unaccepted, nothing, made))), drawn) down =
+      (made, ap (λ (x : Entry). x.emitted) is ∙ nothing, ap (λ (x : Entry). is_turned_down x.answer) is)
+  turns_down (ReceivePacket now path bytes) (inr (n, reads_n, (Ok true, emitted, is, (accepted, h))), drawn) down = absurd (down (n, reads_n, accepted))
+  turns_down (ReceivePacket now path bytes) (inr (n, reads_n, (Err error, emitted, is, (may, nothing, made))), drawn) down = absurd (down (n, reads_n, may.0))
   turns_down _ h down = absurd down
 
-  pub refuses : (call : Call P) → Step mac answers old s call e new t → is_refusal e.answer ≡ true → e.told ≡ nothing_told
-  refuses (ReceivePacket now way bytes) (inl (fault, has, is, made), drawn) r = ap (λ (x : Entry). x.told) is
-  refuses (ReceivePacket now way bytes) (inr (n, reads_n, (Ok b, told, is, h)), drawn) r =
+  pub refuses : (call : Call P) → Step mac answers old s call e new t → is_refusal e.answer ≡ true → e.emitted ≡ nothing_emitted
+  refuses (ReceivePacket now path bytes) (inl (fault, has, is, made), drawn) r = ap (λ (x : Entry). x.emitted) is
+  refuses (ReceivePacket now path bytes) (inr (n, reads_n, (Ok b, emitted, is, h)), drawn) r =
       absurd (let no : false ≡ true = sym (ap (λ (x : Entry). is_refusal x.answer) is) ∙ r in cc)
-  refuses (ReceivePacket now way bytes) (inr (n, reads_n, (Err error, told, is, (may, nothing, made))), drawn) r = ap (λ (x : Entry). x.told) is ∙ nothing
-  refuses (HandleTimeout now) (Ok u, told, is, h) r = absurd (let no : false ≡ true = sym (ap (λ (x : Entry). is_refusal x.answer) is) ∙ r in cc)
-  refuses (HandleTimeout now) (Err error, told, is, (may, nothing, made, drawn)) r = ap (λ (x : Entry). x.told) is ∙ nothing
-  refuses call h r = (calm mac answers old new s t e call refl h).told
+  refuses (ReceivePacket now path bytes) (inr (n, reads_n, (Err error, emitted, is, (may, nothing, made))), drawn) r = ap (λ (x : Entry). x.emitted) is ∙ nothing
+  refuses (HandleTimeout now) (Ok u, emitted, is, h) r = absurd (let no : false ≡ true = sym (ap (λ (x : Entry). is_refusal x.answer) is) ∙ r in cc)
+  refuses (HandleTimeout now) (Err error, emitted, is, (may, nothing, made, drawn)) r = ap (λ (x : Entry). x.emitted) is ∙ nothing
+  refuses call h r = (calm mac answers old new s t e call refl h).emitted
 
   -- ---- what waits
 
@@ -129,7 +129,7 @@ module _ {H P : Type 0} (mac : H → List ℕ → List ℕ → List ℕ) (answer
       let left = left_behind now old.timing old.remote_creds old.queue in
       inl (subst (λ (qs : List RequestRecord). Has qs q) (sym left.1)
       (Has-back left.0 (queue_left now old.timing old.remote_creds old.queue) q (next_has old.remote_creds (queue_left now old.timing old.remote_creds old.queue) q serving.0)))
-  brought_or_waited (ReceivePacket now way bytes) entry q (at, by, m, brings, request, known, is) = inr (at, by, m, brings, request, is)
+  brought_or_waited (ReceivePacket now path bytes) entry q (at, by, m, brings, request, known, is) = inr (at, by, m, brings, request, is)
   brought_or_waited _ entry q serving = absurd serving.3
 
   -- ---- what is owed
@@ -146,8 +146,8 @@ module _ {H P : Type 0} (mac : H → List ℕ → List ℕ → List ℕ) (answer
 
     abbrev Counted : Call P → Type 0
     Counted call =
-        (count test (reply_of e.told.issued) ≡ 0)
-        ⊎ ((q : RequestRecord) × IsServing old call e q × (count test (reply_of e.told.issued) ≡ one_if (test (transaction_of q))))
+        (count test (reply_of e.emitted.issued) ≡ 0)
+        ⊎ ((q : RequestRecord) × IsServing old call e q × (count test (reply_of e.emitted.issued) ≡ one_if (test (transaction_of q))))
 
     counts_reply : (issued : Option Issued) (q : RequestRecord) → count test (reply_of issued) ≡ count test (transaction_of q ∷ []) → count test (reply_of issued) ≡ one_if (test (transaction_of q))
     counts_reply issued q is = omega (arith, is)
@@ -157,11 +157,11 @@ module _ {H P : Type 0} (mac : H → List ℕ → List ℕ → List ℕ) (answer
     counted call (inr (inl (role, inl none))) = inl (ap (λ i. count test (reply_of i)) none)
     counted call (inr (inl (role, inr (path, id, peer, c, names, out, known, has, values, put, leads)))) = inl (ap (λ i. count test (reply_of i)) out)
     counted call (inr (inr (q, serves, inl (inl none)))) = inl (ap (λ i. count test (reply_of i)) none.0)
-    counted call (inr (inr (q, serves, inl (inr (out, values, put, nominates))))) = inr (q, serves, counts_reply e.told.issued q (ap (λ i. count test (reply_of i)) out))
-    counted call (inr (inr (q, serves, inr (out, values, put, insists, stays)))) = inr (q, serves, counts_reply e.told.issued q (ap (λ i. count test (reply_of i)) out))
+    counted call (inr (inr (q, serves, inl (inr (out, values, put, nominates))))) = inr (q, serves, counts_reply e.emitted.issued q (ap (λ i. count test (reply_of i)) out))
+    counted call (inr (inr (q, serves, inr (out, values, put, insists, stays)))) = inr (q, serves, counts_reply e.emitted.issued q (ap (λ i. count test (reply_of i)) out))
 
     past_owes : (now : ℕ) (o : Option RequestRecord) (a : Answer) → request_at now old ≡ o → e.answer ≡ a → Counted (HandleTimeout now) → WaitsPast o a old.queue new.queue
-        → count test (reply_of e.told.issued) + owed test new.queue ≤ owed test old.queue + 0
+        → count test (reply_of e.emitted.issued) + owed test new.queue ≤ owed test old.queue + 0
     past_owes now None a at is (inl none) (gone, left) =
         let all : owed test old.queue ≡ owed test gone + owed test new.queue = ap (λ qs. owed test qs) left ∙ owed-append gone new.queue in omega (arith, none, all)
     past_owes now None a at is (inr (q, serving, one)) h = let no : None ≡ Some q = sym at ∙ serving.0 in absurd (cc)
@@ -177,27 +177,27 @@ module _ {H P : Type 0} (mac : H → List ℕ → List ℕ → List ℕ) (answer
         let all : owed test new.queue ≡ owed test old.queue = ap (λ qs. owed test qs) same in omega (arith, none, all)
     past_owes now (Some r) a at is (inr (q, serving, one)) same = absurd (let no : a ≡ Done = sym is ∙ serving.1 in cc)
 
-    requested_once : (method : Method) (c : Class) (way : Path) (id : List ℕ) → method ≡ Binding → c ≡ class.Request
-        → count test (requested_as way id method c) ≡ one_if (test (record { way = way; id = id }))
-    requested_once method c way id binding request =
-        let one : count test (requested_as way id Binding class.Request) ≡ one_if (test (record { way = way; id = id })) = omega arith in
-        ap (λ x. count test (requested_as way id x c)) binding ∙ ap (λ x. count test (requested_as way id Binding x)) request ∙ one
+    requested_once : (method : Method) (c : Class) (path : Path) (id : List ℕ) → method ≡ Binding → c ≡ class.Request
+        → count test (requested_as path id method c) ≡ one_if (test (record { via = path; id = id }))
+    requested_once method c path id binding request =
+        let one : count test (requested_as path id Binding class.Request) ≡ one_if (test (record { via = path; id = id })) = omega arith in
+        ap (λ x. count test (requested_as path id x c)) binding ∙ ap (λ x. count test (requested_as path id Binding x)) request ∙ one
 
     brought_once : (call : Call P) → ((at : ℕ) (by : Path) (m : Message) → Brings call e at by m → IsAcceptedOn mac old by m)
         → (q : RequestRecord) → IsBrought call e q → count test (request_of call e.answer) ≡ one_if (test (transaction_of q))
-    brought_once (ReceivePacket now way bytes) accepted q (at, by, m, (at_is, by_is, reads, flag), request, is) =
-        let call_of : Call P = ReceivePacket now way bytes in
+    brought_once (ReceivePacket now path bytes) accepted q (at, by, m, (at_is, by_is, reads, flag), request, is) =
+        let call_of : Call P = ReceivePacket now path bytes in
         let binding : m.method ≡ Binding = (accepted at by m (at_is, by_is, reads, flag)).0 in
         ap (λ a. count test (request_of call_of a)) flag
-        ∙ ap (λ (x : Message). count test (requested_as way x.id x.method x.class)) (sym reads.spelled)
-        ∙ requested_once m.method m.class way m.id binding request
-        ∙ ap (λ w. one_if (test (record { way = w; id = m.id }))) by_is
+        ∙ ap (λ (x : Message). count test (requested_as path x.id x.method x.class)) (sym reads.spelled)
+        ∙ requested_once m.method m.class path m.id binding request
+        ∙ ap (λ w. one_if (test (record { via = w; id = m.id }))) by_is
         ∙ ap (λ (x : RequestRecord). one_if (test (transaction_of x))) (sym is)
     brought_once _ accepted q (at, by, m, brings, request, is) = absurd brings
 
     with_owes : (call : Call P) → ((at : ℕ) (by : Path) (m : Message) → Brings call e at by m → IsAcceptedOn mac old by m)
         → ((q : RequestRecord) → IsServing old call e q → IsBrought call e q × (is_some old.remote_creds ≡ true)) → Counted call → WaitsWith old call e new
-        → count test (reply_of e.told.issued) + owed test new.queue ≤ owed test old.queue + count test (request_of call e.answer)
+        → count test (reply_of e.emitted.issued) + owed test new.queue ≤ owed test old.queue + count test (request_of call e.answer)
     with_owes call accepted served (inl none) (inl same) =
         let all : owed test new.queue ≡ owed test old.queue = ap (λ qs. owed test qs) same in omega (arith, none, all)
     with_owes call accepted served (inr (q, serving, one)) (inl same) =
@@ -215,11 +215,11 @@ module _ {H P : Type 0} (mac : H → List ℕ → List ℕ → List ℕ) (answer
         absurd (let no : false ≡ true = sym (ap is_some unknown) ∙ (served q serving).1 in cc)
 
     pub owes : (call : Call P) → Step mac answers old s call e new t → Posted mac answers old new s t e call → Waits old call e new
-        → count test (reply_of e.told.issued) + owed test new.queue ≤ owed test old.queue + count test (request_of call e.answer)
+        → count test (reply_of e.emitted.issued) + owed test new.queue ≤ owed test old.queue + count test (request_of call e.answer)
     owes (HandleTimeout now) h posted waits = past_owes now (request_at now old) e.answer refl refl (counted (HandleTimeout now) posted) waits
-    owes (ReceivePacket now way bytes) h posted waits =
-        with_owes (ReceivePacket now way bytes) (accepts (ReceivePacket now way bytes) h)
-        (λ q (at, by, m, brings, request, known, is). ((at, by, m, brings, request, is), known)) (counted (ReceivePacket now way bytes) posted) waits
+    owes (ReceivePacket now path bytes) h posted waits =
+        with_owes (ReceivePacket now path bytes) (accepts (ReceivePacket now path bytes) h)
+        (λ q (at, by, m, brings, request, known, is). ((at, by, m, brings, request, is), known)) (counted (ReceivePacket now path bytes) posted) waits
     owes call h posted waits = with_owes call (accepts call h) (λ q serving. absurd serving.3) (counted call posted) waits
 
   -- ---- clears
@@ -266,9 +266,9 @@ module _ {H P : Type 0} (mac : H → List ℕ → List ℕ → List ℕ) (answer
   clears_pairs RecreateCandidatePairs (Err error, is, h, drawn) clear p has = no_clear RecreateCandidatePairs error is clear refl
   clears_pairs call h clear p has = absurd (let no : false ≡ true = clear in cc)
 
-  pub clears_quiet : (call : Call P) → Step mac answers old s call e new t → clears call e.answer ≡ true → e.told ≡ nothing_told
-  clears_quiet (RestartIce creds keep) h clear = (calm mac answers old new s t e (RestartIce creds keep) refl h).told
-  clears_quiet RecreateCandidatePairs h clear = (calm mac answers old new s t e RecreateCandidatePairs refl h).told
+  pub clears_quiet : (call : Call P) → Step mac answers old s call e new t → clears call e.answer ≡ true → e.emitted ≡ nothing_emitted
+  clears_quiet (RestartIce creds keep) h clear = (calm mac answers old new s t e (RestartIce creds keep) refl h).emitted
+  clears_quiet RecreateCandidatePairs h clear = (calm mac answers old new s t e RecreateCandidatePairs refl h).emitted
   clears_quiet call h clear = absurd (let no : false ≡ true = clear in cc)
 
 module _ {H P : Type 0} (mac : H → List ℕ → List ℕ → List ℕ) (answers : P → CandidateRecord → ℕ → ℕ → Type 0) where

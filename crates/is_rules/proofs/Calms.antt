@@ -6,7 +6,7 @@ use Rattle.is_proto.specs.declared.error.IceError.{IceError}
 use Rattle.is_candidate.specs.Candidates.{CandidateRecord, IsBased, candidate_at}
 use Rattle.is_stun.specs.declared.timing.StunTiming.{StunTiming}
 use Rattle.is_rules.specs.Steps.{Answer, Done, Flag, Polled, Happened, Wake, NotCalled, Refused, Entry, quiet, added}
-use Rattle.is_rules.specs.Told.{nothing_told}
+use Rattle.is_rules.specs.Emitted.{nothing_emitted}
 use Rattle.is_rules.specs.Sound.{KeepsChecks}
 use Rattle.is_rules.specs.Agent.{AgentRecord}
 use Rattle.is_rules.specs.Forming.{Combination, FormsAll}
@@ -27,7 +27,7 @@ use Rattle.is_rules.proofs.Rests.{AllBased, based_at}
 
 -- neither a packet nor a moment
 abbrev pub is_calm : {P : Type 0} → Call P → Bool
-is_calm (ReceivePacket now way bytes) = false
+is_calm (ReceivePacket now path bytes) = false
 is_calm (HandleTimeout now) = false
 is_calm _ = true
 
@@ -50,29 +50,29 @@ kept_based false ufrag cs based c has = absurd has
 
 module _ {H P : Type 0} where
   pub record Calm (call : Call P) (old : AgentRecord H P) (e : Entry) (new : AgentRecord H P) : Type 0 where
-    pub told : e.told ≡ nothing_told
-    pub announced : new.announced ≡ old.announced
+    pub emitted : e.emitted ≡ nothing_emitted
+    pub announced : new.selected_pair ≡ old.selected_pair
     pub checks : KeepsChecks old.timing → KeepsChecks new.timing
     pub based : GivesBased call → AllBased old.local → AllBased new.local
 
   -- the number and the limits stay
   pub record Keeps (given : Type 0) (old new : AgentRecord H P) : Type 0 where
-    pub announced : new.announced ≡ old.announced
+    pub announced : new.selected_pair ≡ old.selected_pair
     pub checks : KeepsChecks old.timing → KeepsChecks new.timing
     pub based : given → AllBased old.local → AllBased new.local
 
-  alike : (given : Type 0) (old new : AgentRecord H P) → new.announced ≡ old.announced → new.timing ≡ old.timing → (given → AllBased old.local → AllBased new.local) → Keeps given old new
+  alike : (given : Type 0) (old new : AgentRecord H P) → new.selected_pair ≡ old.selected_pair → new.timing ≡ old.timing → (given → AllBased old.local → AllBased new.local) → Keeps given old new
   alike given old new number timing based = record {
     announced = number;
     checks = λ h. subst (λ (t : StunTiming). KeepsChecks t) (sym timing) h;
     based = based;
   }
 
-  local_alike : (given : Type 0) (old new : AgentRecord H P) → new.announced ≡ old.announced → new.timing ≡ old.timing → new.local ≡ old.local → Keeps given old new
+  local_alike : (given : Type 0) (old new : AgentRecord H P) → new.selected_pair ≡ old.selected_pair → new.timing ≡ old.timing → new.local ≡ old.local → Keeps given old new
   local_alike given old new number timing local = alike given old new number timing (λ _ h. subst (λ (cs : List CandidateRecord). AllBased cs) (sym local) h)
 
   same : (given : Type 0) (old new : AgentRecord H P) → new ≡ old → Keeps given old new
-  same given old new made = local_alike given old new (ap (λ (a : AgentRecord H P). a.announced) made) (ap (λ (a : AgentRecord H P). a.timing) made) (ap (λ (a : AgentRecord H P). a.local) made)
+  same given old new made = local_alike given old new (ap (λ (a : AgentRecord H P). a.selected_pair) made) (ap (λ (a : AgentRecord H P). a.timing) made) (ap (λ (a : AgentRecord H P). a.local) made)
 
   becoming : (given : Type 0) (old wanted new : AgentRecord H P) → Keeps given old wanted → new ≡ wanted → Keeps given old new
   becoming given old wanted new h made = subst (λ (a : AgentRecord H P). Keeps given old a) (sym made) h
@@ -107,7 +107,7 @@ module _ {H P : Type 0} where
 
   module _ (mac : H → List ℕ → List ℕ → List ℕ) (answers : P → CandidateRecord → ℕ → ℕ → Type 0) (old new : AgentRecord H P) (s t : Stream) (e : Entry) where
     by : (call : Call P) (a : Answer) → e ≡ quiet a → Keeps (GivesBased call) old new → Calm call old e new
-    by call a is k = record { told = ap (λ (x : Entry). x.told) is; announced = k.announced; checks = k.checks; based = k.based }
+    by call a is k = record { emitted = ap (λ (x : Entry). x.emitted) is; announced = k.announced; checks = k.checks; based = k.based }
 
     becomes : (call : Call P) (wanted : AgentRecord H P) → Keeps (GivesBased call) old wanted → Becomes wanted s e new t → Calm call old e new
     becomes call wanted k (is, made, drawn) = by call Done is (becoming (GivesBased call) old wanted new k made)
@@ -143,19 +143,19 @@ module _ {H P : Type 0} where
     calm (SetRemoteCredentials creds) is h = done_or (SetRemoteCredentials creds) (SetsRemote old creds)
         (λ k. becoming (Unit {0}) old _ new (local_alike (Unit {0}) old _ refl refl refl) k.1) (λ error k. remote_kept old new creds error k) h
     calm (SkipPairIds n) is h = becomes (SkipPairIds n) _ (local_alike (Unit {0}) old _ refl refl refl) h
-    calm (AddLocalCandidate c) is (Ok place, told, h, drawn) = by (AddLocalCandidate c) (added place) told (adds_local answers old new c place h)
-    calm (AddLocalCandidate c) is (Err error, told, h, drawn) = by (AddLocalCandidate c) (Refused error) told (same (IsBased c) old new (enrolment_kept answers old new c error h))
+    calm (AddLocalCandidate c) is (Ok place, emitted, h, drawn) = by (AddLocalCandidate c) (added place) emitted (adds_local answers old new c place h)
+    calm (AddLocalCandidate c) is (Err error, emitted, h, drawn) = by (AddLocalCandidate c) (Refused error) emitted (same (IsBased c) old new (enrolment_kept answers old new c error h))
     calm (AddRemoteCandidate c) is h = done_or (AddRemoteCandidate c) (AddsRemote old c) (λ k. adds_remote old new c k) (λ error k. storing_kept old new c error k) h
-    calm (InvalidateCandidate c) is (found, told, h, drawn) =
-        by (InvalidateCandidate c) (Flag found) told (invalidates old new (place_to_discard c old.local) (place_to_discard c old.remote) found h)
+    calm (InvalidateCandidate c) is (found, emitted, h, drawn) =
+        by (InvalidateCandidate c) (Flag found) emitted (invalidates old new (place_to_discard c old.local) (place_to_discard c old.remote) found h)
     calm (RestartIce creds keep) is h = done_or (RestartIce creds keep) (Restarts old creds keep)
         (λ k. becoming (Unit {0}) old (restarted creds keep old) new (alike (Unit {0}) old (restarted creds keep old) refl refl (λ _ b. kept_based keep creds.ufrag old.local b)) k.1)
         (λ error k. restart_kept old new creds keep error k) h
     calm RecreateCandidatePairs is h = done_or RecreateCandidatePairs (Recreates old) (λ k. recreates old new k) (λ error k. recreation_kept old new error k) h
-    calm (ReceivePacket now way bytes) is h = let no : false ≡ true = is in absurd (cc)
+    calm (ReceivePacket now path bytes) is h = let no : false ≡ true = is in absurd (cc)
     calm (HandleTimeout now) is h = let no : false ≡ true = is in absurd (cc)
-    calm PollTransmit is (given, told, (polled, made), drawn) = by PollTransmit (Polled given) told (becoming (Unit {0}) old (record old { packets = new.packets }) new (local_alike (Unit {0}) old _ refl refl refl) made)
-    calm PollTimeout is (wake, told, h, drawn) = by PollTimeout (Wake wake) told (by_waking old new wake h
+    calm PollTransmit is (given, emitted, (polled, made), drawn) = by PollTransmit (Polled given) emitted (becoming (Unit {0}) old (record old { packets = new.packets }) new (local_alike (Unit {0}) old _ refl refl refl) made)
+    calm PollTimeout is (wake, emitted, h, drawn) = by PollTimeout (Wake wake) emitted (by_waking old new wake h
         (λ made. same (Unit {0}) old new made)
         (λ at made. becoming (Unit {0}) old _ new (local_alike (Unit {0}) old _ refl refl refl) made))
-    calm PollEvent is (given, told, (polled, made), drawn) = by PollEvent (Happened given) told (becoming (Unit {0}) old (record old { events = new.events }) new (local_alike (Unit {0}) old _ refl refl refl) made)
+    calm PollEvent is (given, emitted, (polled, made), drawn) = by PollEvent (Happened given) emitted (becoming (Unit {0}) old (record old { events = new.events }) new (local_alike (Unit {0}) old _ refl refl refl) made)

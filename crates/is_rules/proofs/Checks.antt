@@ -15,11 +15,11 @@ use Rattle.is_pair.specs.Checks.{Check, answered_at, IsCheckAt}
 use Rattle.is_pair.specs.Pairs.{PairRecord, check_of, checked, answered, heard, heard_at}
 use Rattle.is_pair.specs.Due.{asked, IsNextDue}
 use Rattle.is_rules.specs.declared.credentials.IceCreds.{IceCreds}
-use Rattle.is_rules.specs.declared.told.Path.{Path}
-use Rattle.is_rules.specs.declared.told.Issued.{Issued}
+use Rattle.is_rules.specs.declared.emitted.Path.{Path}
+use Rattle.is_rules.specs.declared.emitted.Issued.{Issued}
 use Rattle.is_stun.specs.declared.header.Class.TheVariants as class
 use Rattle.is_rules.specs.Agent.{AgentRecord}
-use Rattle.is_rules.specs.Told.{issued_as}
+use Rattle.is_rules.specs.Emitted.{issued_as}
 use Rattle.std.specs.declared.net.socket_addr.SocketAddr.{SocketAddr}
 use Rattle.std.proofs.lemmas.Bool.{eqb-true, eq-eqb}
 use Rattle.is_stun.specs.declared.timing.StunTiming.{StunTiming}
@@ -222,10 +222,10 @@ module _ (asks met : Path → Type 0) (sent : Path → List ℕ → Bool → Typ
         learnt (is_known_address old.local address) (record (parts_of asks met sent old) { pairs = ps }) (mapped_candidate (success_counted old) p address) fit
 
     -- an answer is recorded on its path
-    pub records : (now : ℕ) (old new : AgentRecord H P) (way : Path) (m : Message) → Fit (parts_of asks met sent old)
-        → ((p : PairRecord) (c : Check) → Has old.pairs p → keeps_check_on old way m.id p ≡ true → Has p.checks c → c.id ≡ m.id → met (path_of old p))
-        → Records now old way m new → Onward asks met sent (parts_of asks met sent old) (parts_of asks met sent new)
-    records now old new way m fit answers (i, p, after, there, on, (place, c, at, is), made) =
+    pub records : (now : ℕ) (old new : AgentRecord H P) (path : Path) (m : Message) → Fit (parts_of asks met sent old)
+        → ((p : PairRecord) (c : Check) → Has old.pairs p → keeps_check_on old path m.id p ≡ true → Has p.checks c → c.id ≡ m.id → met (path_of old p))
+        → Records now old path m new → Onward asks met sent (parts_of asks met sent old) (parts_of asks met sent new)
+    records now old new path m fit answers (i, p, after, there, on, (place, c, at, is), made) =
         let x : Parts = parts_of asks met sent old in
         let has : Has old.pairs p = Has-get old.pairs i p there in
         let here_met : met (path_of old p) = answers p c has on (Has-get p.checks place c at.0) at.1 in

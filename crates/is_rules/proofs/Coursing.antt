@@ -8,9 +8,9 @@ use Rattle.is_proto.specs.declared.error.IceError.{IceError}
 use Rattle.is_candidate.specs.Candidates.{CandidateRecord}
 use Rattle.is_pair.specs.Pairs.{PairRecord}
 use Rattle.is_rules.specs.declared.credentials.IceCreds.{IceCreds}
-use Rattle.is_rules.specs.declared.told.Issued as code
-use Rattle.is_rules.specs.declared.told.Path.{Path}
-use Rattle.is_rules.specs.declared.told.Told.{Told}
+use Rattle.is_rules.specs.declared.emitted.Issued as code
+use Rattle.is_rules.specs.declared.emitted.Path.{Path}
+use Rattle.is_rules.specs.declared.emitted.Emitted.{Emitted}
 use Rattle.is_rules.specs.Agent.{AgentRecord}
 use Rattle.is_rules.specs.Checking.{all_asked, all_heard, ChecksTop, ChecksNext, MayCheck}
 use Rattle.is_rules.specs.Courses.{CourseRound, AcceptsSuccess, IsAnsweredRound, AnnouncesAmong, ControlsAlong, CourseRounds, CoursesAnnounce}
@@ -24,7 +24,7 @@ use Rattle.is_rules.specs.Runs.{Run}
 use Rattle.is_rules.specs.Sending.{path_of}
 use Rattle.is_rules.specs.Steps.{Call, SetMtu, SetControlTieBreaker, SetMaxCandidatePairs, SetIceLite, SetTimingAdvance, SetInitialStunRto, SetMaxStunRto, SetMaxStunRetransmits, SetLocalPreference, SetControlling, SetLocalCredentials, SetRemoteCredentials, SkipPairIds, AddLocalCandidate, AddRemoteCandidate, InvalidateCandidate, RestartIce, RecreateCandidatePairs, ReceivePacket, HandleTimeout, PollTransmit, PollTimeout, PollEvent, NotCalled, Entry, quiet, Becomes, Step}
 use Rattle.is_rules.specs.Settings.{with_retransmits}
-use Rattle.is_rules.specs.Timeouts.{awake, Proceeds, ServesQueued, TimesOut}
+use Rattle.is_rules.specs.Timeouts.{timeout_begun, MaintainsPairs, ServesQueued, TimesOut}
 use Rattle.is_rules.proofs.LoggedRounds.{answered-rounds-announce}
 use Rattle.is_rules.proofs.Onward.{Has-push}
 
@@ -141,14 +141,14 @@ module _ {P : Type 0} where
 
   -- what announces in the rounds of the log does so in those of the course
   among : (before : List (Logged P)) (older : List (LoggedRound P)) (rounds : List (CourseRound P)) (x : Logged P) → Has (entries_of (rounds_of before older rounds)) x → BringsSuccess x
-      → is_some (last_of x.entry.told.announced) ≡ true → AnnouncesAmong rounds ⊎ Has (entries_of older) x
-  among before older [] x has success told = inr has
-  among before older (r ∷ later) x has success told =
-      elim (among before (round_of (entries_of older ++ before) r ∷ older) later x has success told) [
+      → is_some (last_of x.entry.emitted.announced) ≡ true → AnnouncesAmong rounds ⊎ Has (entries_of older) x
+  among before older [] x has success emitted = inr has
+  among before older (r ∷ later) x has success emitted =
+      elim (among before (round_of (entries_of older ++ before) r ∷ older) later x has success emitted) [
         | inl k ↦ inl (more_among r later k)
         | inr k ↦ elim (either_has (round_of (entries_of older ++ before) r).behind (entry_of (entries_of older ++ before) (HandleTimeout r.now) r.moment ∷ entries_of older) x k) [
           | inl behind ↦
-              inl (r, inl refl, ((x.call, x.entry), part_is (entry_of (entries_of older ++ before) (HandleTimeout r.now) r.moment ∷ (entries_of older ++ before)) r.behind x behind, success, told))
+              inl (r, inl refl, ((x.call, x.entry), part_is (entry_of (entries_of older ++ before) (HandleTimeout r.now) r.moment ∷ (entries_of older ++ before)) r.behind x behind, success, emitted))
           | inr (inl is) ↦ absurd (subst (λ (y : Logged P). BringsSuccess y) (sym is) success).3
           | inr (inr was) ↦ inr was
         ]
@@ -174,12 +174,12 @@ module _ {H P : Type 0} (mac : H → List ℕ → List ℕ → List ℕ) (answer
     by true (none, made, drawn) = (u, (none, made, refl))
     by false (next, due, checks) = let k = top_anew now remote (all_asked now old) new s t u issued next checks in (k.0, (next, due, k.1))
 
-  moment_anew : (now : ℕ) (old new : AgentRecord H P) (s t u : Stream) (r : Result (Unit {0}) IceError) (told : Told) → TimesOut mac now old s r told new t
-      → (v : Stream) × TimesOut mac now old v r told new u
-  moment_anew now old new s t u (Err error) told (may, is, made, drawn) = (u, (may, is, made, refl))
-  moment_anew now old new s t u (Ok done) told h = by (request_at now old) h where
-    by : (o : Option RequestRecord) → MatchOption o (Proceeds mac now (awake now old) s told new t) (λ q. ServesQueued mac q (awake now old) s told new t)
-        → (v : Stream) × MatchOption o (Proceeds mac now (awake now old) v told new u) (λ q. ServesQueued mac q (awake now old) v told new u)
+  moment_anew : (now : ℕ) (old new : AgentRecord H P) (s t u : Stream) (r : Result (Unit {0}) IceError) (emitted : Emitted) → TimesOut mac now old s r emitted new t
+      → (v : Stream) × TimesOut mac now old v r emitted new u
+  moment_anew now old new s t u (Err error) emitted (may, is, made, drawn) = (u, (may, is, made, refl))
+  moment_anew now old new s t u (Ok done) emitted h = by (request_at now old) h where
+    by : (o : Option RequestRecord) → MatchOption o (MaintainsPairs mac now (timeout_begun now old) s emitted new t) (λ q. ServesQueued mac q (timeout_begun now old) s emitted new t)
+        → (v : Stream) × MatchOption o (MaintainsPairs mac now (timeout_begun now old) v emitted new u) (λ q. ServesQueued mac q (timeout_begun now old) v emitted new u)
     by None (first, second, issued, named, kept, nominating, giving, checking, is) =
         let k = check_anew now kept.remote_creds kept new s t u issued checking in (k.0, (first, second, issued, named, kept, nominating, giving, k.1, is))
     by (Some q) (serving, drawn) = (u, (serving, refl))
@@ -207,8 +207,8 @@ module _ {H P : Type 0} (mac : H → List ℕ → List ℕ → List ℕ) (answer
   anew (InvalidateCandidate c) e old new s t u (found, is, does, drawn) = (u, (found, is, does, refl))
   anew (RestartIce creds keep) e old new s t u (r, is, does, drawn) = (u, (r, is, does, refl))
   anew RecreateCandidatePairs e old new s t u (r, is, does, drawn) = (u, (r, is, does, refl))
-  anew (ReceivePacket now way bytes) e old new s t u (receives, drawn) = (u, (receives, refl))
-  anew (HandleTimeout now) e old new s t u (r, told, is, times) = let k = moment_anew now old new s t u r told times in (k.0, (r, told, is, k.1))
+  anew (ReceivePacket now path bytes) e old new s t u (receives, drawn) = (u, (receives, refl))
+  anew (HandleTimeout now) e old new s t u (r, emitted, is, times) = let k = moment_anew now old new s t u r emitted times in (k.0, (r, emitted, is, k.1))
   anew PollTransmit e old new s t u (given, is, polled, drawn) = (u, (given, is, polled, refl))
   anew PollTimeout e old new s t u (wake, is, polled, drawn) = (u, (wake, is, polled, refl))
   anew PollEvent e old new s t u (given, is, polled, drawn) = (u, (given, is, polled, refl))

@@ -25,9 +25,9 @@ use Rattle.is_rules.specs.declared.credentials.IceCreds.{IceCreds}
 use Rattle.is_rules.specs.declared.places.RemotePlace.{RemotePlace}
 use Rattle.is_rules.specs.declared.places.RemotePlace.TheVariants.{Known, Barred, Unknown}
 use Rattle.is_rules.specs.declared.roles.Conflict.TheVariants.{Absent}
-use Rattle.is_rules.specs.declared.told.Path.{Path}
-use Rattle.is_rules.specs.declared.told.Issued as code
-use Rattle.is_rules.specs.declared.told.Told.{Told}
+use Rattle.is_rules.specs.declared.emitted.Path.{Path}
+use Rattle.is_rules.specs.declared.emitted.Issued as code
+use Rattle.is_rules.specs.declared.emitted.Emitted.{Emitted}
 use Rattle.is_rules.specs.Agent.{AgentRecord}
 use Rattle.is_rules.specs.Accepting.{HandlesPacket, IsAcceptedAs, IsAcceptedOn, IsAddressed, Takes}
 use Rattle.is_rules.specs.Answers.{keeps_check_on}
@@ -36,15 +36,15 @@ use Rattle.is_rules.specs.Checking.{username_between}
 use Rattle.is_rules.specs.Carried.{CarriedAreServed, CarriedAreAccepted}
 use Rattle.is_rules.specs.Delivery.{IsFragment, KnowEachOther, IsReachedBy, Sends, Delivered, Issued, IsTaken, ChecksAreServed, RepliesAreAccepted, receives, is_gone_at}
 use Rattle.is_rules.specs.Fitting.{USERNAME_LIMIT, are_too_long}
-use Rattle.is_rules.specs.Issuing.{Says, IsIssued, key_for, way_out}
+use Rattle.is_rules.specs.Issuing.{Says, IsIssued, key_for, via_out}
 use Rattle.is_rules.specs.Places.{is_live, is_reached, is_sender, local_place, place_by, IsRemotePlace, IsGreatestPlace}
 use Rattle.is_rules.specs.Request.{RequestRecord, request_in, rival_in}
 use Rattle.is_rules.specs.Roles.{conflict_by, conflict_of}
 use Rattle.is_rules.specs.Sending.{carried, path_between}
-use Rattle.is_rules.specs.Serving.{is_misled, names_another, request_counted, with_sender, Drops, Queues, TakesRequest, ServesPair, AddsPair, TakesAt, JoinsAt, MeetsSender, Admits, SettlesBy, Settles, ServesHere, Serves}
+use Rattle.is_rules.specs.Serving.{is_misled, names_another, request_counted, with_sender, Drops, Queues, TakesRequest, RecordsAndResponds, AddsPairAndResponds, FindsOrAddsPair, AddsUnknownSender, FindsSender, CountsAndServes, ResolvesRoleConflictBy, ResolvesRoleConflict, ServesHere, Serves}
 use Rattle.is_rules.specs.Sound.{IsSound}
 use Rattle.is_rules.specs.Steps.{answer_by, Call, Entry, Flag, ReceivePacket, Receives, is_refusal}
-use Rattle.is_rules.specs.Told.{issued_as, turned}
+use Rattle.is_rules.specs.Emitted.{issued_as, reversed}
 use Rattle.is_rules.proofs.Addresses.{both}
 use Rattle.is_rules.proofs.EffectLaws.{issues}
 use Rattle.is_rules.proofs.Moves.{Has-at}
@@ -72,9 +72,9 @@ same_reading bytes m n r s = s.spelled ∙ sym r.spelled
 faultless : {A : Type 0} (bytes : List ℕ) (m : Message) (fault : ParseFault) → Reads bytes m → Fault bytes fault → A
 faultless bytes m fault r is = absurd (let no : None ≡ Some fault = sym r.faultless ∙ is in cc)
 
-pub told_as : (way path : Path) (c d : Class) (i j : List ℕ) → Some (issued_as way c i) ≡ Some (issued_as path d j) → (way ≡ path) × (c ≡ d) × (i ≡ j)
-told_as way path c d i j h =
-    let same : issued_as way c i ≡ issued_as path d j = some_is _ _ h in
+pub emitted_as : (via path : Path) (c d : Class) (i j : List ℕ) → Some (issued_as via c i) ≡ Some (issued_as path d j) → (via ≡ path) × (c ≡ d) × (i ≡ j)
+emitted_as via path c d i j h =
+    let same : issued_as via c i ≡ issued_as path d j = some_is _ _ h in
     (ap (λ (x : code.Issued). x.path) same, ap (λ (x : code.Issued). x.class) same, ap (λ (x : code.Issued). x.id.0) same)
 
 -- one that passes has not gone
@@ -107,12 +107,12 @@ module _ {H P : Type 0} (mac : H → List ℕ → List ℕ → List ℕ) where
     pub accepted : e.answer ≡ Flag true
     pub request : message.class ≡ class.Request
     pub id_is : message.id ≡ id
-    pub named : names_another b (request_in at (way_out check) message) ≡ false
+    pub named : names_another b (request_in at (via_out check) message) ≡ false
     pub controlling : message.attributes.ice_controlling ≡ (if a.controlling then Some a.tie_breaker else None)
     pub controlled : message.attributes.ice_controlled ≡ (if a.controlling then None else Some a.tie_breaker)
     pub leads : message.attributes.use_candidate ≡ true → a.controlling ≡ true
     pub mid : AgentRecord H P
-    pub serves : Serves mac (request_in at (way_out check) message) b e.told mid
+    pub serves : Serves mac (request_in at (via_out check) message) b e.emitted mid
 
 module _ {H P : Type 0} (mac : H → List ℕ → List ℕ → List ℕ) (answers : P → CandidateRecord → ℕ → ℕ → Type 0) where
   -- ---- what a step issued
@@ -122,7 +122,7 @@ module _ {H P : Type 0} (mac : H → List ℕ → List ℕ → List ℕ) (answer
   issued_packet a sent c id packet sound i =
       let posted = (path_effect mac answers a sent i.before i.behind i.entry i.call sound i.step).2 in
       elim (issues mac answers a sent i.before i.behind i.entry i.call posted) [
-        | inl none ↦ absurd (let no : None ≡ Some (issued_as (way_out packet) c id) = sym none ∙ i.sends.told in cc)
+        | inl none ↦ absurd (let no : None ≡ Some (issued_as (via_out packet) c id) = sym none ∙ i.sends.emitted in cc)
         | inr (other, put, issued) ↦ subst (λ (p : Packet). IsIssued mac a i.call i.entry p sent.controlling) (last_same a.packets other packet (sym put ∙ i.sends.put)) issued
       ]
 
@@ -160,24 +160,24 @@ module _ {H P : Type 0} (mac : H → List ℕ → List ℕ → List ℕ) (answer
 
   module _ (q : RequestRecord) where
     -- the reply goes out
-    abbrev Replied : Told → Type 0
-    Replied told = (path : Path) × (told.issued ≡ Some (issued_as path class.Success q.id))
+    abbrev Replied : Emitted → Type 0
+    Replied emitted = (path : Path) × (emitted.issued ≡ Some (issued_as path class.Success q.id))
 
-    at_pair : (l r number : ℕ) (s new : AgentRecord H P) (told : Told) → ServesPair mac q l r number s told new → Replied told
-    at_pair l r number s new told (path, mid, nominates, (values, is, made)) = (path_between s l r, ap (λ (t : Told). t.issued) is)
+    at_pair : (l r number : ℕ) (s new : AgentRecord H P) (emitted : Emitted) → RecordsAndResponds mac q l r number s emitted new → Replied emitted
+    at_pair l r number s new emitted (path, mid, nominates, (values, is, made)) = (path_between s l r, ap (λ (t : Emitted). t.issued) is)
 
-    takes_at : (l r : ℕ) (number : Option ℕ) (s new : AgentRecord H P) (told : Told) → (candidate_at s.local l).discarded ≡ false
-        → TakesAt mac q l r number s told new → Replied told
-    takes_at l r (Some number) s new told live h = at_pair l r number s new told h
-    takes_at l r None s new told live h =
-        let k : AddsPair mac q l r s told new = subst (λ b. MatchBool b (Drops s told new) (AddsPair mac q l r s told new)) live h in
-        at_pair l r s.next_number _ new told k.1
+    takes_at : (l r : ℕ) (number : Option ℕ) (s new : AgentRecord H P) (emitted : Emitted) → (candidate_at s.local l).discarded ≡ false
+        → FindsOrAddsPair mac q l r number s emitted new → Replied emitted
+    takes_at l r (Some number) s new emitted live h = at_pair l r number s new emitted h
+    takes_at l r None s new emitted live h =
+        let k : AddsPairAndResponds mac q l r s emitted new = subst (λ b. MatchBool b (Drops s emitted new) (AddsPairAndResponds mac q l r s emitted new)) live h in
+        at_pair l r s.next_number _ new emitted k.1
 
-    joins_at : (l : ℕ) (place : RemotePlace) (s new : AgentRecord H P) (told : Told) → (candidate_at s.local l).discarded ≡ false
-        → (place ≡ Barred → ⊥) → JoinsAt mac q l place s told new → Replied told
-    joins_at l (Known r) s new told live met (number, between, h) = takes_at l r number s new told live h
-    joins_at l Barred s new told live met h = absurd (met refl)
-    joins_at l Unknown s new told live met (number, between, h) = takes_at l (length s.remote) number (with_sender q s) new told live h
+    joins_at : (l : ℕ) (place : RemotePlace) (s new : AgentRecord H P) (emitted : Emitted) → (candidate_at s.local l).discarded ≡ false
+        → (place ≡ Barred → ⊥) → AddsUnknownSender mac q l place s emitted new → Replied emitted
+    joins_at l (Known r) s new emitted live met (number, between, h) = takes_at l r number s new emitted live h
+    joins_at l Barred s new emitted live met h = absurd (met refl)
+    joins_at l Unknown s new emitted live met (number, between, h) = takes_at l (length s.remote) number (with_sender q s) new emitted live h
 
     -- no discarded candidate alone stands where it came from
     meets : (remote : List CandidateRecord) (place : RemotePlace) → list_any (is_gone_at q.path) remote ≡ false → IsRemotePlace remote q place → place ≡ Barred → ⊥
@@ -194,56 +194,56 @@ module _ {H P : Type 0} (mac : H → List ℕ → List ℕ → List ℕ) (answer
           neither_way c.discarded (is_sender q c) found.1 (greatest k found.0) (passes_none (is_gone_at q.path) cs c none (Has-at cs k nowhere found.0))
 
     -- roles apart, USE-CANDIDATE from a controlling agent alone, and places that stand: so the request is served
-    serves : (s new : AgentRecord H P) (told : Told) → names_another s q ≡ false → IsReachedBy s q.path → conflict_of s q ≡ Absent
-        → is_misled s.controlling q ≡ false → Serves mac q s told new → Replied told
-    serves s new told named reached apart led h =
-        let k : ServesHere mac q s told new = subst (λ b. MatchBool b (Drops s told new) (ServesHere mac q s told new)) named h in
+    serves : (s new : AgentRecord H P) (emitted : Emitted) → names_another s q ≡ false → IsReachedBy s q.path → conflict_of s q ≡ Absent
+        → is_misled s.controlling q ≡ false → Serves mac q s emitted new → Replied emitted
+    serves s new emitted named reached apart led h =
+        let k : ServesHere mac q s emitted new = subst (λ b. MatchBool b (Drops s emitted new) (ServesHere mac q s emitted new)) named h in
         let place = live_place s q reached.there in
         let l = place.0 in
-        let m : Settles mac q l s told new = subst (λ o. MatchOption o (Drops s told new) (λ l. Settles mac q l s told new)) place.1 k in
-        let n : Admits mac q l s told new = subst (λ c. SettlesBy mac c q l s told new) apart m in
-        let o : MeetsSender mac q l (request_counted s) told new = subst (λ b. MatchBool b (Drops s told new) (MeetsSender mac q l (request_counted s) told new)) led n in
-        joins_at l o.0 (request_counted s) new told place.2 (meets s.remote o.0 reached.from o.1) o.2
+        let m : ResolvesRoleConflict mac q l s emitted new = subst (λ o. MatchOption o (Drops s emitted new) (λ l. ResolvesRoleConflict mac q l s emitted new)) place.1 k in
+        let n : CountsAndServes mac q l s emitted new = subst (λ c. ResolvesRoleConflictBy mac c q l s emitted new) apart m in
+        let o : FindsSender mac q l (request_counted s) emitted new = subst (λ b. MatchBool b (Drops s emitted new) (FindsSender mac q l (request_counted s) emitted new)) led n in
+        joins_at l o.0 (request_counted s) new emitted place.2 (meets s.remote o.0 reached.from o.1) o.2
 
   -- ---- what comes of a packet
 
   abbrev pub Took : Packet → ℕ → AgentRecord H P → Entry → Message → Type 0
-  Took packet at old e m = (e.answer ≡ Flag true) × ((mid : AgentRecord H P) × Takes mac m.class at old (way_out packet) m e.told mid)
+  Took packet at old e m = (e.answer ≡ Flag true) × ((mid : AgentRecord H P) × Takes mac m.class at old (via_out packet) m e.emitted mid)
 
   pub took : (packet : Packet) (at : ℕ) (old : AgentRecord H P) (e : Entry) (new : AgentRecord H P) (m : Message) → Reads packet.contents m
-      → IsAcceptedOn mac old (way_out packet) m → Delivered mac answers packet at old e new → Took packet at old e m
+      → IsAcceptedOn mac old (via_out packet) m → Delivered mac answers packet at old e new → Took packet at old e m
   took packet at old e new m reads accepted d = by d.step.0 where
-    handled : (r : Result Bool IceError) (told : Told) → e ≡ record { answer = answer_by Flag r; told = told }
-        → HandlesPacket mac at old (way_out packet) m r told new → Took packet at old e m
-    handled (Ok false) told is h = absurd (h.0 accepted)
-    handled (Ok true) told is h =
-        (ap (λ (x : Entry). x.answer) is, (h.1.0, subst (λ (t : Told). Takes mac m.class at old (way_out packet) m t h.1.0) (sym (ap (λ (x : Entry). x.told) is)) h.1.1))
-    handled (Err error) told is h = absurd (let wrong : true ≡ false = sym (ap (λ (x : Entry). is_refusal x.answer) is) ∙ d.granted in cc)
+    handled : (r : Result Bool IceError) (emitted : Emitted) → e ≡ record { answer = answer_by Flag r; emitted = emitted }
+        → HandlesPacket mac at old (via_out packet) m r emitted new → Took packet at old e m
+    handled (Ok false) emitted is h = absurd (h.0 accepted)
+    handled (Ok true) emitted is h =
+        (ap (λ (x : Entry). x.answer) is, (h.1.0, subst (λ (t : Emitted). Takes mac m.class at old (via_out packet) m t h.1.0) (sym (ap (λ (x : Entry). x.emitted) is)) h.1.1))
+    handled (Err error) emitted is h = absurd (let wrong : true ≡ false = sym (ap (λ (x : Entry). is_refusal x.answer) is) ∙ d.granted in cc)
 
-    by : Receives mac answers at old (way_out packet) packet.contents e new → Took packet at old e m
+    by : Receives mac answers at old (via_out packet) packet.contents e new → Took packet at old e m
     by (inl (fault, is, answer, same)) = faultless packet.contents m fault reads is
-    by (inr (n, other, (r, told, is, handles))) =
-        handled r told is (subst (λ (x : Message). HandlesPacket mac at old (way_out packet) x r told new) (same_reading packet.contents m n reads other) handles)
+    by (inr (n, other, (r, emitted, is, handles))) =
+        handled r emitted is (subst (λ (x : Message). HandlesPacket mac at old (via_out packet) x r emitted new) (same_reading packet.contents m n reads other) handles)
 
   -- what goes out as the packet is served takes the way back
   pub goes-back : (c : Class) (b served : AgentRecord H P) (check : Packet) (id : List ℕ) (at : ℕ) (e : Entry) → IsSound b → Delivered mac answers check at b e served
-      → ((packet : Packet) (m : Message) → Says c b (ReceivePacket at (way_out check) check.contents) e packet.contents m (way_out packet) served.controlling → way_out packet ≡ turned (way_out check))
-      → (path : Path) → e.told.issued ≡ Some (issued_as path c id)
-      → (reply : Packet) × (way_out reply ≡ turned (way_out check)) × Sends b e c id reply served
-  goes-back c b served check id at e sound_b delivered turns path told =
-      let call : Call P = ReceivePacket at (way_out check) check.contents in
+      → ((packet : Packet) (m : Message) → Says c b (ReceivePacket at (via_out check) check.contents) e packet.contents m (via_out packet) served.controlling → via_out packet ≡ reversed (via_out check))
+      → (path : Path) → e.emitted.issued ≡ Some (issued_as path c id)
+      → (reply : Packet) × (via_out reply ≡ reversed (via_out check)) × Sends b e c id reply served
+  goes-back c b served check id at e sound_b delivered turns path emitted =
+      let call : Call P = ReceivePacket at (via_out check) check.contents in
       let posted = (path_effect mac answers b served delivered.before delivered.behind e call sound_b delivered.step).2 in
       elim (issues mac answers b served delivered.before delivered.behind e call posted) [
-        | inl none ↦ absurd (let no : None ≡ Some (issued_as path c id) = sym none ∙ told in cc)
-        | inr (packet, put, issue) ↦ (let same = told_as path (way_out packet) c issue.0.class id issue.0.id (sym told ∙ issue.2) in (
+        | inl none ↦ absurd (let no : None ≡ Some (issued_as path c id) = sym none ∙ emitted in cc)
+        | inr (packet, put, issue) ↦ (let same = emitted_as path (via_out packet) c issue.0.class id issue.0.id (sym emitted ∙ issue.2) in (
           packet,
-          turns packet issue.0 (subst (λ k. Says k b call e packet.contents issue.0 (way_out packet) served.controlling) (sym same.1) issue.3),
-          record { told = told ∙ ap (λ w. Some (issued_as w c id)) same.0; put = put },
+          turns packet issue.0 (subst (λ k. Says k b call e packet.contents issue.0 (via_out packet) served.controlling) (sym same.1) issue.3),
+          record { emitted = emitted ∙ ap (λ w. Some (issued_as w c id)) same.0; put = put },
         ))
       ]
 
   -- the request that is served came by the packet's way
-  pub brought-by : (b : AgentRecord H P) (check : Packet) (at : ℕ) (e : Entry) (q : RequestRecord) → IsServing b (ReceivePacket at (way_out check) check.contents) e q → q.path ≡ way_out check
+  pub brought-by : (b : AgentRecord H P) (check : Packet) (at : ℕ) (e : Entry) (q : RequestRecord) → IsServing b (ReceivePacket at (via_out check) check.contents) e q → q.path ≡ via_out check
   brought-by b check at e q (now, by, n, (now_is, by_is, reads, flag), request, known, is) = ap (λ (r : RequestRecord). r.path) is ∙ sym by_is
 
   -- ---- the check
@@ -256,11 +256,11 @@ module _ {H P : Type 0} (mac : H → List ℕ → List ℕ → List ℕ) (answer
         → Issued mac answers class.Request id check a sent → came.contents ≡ check.contents → Delivered mac answers came at b e served → Comes mac a b came id at e
     check-comes a sent b served check came id at e sound_a know issued unaltered delivered =
         let i = issued_packet a sent class.Request id check sound_a issued in
-        let same = told_as (way_out check) (way_out check) class.Request i.0.class id i.0.id (sym issued.sends.told ∙ i.2) in
+        let same = emitted_as (via_out check) (via_out check) class.Request i.0.class id i.0.id (sym issued.sends.emitted ∙ i.2) in
         asked i.0 (i.1 ∙ ap (λ c. written (mac a.provider) (Some (key_for c a.local_creds a.remote_creds)) i.0) (sym same.1)) (sym same.2)
-        (subst (λ c. Says c a issued.call issued.entry check.contents i.0 (way_out check) sent.controlling) (sym same.1) i.3) where
-          way : Path
-          way = way_out came
+        (subst (λ c. Says c a issued.call issued.entry check.contents i.0 (via_out check) sent.controlling) (sym same.1) i.3) where
+          via : Path
+          via = via_out came
 
           taken : (peer : IceCreds) (c : CandidateRecord) (uses : Bool) (own : List ℕ) → own ≡ id → (uses ≡ true → a.controlling ≡ true) → peer ≡ b.local_creds
               → (back : ReadsBack (mac a.provider) peer.pass
@@ -279,12 +279,12 @@ module _ {H P : Type 0} (mac : H → List ℕ → List ℕ → List ℕ) (answer
               (ap (λ (y : IceCreds). y.ufrag) it, subst (λ o. IfSome o (λ (k : IceCreds). a.local_creds.ufrag ≡ k.ufrag)) (sym know.its) refl) in
               let signed : IsSignedBy (mac b.provider) n b.local_creds.pass =
               subst (λ k. IsSignedBy k n b.local_creds.pass) know.alike (subst (λ (y : IceCreds). IsSignedBy (mac a.provider) n y.pass) it back.signed) in
-              let accepted : IsAcceptedOn mac b way n =
-              (same.method, subst (λ k. IsAcceptedAs mac k (keeps_check_on b way n.id) b n) (sym same.class) (addressed, signed)) in
+              let accepted : IsAcceptedOn mac b via n =
+              (same.method, subst (λ k. IsAcceptedAs mac k (keeps_check_on b via n.id) b n) (sym same.class) (addressed, signed)) in
               let t = took came at b e served n reads accepted delivered in
-              let q : RequestRecord = request_in at way n in
+              let q : RequestRecord = request_in at via n in
               let mid = t.1.0 in
-              let takes : TakesRequest mac q b e.told mid = subst (λ k. Takes mac k at b way n e.told mid) same.class t.1.1 in
+              let takes : TakesRequest mac q b e.emitted mid = subst (λ k. Takes mac k at b via n e.emitted mid) same.class t.1.1 in
               let from : q.ufrag ≡ a.local_creds.ufrag = ap (λ o. option_map_or (λ (name : List ℕ × List ℕ). name.1) o []) names in
               let nominates : n.attributes.use_candidate ≡ uses = ap (λ (r : AttributesRecord). r.use_candidate) same.attributes in
               record {
@@ -299,11 +299,11 @@ module _ {H P : Type 0} (mac : H → List ℕ → List ℕ → List ℕ) (answer
                 controlled = ap (λ (r : AttributesRecord). r.ice_controlled) same.attributes;
                 leads = λ is. leads (sym nominates ∙ is);
                 mid = mid;
-                serves = subst (λ o. MatchOption o (Queues q b e.told mid) (λ _. Serves mac q b e.told mid)) know.its takes;
+                serves = subst (λ o. MatchOption o (Queues q b e.emitted mid) (λ _. Serves mac q b e.emitted mid)) know.its takes;
               }
 
           asked : (m : Message) → check.contents ≡ written (mac a.provider) (Some (key_for class.Request a.local_creds a.remote_creds)) m → m.id ≡ id
-              → Says class.Request a issued.call issued.entry check.contents m (way_out check) sent.controlling → Comes mac a b came id at e
+              → Says class.Request a issued.call issued.entry check.contents m (via_out check) sent.controlling → Comes mac a b came id at e
           asked m contents id_is (peer, c, uses, known, has, m_is, put, role, leads) =
               let x : Message = binding_request (username_between peer a.local_creds) m.id a.controlling a.tie_breaker (check_priority c) uses in
               let it : peer ≡ b.local_creds = some_is peer b.local_creds (sym known ∙ know.mine) in
@@ -318,13 +318,13 @@ module _ {H P : Type 0} (mac : H → List ℕ → List ℕ → List ℕ) (answer
     pub carried-are-served : CarriedAreServed mac answers
     carried-are-served a sent b served check came id at e sound_a sound_b know apart reached issued unaltered delivered =
         let k = check-comes a sent b served check came id at e sound_a know issued unaltered delivered in
-        let q : RequestRecord = request_in at (way_out came) k.message in
+        let q : RequestRecord = request_in at (via_out came) k.message in
         let rival_of : rival_in b.controlling q ≡ None =
         subst (λ r. rival_in r q ≡ None) (sym apart) (no_rival a.controlling q a.tie_breaker k.controlling k.controlled) in
         let led : is_misled b.controlling q ≡ false = subst (λ r. (r && q.use_candidate) ≡ false) (sym apart) (not_misled a.controlling q.use_candidate k.leads) in
-        let reply = serves q b k.mid e.told k.named reached (ap (λ o. conflict_by b.tie_breaker o) rival_of) led k.serves in (
+        let reply = serves q b k.mid e.emitted k.named reached (ap (λ o. conflict_by b.tie_breaker o) rival_of) led k.serves in (
           (k.message, (refl, refl, k.reads, k.accepted), k.request),
-          goes-back class.Success b served came id at e sound_b delivered (λ packet m says. says.3 ∙ ap turned (brought-by b came at e says.0 says.1))
+          goes-back class.Success b served came id at e sound_b delivered (λ packet m says. says.3 ∙ ap reversed (brought-by b came at e says.0 says.1))
               reply.0 (reply.1 ∙ ap (λ i. Some (issued_as reply.0 class.Success i)) k.id_is),
         )
 
@@ -340,15 +340,15 @@ module _ {H P : Type 0} (mac : H → List ℕ → List ℕ → List ℕ) (answer
     pub carried-are-accepted : CarriedAreAccepted mac answers
     carried-are-accepted a taken b served reply came id at e sound_b know issued unaltered kept delivered =
         let i = issued_packet b served class.Success id reply sound_b issued in
-        let same = told_as (way_out reply) (way_out reply) class.Success i.0.class id i.0.id (sym issued.sends.told ∙ i.2) in
-        told i.0 (i.1 ∙ ap (λ c. written (mac b.provider) (Some (key_for c b.local_creds b.remote_creds)) i.0) (sym same.1)) (sym same.2)
-        (subst (λ c. Says c b issued.call issued.entry reply.contents i.0 (way_out reply) served.controlling) (sym same.1) i.3) where
-          way : Path
-          way = way_out came
+        let same = emitted_as (via_out reply) (via_out reply) class.Success i.0.class id i.0.id (sym issued.sends.emitted ∙ i.2) in
+        emitted i.0 (i.1 ∙ ap (λ c. written (mac b.provider) (Some (key_for c b.local_creds b.remote_creds)) i.0) (sym same.1)) (sym same.2)
+        (subst (λ c. Says c b issued.call issued.entry reply.contents i.0 (via_out reply) served.controlling) (sym same.1) i.3) where
+          via : Path
+          via = via_out came
 
-          told : (m : Message) → reply.contents ≡ written (mac b.provider) (Some b.local_creds.pass) m → m.id ≡ id
-              → Says class.Success b issued.call issued.entry reply.contents m (way_out reply) served.controlling → IsTaken mac answers came at e class.Success
-          told m contents id_is (q, serving, m_is, path_is, put) =
+          emitted : (m : Message) → reply.contents ≡ written (mac b.provider) (Some b.local_creds.pass) m → m.id ≡ id
+              → Says class.Success b issued.call issued.entry reply.contents m (via_out reply) served.controlling → IsTaken mac answers came at e class.Success
+          emitted m contents id_is (q, serving, m_is, path_is, put) =
               let key : List ℕ = b.local_creds.pass in
               let x : Message = binding_reply q.id (carried q.path.source) in
               let bytes : reply.contents ≡ written (mac b.provider) (Some key) x =
@@ -363,9 +363,9 @@ module _ {H P : Type 0} (mac : H → List ℕ → List ℕ → List ℕ) (answer
               let own : n.id ≡ id = same.id ∙ sym (ap (λ (y : Message). y.id) m_is) ∙ id_is in
               let signed : IsSomeAnd a.remote_creds (λ peer. IsSignedBy (mac a.provider) n peer.pass) =
               subst (λ o. IsSomeAnd o (λ (peer : IceCreds). IsSignedBy (mac a.provider) n peer.pass)) (sym know.mine) (subst (λ k. IsSignedBy k n key) (sym know.alike) back.signed) in
-              let awaited : list_any (keeps_check_on a way n.id) a.pairs ≡ true = subst (λ k. list_any (keeps_check_on a way k) a.pairs ≡ true) (sym own) kept in
-              let accepted : IsAcceptedOn mac a way n =
-              (same.method, subst (λ k. IsAcceptedAs mac k (keeps_check_on a way n.id) a n) (sym same.class) (awaited, signed)) in
+              let awaited : list_any (keeps_check_on a via n.id) a.pairs ≡ true = subst (λ k. list_any (keeps_check_on a via k) a.pairs ≡ true) (sym own) kept in
+              let accepted : IsAcceptedOn mac a via n =
+              (same.method, subst (λ k. IsAcceptedAs mac k (keeps_check_on a via n.id) a n) (sym same.class) (awaited, signed)) in
               let reads : Reads came.contents n = subst (λ bs. Reads bs n) (sym (unaltered ∙ bytes)) back.reads in
               let t = took came at a e taken n reads accepted delivered in
               (n, (refl, refl, reads, t.0), same.class)

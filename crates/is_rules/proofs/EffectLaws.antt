@@ -12,22 +12,22 @@ use Rattle.is_stun.specs.Checks.{binding_reply, binding_role_conflict_reply}
 use Rattle.is_stun.specs.Writing.{written}
 use Rattle.is_rules.specs.Polls.{IsPolled}
 use Rattle.is_rules.specs.declared.credentials.IceCreds.{IceCreds}
-use Rattle.is_rules.specs.declared.told.Issued.{Issued}
-use Rattle.is_rules.specs.declared.told.Path.{Path}
-use Rattle.is_rules.specs.declared.told.Told.{Told}
+use Rattle.is_rules.specs.declared.emitted.Issued.{Issued}
+use Rattle.is_rules.specs.declared.emitted.Path.{Path}
+use Rattle.is_rules.specs.declared.emitted.Emitted.{Emitted}
 use Rattle.is_rules.specs.Request.{RequestRecord, request_in}
 use Rattle.is_rules.specs.Steps.{Entry, is_done}
-use Rattle.is_rules.specs.Told.{nothing_told, turned}
+use Rattle.is_rules.specs.Emitted.{nothing_emitted, reversed}
 use Rattle.is_rules.specs.Sound.{KeepsChecks}
 use Rattle.is_rules.specs.Agent.{AgentRecord}
 use Rattle.is_rules.specs.Queue.{request_at, first_taken, queued}
 use Rattle.is_rules.specs.Answers.{is_known_address, local_with, mapped_candidate, success_counted, is_role_conflict, TakesSuccess, TakesFailure, GivesUpRole}
 use Rattle.is_rules.specs.Accepting.{Takes}
 use Rattle.is_rules.specs.Serving.{Drops, Serves}
-use Rattle.is_rules.specs.Timeouts.{awake, Proceeds, ServesQueued}
+use Rattle.is_rules.specs.Timeouts.{timeout_begun, MaintainsPairs, ServesQueued}
 use Rattle.is_rules.specs.Steps.{Call, RestartIce, ReceivePacket, HandleTimeout, PollTransmit, Step}
 use Rattle.is_rules.specs.Sound.{GivesBased}
-use Rattle.is_rules.specs.Issuing.{Queues, IsIssued, key_for, way_out, IsQueued}
+use Rattle.is_rules.specs.Issuing.{Queues, IsIssued, key_for, via_out, IsQueued}
 use Rattle.is_rules.specs.Effects.{PathLaw, TradeLaw}
 use Rattle.is_rules.proofs.Rising.{each-rising, each-below}
 use Rattle.is_rules.proofs.RefusalLaws.{refusal_keeps}
@@ -36,7 +36,7 @@ use Rattle.is_rules.proofs.FrameLaws.{framed}
 use Rattle.is_rules.proofs.Tells.{some_is}
 use Rattle.is_rules.proofs.Onward.{Has-push}
 use Rattle.is_rules.proofs.Moments.{asks_with}
-use Rattle.is_rules.proofs.Rests.{Rest, rest_of, AllBased, nominates_rest, proceeds_rest, serves_rest}
+use Rattle.is_rules.proofs.Rests.{Rest, rest_of, AllBased, nominates_rest, maintains_pairs_rest, serves_rest}
 use Rattle.is_rules.proofs.Calms.{Calm, calm, pushed_based}
 use Rattle.is_rules.proofs.PairLaws.{Posted}
 use Rattle.is_rules.proofs.PathLaws.{path_effect}
@@ -67,8 +67,8 @@ module _ {H P : Type 0} (mac : H → List ℕ → List ℕ → List ℕ) (answer
   learnt true cs c own h = h
   learnt false cs c own h = pushed_based cs c own h
 
-  success_stands : (now : ℕ) (old new : AgentRecord H P) (way : Path) (m : Message) (told : Told) → TakesSuccess now old way m told new → Stands old new
-  success_stands now old new way m told (recorded, (i, p, after, found, on, takes, made), (path, mid, nominating, is, done)) =
+  success_stands : (now : ℕ) (old new : AgentRecord H P) (via : Path) (m : Message) (emitted : Emitted) → TakesSuccess now old via m emitted new → Stands old new
+  success_stands now old new via m emitted (recorded, (i, p, after, found, on, takes, made), (path, mid, nominating, is, done)) =
       by_made old mid new (by_made old recorded mid recorded_stands (nominates_rest recorded mid path nominating)) (ap (λ (a : AgentRecord H P). rest_of a) done) where
         by_address : (address : Option _) → m.attributes.xor_mapped_address ≡ address → Stands old recorded
         by_address None is = record {
@@ -84,34 +84,34 @@ module _ {H P : Type 0} (mac : H → List ℕ → List ℕ → List ℕ) (answer
         recorded_stands : Stands old recorded
         recorded_stands = by_address m.attributes.xor_mapped_address refl
 
-  drops_stand : (old new : AgentRecord H P) (told : Told) → Drops old told new → Stands old new
-  drops_stand old new told h = rests old new (ap (λ (a : AgentRecord H P). rest_of a) h.1)
+  drops_stand : (old new : AgentRecord H P) (emitted : Emitted) → Drops old emitted new → Stands old new
+  drops_stand old new emitted h = rests old new (ap (λ (a : AgentRecord H P). rest_of a) h.1)
 
-  failure_stands : (old new : AgentRecord H P) (way : Path) (m : Message) (told : Told) → TakesFailure old way m told new → Stands old new
-  failure_stands old new way m told h = either (is_role_conflict m) h
+  failure_stands : (old new : AgentRecord H P) (via : Path) (m : Message) (emitted : Emitted) → TakesFailure old via m emitted new → Stands old new
+  failure_stands old new via m emitted h = either (is_role_conflict m) h
       (λ _ k. gives k)
-      (λ _ k. drops_stand old new told k) where
-        gives : GivesUpRole old way m told new → Stands old new
+      (λ _ k. drops_stand old new emitted k) where
+        gives : GivesUpRole old via m emitted new → Stands old new
         gives (p, c, has, on, keeps, id_is, k) = either (same c.controlling old.controlling) k
             (λ _ z. rests old new (ap (λ (a : AgentRecord H P). rest_of a) z.1))
-            (λ _ z. drops_stand old new told z)
+            (λ _ z. drops_stand old new emitted z)
 
-  request_stands : (peer : Option IceCreds) (q : RequestRecord) (old new : AgentRecord H P) (told : Told)
-      → MatchOption peer ((told ≡ nothing_told) × (new ≡ queued q old)) (λ peer. Serves mac q old told new) → Stands old new
-  request_stands None q old new told h = rests old new (ap (λ (a : AgentRecord H P). rest_of a) h.1)
-  request_stands (Some peer) q old new told h = rests old new (serves_rest mac q old new told h)
+  request_stands : (peer : Option IceCreds) (q : RequestRecord) (old new : AgentRecord H P) (emitted : Emitted)
+      → MatchOption peer ((emitted ≡ nothing_emitted) × (new ≡ queued q old)) (λ peer. Serves mac q old emitted new) → Stands old new
+  request_stands None q old new emitted h = rests old new (ap (λ (a : AgentRecord H P). rest_of a) h.1)
+  request_stands (Some peer) q old new emitted h = rests old new (serves_rest mac q old new emitted h)
 
-  taken_stands : (c : Class) (now : ℕ) (old new : AgentRecord H P) (way : Path) (m : Message) (told : Told) → Takes mac c now old way m told new → Stands old new
-  taken_stands class.Request now old new way m told h = request_stands old.remote_creds (request_in now way m) old new told h
-  taken_stands class.Success now old new way m told h = success_stands now old new way m told h
-  taken_stands class.Failure now old new way m told h = failure_stands old new way m told h
-  taken_stands class.Indication now old new way m told h = absurd h
-  taken_stands class.Unknown now old new way m told h = absurd h
+  taken_stands : (c : Class) (now : ℕ) (old new : AgentRecord H P) (via : Path) (m : Message) (emitted : Emitted) → Takes mac c now old via m emitted new → Stands old new
+  taken_stands class.Request now old new via m emitted h = request_stands old.remote_creds (request_in now via m) old new emitted h
+  taken_stands class.Success now old new via m emitted h = success_stands now old new via m emitted h
+  taken_stands class.Failure now old new via m emitted h = failure_stands old new via m emitted h
+  taken_stands class.Indication now old new via m emitted h = absurd h
+  taken_stands class.Unknown now old new via m emitted h = absurd h
 
-  moment_stands : (now : ℕ) (old new : AgentRecord H P) (s t : Stream) (told : Told) (o : Option RequestRecord)
-      → MatchOption o (Proceeds mac now (awake now old) s told new t) (λ q. ServesQueued mac q (awake now old) s told new t) → Stands old new
-  moment_stands now old new s t told None h = rests old new (proceeds_rest mac now (awake now old) new s t told h)
-  moment_stands now old new s t told (Some q) (h, drawn) = rests old new (serves_rest mac q (first_taken (awake now old)) new told h)
+  moment_stands : (now : ℕ) (old new : AgentRecord H P) (s t : Stream) (emitted : Emitted) (o : Option RequestRecord)
+      → MatchOption o (MaintainsPairs mac now (timeout_begun now old) s emitted new t) (λ q. ServesQueued mac q (timeout_begun now old) s emitted new t) → Stands old new
+  moment_stands now old new s t emitted None h = rests old new (maintains_pairs_rest mac now (timeout_begun now old) new s t emitted h)
+  moment_stands now old new s t emitted (Some q) (h, drawn) = rests old new (serves_rest mac q (first_taken (timeout_begun now old)) new emitted h)
 
   same_stands : (old new : AgentRecord H P) → new ≡ old → Stands old new
   same_stands old new made = rests old new (ap (λ (a : AgentRecord H P). rest_of a) made)
@@ -120,13 +120,13 @@ module _ {H P : Type 0} (mac : H → List ℕ → List ℕ → List ℕ) (answer
   calm_stands old new e call given c = record { checks = c.checks; based = λ h. c.based given h }
 
   stands : (old new : AgentRecord H P) (s t : Stream) (e : Entry) (call : Call P) → GivesBased call → Step mac answers old s call e new t → Stands old new
-  stands old new s t e (ReceivePacket now way bytes) given (inl (fault, has, is, made), drawn) = same_stands old new made
-  stands old new s t e (ReceivePacket now way bytes) given (inr (m, reads, (Ok false, told, is, (unaccepted, nothing, made))), drawn) = same_stands old new made
-  stands old new s t e (ReceivePacket now way bytes) given (inr (m, reads, (Err error, told, is, (may, nothing, made))), drawn) = same_stands old new made
-  stands old new s t e (ReceivePacket now way bytes) given (inr (m, reads, (Ok true, told, is, (accepted, (mid, takes, made)))), drawn) =
-      by_made old mid new (taken_stands m.class now old mid way m told takes) (ap (λ (a : AgentRecord H P). rest_of a) made)
-  stands old new s t e (HandleTimeout now) given (Ok u, told, is, h) = moment_stands now old new s t told (request_at now old) h
-  stands old new s t e (HandleTimeout now) given (Err error, told, is, (may, nothing, made, drawn)) = same_stands old new made
+  stands old new s t e (ReceivePacket now via bytes) given (inl (fault, has, is, made), drawn) = same_stands old new made
+  stands old new s t e (ReceivePacket now via bytes) given (inr (m, reads, (Ok false, emitted, is, (unaccepted, nothing, made))), drawn) = same_stands old new made
+  stands old new s t e (ReceivePacket now via bytes) given (inr (m, reads, (Err error, emitted, is, (may, nothing, made))), drawn) = same_stands old new made
+  stands old new s t e (ReceivePacket now via bytes) given (inr (m, reads, (Ok true, emitted, is, (accepted, (mid, takes, made)))), drawn) =
+      by_made old mid new (taken_stands m.class now old mid via m emitted takes) (ap (λ (a : AgentRecord H P). rest_of a) made)
+  stands old new s t e (HandleTimeout now) given (Ok u, emitted, is, h) = moment_stands now old new s t emitted (request_at now old) h
+  stands old new s t e (HandleTimeout now) given (Err error, emitted, is, (may, nothing, made, drawn)) = same_stands old new made
   stands old new s t e call given h = calm_stands old new e call given (calm mac answers old new s t e call refl h)
 
   -- ---- the law of paths
@@ -186,17 +186,17 @@ module _ {H P : Type 0} (mac : H → List ℕ → List ℕ → List ℕ) (answer
   queued_has None before behind x none is has = subst (λ (ps : List Packet). Has ps x) is has
   queued_has (Some i) before behind x none is has = absurd (let no : Some i ≡ None = none in cc)
 
-  sends_has : (call : Call P) (e : Entry) (before behind : List Packet) → e.told.issued ≡ None → Queues call e before behind → (x : Packet) → Has behind x → Has before x
+  sends_has : (call : Call P) (e : Entry) (before behind : List Packet) → e.emitted.issued ≡ None → Queues call e before behind → (x : Packet) → Has behind x → Has before x
   sends_has PollTransmit e before behind none (given, is, polled) x has = polled_has given before behind x polled has
   sends_has (RestartIce creds keep) e before behind none (nothing, emptied) x has = emptied_has (is_done e.answer) before behind x emptied has
-  sends_has call e before behind none is x has = queued_has e.told.issued before behind x none is has
+  sends_has call e before behind none is x has = queued_has e.emitted.issued before behind x none is has
 
   module _ (old new : AgentRecord H P) (s t : Stream) (e : Entry) (call : Call P) where
     -- the packet that the step issues
     abbrev pub Issues : Type 0
     Issues = (packet : Packet) × (new.packets ≡ old.packets ++ packet ∷ []) × IsIssued mac old call e packet new.controlling
 
-    pub issues : Posted mac answers old new s t e call → (e.told.issued ≡ None) ⊎ Issues
+    pub issues : Posted mac answers old new s t e call → (e.emitted.issued ≡ None) ⊎ Issues
     issues (inl none) = inl none
     issues (inr (inl (role, inl none))) = inl none
     issues (inr (inl (role, inr (path, id, peer, c, names, out, known, has, values, put, leads)))) =
@@ -215,11 +215,11 @@ module _ {H P : Type 0} (mac : H → List ℕ → List ℕ → List ℕ) (answer
     issues (inr (inr (q, serves, inl (inl none)))) = inl none.0
     issues (inr (inr (q, serves, inl (inr (out, values, put, nominates))))) =
         let m : Message = binding_reply q.id q.path.source in
-        let packet : Packet = packet_along (turned q.path) (written (mac old.provider) (Some old.local_creds.pass) m) in
+        let packet : Packet = packet_along (reversed q.path) (written (mac old.provider) (Some old.local_creds.pass) m) in
         inr (packet, put, (m, refl, out, (q, serves, refl, refl, values)))
     issues (inr (inr (q, serves, inr (out, values, put, insists, stays)))) =
         let m : Message = binding_role_conflict_reply q.id in
-        let packet : Packet = packet_along (turned q.path) (written (mac old.provider) (Some old.local_creds.pass) m) in
+        let packet : Packet = packet_along (reversed q.path) (written (mac old.provider) (Some old.local_creds.pass) m) in
         inr (packet, put, (m, refl, out, (q, serves, refl, refl, values, insists, stays)))
 
     Has-end : (xs : List Packet) (x : Packet) → Has (xs ++ x ∷ []) x
@@ -236,9 +236,9 @@ module _ {H P : Type 0} (mac : H → List ℕ → List ℕ → List ℕ) (answer
       ]
     ]
 
-    told_issued : Posted mac answers old new s t e call → (issued : Issued) → e.told.issued ≡ Some issued
-        → (packet : Packet) × Has new.packets packet × (way_out packet ≡ issued.path) × IsIssued mac old call e packet new.controlling
-    told_issued posted issued is = elim (issues posted) [
+    emitted_issued : Posted mac answers old new s t e call → (issued : Issued) → e.emitted.issued ≡ Some issued
+        → (packet : Packet) × Has new.packets packet × (via_out packet ≡ issued.path) × IsIssued mac old call e packet new.controlling
+    emitted_issued posted issued is = elim (issues posted) [
       | inl none ↦ absurd (let no : None ≡ Some issued = sym none ∙ is in cc)
       | inr (sent, put, issues_it) ↦ (
         sent,
@@ -257,7 +257,7 @@ module _ {H P : Type 0} (mac : H → List ℕ → List ℕ → List ℕ) (answer
         refused = λ r. ((refusal_keeps mac answers old new s t call e h r).0, refuses mac answers old new s t e call h r);
         turned_down = turns_down mac answers old new s t e call h;
         packets = all_issued old new s t e call k.2 f.sends;
-        issued = told_issued old new s t e call k.2;
+        issued = emitted_issued old new s t e call k.2;
         sends = f.sends;
         waits = f.waits;
         role = f.role;

@@ -16,10 +16,10 @@ use Rattle.is_stun.specs.Writing.{written}
 use Rattle.is_rules.specs.declared.credentials.IceCreds.{IceCreds}
 use Rattle.is_rules.specs.declared.event.IceAgentEvent.TheVariants.{IceRestart, IceConnectionStateChange, DiscoveredRecv, NominatedSend}
 use Rattle.is_rules.specs.declared.event.IceConnectionState.TheVariants.{Checking, Completed, Disconnected}
-use Rattle.is_rules.specs.declared.told.Path.{Path}
+use Rattle.is_rules.specs.declared.emitted.Path.{Path}
 use Rattle.is_rules.specs.Agent.{no_stats}
 use Rattle.is_rules.specs.Request.{RequestRecord}
-use Rattle.is_rules.specs.Told.{turned}
+use Rattle.is_rules.specs.Emitted.{reversed}
 use Rattle.is_rules.specs.Agent.{AgentRecord, fresh}
 
 abbrev pub milliseconds : ℕ → ℕ
@@ -92,8 +92,8 @@ module _ {H P : Type 0} (mac : H → List ℕ → List ℕ → List ℕ) (provid
     events =
         IceRestart creds_1 ∷ IceConnectionStateChange Checking ∷ NominatedSend Udp address_1 address_2
         ∷ IceConnectionStateChange Completed ∷ DiscoveredRecv Udp address_2 ∷ [];
-    seen = record { proto = Udp; address = address_2 } ∷ [];
-    announced = Some 0;
+    discovered_sources = record { proto = Udp; address = address_2 } ∷ [];
+    selected_pair = Some 0;
     pairs = record (new_pair 0 0 0 9151313343271665150) {
       checks = record { id = id; sent = 0; answered = Some (milliseconds 50); nominated = false; controlling = true } ∷ [];
       state = Succeeded;
@@ -122,8 +122,8 @@ module _ {H P : Type 0} (mac : H → List ℕ → List ℕ → List ℕ) (provid
     stats = record no_stats { bind_request_recv = 1 };
   }
 
-  abbrev pub told_of_sender : List ℕ → AgentRecord H P
-  told_of_sender id = record (served id) {
+  abbrev pub emitted_of_sender : List ℕ → AgentRecord H P
+  emitted_of_sender id = record (served id) {
     remote = host_2 2130706175 ∷ [];
     pairs = record (new_pair 1 0 0 9151313343271665150) { nomination = Nominated } ∷ [];
     next_number = 2;
@@ -142,7 +142,7 @@ module _ {H P : Type 0} (mac : H → List ℕ → List ℕ → List ℕ) (provid
     state = Checking;
     events = IceRestart creds_1 ∷ IceConnectionStateChange Checking ∷ NominatedSend Udp address_1 address_2 ∷ [];
     last_moment = Some 0;
-    announced = Some 0;
+    selected_pair = Some 0;
     stats = record no_stats { bind_request_recv = 1; nomination_send_count = 1 };
   }
 
@@ -170,7 +170,7 @@ module _ {H P : Type 0} (mac : H → List ℕ → List ℕ → List ℕ) (provid
 abbrev pub request : List ℕ → RequestRecord
 request id = record {
   moment = 0;
-  path = turned path_12;
+  path = reversed path_12;
   id = id;
   priority = 1853824767;
   use_candidate = true;

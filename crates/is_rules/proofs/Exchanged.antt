@@ -11,7 +11,7 @@ use Rattle.is_rules.specs.Delivery.{IsFragment, KnowEachOther, ChecksAreServed, 
 use Rattle.is_rules.specs.Effects.{local_after, remote_after}
 use Rattle.is_rules.specs.Exchange.{AreBetween, Course, ExchangesSucceed}
 use Rattle.is_rules.specs.Fitting.{are_too_long}
-use Rattle.is_rules.specs.Issuing.{way_out}
+use Rattle.is_rules.specs.Issuing.{via_out}
 use Rattle.is_rules.specs.Rounds.{is_between}
 use Rattle.is_rules.specs.Sound.{GivesBased, IsSound}
 use Rattle.is_rules.specs.Steps.{Call, Entry, HandleTimeout, PollTransmit, PollTimeout, PollEvent, ReceivePacket, Step, is_done}
@@ -62,8 +62,8 @@ module _ {H P : Type 0} where
         keys_step (HandleTimeout now) e old new s t sound tt (same_if (is_done e.answer) old.remote_creds) (same_if (is_done e.answer) old.local_creds) step
 
     keys_one : (call : Call P) (e : Entry) (old new : AgentRecord H P) (s t : Stream) → IsSound old → is_between call ≡ true → Step mac answers old s call e new t → keys_of new ≡ keys_of old
-    keys_one (ReceivePacket now way bytes) e old new s t sound is step =
-        keys_step (ReceivePacket now way bytes) e old new s t sound tt (same_if (is_done e.answer) old.remote_creds) (same_if (is_done e.answer) old.local_creds) step
+    keys_one (ReceivePacket now path bytes) e old new s t sound is step =
+        keys_step (ReceivePacket now path bytes) e old new s t sound tt (same_if (is_done e.answer) old.remote_creds) (same_if (is_done e.answer) old.local_creds) step
     keys_one PollTransmit e old new s t sound is step =
         keys_step PollTransmit e old new s t sound tt (same_if (is_done e.answer) old.remote_creds) (same_if (is_done e.answer) old.local_creds) step
     keys_one PollTimeout e old new s t sound is step =
@@ -85,9 +85,9 @@ module _ {H P : Type 0} where
         let taken = served_law a sent b served check id at handed sound_a sound_b (known-on mac near a b keys know) apart reached
         (record { call = HandleTimeout now; entry = moment; before = s; behind = t; step = step; sends = sends }) delivered in
         let reply : Packet = taken.1.0 in
-        let way_back : list_any (keeps_check_on sent (way_out reply) id) sent.pairs ≡ true =
+        let via_back : list_any (keeps_check_on sent (via_out reply) id) sent.pairs ≡ true =
         subst (λ w. list_any (keeps_check_on sent w id) sent.pairs ≡ true) (sym taken.1.1) (kept_law a sent s t now check id moment sound_a step sends) in
-        let kept = checks-stay mac answers sent near xs (way_out reply) id sound_sent fits gone way_back in
+        let kept = checks-stay mac answers sent near xs (via_out reply) id sound_sent fits gone via_back in
         let sound_near = sound-course mac answers xs sent near sound_sent gone in (
           taken.0,
           (
@@ -97,14 +97,14 @@ module _ {H P : Type 0} where
             λ mid end ys back returned fits_on on came.
                 accepted_law mid end b served reply id back returned sound_b (known-on mac near mid b (keys-between ys near mid sound_near fits_on on) know)
                 (record {
-                  call = ReceivePacket at (way_out check) check.contents;
+                  call = ReceivePacket at (via_out check) check.contents;
                   entry = handed;
                   before = delivered.before;
                   behind = delivered.behind;
                   step = delivered.step;
                   sends = taken.1.2;
                 })
-                (checks-stay mac answers near mid ys (way_out reply) id sound_near fits_on on kept)
+                (checks-stay mac answers near mid ys (via_out reply) id sound_near fits_on on kept)
                 came,
           ),
         )

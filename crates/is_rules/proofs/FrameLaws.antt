@@ -15,12 +15,12 @@ use Rattle.is_stun.specs.declared.header.Class.TheVariants as class
 use Rattle.is_stun.specs.Writing.{written}
 use Rattle.is_stun.specs.declared.timing.StunTiming.{StunTiming}
 use Rattle.is_rules.specs.declared.credentials.IceCreds.{IceCreds}
-use Rattle.is_rules.specs.declared.told.Path.{Path}
-use Rattle.is_rules.specs.declared.told.Told.{Told}
-use Rattle.is_rules.specs.declared.told.Issued.{Issued}
+use Rattle.is_rules.specs.declared.emitted.Path.{Path}
+use Rattle.is_rules.specs.declared.emitted.Emitted.{Emitted}
+use Rattle.is_rules.specs.declared.emitted.Issued.{Issued}
 use Rattle.is_rules.specs.Request.{RequestRecord, request_in}
 use Rattle.is_rules.specs.Steps.{Answer, Done, Added, NotAdded, Flag, Wake, Unparsed, NotCalled, Refused, Entry, quiet, done, answer_by}
-use Rattle.is_rules.specs.Told.{nothing_told}
+use Rattle.is_rules.specs.Emitted.{nothing_emitted}
 use Rattle.is_rules.specs.Agent.{AgentRecord}
 use Rattle.is_rules.specs.Sending.{path_of}
 use Rattle.is_rules.specs.Forming.{Combination, FormsAll}
@@ -35,9 +35,9 @@ use Rattle.is_rules.specs.Restarting.{Restarts, Recreates, restarted, emptied}
 use Rattle.is_rules.specs.Serving.{Serves}
 use Rattle.is_rules.specs.Queue.{queue_left, next_request, first_taken, request_at, queued, is_outdated}
 use Rattle.is_rules.specs.Answers.{TakesFailure, GivesUpRole, is_role_conflict}
-use Rattle.is_rules.specs.Accepting.{Takes, source_told}
+use Rattle.is_rules.specs.Accepting.{Takes, discovered_emitted}
 use Rattle.is_rules.specs.Checking.{all_asked, MayCheck, ChecksTop, check_message}
-use Rattle.is_rules.specs.Timeouts.{awake, at_moment, Proceeds, ServesQueued, TimesOut}
+use Rattle.is_rules.specs.Timeouts.{timeout_begun, at_moment, MaintainsPairs, ServesQueued, TimesOut}
 use Rattle.is_rules.specs.Steps.{Call, SetMtu, SetControlTieBreaker, SetMaxCandidatePairs, SetIceLite, SetTimingAdvance, SetInitialStunRto, SetMaxStunRto, SetMaxStunRetransmits, SetLocalPreference, SetControlling, SetLocalCredentials, SetRemoteCredentials, SkipPairIds, AddLocalCandidate, AddRemoteCandidate, InvalidateCandidate, RestartIce, RecreateCandidatePairs, ReceivePacket, HandleTimeout, PollTransmit, PollTimeout, PollEvent, Becomes, MayDo, Receives, Step}
 use Rattle.is_rules.specs.Brought.{Brings, IsServing, IsServedPastTests, YieldsTo, IsRefusedBy, IsRoleSet, role_once}
 use Rattle.is_rules.specs.Issuing.{Queues, Waits, WaitsPast, IsQueued}
@@ -201,21 +201,21 @@ module _ {H P : Type 0} where
                     (packet_along (path_of asked p) (written (mac asked.provider) (Some remote.pass) (check_message asked remote p id)), refl, ap (λ (a : AgentRecord H P). a.packets) made),
               )
 
-    pub proceeds : (now : ℕ) (old new : AgentRecord H P) (s t : Stream) (told : Told) → Proceeds mac now old s told new t → Stays old told new
-    proceeds now old new s t told (first, second, issued, named, kept, nominates, gives, check, is) =
+    pub maintains_pairs : (now : ℕ) (old new : AgentRecord H P) (s t : Stream) (emitted : Emitted) → MaintainsPairs mac now old s emitted new t → Stays old emitted new
+    maintains_pairs now old new s t emitted (first, second, issued, named, kept, nominates, gives, check, is) =
         let a = nominates_frame (at_moment now old) named first nominates in
         let b = gives_up now named kept second gives in
         let c = checks now kept.remote_creds kept new s t issued check in (
           c.0 ∙ (b.0 ∙ a.0),
-          subst (λ (t : Told). IsQueued t.issued old.packets new.packets) (sym is)
+          subst (λ (t : Emitted). IsQueued t.issued old.packets new.packets) (sym is)
               (subst (λ (ps : List Packet). IsQueued issued ps new.packets) (b.1 ∙ a.1) c.1),
         )
 
-    moment_by : (now : ℕ) (old new : AgentRecord H P) (s t : Stream) (told : Told) (o : Option RequestRecord) → request_at now old ≡ o
-        → MatchOption o (Proceeds mac now (awake now old) s told new t) (λ q. ServesQueued mac q (awake now old) s told new t)
-        → FrameEffect old (HandleTimeout now) (record { answer = Done; told = told }) new
-    moment_by now old new s t told None is h =
-        let k = proceeds now (awake now old) new s t told h in
+    moment_by : (now : ℕ) (old new : AgentRecord H P) (s t : Stream) (emitted : Emitted) (o : Option RequestRecord) → request_at now old ≡ o
+        → MatchOption o (MaintainsPairs mac now (timeout_begun now old) s emitted new t) (λ q. ServesQueued mac q (timeout_begun now old) s emitted new t)
+        → FrameEffect old (HandleTimeout now) (record { answer = Done; emitted = emitted }) new
+    moment_by now old new s t emitted None is h =
+        let k = maintains_pairs now (timeout_begun now old) new s t emitted h in
         let left = left_behind now old.timing old.remote_creds old.queue in record {
           provider = ap (λ (f : Frame H). f.provider) k.0;
           tie_breaker = ap (λ (f : Frame H). f.tie_breaker) k.0;
@@ -229,10 +229,10 @@ module _ {H P : Type 0} where
           settled = λ q serving past. (let no : None ≡ Some q = sym is ∙ serving.0 in cc);
           given_up = λ at by m brings. absurd brings;
         }
-    moment_by now old new s t told (Some q) is (h, drawn) =
-        let turn : Turns mac q (first_taken (awake now old)) told new = serves mac q (first_taken (awake now old)) new told h in
+    moment_by now old new s t emitted (Some q) is (h, drawn) =
+        let turn : Turns mac q (first_taken (timeout_begun now old)) emitted new = serves mac q (first_taken (timeout_begun now old)) new emitted h in
         let past = served_past now old q is in
-        let serving : IsServing old (HandleTimeout now) (record { answer = Done; told = told }) q = (is, refl) in elim turn [
+        let serving : IsServing old (HandleTimeout now) (record { answer = Done; emitted = emitted }) q = (is, refl) in elim turn [
           | inl k ↦ record {
             provider = ap (λ (f : Frame H). f.provider) k.0;
             tie_breaker = ap (λ (f : Frame H). f.tie_breaker) k.0;
@@ -260,36 +260,36 @@ module _ {H P : Type 0} where
             given_up = λ at by m brings. absurd brings;
           }
         ] where
-          settled : (r : RequestRecord) → IsServing old (HandleTimeout now) (record { answer = Done; told = told }) r → IsServedPastTests old r
+          settled : (r : RequestRecord) → IsServing old (HandleTimeout now) (record { answer = Done; emitted = emitted }) r → IsServedPastTests old r
               → new.controlling ≡ role_once (conflict_of old r) old.controlling
           settled r serving past =
               let other : Some q ≡ Some r = sym is ∙ serving.0 in let same : r ≡ q = cc in
               let k : IsServedPastTests old q = subst (λ x. IsServedPastTests old x) same past in
-              subst (λ x. new.controlling ≡ role_once (conflict_of old x) old.controlling) (sym same) (serves_role mac q (first_taken (awake now old)) new told k.1.0 k.0 k.1.1 h)
+              subst (λ x. new.controlling ≡ role_once (conflict_of old x) old.controlling) (sym same) (serves_role mac q (first_taken (timeout_begun now old)) new emitted k.1.0 k.0 k.1.1 h)
 
     -- ---- packets
 
-    module _ (now : ℕ) (old mid : AgentRecord H P) (way : Path) (bytes : List ℕ) (m : Message) (told : Told) (reads : Reads bytes m) where
+    module _ (now : ℕ) (old mid : AgentRecord H P) (path : Path) (bytes : List ℕ) (m : Message) (emitted : Emitted) (reads : Reads bytes m) where
       abbrev call : Call P
-      call = ReceivePacket now way bytes
+      call = ReceivePacket now path bytes
 
       abbrev entry : Entry
-      entry = record { answer = Flag true; told = told }
+      entry = record { answer = Flag true; emitted = emitted }
 
       abbrev new : AgentRecord H P
-      new = source_told way mid
+      new = discovered_emitted path mid
 
       abbrev q : RequestRecord
-      q = request_in now way m
+      q = request_in now path m
 
-      brought : Brings call entry now way m
+      brought : Brings call entry now path m
       brought = (refl, refl, reads, refl)
 
       same_message : (at : ℕ) (by : Path) (n : Message) → Brings call entry at by n → n ≡ m
       same_message at by n (_, _, other, _) = other.spelled ∙ sym reads.spelled
 
       -- what leaves the role and serves nothing
-      still : (c : Class) → m.class ≡ c → (record (frame_of mid) { queue = old.queue } ≡ frame_of old) × IsQueued told.issued old.packets mid.packets → Waits old call entry new → ((m.class ≡ class.Request) → is_some old.remote_creds ≡ true → ⊥)
+      still : (c : Class) → m.class ≡ c → (record (frame_of mid) { queue = old.queue } ≡ frame_of old) × IsQueued emitted.issued old.packets mid.packets → Waits old call entry new → ((m.class ≡ class.Request) → is_some old.remote_creds ≡ true → ⊥)
           → ((m.class ≡ class.Failure) → is_role_conflict m ≡ true → ⊥) → FrameEffect old call entry new
       still c is k waits serves_none fails_none = record {
         provider = ap (λ (f : Frame H). f.provider) k.0;
@@ -308,7 +308,7 @@ module _ {H P : Type 0} where
             absurd (fails_none (sym (ap (λ (x : Message). x.class) same_is) ∙ failure) (sym (ap is_role_conflict same_is) ∙ conflict)));
       }
 
-      but_queue : Stays old told mid → (record (frame_of mid) { queue = old.queue } ≡ frame_of old) × IsQueued told.issued old.packets mid.packets
+      but_queue : Stays old emitted mid → (record (frame_of mid) { queue = old.queue } ≡ frame_of old) × IsQueued emitted.issued old.packets mid.packets
       but_queue k = (ap (λ (f : Frame H). record f { queue = old.queue }) k.0, k.1)
 
       request_fails : (m.class ≡ class.Request) → (m.class ≡ class.Failure) → is_role_conflict m ≡ true → ⊥
@@ -316,14 +316,14 @@ module _ {H P : Type 0} where
 
       -- a request that waits, or is served
       requested_by : (peer : Option IceCreds) → old.remote_creds ≡ peer → m.class ≡ class.Request
-          → MatchOption peer ((told ≡ nothing_told) × (mid ≡ queued q old)) (λ peer. Serves mac q old told mid) → FrameEffect old call entry new
-      requested_by None none is (told_is, made) =
+          → MatchOption peer ((emitted ≡ nothing_emitted) × (mid ≡ queued q old)) (λ peer. Serves mac q old emitted mid) → FrameEffect old call entry new
+      requested_by None none is (emitted_is, made) =
           still class.Request is
-          (ap (λ (a : AgentRecord H P). record (frame_of a) { queue = old.queue }) made, subst (λ (t : Told). IsQueued t.issued old.packets mid.packets) (sym told_is) (ap (λ (a : AgentRecord H P). a.packets) made))
-          (inr (now, way, m, brought, is, none, ap (λ (a : AgentRecord H P). a.queue) made))
+          (ap (λ (a : AgentRecord H P). record (frame_of a) { queue = old.queue }) made, subst (λ (t : Emitted). IsQueued t.issued old.packets mid.packets) (sym emitted_is) (ap (λ (a : AgentRecord H P). a.packets) made))
+          (inr (now, path, m, brought, is, none, ap (λ (a : AgentRecord H P). a.queue) made))
           (λ _ known. unknown old.remote_creds none known)
           (request_fails is)
-      requested_by (Some peer) known is h = elim (serves mac q old mid told h) [
+      requested_by (Some peer) known is h = elim (serves mac q old mid emitted h) [
         | inl k ↦ record {
           provider = ap (λ (f : Frame H). f.provider) k.0;
           tie_breaker = ap (λ (f : Frame H). f.tie_breaker) k.0;
@@ -344,16 +344,16 @@ module _ {H P : Type 0} where
           remote_creds = ap (λ (f : Frame H). f.remote_creds) k.1.0;
           sends = k.1.1;
           waits = inl (ap (λ (f : Frame H). f.queue) k.1.0);
-          role = inr (inl (q, (now, way, m, brought, is, ap is_some known, refl), k.0, ap (λ (f : Frame H). f.controlling) k.1.0));
+          role = inr (inl (q, (now, path, m, brought, is, ap is_some known, refl), k.0, ap (λ (f : Frame H). f.controlling) k.1.0));
           settled = settled;
           given_up = given_up;
         }
       ] where
         settled : (r : RequestRecord) → IsServing old call entry r → IsServedPastTests old r → mid.controlling ≡ role_once (conflict_of old r) old.controlling
         settled r (at, by, n, (at_is, by_is, other, flag), request, known, made) past =
-            let same_q : r ≡ q = made ∙ (ap (λ x. request_in x by n) (sym at_is) ∙ (ap (λ x. request_in now x n) (sym by_is) ∙ ap (λ x. request_in now way x) (other.spelled ∙ sym reads.spelled))) in
+            let same_q : r ≡ q = made ∙ (ap (λ x. request_in x by n) (sym at_is) ∙ (ap (λ x. request_in now x n) (sym by_is) ∙ ap (λ x. request_in now path x) (other.spelled ∙ sym reads.spelled))) in
             let k : IsServedPastTests old q = subst (λ x. IsServedPastTests old x) same_q past in
-            subst (λ x. mid.controlling ≡ role_once (conflict_of old x) old.controlling) (sym same_q) (serves_role mac q old mid told k.1.0 k.0 k.1.1 h)
+            subst (λ x. mid.controlling ≡ role_once (conflict_of old x) old.controlling) (sym same_q) (serves_role mac q old mid emitted k.1.0 k.0 k.1.1 h)
 
         given_up : (at : ℕ) (by : Path) (n : Message) → Brings call entry at by n → n.class ≡ class.Failure → is_role_conflict n ≡ true → IsRefusedBy old call entry new
         given_up at by n brings failure conflict =
@@ -363,25 +363,25 @@ module _ {H P : Type 0} where
       no_request c is differs request known = differs (sym is ∙ request)
 
       -- a failure: a 487 to a check of the present role gives it up
-      failed : m.class ≡ class.Failure → TakesFailure old way m told mid → FrameEffect old call entry new
+      failed : m.class ≡ class.Failure → TakesFailure old path m emitted mid → FrameEffect old call entry new
       failed is h = either (is_role_conflict m) h
           (λ conflict k. gives k conflict)
-          (λ other k. still class.Failure is (but_queue (drops old mid told k)) (inl (ap (λ (f : Frame H). f.queue) (drops old mid told k).0)) (no_request class.Failure is (λ x. cc))
+          (λ other k. still class.Failure is (but_queue (drops old mid emitted k)) (inl (ap (λ (f : Frame H). f.queue) (drops old mid emitted k).0)) (no_request class.Failure is (λ x. cc))
           (λ _ conflict. (let no : false ≡ true = sym other ∙ conflict in cc))) where
-            gives : GivesUpRole old way m told mid → is_role_conflict m ≡ true → FrameEffect old call entry new
+            gives : GivesUpRole old path m emitted mid → is_role_conflict m ≡ true → FrameEffect old call entry new
             gives (p, c, has, on, keeps, id_is, h) conflict = either (same c.controlling old.controlling) h
                 (λ now_is k. (
-                let f = drops (switched old) mid told k in
+                let f = drops (switched old) mid emitted k in
                 let role : mid.controlling ≡ not c.controlling = ap (λ (f : Frame H). f.controlling) f.0 ∙ ap not (sym (same_true c.controlling old.controlling now_is)) in
                 effect (ap (λ (x : Frame H). record x { controlling = not old.controlling }) f.0, f.1) role))
                 (λ other k. (
-                let f = drops old mid told k in
+                let f = drops old mid emitted k in
                 let role : mid.controlling ≡ not c.controlling = ap (λ (f : Frame H). f.controlling) f.0 ∙ same_false c.controlling old.controlling other in
                 effect (ap (λ (x : Frame H). record x { controlling = not old.controlling }) f.0, f.1) role)) where
                   refused_by : mid.controlling ≡ not c.controlling → IsRefusedBy old call entry new
-                  refused_by role = (now, way, path_of old p, m, c.controlling, brought, is, conflict, (p, c, has, keeps, id_is, refl, refl), role)
+                  refused_by role = (now, path, path_of old p, m, c.controlling, brought, is, conflict, (p, c, has, keeps, id_is, refl, refl), role)
 
-                  effect : (record (frame_of mid) { controlling = not old.controlling } ≡ record (frame_of old) { controlling = not old.controlling }) × IsQueued told.issued old.packets mid.packets
+                  effect : (record (frame_of mid) { controlling = not old.controlling } ≡ record (frame_of old) { controlling = not old.controlling }) × IsQueued emitted.issued old.packets mid.packets
                       → mid.controlling ≡ not c.controlling → FrameEffect old call entry new
                   effect f role = record {
                     provider = ap (λ (f : Frame H). f.provider) f.0;
@@ -398,10 +398,10 @@ module _ {H P : Type 0} where
                     given_up = λ at by n brings failure other. refused_by role;
                   }
 
-      taken : (c : Class) → m.class ≡ c → Takes mac c now old way m told mid → FrameEffect old call entry new
+      taken : (c : Class) → m.class ≡ c → Takes mac c now old path m emitted mid → FrameEffect old call entry new
       taken class.Request is h = requested_by old.remote_creds refl is h
       taken class.Success is h =
-          let k = takes_success now old mid way m told h in
+          let k = takes_success now old mid path m emitted h in
           still class.Success is (but_queue k) (inl (ap (λ (f : Frame H). f.queue) k.0)) (no_request class.Success is (λ x. cc))
           (λ failure _. (let no : class.Success ≡ class.Failure = sym is ∙ failure in cc))
       taken class.Failure is h = failed is h
@@ -433,24 +433,24 @@ module _ {H P : Type 0} where
     retransmits false n (is, made, drawn) = moved old new (with_retransmits n old) (SetMaxStunRetransmits n) e (quiet Done) is made
         (plain old _ _ _ refl refl refl refl refl refl (inl refl) (inl refl) (λ q h. absurd h.3) (λ at by m h. absurd h))
 
-    receives : (now : ℕ) (way : Path) (bytes : List ℕ) → Receives mac answers now old way bytes e new → FrameEffect old (ReceivePacket now way bytes) e new
-    receives now way bytes (inl (fault, has, is, made)) = unmoved _ (quiet (Unparsed fault)) is made
+    receives : (now : ℕ) (path : Path) (bytes : List ℕ) → Receives mac answers now old path bytes e new → FrameEffect old (ReceivePacket now path bytes) e new
+    receives now path bytes (inl (fault, has, is, made)) = unmoved _ (quiet (Unparsed fault)) is made
         (plain old old _ _ refl refl refl refl refl refl (inl refl) (inl refl) (λ q h. (let no : Unparsed fault ≡ Flag true = h.3.3 in cc)) (λ at by m h. (let no : Unparsed fault ≡ Flag true = h.3 in cc)))
-    receives now way bytes (inr (m, reads, (Ok false, told, is, (unaccepted, told_is, made)))) =
-        unmoved _ (quiet (Flag false)) (is ∙ ap (λ (x : Told). let f : Entry = record { answer = Flag false; told = x } in f) told_is) made
+    receives now path bytes (inr (m, reads, (Ok false, emitted, is, (unaccepted, emitted_is, made)))) =
+        unmoved _ (quiet (Flag false)) (is ∙ ap (λ (x : Emitted). let f : Entry = record { answer = Flag false; emitted = x } in f) emitted_is) made
         (plain old old _ _ refl refl refl refl refl refl (inl refl) (inl refl) (λ q h. (let no : Flag false ≡ Flag true = h.3.3 in cc)) (λ at by n h. (let no : Flag false ≡ Flag true = h.3 in cc)))
-    receives now way bytes (inr (m, reads, (Ok true, told, is, (accepted, (mid, takes, made))))) =
-        moved old new (source_told way mid) _ e _ is made (taken mac now old mid way bytes m told reads m.class refl takes)
-    receives now way bytes (inr (m, reads, (Err error, told, is, (may, told_is, made)))) =
-        unmoved _ (quiet (Refused error)) (is ∙ ap (λ (x : Told). let f : Entry = record { answer = Refused error; told = x } in f) told_is) made
+    receives now path bytes (inr (m, reads, (Ok true, emitted, is, (accepted, (mid, takes, made))))) =
+        moved old new (discovered_emitted path mid) _ e _ is made (taken mac now old mid path bytes m emitted reads m.class refl takes)
+    receives now path bytes (inr (m, reads, (Err error, emitted, is, (may, emitted_is, made)))) =
+        unmoved _ (quiet (Refused error)) (is ∙ ap (λ (x : Emitted). let f : Entry = record { answer = Refused error; emitted = x } in f) emitted_is) made
         (plain old old _ _ refl refl refl refl refl refl (inl refl) (inl refl) (λ q h. (let no : Refused error ≡ Flag true = h.3.3 in cc)) (λ at by n h. (let no : Refused error ≡ Flag true = h.3 in cc)))
 
-    moments : (now : ℕ) (r : Result (Unit {0}) IceError) (told : Told) → e ≡ record { answer = answer_by done r; told = told } → TimesOut mac now old s r told new t
+    moments : (now : ℕ) (r : Result (Unit {0}) IceError) (emitted : Emitted) → e ≡ record { answer = answer_by done r; emitted = emitted } → TimesOut mac now old s r emitted new t
         → FrameEffect old (HandleTimeout now) e new
-    moments now (Ok _) told is h = subst (λ (x : Entry). FrameEffect old (HandleTimeout now) x new) (sym is)
-        (moment_by mac now old new s t told (request_at now old) refl h)
-    moments now (Err error) told is (may, told_is, made, drawn) =
-        unmoved _ (quiet (Refused error)) (is ∙ ap (λ (x : Told). let f : Entry = record { answer = Refused error; told = x } in f) told_is) made
+    moments now (Ok _) emitted is h = subst (λ (x : Entry). FrameEffect old (HandleTimeout now) x new) (sym is)
+        (moment_by mac now old new s t emitted (request_at now old) refl h)
+    moments now (Err error) emitted is (may, emitted_is, made, drawn) =
+        unmoved _ (quiet (Refused error)) (is ∙ ap (λ (x : Emitted). let f : Entry = record { answer = Refused error; emitted = x } in f) emitted_is) made
         (record {
           provider = refl;
           tie_breaker = refl;
@@ -513,8 +513,8 @@ module _ {H P : Type 0} where
           recreated : Recreates old (Ok _) new → FrameEffect old RecreateCandidatePairs (quiet Done) new
           recreated (enough, forms) =
               alike old new _ Done (forms_alike (emptied old) new _ forms) refl refl refl refl (λ k. k) (λ k. inl k) (λ q h. absurd h.3) (λ at by m h. absurd h)
-    framed (ReceivePacket now way bytes) h = receives now way bytes h.0
-    framed (HandleTimeout now) (r, told, is, h) = moments now r told is h
+    framed (ReceivePacket now path bytes) h = receives now path bytes h.0
+    framed (HandleTimeout now) (r, emitted, is, h) = moments now r emitted is h
     framed PollTransmit (given, is, (polled, made), drawn) = moved old new (record old { packets = new.packets }) _ e _ is made
         (plain old (record old { packets = new.packets }) _ _ refl refl refl refl refl (given, refl, polled) (inl refl) (inl refl) (λ q h. absurd h.3) (λ at by m h. absurd h))
     framed PollTimeout (wake, is, h, drawn) = alike_done _ (Wake wake) is

@@ -6,7 +6,7 @@ use Rattle.std.proofs.lemmas.List.{length-append}
 use Rattle.is_proto.specs.Lists.{Has, places_where}
 use Rattle.is_candidate.specs.Candidates.{CandidateRecord, base_of, candidate_at, nowhere}
 use Rattle.is_pair.specs.Pairs.{PairRecord, undue}
-use Rattle.is_rules.specs.declared.told.Path.{Path}
+use Rattle.is_rules.specs.declared.emitted.Path.{Path}
 use Rattle.is_rules.specs.Agent.{AgentRecord}
 use Rattle.is_rules.specs.Forming.{Combination, live_places, is_alive, partners, is_partner, local_combinations, remote_combinations, live_row, live_combinations, sides_of, formed_of, FormsAll}
 use Rattle.is_rules.specs.Discarding.{discarded, change_place, is_local_at, is_remote_at, local_discarded, remote_discarded, InvalidatesAt}

@@ -27,24 +27,24 @@ use Rattle.is_rules.specs.declared.places.RemotePlace.{RemotePlace}
 use Rattle.is_rules.specs.declared.places.RemotePlace.TheVariants.{Known, Barred, Unknown}
 use Rattle.is_rules.specs.declared.roles.Conflict.{Conflict}
 use Rattle.is_rules.specs.declared.roles.Conflict.TheVariants.{Absent, Insists, Yields}
-use Rattle.is_rules.specs.declared.told.Issued as code
-use Rattle.is_rules.specs.declared.told.Path.{Path}
-use Rattle.is_rules.specs.declared.told.Told.{Told}
+use Rattle.is_rules.specs.declared.emitted.Issued as code
+use Rattle.is_rules.specs.declared.emitted.Path.{Path}
+use Rattle.is_rules.specs.declared.emitted.Emitted.{Emitted}
 use Rattle.is_rules.specs.Agent.{AgentRecord}
 use Rattle.is_rules.specs.Answers.{goes_back, keeps_check_on}
 use Rattle.is_rules.specs.Checking.{all_asked, check_message, check_sent, ChecksPair, ChecksTop, MayCheck}
 use Rattle.is_rules.specs.Delivery.{ChecksAreKept}
 use Rattle.is_rules.specs.Forming.{formed, with_pair}
-use Rattle.is_rules.specs.Issuing.{way_out}
+use Rattle.is_rules.specs.Issuing.{via_out}
 use Rattle.is_rules.specs.Places.{local_place}
 use Rattle.is_rules.specs.Queue.{request_at, first_taken}
 use Rattle.is_rules.specs.Request.{RequestRecord}
 use Rattle.is_rules.specs.Roles.{conflict_of, switched}
 use Rattle.is_rules.specs.Sending.{path_of}
-use Rattle.is_rules.specs.Serving.{is_misled, names_another, request_counted, with_sender, Drops, ServesPair, TakesAt, JoinsAt, Admits, SettlesBy, Settles, Serves}
+use Rattle.is_rules.specs.Serving.{is_misled, names_another, request_counted, with_sender, Drops, RecordsAndResponds, FindsOrAddsPair, AddsUnknownSender, CountsAndServes, ResolvesRoleConflictBy, ResolvesRoleConflict, Serves}
 use Rattle.is_rules.specs.Steps.{Entry, HandleTimeout, Step}
-use Rattle.is_rules.specs.Timeouts.{awake, Proceeds, ServesQueued, TimesOut}
-use Rattle.is_rules.specs.Told.{issued_alone, issued_as, turned}
+use Rattle.is_rules.specs.Timeouts.{timeout_begun, MaintainsPairs, ServesQueued, TimesOut}
+use Rattle.is_rules.specs.Emitted.{issued_only, issued_as, reversed}
 use Rattle.is_rules.proofs.EffectLaws.{path_law}
 use Rattle.is_rules.proofs.Frames.{either}
 use Rattle.is_rules.proofs.Names.{any_has}
@@ -62,8 +62,8 @@ pub same_self : (a : SocketAddr) → same_address a a ≡ true
 same_self (V4 a) = rw (bytes_same (ipv4_octets (v4_ip a)), number_same (v4_port a)) refl
 same_self (V6 a) = rw (bytes_same (ipv6_segments (v6_ip a)), number_same (v6_port a), number_same (v6_flowinfo a), number_same (v6_scope_id a)) refl
 
-pub back_again : (way : Path) → goes_back (turned way) way ≡ true
-back_again way = rw (same_self way.destination, same_self way.source) refl
+pub back_again : (via : Path) → goes_back (reversed via) via ≡ true
+back_again via = rw (same_self via.destination, same_self via.source) refl
 
 -- the last one is among the last n, where n is not 0
 Has-last : (cs : List Check) (c : Check) → Has (cs ++ c ∷ []) c
@@ -81,9 +81,9 @@ among_last n cs c some =
     let within : k ≤ length cs = omega (arith, long, some) in
     subst (λ l. Has l c) (sym (drop-append-le k cs (c ∷ []) within)) (Has-rear (drop k cs) (c ∷ []) c (inl refl))
 
-told_as : (way path : Path) (i j : List ℕ) → Some (issued_as way class.Request i) ≡ Some (issued_as path class.Request j) → (way ≡ path) × (i ≡ j)
-told_as way path i j h =
-    let same : issued_as way class.Request i ≡ issued_as path class.Request j = some_is _ _ h in
+emitted_as : (via path : Path) (i j : List ℕ) → Some (issued_as via class.Request i) ≡ Some (issued_as path class.Request j) → (via ≡ path) × (i ≡ j)
+emitted_as via path i j h =
+    let same : issued_as via class.Request i ≡ issued_as path class.Request j = some_is _ _ h in
     (ap (λ (x : code.Issued). x.path) same, ap (λ (x : code.Issued). x.id.0) same)
 
 -- the pair that was checked keeps the check
@@ -97,54 +97,54 @@ module _ {H P : Type 0} (mac : H → List ℕ → List ℕ → List ℕ) (answer
   -- ---- serving issues no check
 
   module _ (q : RequestRecord) where
-    abbrev NoCheck : Told → Type 0
-    NoCheck told = (way : Path) (id : List ℕ) → told.issued ≡ Some (issued_as way class.Request id) → ⊥
+    abbrev NoCheck : Emitted → Type 0
+    NoCheck emitted = (via : Path) (id : List ℕ) → emitted.issued ≡ Some (issued_as via class.Request id) → ⊥
 
-    dropped : (s new : AgentRecord H P) (told : Told) → Drops s told new → NoCheck told
-    dropped s new told (is, kept) way id out = let no : None ≡ Some (issued_as way class.Request id) = sym (ap (λ (t : Told). t.issued) is) ∙ out in cc
+    dropped : (s new : AgentRecord H P) (emitted : Emitted) → Drops s emitted new → NoCheck emitted
+    dropped s new emitted (is, kept) via id out = let no : None ≡ Some (issued_as via class.Request id) = sym (ap (λ (t : Emitted). t.issued) is) ∙ out in cc
 
-    other_class : (c : Class) (path way : Path) (i id : List ℕ) → Some (issued_as path c i) ≡ Some (issued_as way class.Request id) → c ≡ class.Request
-    other_class c path way i id h = ap (λ (x : code.Issued). x.class) (some_is _ _ h)
+    other_class : (c : Class) (path via : Path) (i id : List ℕ) → Some (issued_as path c i) ≡ Some (issued_as via class.Request id) → c ≡ class.Request
+    other_class c path via i id h = ap (λ (x : code.Issued). x.class) (some_is _ _ h)
 
-    at_pair : (l r number : ℕ) (s new : AgentRecord H P) (told : Told) → ServesPair mac q l r number s told new → NoCheck told
-    at_pair l r number s new told (path, mid, nominates, (values, is, made)) way id out =
-        let wrong : class.Success ≡ class.Request = other_class _ _ way _ id (sym (ap (λ (t : Told). t.issued) is) ∙ out) in cc
+    at_pair : (l r number : ℕ) (s new : AgentRecord H P) (emitted : Emitted) → RecordsAndResponds mac q l r number s emitted new → NoCheck emitted
+    at_pair l r number s new emitted (path, mid, nominates, (values, is, made)) via id out =
+        let wrong : class.Success ≡ class.Request = other_class _ _ via _ id (sym (ap (λ (t : Emitted). t.issued) is) ∙ out) in cc
 
-    takes_at : (l r : ℕ) (number : Option ℕ) (s new : AgentRecord H P) (told : Told) → TakesAt mac q l r number s told new → NoCheck told
-    takes_at l r (Some number) s new told h = at_pair l r number s new told h
-    takes_at l r None s new told h = either (candidate_at s.local l).discarded h (λ _ k. dropped s new told k) (λ _ k. at_pair l r s.next_number (with_pair (formed s l r) s) new told k.1)
+    takes_at : (l r : ℕ) (number : Option ℕ) (s new : AgentRecord H P) (emitted : Emitted) → FindsOrAddsPair mac q l r number s emitted new → NoCheck emitted
+    takes_at l r (Some number) s new emitted h = at_pair l r number s new emitted h
+    takes_at l r None s new emitted h = either (candidate_at s.local l).discarded h (λ _ k. dropped s new emitted k) (λ _ k. at_pair l r s.next_number (with_pair (formed s l r) s) new emitted k.1)
 
-    joins_at : (l : ℕ) (place : RemotePlace) (s new : AgentRecord H P) (told : Told) → JoinsAt mac q l place s told new → NoCheck told
-    joins_at l (Known r) s new told (number, between, h) = takes_at l r number s new told h
-    joins_at l Barred s new told h = dropped s new told h
-    joins_at l Unknown s new told (number, between, h) = takes_at l _ number (with_sender q s) new told h
+    joins_at : (l : ℕ) (place : RemotePlace) (s new : AgentRecord H P) (emitted : Emitted) → AddsUnknownSender mac q l place s emitted new → NoCheck emitted
+    joins_at l (Known r) s new emitted (number, between, h) = takes_at l r number s new emitted h
+    joins_at l Barred s new emitted h = dropped s new emitted h
+    joins_at l Unknown s new emitted (number, between, h) = takes_at l _ number (with_sender q s) new emitted h
 
-    admits : (l : ℕ) (s new : AgentRecord H P) (told : Told) → Admits mac q l s told new → NoCheck told
-    admits l s new told h = either (is_misled s.controlling q) h (λ _ k. dropped s new told k) (λ _ k. joins_at l k.0 (request_counted s) new told k.2)
+    admits : (l : ℕ) (s new : AgentRecord H P) (emitted : Emitted) → CountsAndServes mac q l s emitted new → NoCheck emitted
+    admits l s new emitted h = either (is_misled s.controlling q) h (λ _ k. dropped s new emitted k) (λ _ k. joins_at l k.0 (request_counted s) new emitted k.2)
 
-    insisted : (told : Told) → told ≡ issued_alone (turned q.path) class.Failure q.id → NoCheck told
-    insisted told is way id out =
-        let wrong : class.Failure ≡ class.Request = other_class class.Failure (turned q.path) way q.id id (sym (ap (λ (t : Told). t.issued) is) ∙ out) in cc
+    conflict_sent : (emitted : Emitted) → emitted ≡ issued_only (reversed q.path) class.Failure q.id → NoCheck emitted
+    conflict_sent emitted is via id out =
+        let wrong : class.Failure ≡ class.Request = other_class class.Failure (reversed q.path) via q.id id (sym (ap (λ (t : Emitted). t.issued) is) ∙ out) in cc
 
-    settles_by : (conflict : Conflict) (l : ℕ) (s new : AgentRecord H P) (told : Told) → SettlesBy mac conflict q l s told new → NoCheck told
-    settles_by Absent l s new told h = admits l s new told h
-    settles_by Insists l s new told (values, is, made) = insisted told is
-    settles_by Yields l s new told h = admits l (switched s) new told h
+    resolves_by : (conflict : Conflict) (l : ℕ) (s new : AgentRecord H P) (emitted : Emitted) → ResolvesRoleConflictBy mac conflict q l s emitted new → NoCheck emitted
+    resolves_by Absent l s new emitted h = admits l s new emitted h
+    resolves_by Insists l s new emitted (values, is, made) = conflict_sent emitted is
+    resolves_by Yields l s new emitted h = admits l (switched s) new emitted h
 
-    here : (place : Option ℕ) (s new : AgentRecord H P) (told : Told) → MatchOption place (Drops s told new) (λ l. Settles mac q l s told new) → NoCheck told
-    here None s new told h = dropped s new told h
-    here (Some l) s new told h = settles_by (conflict_of s q) l s new told h
+    here : (place : Option ℕ) (s new : AgentRecord H P) (emitted : Emitted) → MatchOption place (Drops s emitted new) (λ l. ResolvesRoleConflict mac q l s emitted new) → NoCheck emitted
+    here None s new emitted h = dropped s new emitted h
+    here (Some l) s new emitted h = resolves_by (conflict_of s q) l s new emitted h
 
-    serves : (s new : AgentRecord H P) (told : Told) → Serves mac q s told new → NoCheck told
-    serves s new told h = either (names_another s q) h (λ _ k. dropped s new told k) (λ _ k. here (local_place s.local q) s new told k)
+    serves : (s new : AgentRecord H P) (emitted : Emitted) → Serves mac q s emitted new → NoCheck emitted
+    serves s new emitted h = either (names_another s q) h (λ _ k. dropped s new emitted k) (λ _ k. here (local_place s.local q) s new emitted k)
 
   -- ---- the check that goes out
 
-  checked_pair : (now : ℕ) (remote : IceCreds) (p : PairRecord) (old sent : AgentRecord H P) (s t : Stream) (issued : Option code.Issued) (way : Path) (id : List ℕ)
-      → Has old.pairs p → 0 < sent.timing.max_retransmits → issued ≡ Some (issued_as way class.Request id)
-      → ChecksPair mac now remote p old s issued sent t → list_any (keeps_check_on sent (turned way) id) sent.pairs ≡ true
-  checked_pair now remote p old sent s t issued way id has some out (own, drawn, values, is, made) =
-      let same = told_as way (path_of old p) id own (sym out ∙ is) in
+  checked_pair : (now : ℕ) (remote : IceCreds) (p : PairRecord) (old sent : AgentRecord H P) (s t : Stream) (issued : Option code.Issued) (via : Path) (id : List ℕ)
+      → Has old.pairs p → 0 < sent.timing.max_retransmits → issued ≡ Some (issued_as via class.Request id)
+      → ChecksPair mac now remote p old s issued sent t → list_any (keeps_check_on sent (reversed via) id) sent.pairs ≡ true
+  checked_pair now remote p old sent s t issued via id has some out (own, drawn, values, is, made) =
+      let same = emitted_as via (path_of old p) id own (sym out ∙ is) in
       let after : PairRecord = checked now old.timing old.controlling own p in
       let some_old : 0 < old.timing.max_retransmits = subst (λ (a : AgentRecord H P). 0 < a.timing.max_retransmits) made some in
       let own_change : change_at p.number (checked now old.timing old.controlling own) p ≡ after =
@@ -152,67 +152,67 @@ module _ {H P : Type 0} (mac : H → List ℕ → List ℕ → List ℕ) (answer
       let stands : Has (change_pair p.number (checked now old.timing old.controlling own) old.pairs) after =
       subst (λ (x : PairRecord). Has (change_pair p.number (checked now old.timing old.controlling own) old.pairs) x) own_change
       (Has-mapped (change_at p.number (checked now old.timing old.controlling own)) old.pairs p has) in
-      let passes : keeps_check_on old (turned (path_of old p)) own after ≡ true =
+      let passes : keeps_check_on old (reversed (path_of old p)) own after ≡ true =
       rw (keeps_now now old.timing.max_retransmits p own old.controlling some_old, back_again (path_of old p)) refl in
-      let there : list_any (keeps_check_on (check_sent mac now remote p own old) (turned (path_of old p)) own) (check_sent mac now remote p own old).pairs ≡ true =
-      any_has (keeps_check_on old (turned (path_of old p)) own) (change_pair p.number (checked now old.timing old.controlling own) old.pairs) after stands passes in
-      subst (λ (a : AgentRecord H P). list_any (keeps_check_on a (turned way) id) a.pairs ≡ true) (sym made)
-      (subst (λ w. list_any (keeps_check_on (check_sent mac now remote p own old) (turned w) id) (check_sent mac now remote p own old).pairs ≡ true) (sym same.0)
-      (subst (λ i. list_any (keeps_check_on (check_sent mac now remote p own old) (turned (path_of old p)) i) (check_sent mac now remote p own old).pairs ≡ true) (sym same.1) there))
+      let there : list_any (keeps_check_on (check_sent mac now remote p own old) (reversed (path_of old p)) own) (check_sent mac now remote p own old).pairs ≡ true =
+      any_has (keeps_check_on old (reversed (path_of old p)) own) (change_pair p.number (checked now old.timing old.controlling own) old.pairs) after stands passes in
+      subst (λ (a : AgentRecord H P). list_any (keeps_check_on a (reversed via) id) a.pairs ≡ true) (sym made)
+      (subst (λ w. list_any (keeps_check_on (check_sent mac now remote p own old) (reversed w) id) (check_sent mac now remote p own old).pairs ≡ true) (sym same.0)
+      (subst (λ i. list_any (keeps_check_on (check_sent mac now remote p own old) (reversed (path_of old p)) i) (check_sent mac now remote p own old).pairs ≡ true) (sym same.1) there))
 
-  none_out : {A : Type 0} (issued : Option code.Issued) (way : Path) (id : List ℕ) → issued ≡ None → issued ≡ Some (issued_as way class.Request id) → A
-  none_out issued way id none out = absurd (let no : None ≡ Some (issued_as way class.Request id) = sym none ∙ out in cc)
+  none_out : {A : Type 0} (issued : Option code.Issued) (via : Path) (id : List ℕ) → issued ≡ None → issued ≡ Some (issued_as via class.Request id) → A
+  none_out issued via id none out = absurd (let no : None ≡ Some (issued_as via class.Request id) = sym none ∙ out in cc)
 
-  may_check : (now : ℕ) (remote : Option IceCreds) (old sent : AgentRecord H P) (s t : Stream) (issued : Option code.Issued) (way : Path) (id : List ℕ)
-      → 0 < sent.timing.max_retransmits → issued ≡ Some (issued_as way class.Request id)
-      → MayCheck mac now remote old s issued sent t → list_any (keeps_check_on sent (turned way) id) sent.pairs ≡ true
-  may_check now None old sent s t issued way id some out h = none_out issued way id h.0 out
-  may_check now (Some remote) old sent s t issued way id some out h = either old.lite h
-      (λ _ k. none_out issued way id k.0 out)
+  may_check : (now : ℕ) (remote : Option IceCreds) (old sent : AgentRecord H P) (s t : Stream) (issued : Option code.Issued) (via : Path) (id : List ℕ)
+      → 0 < sent.timing.max_retransmits → issued ≡ Some (issued_as via class.Request id)
+      → MayCheck mac now remote old s issued sent t → list_any (keeps_check_on sent (reversed via) id) sent.pairs ≡ true
+  may_check now None old sent s t issued via id some out h = none_out issued via id h.0 out
+  may_check now (Some remote) old sent s t issued via id some out h = either old.lite h
+      (λ _ k. none_out issued via id k.0 out)
       (λ _ k. next k.0 k.1 k.2) where
         next : (top : Option PairRecord) → IsNextDue now old.timing (all_asked now old).pairs top → ChecksTop mac now remote top (all_asked now old) s issued sent t
-            → list_any (keeps_check_on sent (turned way) id) sent.pairs ≡ true
-        next None due h = none_out issued way id h.0 out
-        next (Some p) due h = checked_pair now remote p (all_asked now old) sent s t issued way id due.0.0 some out h
+            → list_any (keeps_check_on sent (reversed via) id) sent.pairs ≡ true
+        next None due h = none_out issued via id h.0 out
+        next (Some p) due h = checked_pair now remote p (all_asked now old) sent s t issued via id due.0.0 some out h
 
   pub checks-are-kept : ChecksAreKept mac answers
   checks-are-kept a sent s t now check id e sound step sends =
       let some : 0 < sent.timing.max_retransmits = (path_law mac answers a sent s t (HandleTimeout now) e sound tt step).1.checks in
-      by some step.0 step.1 (ap (λ (x : Entry). x.told) step.2) step.3 where
+      by some step.0 step.1 (ap (λ (x : Entry). x.emitted) step.2) step.3 where
         Kept : Type 0
-        Kept = list_any (keeps_check_on sent (turned (way_out check)) id) sent.pairs ≡ true
+        Kept = list_any (keeps_check_on sent (reversed (via_out check)) id) sent.pairs ≡ true
 
-        moment : (some : 0 < sent.timing.max_retransmits) (told : Told) → e.told ≡ told → (o : Option RequestRecord)
-            → MatchOption o (Proceeds mac now (awake now a) s told sent t) (λ q. ServesQueued mac q (awake now a) s told sent t) → Kept
-        moment some told is None (first, second, issued, named, kept, nominating, giving, checking, told_is) =
-            may_check now kept.remote_creds kept sent s t issued (way_out check) id some
-            (sym (ap (λ (x : Told). x.issued) told_is) ∙ sym (ap (λ (x : Told). x.issued) is) ∙ sends.told) checking
-        moment some told is (Some q) (serving, drawn) =
-            absurd (serves q (first_taken (awake now a)) sent told serving (way_out check) id (sym (ap (λ (x : Told). x.issued) is) ∙ sends.told))
+        moment : (some : 0 < sent.timing.max_retransmits) (emitted : Emitted) → e.emitted ≡ emitted → (o : Option RequestRecord)
+            → MatchOption o (MaintainsPairs mac now (timeout_begun now a) s emitted sent t) (λ q. ServesQueued mac q (timeout_begun now a) s emitted sent t) → Kept
+        moment some emitted is None (first, second, issued, named, kept, nominating, giving, checking, emitted_is) =
+            may_check now kept.remote_creds kept sent s t issued (via_out check) id some
+            (sym (ap (λ (x : Emitted). x.issued) emitted_is) ∙ sym (ap (λ (x : Emitted). x.issued) is) ∙ sends.emitted) checking
+        moment some emitted is (Some q) (serving, drawn) =
+            absurd (serves q (first_taken (timeout_begun now a)) sent emitted serving (via_out check) id (sym (ap (λ (x : Emitted). x.issued) is) ∙ sends.emitted))
 
-        by : (some : 0 < sent.timing.max_retransmits) (r : Result (Unit {0}) IceError) (told : Told) → e.told ≡ told → TimesOut mac now a s r told sent t → Kept
-        by some (Ok done) told is h = moment some told is (request_at now a) h
-        by some (Err error) told is h =
-            none_out e.told.issued (way_out check) id (ap (λ (x : Told). x.issued) (is ∙ h.1)) sends.told
+        by : (some : 0 < sent.timing.max_retransmits) (r : Result (Unit {0}) IceError) (emitted : Emitted) → e.emitted ≡ emitted → TimesOut mac now a s r emitted sent t → Kept
+        by some (Ok done) emitted is h = moment some emitted is (request_at now a) h
+        by some (Err error) emitted is h =
+            none_out e.emitted.issued (via_out check) id (ap (λ (x : Emitted). x.issued) (is ∙ h.1)) sends.emitted
 
   -- what it says
-  pub record Checks (now : ℕ) (way : Path) (id : List ℕ) (sent : AgentRecord H P) : Type 0 where
+  pub record Checks (now : ℕ) (via : Path) (id : List ℕ) (sent : AgentRecord H P) : Type 0 where
     pub old : AgentRecord H P
     pub remote : IceCreds
     pub pair : PairRecord
     pub has : Has old.pairs pair
     pub known : old.remote_creds ≡ Some remote
-    pub path : path_of old pair ≡ way
+    pub path : path_of old pair ≡ via
     pub put : IsPut (written (mac old.provider) (Some remote.pass) (check_message old remote pair id)) (check_message old remote pair id)
     pub made : sent ≡ check_sent mac now remote pair id old
 
-  pub checks-as : (a sent : AgentRecord H P) (s t : Stream) (now : ℕ) (way : Path) (id : List ℕ) (e : Entry) → e.told.issued ≡ Some (issued_as way class.Request id)
-      → Step mac answers a s (HandleTimeout now) e sent t → Checks now way id sent
-  checks-as a sent s t now way id e out step = by step.0 step.1 (ap (λ (x : Entry). x.told) step.2) step.3 where
+  pub checks-as : (a sent : AgentRecord H P) (s t : Stream) (now : ℕ) (via : Path) (id : List ℕ) (e : Entry) → e.emitted.issued ≡ Some (issued_as via class.Request id)
+      → Step mac answers a s (HandleTimeout now) e sent t → Checks now via id sent
+  checks-as a sent s t now via id e out step = by step.0 step.1 (ap (λ (x : Entry). x.emitted) step.2) step.3 where
     pair_checked : (remote : IceCreds) (p : PairRecord) (old : AgentRecord H P) (issued : Option code.Issued) → Has old.pairs p → old.remote_creds ≡ Some remote
-        → issued ≡ Some (issued_as way class.Request id) → ChecksPair mac now remote p old s issued sent t → Checks now way id sent
-    pair_checked remote p old issued has known told (own, drawn, put, is, made) =
-        let same = told_as way (path_of old p) id own (sym told ∙ is) in
+        → issued ≡ Some (issued_as via class.Request id) → ChecksPair mac now remote p old s issued sent t → Checks now via id sent
+    pair_checked remote p old issued has known emitted (own, drawn, put, is, made) =
+        let same = emitted_as via (path_of old p) id own (sym emitted ∙ is) in
         record {
           old = old;
           remote = remote;
@@ -224,23 +224,23 @@ module _ {H P : Type 0} (mac : H → List ℕ → List ℕ → List ℕ) (answer
           made = made ∙ ap (λ i. check_sent mac now remote p i old) (sym same.1);
         }
 
-    checked : (remote : Option IceCreds) (old : AgentRecord H P) (issued : Option code.Issued) → old.remote_creds ≡ remote → issued ≡ Some (issued_as way class.Request id)
-        → MayCheck mac now remote old s issued sent t → Checks now way id sent
-    checked None old issued known told h = none_out issued way id h.0 told
-    checked (Some remote) old issued known told h = either old.lite h
-        (λ _ k. none_out issued way id k.0 told)
+    checked : (remote : Option IceCreds) (old : AgentRecord H P) (issued : Option code.Issued) → old.remote_creds ≡ remote → issued ≡ Some (issued_as via class.Request id)
+        → MayCheck mac now remote old s issued sent t → Checks now via id sent
+    checked None old issued known emitted h = none_out issued via id h.0 emitted
+    checked (Some remote) old issued known emitted h = either old.lite h
+        (λ _ k. none_out issued via id k.0 emitted)
         (λ _ k. next k.0 k.1 k.2) where
-          next : (top : Option PairRecord) → IsNextDue now old.timing (all_asked now old).pairs top → ChecksTop mac now remote top (all_asked now old) s issued sent t → Checks now way id sent
-          next None due k = none_out issued way id k.0 told
-          next (Some p) due k = pair_checked remote p (all_asked now old) issued due.0.0 known told k
+          next : (top : Option PairRecord) → IsNextDue now old.timing (all_asked now old).pairs top → ChecksTop mac now remote top (all_asked now old) s issued sent t → Checks now via id sent
+          next None due k = none_out issued via id k.0 emitted
+          next (Some p) due k = pair_checked remote p (all_asked now old) issued due.0.0 known emitted k
 
-    moment : (told : Told) → e.told ≡ told → (o : Option RequestRecord)
-        → MatchOption o (Proceeds mac now (awake now a) s told sent t) (λ q. ServesQueued mac q (awake now a) s told sent t) → Checks now way id sent
-    moment told is None (first, second, issued, named, kept, nominating, giving, checking, told_is) =
-        checked kept.remote_creds kept issued refl (sym (ap (λ (x : Told). x.issued) told_is) ∙ sym (ap (λ (x : Told). x.issued) is) ∙ out) checking
-    moment told is (Some q) (serving, drawn) =
-        absurd (serves q (first_taken (awake now a)) sent told serving way id (sym (ap (λ (x : Told). x.issued) is) ∙ out))
+    moment : (emitted : Emitted) → e.emitted ≡ emitted → (o : Option RequestRecord)
+        → MatchOption o (MaintainsPairs mac now (timeout_begun now a) s emitted sent t) (λ q. ServesQueued mac q (timeout_begun now a) s emitted sent t) → Checks now via id sent
+    moment emitted is None (first, second, issued, named, kept, nominating, giving, checking, emitted_is) =
+        checked kept.remote_creds kept issued refl (sym (ap (λ (x : Emitted). x.issued) emitted_is) ∙ sym (ap (λ (x : Emitted). x.issued) is) ∙ out) checking
+    moment emitted is (Some q) (serving, drawn) =
+        absurd (serves q (first_taken (timeout_begun now a)) sent emitted serving via id (sym (ap (λ (x : Emitted). x.issued) is) ∙ out))
 
-    by : (r : Result (Unit {0}) IceError) (told : Told) → e.told ≡ told → TimesOut mac now a s r told sent t → Checks now way id sent
-    by (Ok done) told is h = moment told is (request_at now a) h
-    by (Err error) told is h = none_out e.told.issued way id (ap (λ (x : Told). x.issued) (is ∙ h.1)) out
+    by : (r : Result (Unit {0}) IceError) (emitted : Emitted) → e.emitted ≡ emitted → TimesOut mac now a s r emitted sent t → Checks now via id sent
+    by (Ok done) emitted is h = moment emitted is (request_at now a) h
+    by (Err error) emitted is h = none_out e.emitted.issued via id (ap (λ (x : Emitted). x.issued) (is ∙ h.1)) out

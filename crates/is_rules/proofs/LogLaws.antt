@@ -11,11 +11,11 @@ use Rattle.is_pair.specs.Checks.{Check}
 use Rattle.is_stun.specs.declared.header.Class.TheVariants as class
 use Rattle.is_stun.specs.Message.{Message}
 use Rattle.is_stun.specs.Integrity.{IsSignedBy}
-use Rattle.is_rules.specs.declared.told.Issued.{Issued}
-use Rattle.is_rules.specs.declared.told.Path.{Path}
+use Rattle.is_rules.specs.declared.emitted.Issued.{Issued}
+use Rattle.is_rules.specs.declared.emitted.Path.{Path}
 use Rattle.is_rules.specs.Request.{RequestRecord}
 use Rattle.is_rules.specs.Steps.{Entry}
-use Rattle.is_rules.specs.Told.{turned}
+use Rattle.is_rules.specs.Emitted.{reversed}
 use Rattle.is_rules.specs.Agent.{AgentRecord}
 use Rattle.is_pair.specs.Bag.{is_numbered, pair_numbered}
 use Rattle.is_rules.specs.Sending.{path_of}
@@ -33,9 +33,9 @@ use Rattle.is_rules.proofs.Bags.{among_by_counts}
 use Rattle.is_rules.proofs.PathLaws.{below_is}
 
 -- a truth value, with what it is
-told_apart : {A : Type 0} (b : Bool) → (b ≡ true → A) → (b ≡ false → A) → A
-told_apart true f g = f refl
-told_apart false f g = g refl
+emitted_apart : {A : Type 0} (b : Bool) → (b ≡ true → A) → (b ≡ false → A) → A
+emitted_apart true f g = f refl
+emitted_apart false f g = g refl
 
 true_false : {A : Type 0} (b : Bool) → b ≡ true → b ≡ false → A
 true_false b h k = let wrong : true ≡ false = sym h ∙ k in absurd (cc)
@@ -79,9 +79,9 @@ module _ {H P : Type 0} (mac : H → List ℕ → List ℕ → List ℕ) (answer
     pub lite_is : NeverLite log → a.lite ≡ false
     pub sent : (path : Path) (id : List ℕ) (controlling : Bool) → IsKept a path id controlling → IsSent log path id
     pub valid : NeverLite log → (path : Path) → IsValidOn a path → Answered mac provider log path
-    pub queued : (q : RequestRecord) → Has a.queue q → q.use_candidate ≡ true → AskedFor log (turned q.path)
+    pub queued : (q : RequestRecord) → Has a.queue q → q.use_candidate ≡ true → AskedFor log (reversed q.path)
     -- the announced number names a pair that was announced last
-    pub named : (p : PairRecord) → Has a.pairs p → a.announced ≡ Some p.number → (is_valid p ≡ true) × (is_nominated p ≡ true) × (last_announced log ≡ Some (path_of a p))
+    pub named : (p : PairRecord) → Has a.pairs p → a.selected_pair ≡ Some p.number → (is_valid p ≡ true) × (is_nominated p ≡ true) × (last_announced log ≡ Some (path_of a p))
 
   fresh_holds : (first : AgentRecord H P) → IsFresh first → Holds first.provider [] first
   fresh_holds first (creds, tie, is) = subst (λ (a : AgentRecord H P). Holds first.provider [] a) (sym is) (record {
@@ -113,36 +113,36 @@ module _ {H P : Type 0} (mac : H → List ℕ → List ℕ → List ℕ) (answer
       back,
     )
 
-    asks_at : (at : ℕ) (by : Path) (m : Message) → Brings x.call x.entry at by m → m.class ≡ class.Request → m.attributes.use_candidate ≡ true → AsksAt x (turned by)
+    asks_at : (at : ℕ) (by : Path) (m : Message) → Brings x.call x.entry at by m → m.class ≡ class.Request → m.attributes.use_candidate ≡ true → AsksAt x (reversed by)
     asks_at at by m brings request uses = (at, by, m, brings, (f.accepted at by m brings).0, request, uses, refl)
 
-    queued_asks : (q : RequestRecord) → Has old.queue q ⊎ IsBrought x.call x.entry q → q.use_candidate ≡ true → AskedFor (x ∷ before) (turned q.path)
+    queued_asks : (q : RequestRecord) → Has old.queue q ⊎ IsBrought x.call x.entry q → q.use_candidate ≡ true → AskedFor (x ∷ before) (reversed q.path)
     queued_asks q (inl was) uses = inr (h.queued q was uses)
     queued_asks q (inr (at, by, m, brings, request, is)) uses =
-        inl (subst (λ (y : RequestRecord). AsksAt x (turned y.path)) (sym is) (asks_at at by m brings request (ap (λ (y : RequestRecord). y.use_candidate) (sym is) ∙ uses)))
+        inl (subst (λ (y : RequestRecord). AsksAt x (reversed y.path)) (sym is) (asks_at at by m brings request (ap (λ (y : RequestRecord). y.use_candidate) (sym is) ∙ uses)))
 
     asked_now : (path : Path) → IsAskedFor old x.call x.entry path → AskedFor (x ∷ before) path
     asked_now path (q, serving, uses, on) = subst (λ p. AskedFor (x ∷ before) p) on (queued_asks q (f.serves q serving) uses)
 
-    old_below : (n : ℕ) → old.announced ≡ Some n → n < old.next_number
-    old_below n is = below_is old.next_number n old.announced h.sound.announced is
+    old_below : (n : ℕ) → old.selected_pair ≡ Some n → n < old.next_number
+    old_below n is = below_is old.next_number n old.selected_pair h.sound.announced is
 
     -- the announced number names no pair behind a clear
-    none_named : clears_at x ≡ true → (p : PairRecord) → Has new.pairs p → old.announced ≡ Some p.number → ⊥
+    none_named : clears_at x ≡ true → (p : PairRecord) → Has new.pairs p → old.selected_pair ≡ Some p.number → ⊥
     none_named clear p has is =
         let lt : p.number < old.next_number = old_below p.number is in
         let le : old.next_number ≤ p.number = (f.cleared_pairs clear p has).0 in
         omega (arith, lt, le)
 
-    held_named : (o : Option Path) → last_of x.entry.told.announced ≡ o → (p : PairRecord) → Has new.pairs p → new.announced ≡ Some p.number
+    held_named : (o : Option Path) → last_of x.entry.emitted.announced ≡ o → (p : PairRecord) → Has new.pairs p → new.selected_pair ≡ Some p.number
         → (is_valid p ≡ true) × (is_nominated p ≡ true) × (last_announced (x ∷ before) ≡ Some (path_of new p))
     held_named (Some path) is p has named =
         let k = f.number_names path is p has named in
         (k.1, k.2, ap (λ o. option_or o (if clears_at x then None else last_announced before)) is ∙ ap Some (sym k.0))
     held_named None is p has named =
-        let was : old.announced ≡ Some p.number = sym (f.number_stays is) ∙ named in
-        told_apart (clears_at x) (λ clear. absurd (none_named clear p has was)) (λ kept. stands kept was) where
-          stands : clears_at x ≡ false → old.announced ≡ Some p.number
+        let was : old.selected_pair ≡ Some p.number = sym (f.number_stays is) ∙ named in
+        emitted_apart (clears_at x) (λ clear. absurd (none_named clear p has was)) (λ kept. stands kept was) where
+          stands : clears_at x ≡ false → old.selected_pair ≡ Some p.number
               → (is_valid p ≡ true) × (is_nominated p ≡ true) × (last_announced (x ∷ before) ≡ Some (path_of new p))
           stands kept was = elim (f.numbers p has) [
             | inl (q, there, number, path, valid, nominated) ↦ (
@@ -167,14 +167,14 @@ module _ {H P : Type 0} (mac : H → List ℕ → List ℕ → List ℕ) (answer
       provider_is = f.provider ∙ h.provider_is;
       remote_is = f.remote_creds ∙ ap (λ r. remote_after x.call x.entry.answer r) h.remote_is;
       lite_is = λ never_lite. f.lite ∙ ap (λ l. lite_set_by x.call l) (lite_before never_lite) ∙ never_lite.0;
-      sent = λ path id role k. told_apart (clears_at x)
+      sent = λ path id role k. emitted_apart (clears_at x)
           (λ clear. absurd (no_checks k.0.checks k.1 k.3 (f.cleared_pairs clear k.0 k.2).3))
           (λ kept. elim (f.checks path id role k) [ inl was ↦ inr (kept, h.sent path id role was) | inr out ↦ inl out.0 ]);
-      valid = λ never_lite path k. told_apart (clears_at x)
+      valid = λ never_lite path k. emitted_apart (clears_at x)
           (λ clear. true_false (is_valid k.0) k.2 (f.cleared_pairs clear k.0 k.1).1)
           (λ kept. elim (f.valid (lite_before never_lite) path k) [ inl was ↦ inr (kept, h.valid never_lite.1 path was) | inr now ↦ inl (answers_at path now) ]);
       queued = λ q has uses. queued_asks q (f.queue q has) uses;
-      named = held_named (last_of x.entry.told.announced) refl;
+      named = held_named (last_of x.entry.emitted.announced) refl;
     }
 
   -- ---- runs
@@ -198,24 +198,24 @@ module _ {H P : Type 0} (mac : H → List ℕ → List ℕ → List ℕ) (answer
   eligible false p v n = ap (λ b. b && is_nominated p) v ∙ n
 
   -- the pair that the announced number names
-  stands_with : (priority : ℕ) (a : AgentRecord H P) → stands_at a.announced priority a.pairs ≡ true → (p : PairRecord) × Has a.pairs p × (a.announced ≡ Some p.number) × (p.priority ≡ priority)
-  stands_with priority a h = by a.announced refl h where
-    at : (n : ℕ) (o : Option PairRecord) → pair_numbered n a.pairs ≡ o → a.announced ≡ Some n → option_map_or (λ (p : PairRecord). p.priority == priority) o false ≡ true
-        → (p : PairRecord) × Has a.pairs p × (a.announced ≡ Some p.number) × (p.priority ≡ priority)
+  stands_with : (priority : ℕ) (a : AgentRecord H P) → stands_at a.selected_pair priority a.pairs ≡ true → (p : PairRecord) × Has a.pairs p × (a.selected_pair ≡ Some p.number) × (p.priority ≡ priority)
+  stands_with priority a h = by a.selected_pair refl h where
+    at : (n : ℕ) (o : Option PairRecord) → pair_numbered n a.pairs ≡ o → a.selected_pair ≡ Some n → option_map_or (λ (p : PairRecord). p.priority == priority) o false ≡ true
+        → (p : PairRecord) × Has a.pairs p × (a.selected_pair ≡ Some p.number) × (p.priority ≡ priority)
     at n None is named h = let no : false ≡ true = h in absurd (cc)
     at n (Some p) is named h =
         let k = found_in (is_numbered n) a.pairs p is in
         (p, k.0, named ∙ ap Some (sym (eqb-true p.number n k.1)), eqb-true p.priority priority h)
 
-    by : (o : Option ℕ) → a.announced ≡ o → option_map_or (λ (p : PairRecord). p.priority == priority) (option_and_then (λ number. pair_numbered number a.pairs) o) false ≡ true
-        → (p : PairRecord) × Has a.pairs p × (a.announced ≡ Some p.number) × (p.priority ≡ priority)
+    by : (o : Option ℕ) → a.selected_pair ≡ o → option_map_or (λ (p : PairRecord). p.priority == priority) (option_and_then (λ number. pair_numbered number a.pairs) o) false ≡ true
+        → (p : PairRecord) × Has a.pairs p × (a.selected_pair ≡ Some p.number) × (p.priority ≡ priority)
     by None is h = let no : false ≡ true = h in absurd (cc)
     by (Some n) is h = at n (pair_numbered n a.pairs) refl is h
 
   -- what is asked for is nominated
   asking : (mid : AgentRecord H P) (call : Call P) (entry : Entry) (at : ℕ) (by : Path) (m : Message) → Brings call entry at by m → m.attributes.use_candidate ≡ true
       → (q : RequestRecord) → IsServing mid call entry q → q.use_candidate ≡ true
-  asking mid (ReceivePacket now way bytes) entry at by m brings uses q (at2, by2, m2, brings2, request, known, is) =
+  asking mid (ReceivePacket now path bytes) entry at by m brings uses q (at2, by2, m2, brings2, request, known, is) =
       ap (λ (y : RequestRecord). y.use_candidate) is ∙ (ap (λ (n : Message). n.attributes.use_candidate) (brings2.2.spelled ∙ sym brings.2.spelled) ∙ uses)
   asking mid _ entry at by m brings uses q serving = absurd brings
 
@@ -266,8 +266,8 @@ module _ {H P : Type 0} (mac : H → List ℕ → List ℕ → List ℕ) (answer
         let h = holds before mid u run in
         let f = (law mid last u t x.call x.entry h.sound based step).0 in
         let past : count test (replies before) + owed test mid.queue ≤ count test (requests before) = replies_owed before mid u run test in
-        let now : count test (reply_of x.entry.told.issued) + owed test last.queue ≤ owed test mid.queue + count test (request_of x.call x.entry.answer) = f.owed test in
-        let a : count test (reply_of x.entry.told.issued ++ replies before) ≡ count test (reply_of x.entry.told.issued) + count test (replies before) = count-append test _ (replies before) in
+        let now : count test (reply_of x.entry.emitted.issued) + owed test last.queue ≤ owed test mid.queue + count test (request_of x.call x.entry.answer) = f.owed test in
+        let a : count test (reply_of x.entry.emitted.issued ++ replies before) ≡ count test (reply_of x.entry.emitted.issued) + count test (replies before) = count-append test _ (replies before) in
         let b : count test (request_of x.call x.entry.answer ++ requests before) ≡ count test (request_of x.call x.entry.answer) + count test (requests before) = count-append test _ (requests before) in
         omega (arith, past, now, a, b)
 
@@ -284,7 +284,7 @@ module _ {H P : Type 0} (mac : H → List ℕ → List ℕ → List ℕ) (answer
       never_lite_before never_lite = never_lite_to point.rest before x (subst (λ (l : List (Logged P)). NeverLite l) point.split never_lite)
 
       -- each announced path is answered
-      answered : NeverLite log → (path : Path) → Has x.entry.told.announced (Some path) → IsAnsweredBy mac first.provider x before path
+      answered : NeverLite log → (path : Path) → Has x.entry.emitted.announced (Some path) → IsAnsweredBy mac first.provider x before path
       answered never_lite path has =
           let never = (never_lite_before never_lite).1 in
           elim (effect.announced (held.lite_is never) path has) [
@@ -294,11 +294,11 @@ module _ {H P : Type 0} (mac : H → List ℕ → List ℕ → List ℕ) (answer
 
       -- and asked for
       asked_for : NeverLite log → IsControlledSince mac answers first s (x ∷ before) after point.behind (run_to mac answers first s log before mid x after point)
-          → (path : Path) → Has x.entry.told.announced (Some path) → AskedFor (x ∷ before) path
+          → (path : Path) → Has x.entry.emitted.announced (Some path) → AskedFor (x ∷ before) path
       asked_for never_lite controlled path has =
           let never = (never_lite_before never_lite).1 in
           elim controlled.1 [
-            | inl clear ↦ absurd (no_paths path (subst (λ told. Has told.announced (Some path)) (effect.cleared clear) has))
+            | inl clear ↦ absurd (no_paths path (subst (λ emitted. Has emitted.announced (Some path)) (effect.cleared clear) has))
             | inr since ↦ elim (effect.announced_asked (held.lite_is never) (now_controlled first s before mid point.at point.led since) controlled.0 path has) [
               | inl was ↦ inr (nominated_asked before mid point.at never point.led since path was)
               | inr now ↦ asked_now first.provider x before mid after held effect path now
@@ -311,7 +311,7 @@ module _ {H P : Type 0} (mac : H → List ℕ → List ℕ → List ℕ) (answer
           (holds (x ∷ before) after point.behind (run_to mac answers first s log before mid x after point)) (effect.points nominates)
 
       nominated : (at : ℕ) (by : Path) (m : Message) (issued : Issued) → Brings x.call x.entry at by m → m.attributes.use_candidate ≡ true
-          → x.entry.told.issued ≡ Some issued → issued.class ≡ class.Success → after.controlling ≡ false → IsNominatedOn after issued.path
+          → x.entry.emitted.issued ≡ Some issued → issued.class ≡ class.Success → after.controlling ≡ false → IsNominatedOn after issued.path
       nominated at by m issued brings uses is success controlled =
           let k = effect.replied issued is success in
           subst (λ (i : Issued). IsNominatedOn after i.path) (sym k.2) (k.3 (asking mid x.call x.entry at by m brings uses k.0 k.1) controlled)

@@ -5,7 +5,7 @@ use Rattle.is_proto.specs.Packets.{Packet}
 use Rattle.is_proto.specs.declared.error.IceError.{IceError}
 use Rattle.is_candidate.specs.Candidates.{CandidateRecord}
 use Rattle.is_pair.specs.Due.{asked}
-use Rattle.is_rules.specs.declared.told.Told.{Told}
+use Rattle.is_rules.specs.declared.emitted.Emitted.{Emitted}
 use Rattle.is_rules.specs.Agent.{AgentRecord}
 use Rattle.is_rules.specs.Polls.{IsPolled, PollsTimeout, WakesFrom, is_waiting, is_idle}
 use Rattle.is_rules.specs.Timeouts.{TimesOut}
@@ -101,9 +101,9 @@ module _ {H P : Type 0} where
     -- ---- packets that were taken
 
     pub poll-keeps : (call : Call P) (e : Entry) (old new : AgentRecord H P) (s t : Stream) → is_poll call ≡ true → Step mac answers old s call e new t → old.packets ≡ [] → new.packets ≡ []
-    poll-keeps PollTransmit e old new s t is (given, told, (polled, made), drawn) none = none-still given old.packets new.packets polled none
-    poll-keeps PollTimeout e old new s t is (wake, told, woken, drawn) none = wakes-keep old.last_moment wake old new woken ∙ none
-    poll-keeps PollEvent e old new s t is (given, told, (polled, made), drawn) none = ap (λ (a : AgentRecord H P). a.packets) made ∙ none
+    poll-keeps PollTransmit e old new s t is (given, emitted, (polled, made), drawn) none = none-still given old.packets new.packets polled none
+    poll-keeps PollTimeout e old new s t is (wake, emitted, woken, drawn) none = wakes-keep old.last_moment wake old new woken ∙ none
+    poll-keeps PollEvent e old new s t is (given, emitted, (polled, made), drawn) none = ap (λ (a : AgentRecord H P). a.packets) made ∙ none
     poll-keeps _ e old new s t is step none = no-case is
 
     pub all-taken : (first last : AgentRecord H P) (s t : Stream) (log : List (Logged P)) → Run mac answers first s log last t → AreTaken log → last.packets ≡ []
@@ -111,32 +111,32 @@ module _ {H P : Type 0} where
     all-taken first last s t (x ∷ before) (mid, u, run, number, based, step) (inl (call, answer)) =
         gone (subst (λ (c : Call P). Step mac answers mid u c x.entry last t) call step) where
           gone : Step mac answers mid u PollTransmit x.entry last t → last.packets ≡ []
-          gone (given, told, (polled, made), drawn) =
-              none-left given mid.packets last.packets polled (polled-is given None (let is = answer in let was = ap (λ (e : Entry). e.answer) told in cc))
+          gone (given, emitted, (polled, made), drawn) =
+              none-left given mid.packets last.packets polled (polled-is given None (let is = answer in let was = ap (λ (e : Entry). e.answer) emitted in cc))
     all-taken first last s t (x ∷ before) (mid, u, run, number, based, step) (inr (poll, taken)) =
         poll-keeps x.call x.entry mid last u t poll step (all-taken first mid s u before run taken)
 
     -- ---- turns
 
     pub asked-for : (old new : AgentRecord H P) (s t : Stream) (e : Entry) (wake : ℕ) → e.answer ≡ Wake (Some wake) → Step mac answers old s PollTimeout e new t → PollsTimeout old (Some wake) new
-    asked-for old new s t e wake woken (told, shown, polls, drawn) =
-        subst (λ (o : Option ℕ). PollsTimeout old o new) (wake-is told (Some wake) (sym (ap (λ (x : Entry). x.answer) shown) ∙ woken)) polls
+    asked-for old new s t e wake woken (emitted, shown, polls, drawn) =
+        subst (λ (o : Option ℕ). PollsTimeout old o new) (wake-is emitted (Some wake) (sym (ap (λ (x : Entry). x.answer) shown) ∙ woken)) polls
 
-    pub passed : (old new : AgentRecord H P) (s t : Stream) (now : ℕ) (e : Entry) → e.answer ≡ Done → Step mac answers old s (HandleTimeout now) e new t → TimesOut mac now old s (Ok tt) e.told new t
-    passed old new s t now e is_done (res, told, is, times) =
+    pub passed : (old new : AgentRecord H P) (s t : Stream) (now : ℕ) (e : Entry) → e.answer ≡ Done → Step mac answers old s (HandleTimeout now) e new t → TimesOut mac now old s (Ok tt) e.emitted new t
+    passed old new s t now e is_done (res, emitted, is, times) =
         let good : res ≡ Ok tt = none-refused res (sym (ap (λ (x : Entry). x.answer) is) ∙ is_done) in
-        subst (λ (x : Told). TimesOut mac now old s (Ok tt) x new t) (sym (ap (λ (x : Entry). x.told) is))
-        (subst (λ (o : Result (Unit {0}) IceError). TimesOut mac now old s o told new t) good times)
+        subst (λ (x : Emitted). TimesOut mac now old s (Ok tt) x new t) (sym (ap (λ (x : Entry). x.emitted) is))
+        (subst (λ (o : Result (Unit {0}) IceError). TimesOut mac now old s o emitted new t) good times)
 
     pub turns-are-of-use : TurnsAreOfUse {H = H} {P = P} mac answers
     turns-are-of-use first s log fresh before start last asked moment wake now part turn checking some early =
         of_use part.run where
-          of_use : RunsOn mac answers before start part.at (moment ∷ asked ∷ []) last part.behind → IsOfUse start moment.entry.told last
+          of_use : RunsOn mac answers before start part.at (moment ∷ asked ∷ []) last part.behind → IsOfUse start moment.entry.emitted last
           of_use (mid, u, (old, v, (same, drawn), number_asked, based_asked, step_asked), number, based, step) =
               let asking : Step mac answers old v PollTimeout asked.entry mid u = subst (λ (c : Call P). Step mac answers old v c asked.entry mid u) turn.asks step_asked in
               let polls : PollsTimeout old (Some wake) mid = asked-for old mid v u asked.entry wake turn.woken asking in
               let moves : Step mac answers mid u (HandleTimeout now) moment.entry last part.behind = subst (λ (c : Call P). Step mac answers mid u c moment.entry last part.behind) turn.comes step in
-              wakes-are-of-use mac start mid last u part.behind wake now moment.entry.told
+              wakes-are-of-use mac start mid last u part.behind wake now moment.entry.emitted
               (runs_sound mac answers (path_law mac answers) first start s part.at before fresh part.led) checking
               (all-taken first start s part.at before part.led turn.taken) some early
               (subst (λ (a : AgentRecord H P). PollsTimeout a (Some wake) mid) same polls) (let kept = turn.kept in omega (arith, kept))

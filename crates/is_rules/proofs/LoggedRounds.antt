@@ -7,7 +7,7 @@ use Rattle.is_candidate.specs.Candidates.{CandidateRecord}
 use Rattle.is_pair.specs.Turns.{due_by}
 use Rattle.is_stun.specs.declared.header.Class.TheVariants as class
 use Rattle.is_stun.specs.Message.{Message}
-use Rattle.is_rules.specs.declared.told.Path.{Path}
+use Rattle.is_rules.specs.declared.emitted.Path.{Path}
 use Rattle.is_rules.specs.Agent.{AgentRecord}
 use Rattle.is_rules.specs.Sending.{path_of}
 use Rattle.is_rules.specs.Steps.{Call, Entry, ReceivePacket, HandleTimeout, PollTransmit, PollTimeout, PollEvent, Step}
@@ -43,16 +43,16 @@ module _ {H P : Type 0} where
     module _ (by at : ℕ) (behind : by < at) (early : at < MAX) where
       between-by : (call : Call P) (e : Entry) (old new : AgentRecord H P) (s t : Stream) → Rests at old → is_between call ≡ true → new.controlling ≡ true
           → Step mac answers old s call e new t
-          → ((moment : ℕ) × (way : Path) × (m : Message) × Brings call e moment way m × (m.class ≡ class.Success)) ⊎ Arrived mac by at behind early old new
-      between-by (ReceivePacket now way bytes) e old new s t (calm, last) is stays step =
-          elim (receives mac by at behind early answers (record { at = now; way = way; bytes = bytes; entry = e }) old new s t calm.checking.peer calm.role calm.checking.full calm.invalid stays step) [
-            | inl success ↦ inl (now, way, success.0, (refl, refl, success.1, success.2), success.3)
+          → ((moment : ℕ) × (path : Path) × (m : Message) × Brings call e moment path m × (m.class ≡ class.Success)) ⊎ Arrived mac by at behind early old new
+      between-by (ReceivePacket now path bytes) e old new s t (calm, last) is stays step =
+          elim (receives mac by at behind early answers (record { at = now; via = path; bytes = bytes; entry = e }) old new s t calm.checking.peer calm.role calm.checking.full calm.invalid stays step) [
+            | inl success ↦ inl (now, path, success.0, (refl, refl, success.1, success.2), success.3)
             | inr k ↦ inr k
           ]
-      between-by PollTransmit e old new s t rests is stays (given, told, (polled, made), drawn) =
+      between-by PollTransmit e old new s t rests is stays (given, emitted, (polled, made), drawn) =
           inr (subst (λ (a : AgentRecord H P). Arrived mac by at behind early old a) (sym made) (refl, inl refl, spares-same by at old.timing old.next_number old.pairs))
-      between-by PollTimeout e old new s t (calm, last) is stays (wake, told, woken, drawn) = inr (asks mac answers by at behind early old new wake last woken)
-      between-by PollEvent e old new s t rests is stays (given, told, (polled, made), drawn) =
+      between-by PollTimeout e old new s t (calm, last) is stays (wake, emitted, woken, drawn) = inr (asks mac answers by at behind early old new wake last woken)
+      between-by PollEvent e old new s t rests is stays (given, emitted, (polled, made), drawn) =
           inr (subst (λ (a : AgentRecord H P). Arrived mac by at behind early old a) (sym made) (refl, inl refl, spares-same by at old.timing old.next_number old.pairs))
       between-by _ e old new s t rests is stays step = no-case is
 
@@ -130,7 +130,7 @@ module _ {H P : Type 0} where
             → IsControllingIn mac answers ((r.moment ∷ entries_of older) ++ before) mid v r.behind last t back
             → AnnouncesIn mac answers first s log part ⊎ Waits by n path r.now (length (r ∷ older)) last
         behind-moment r older old mid last z v t over round line within st step to_mid back role =
-            let passes : Passes mac old r.now r.moment.entry.told mid = record {
+            let passes : Passes mac old r.now r.moment.entry.emitted mid = record {
               before = z;
               behind = v;
               after = mid;
@@ -139,10 +139,10 @@ module _ {H P : Type 0} where
               left = mid.events;
               taken = refl;
             } in
-            elim (pass-on mac answers by n path r.now (length older) r.moment.entry.told old mid st (falls-late by path r round) (falls-early by path r round) passes) [
+            elim (pass-on mac answers by n path r.now (length older) r.moment.entry.emitted old mid st (falls-late by path r round) (falls-early by path r round) passes) [
               | inl (id, out) ↦
                   (let met = round.met id out in
-                  let p = passed mac answers r.now r.moment.entry.told old mid st.calm passes in
+                  let p = passed mac answers r.now r.moment.entry.emitted old mid st.calm passes in
                   inl (meet by r.now (falls-late by path r round) (falls-early by path r round) part (λ a. Rests r.now a) (λ a k. k)
                   (λ a b k sound came. (calm-on mac answers by r.now (falls-late by path r round) (falls-early by path r round) a b k.0 sound came, ap (λ (c : Core). c.last_moment) came.0 ∙ k.1))
                   ((r.moment ∷ entries_of older) ++ before) mid last v t over r.behind line within round.between to_mid back role (p.calm, p.last) met.0 met.1 met.2))

@@ -11,7 +11,7 @@ use Rattle.is_stun.specs.declared.header.Class.{Class}
 use Rattle.is_stun.specs.declared.header.Class.TheVariants as class
 use Rattle.is_stun.specs.declared.timing.StunTiming.{StunTiming}
 use Rattle.is_stun.specs.Message.{Message}
-use Rattle.is_rules.specs.Accepting.{source_told, Takes}
+use Rattle.is_rules.specs.Accepting.{discovered_emitted, Takes}
 use Rattle.is_rules.specs.Agent.{AgentRecord}
 use Rattle.is_rules.specs.Answers.{goes_back, is_role_conflict, TakesSuccess, GivesUpRole, TakesFailure}
 use Rattle.is_rules.specs.declared.credentials.IceCreds.{IceCreds}
@@ -19,15 +19,15 @@ use Rattle.is_rules.specs.declared.places.RemotePlace.{RemotePlace}
 use Rattle.is_rules.specs.declared.places.RemotePlace.TheVariants.{Known, Barred, Unknown}
 use Rattle.is_rules.specs.declared.roles.Conflict.{Conflict}
 use Rattle.is_rules.specs.declared.roles.Conflict.TheVariants.{Absent, Insists, Yields}
-use Rattle.is_rules.specs.declared.told.Path.{Path}
-use Rattle.is_rules.specs.declared.told.Told.{Told}
+use Rattle.is_rules.specs.declared.emitted.Path.{Path}
+use Rattle.is_rules.specs.declared.emitted.Emitted.{Emitted}
 use Rattle.is_rules.specs.Forming.{formed, with_pair, priority_between}
 use Rattle.is_rules.specs.Nominating.{nominated_by_self, stands_at, Nominates}
 use Rattle.is_rules.specs.Places.{local_place}
 use Rattle.is_rules.specs.Request.{RequestRecord, request_in}
 use Rattle.is_rules.specs.Roles.{conflict_of, switched, switched_sides, with_priority_in}
 use Rattle.is_rules.specs.Sending.{path_of}
-use Rattle.is_rules.specs.Serving.{served, is_misled, names_another, pair_served, request_counted, with_sender, Drops, Queues, ServesPair, TakesAt, JoinsAt, Admits, SettlesBy, Settles, Serves}
+use Rattle.is_rules.specs.Serving.{served, is_misled, names_another, pair_served, request_counted, with_sender, Drops, Queues, RecordsAndResponds, FindsOrAddsPair, AddsUnknownSender, CountsAndServes, ResolvesRoleConflictBy, ResolvesRoleConflict, Serves}
 use Rattle.is_rules.specs.States.{evaluated}
 use Rattle.is_rules.specs.Steps.{Entry, Flag, Receives}
 use Rattle.is_stun.specs.Reading.{Reads}
@@ -69,7 +69,7 @@ module _ {H P : Type 0} where
     nominates-goes old new path h = from (announces old new path h) where
       from : Announces old path new → Goes old new
       from (None, greatest, (is, made)) = goes-same old new made
-      from (Some top, greatest, k) = either (stands_at old.announced top.priority old.pairs) k
+      from (Some top, greatest, k) = either (stands_at old.selected_pair top.priority old.pairs) k
           (λ _ l. goes-same old new l.1)
           (λ _ l. goes-to old _ new (
             refl,
@@ -86,24 +86,24 @@ module _ {H P : Type 0} where
           (λ p. record { number = refl; due = refl; checks = refl; nomination = inl refl }),
     )
 
-    failure : (old new : AgentRecord H P) (way : Path) (m : Message) (told : Told) → TakesFailure old way m told new → Goes old new
-    failure old new way m told h = either (is_role_conflict m) h
+    failure : (old new : AgentRecord H P) (via : Path) (m : Message) (emitted : Emitted) → TakesFailure old via m emitted new → Goes old new
+    failure old new via m emitted h = either (is_role_conflict m) h
         (λ _ k. given_up k)
         (λ _ k. goes-same old new k.1) where
-          given_up : GivesUpRole old way m told new → Goes old new
+          given_up : GivesUpRole old via m emitted new → Goes old new
           given_up (p, c, has, keeps, kept, is, acts) = either (same c.controlling old.controlling) acts
               (λ _ k. goes-to old (switched old) new (switches old) k.1)
               (λ _ k. goes-same old new k.1)
 
     -- ---- answers
 
-    success : (now : ℕ) (old new : AgentRecord H P) (way path : Path) (m : Message) (told : Told) → ((q : PairRecord) → Has old.pairs q → q.number ≡ n → path_of old q ≡ path)
-        → TakesSuccess now old way m told new → (goes_back way path ≡ true) ⊎ Goes old new
-    success now old new way path m told on (recorded, (place, p, after, at, keeps, (i, c, (c_at, c_id), is), made), (named, mid, nominates, told_is, done)) = whose (is_numbered n p) refl where
-      whose : (b : Bool) → is_numbered n p ≡ b → (goes_back way path ≡ true) ⊎ Goes old new
+    success : (now : ℕ) (old new : AgentRecord H P) (via path : Path) (m : Message) (emitted : Emitted) → ((q : PairRecord) → Has old.pairs q → q.number ≡ n → path_of old q ≡ path)
+        → TakesSuccess now old via m emitted new → (goes_back via path ≡ true) ⊎ Goes old new
+    success now old new via path m emitted on (recorded, (place, p, after, at, keeps, (i, c, (c_at, c_id), is), made), (named, mid, nominates, emitted_is, done)) = whose (is_numbered n p) refl where
+      whose : (b : Bool) → is_numbered n p ≡ b → (goes_back via path ≡ true) ⊎ Goes old new
       whose true numbered =
-          inl (subst (λ w. goes_back way w ≡ true) (on p (Has-get old.pairs place p at) (eqb-true p.number n numbered))
-          (both (keeps_check m.id p) (goes_back way (path_of old p)) keeps).1)
+          inl (subst (λ w. goes_back via w ≡ true) (on p (Has-get old.pairs place p at) (eqb-true p.number n numbered))
+          (both (keeps_check m.id p) (goes_back via (path_of old p)) keeps).1)
       whose false numbered =
           inr (goes-on old recorded new
           (goes-to old _ recorded (
@@ -117,8 +117,8 @@ module _ {H P : Type 0} where
 
     module _ (mac : H → List ℕ → List ℕ → List ℕ) where
       module _ (q : RequestRecord) where
-        pair : (l r number : ℕ) (s new : AgentRecord H P) (told : Told) → ServesPair mac q l r number s told new → Goes s new
-        pair l r number s new told (path, mid, nominates, (values, is, made)) =
+        pair : (l r number : ℕ) (s new : AgentRecord H P) (emitted : Emitted) → RecordsAndResponds mac q l r number s emitted new → Goes s new
+        pair l r number s new emitted (path, mid, nominates, (values, is, made)) =
             goes-to s _ new
             (let k = goes-on s (pair_served q number s) mid (
               refl,
@@ -129,59 +129,59 @@ module _ {H P : Type 0} where
             (λ _ k. nominates-goes (pair_served q number s) mid path k)
             (λ _ k. goes-same (pair_served q number s) mid k.1)) in (k.0, k.1)) made
 
-        takes : (l r : ℕ) (number : Option ℕ) (s new : AgentRecord H P) (told : Told) → TakesAt mac q l r number s told new → Goes s new
-        takes l r (Some number) s new told h = pair l r number s new told h
-        takes l r None s new told h = either (candidate_at s.local l).discarded h
+        takes : (l r : ℕ) (number : Option ℕ) (s new : AgentRecord H P) (emitted : Emitted) → FindsOrAddsPair mac q l r number s emitted new → Goes s new
+        takes l r (Some number) s new emitted h = pair l r number s new emitted h
+        takes l r None s new emitted h = either (candidate_at s.local l).discarded h
             (λ _ k. goes-same s new k.1)
             (λ _ k. goes-on s (with_pair (formed s l r) s) new (refl, onward-adds n by s.pairs s.next_number l r (priority_between s l r))
-            (pair l r s.next_number (with_pair (formed s l r) s) new told k.1))
+            (pair l r s.next_number (with_pair (formed s l r) s) new emitted k.1))
 
-        joins : (l : ℕ) (place : RemotePlace) (s new : AgentRecord H P) (told : Told) → JoinsAt mac q l place s told new → Goes s new
-        joins l (Known r) s new told (number, between, h) = takes l r number s new told h
-        joins l Barred s new told h = goes-same s new h.1
-        joins l Unknown s new told (number, between, h) = let k = takes l _ number (with_sender q s) new told h in (k.0, k.1)
+        joins : (l : ℕ) (place : RemotePlace) (s new : AgentRecord H P) (emitted : Emitted) → AddsUnknownSender mac q l place s emitted new → Goes s new
+        joins l (Known r) s new emitted (number, between, h) = takes l r number s new emitted h
+        joins l Barred s new emitted h = goes-same s new h.1
+        joins l Unknown s new emitted (number, between, h) = let k = takes l _ number (with_sender q s) new emitted h in (k.0, k.1)
 
-        admitted : (l : ℕ) (s new : AgentRecord H P) (told : Told) → Admits mac q l s told new → Goes s new
-        admitted l s new told h = either (is_misled s.controlling q) h
+        admitted : (l : ℕ) (s new : AgentRecord H P) (emitted : Emitted) → CountsAndServes mac q l s emitted new → Goes s new
+        admitted l s new emitted h = either (is_misled s.controlling q) h
             (λ _ k. goes-same s new k.1)
-            (λ _ k. (let g = joins l k.0 (request_counted s) new told k.2 in (g.0, g.1)))
+            (λ _ k. (let g = joins l k.0 (request_counted s) new emitted k.2 in (g.0, g.1)))
 
-        settles : (conflict : Conflict) (l : ℕ) (s new : AgentRecord H P) (told : Told) → SettlesBy mac conflict q l s told new → Goes s new
-        settles Absent l s new told h = admitted l s new told h
-        settles Insists l s new told (values, is, made) = goes-to s _ new (refl, onward-same n by s.pairs s.next_number) made
-        settles Yields l s new told h = goes-on s (switched s) new (switches s) (admitted l (switched s) new told h)
+        resolves : (conflict : Conflict) (l : ℕ) (s new : AgentRecord H P) (emitted : Emitted) → ResolvesRoleConflictBy mac conflict q l s emitted new → Goes s new
+        resolves Absent l s new emitted h = admitted l s new emitted h
+        resolves Insists l s new emitted (values, is, made) = goes-to s _ new (refl, onward-same n by s.pairs s.next_number) made
+        resolves Yields l s new emitted h = goes-on s (switched s) new (switches s) (admitted l (switched s) new emitted h)
 
-        here : (place : Option ℕ) (s new : AgentRecord H P) (told : Told) → MatchOption place (Drops s told new) (λ l. Settles mac q l s told new) → Goes s new
-        here None s new told h = goes-same s new h.1
-        here (Some l) s new told h = settles (conflict_of s q) l s new told h
+        here : (place : Option ℕ) (s new : AgentRecord H P) (emitted : Emitted) → MatchOption place (Drops s emitted new) (λ l. ResolvesRoleConflict mac q l s emitted new) → Goes s new
+        here None s new emitted h = goes-same s new h.1
+        here (Some l) s new emitted h = resolves (conflict_of s q) l s new emitted h
 
-        requested : (remote : Option IceCreds) (s new : AgentRecord H P) (told : Told) → is_some remote ≡ true
-            → MatchOption remote (Queues q s told new) (λ _. Serves mac q s told new) → Goes s new
-        requested None s new told known h = absurd (cc)
-        requested (Some peer) s new told known h = either (names_another s q) h
+        requested : (remote : Option IceCreds) (s new : AgentRecord H P) (emitted : Emitted) → is_some remote ≡ true
+            → MatchOption remote (Queues q s emitted new) (λ _. Serves mac q s emitted new) → Goes s new
+        requested None s new emitted known h = absurd (cc)
+        requested (Some peer) s new emitted known h = either (names_another s q) h
             (λ _ k. goes-same s new k.1)
-            (λ _ k. here (local_place s.local q) s new told k)
+            (λ _ k. here (local_place s.local q) s new emitted k)
 
       -- ---- packets
 
-      by-class : (c : Class) (now : ℕ) (old mid : AgentRecord H P) (way path : Path) (m : Message) (told : Told) → is_some old.remote_creds ≡ true
+      by-class : (c : Class) (now : ℕ) (old mid : AgentRecord H P) (via path : Path) (m : Message) (emitted : Emitted) → is_some old.remote_creds ≡ true
           → ((q : PairRecord) → Has old.pairs q → q.number ≡ n → path_of old q ≡ path)
-          → Takes mac c now old way m told mid → ((c ≡ class.Success) × (goes_back way path ≡ true)) ⊎ Goes old mid
-      by-class class.Request now old mid way path m told known on h = inr (requested (request_in now way m) old.remote_creds old mid told known h)
-      by-class class.Success now old mid way path m told known on h = elim (success now old mid way path m told on h) [ inl back ↦ inl (refl, back) | inr k ↦ inr k ]
-      by-class class.Failure now old mid way path m told known on h = inr (failure old mid way m told h)
-      by-class class.Indication now old mid way path m told known on h = absurd h
-      by-class class.Unknown now old mid way path m told known on h = absurd h
+          → Takes mac c now old via m emitted mid → ((c ≡ class.Success) × (goes_back via path ≡ true)) ⊎ Goes old mid
+      by-class class.Request now old mid via path m emitted known on h = inr (requested (request_in now via m) old.remote_creds old mid emitted known h)
+      by-class class.Success now old mid via path m emitted known on h = elim (success now old mid via path m emitted on h) [ inl back ↦ inl (refl, back) | inr k ↦ inr k ]
+      by-class class.Failure now old mid via path m emitted known on h = inr (failure old mid via m emitted h)
+      by-class class.Indication now old mid via path m emitted known on h = absurd h
+      by-class class.Unknown now old mid via path m emitted known on h = absurd h
 
       -- raw bytes that came: the pair's path is answered, or no more go ahead
-      pub receives-goes : (answers : P → CandidateRecord → ℕ → ℕ → Type 0) (now : ℕ) (old new : AgentRecord H P) (way path : Path) (bytes : List ℕ) (e : Entry) → is_some old.remote_creds ≡ true
-          → ((q : PairRecord) → Has old.pairs q → q.number ≡ n → path_of old q ≡ path) → Receives mac answers now old way bytes e new
-          → ((m : Message) × Reads bytes m × (e.answer ≡ Flag true) × (m.class ≡ class.Success) × (goes_back way path ≡ true)) ⊎ Goes old new
-      receives-goes answers now old new way path bytes e known on (inl (fault, has_fault, is, made)) = inr (goes-same old new made)
-      receives-goes answers now old new way path bytes e known on (inr (m, reads, (Ok true, told, is, (accepted, (mid, takes_it, made))))) =
-          elim (by-class m.class now old mid way path m told known on takes_it) [
+      pub receives-goes : (answers : P → CandidateRecord → ℕ → ℕ → Type 0) (now : ℕ) (old new : AgentRecord H P) (via path : Path) (bytes : List ℕ) (e : Entry) → is_some old.remote_creds ≡ true
+          → ((q : PairRecord) → Has old.pairs q → q.number ≡ n → path_of old q ≡ path) → Receives mac answers now old via bytes e new
+          → ((m : Message) × Reads bytes m × (e.answer ≡ Flag true) × (m.class ≡ class.Success) × (goes_back via path ≡ true)) ⊎ Goes old new
+      receives-goes answers now old new via path bytes e known on (inl (fault, has_fault, is, made)) = inr (goes-same old new made)
+      receives-goes answers now old new via path bytes e known on (inr (m, reads, (Ok true, emitted, is, (accepted, (mid, takes_it, made))))) =
+          elim (by-class m.class now old mid via path m emitted known on takes_it) [
             | inl (success_came, back) ↦ inl (m, reads, ap (λ (x : Entry). x.answer) is, success_came, back)
-            | inr k ↦ inr (goes-to old (source_told way mid) new (k.0, k.1) made)
+            | inr k ↦ inr (goes-to old (discovered_emitted via mid) new (k.0, k.1) made)
           ]
-      receives-goes answers now old new way path bytes e known on (inr (m, reads, (Ok false, told, is, (no_one, nothing, made)))) = inr (goes-same old new made)
-      receives-goes answers now old new way path bytes e known on (inr (m, reads, (Err error, told, is, (may, nothing, made)))) = inr (goes-same old new made)
+      receives-goes answers now old new via path bytes e known on (inr (m, reads, (Ok false, emitted, is, (no_one, nothing, made)))) = inr (goes-same old new made)
+      receives-goes answers now old new via path bytes e known on (inr (m, reads, (Err error, emitted, is, (may, nothing, made)))) = inr (goes-same old new made)

@@ -7,9 +7,9 @@ use Rattle.is_pair.specs.Pairs.{PairRecord, is_nominated}
 use Rattle.is_stun.specs.Message.{Message}
 use Rattle.is_stun.specs.declared.header.Class.TheVariants as class
 use Rattle.is_stun.specs.Laws.{IsPut}
-use Rattle.is_rules.specs.declared.told.Path.{Path}
-use Rattle.is_rules.specs.declared.told.Told.{Told}
-use Rattle.is_rules.specs.Told.{issued_as, announced_in, announced_alone}
+use Rattle.is_rules.specs.declared.emitted.Path.{Path}
+use Rattle.is_rules.specs.declared.emitted.Emitted.{Emitted}
+use Rattle.is_rules.specs.Emitted.{issued_as, announced_in, announced_only}
 use Rattle.is_rules.specs.Agent.{AgentRecord}
 use Rattle.is_rules.specs.Sending.{path_of}
 use Rattle.is_proto.specs.Packets.{Packet}
@@ -19,9 +19,9 @@ use Rattle.is_stun.specs.Checks.{binding_request}
 use Rattle.is_stun.specs.Writing.{written}
 use Rattle.is_pair.specs.Due.{asked, IsNextDue}
 use Rattle.is_rules.specs.Answers.{keeps_check_on, Records, TakesSuccess}
-use Rattle.is_rules.specs.Timeouts.{at_moment, Proceeds}
+use Rattle.is_rules.specs.Timeouts.{at_moment, MaintainsPairs}
 use Rattle.is_rules.specs.declared.credentials.IceCreds.{IceCreds}
-use Rattle.is_rules.specs.declared.told.Issued.{Issued}
+use Rattle.is_rules.specs.declared.emitted.Issued.{Issued}
 use Rattle.is_rules.specs.Checking.{username_between, all_asked, ChecksTop, MayCheck}
 use Rattle.is_rules.proofs.Frames.{Frame, frame_of, packet_along, either, nominates_frame, gives_up}
 use Rattle.is_rules.proofs.Rests.{Rest, nominates_rest, gives_up_rest}
@@ -42,7 +42,7 @@ announced_are (Some p) second path (inl e) = inl e
 announced_are (Some p) second path (inr (inl e)) = inr e
 announced_are (Some p) second path (inr (inr h)) = absurd h
 
-alone : (path : Option Path) → (announced_alone path).announced ≡ announced_in path None
+alone : (path : Option Path) → (announced_only path).announced ≡ announced_in path None
 alone None = refl
 alone (Some path) = refl
 
@@ -64,8 +64,8 @@ module _ (asks met : Path → Type 0) (sent : Path → List ℕ → Bool → Typ
   abbrev Goes : AgentRecord H P → AgentRecord H P → Type 0
   Goes old new = Onward asks met sent (parts_of asks met sent old) (parts_of asks met sent new)
 
-  abbrev Telling : AgentRecord H P → Told → AgentRecord H P → Type 0
-  Telling old told new = Tells asks met sent (parts_of asks met sent old) (parts_of asks met sent new) old.announced new.announced told.announced
+  abbrev Telling : AgentRecord H P → Emitted → AgentRecord H P → Type 0
+  Telling old emitted new = Tells asks met sent (parts_of asks met sent old) (parts_of asks met sent new) old.selected_pair new.selected_pair emitted.announced
 
   check_out : (mac : H → List ℕ → List ℕ → List ℕ) (now : ℕ) (remote : Option IceCreds) (old new : AgentRecord H P) (s t : Stream) (issued : Option Issued)
       → old.remote_creds ≡ remote → Fit (parts_of asks met sent old) → MayCheck mac now remote old s issued new t
@@ -95,22 +95,22 @@ module _ (asks met : Path → Type 0) (sent : Path → List ℕ → Bool → Typ
             )
 
   check_number : (mac : H → List ℕ → List ℕ → List ℕ) (now : ℕ) (remote : Option IceCreds) (old new : AgentRecord H P) (s t : Stream) (issued : Option Issued)
-      → MayCheck mac now remote old s issued new t → new.announced ≡ old.announced
-  check_number mac now None old new s t issued (is, made, drawn) = ap (λ (a : AgentRecord H P). a.announced) made
+      → MayCheck mac now remote old s issued new t → new.selected_pair ≡ old.selected_pair
+  check_number mac now None old new s t issued (is, made, drawn) = ap (λ (a : AgentRecord H P). a.selected_pair) made
   check_number mac now (Some remote) old new s t issued h = either old.lite h
-      (λ _ k. ap (λ (a : AgentRecord H P). a.announced) k.1)
+      (λ _ k. ap (λ (a : AgentRecord H P). a.selected_pair) k.1)
       (λ _ k. next k.0 k.2) where
-        next : (top : Option PairRecord) → ChecksTop mac now remote top (all_asked now old) s issued new t → new.announced ≡ old.announced
-        next None (is, made, drawn) = ap (λ (a : AgentRecord H P). a.announced) made
-        next (Some p) (id, drawn, values, is, made) = ap (λ (a : AgentRecord H P). a.announced) made
+        next : (top : Option PairRecord) → ChecksTop mac now remote top (all_asked now old) s issued new t → new.selected_pair ≡ old.selected_pair
+        next None (is, made, drawn) = ap (λ (a : AgentRecord H P). a.selected_pair) made
+        next (Some p) (id, drawn, values, is, made) = ap (λ (a : AgentRecord H P). a.selected_pair) made
 
   -- each announced path was valid before
-  pub proceeds : (mac : H → List ℕ → List ℕ → List ℕ) (now : ℕ) (old new : AgentRecord H P) (s t : Stream) (told : Told)
+  pub maintains_pairs : (mac : H → List ℕ → List ℕ → List ℕ) (now : ℕ) (old new : AgentRecord H P) (s t : Stream) (emitted : Emitted)
       → ((old.controlling || old.lite) ≡ true → (p : Path) → asks p)
-      → ((path : Path) (id : List ℕ) → told.issued ≡ Some (issued_as path class.Request id) → sent path id old.controlling)
-      → Fit (parts_of asks met sent old) → Proceeds mac now old s told new t
-      → Goes old new × Telling old told new × CheckOut mac (frame_of old) old.local old.packets told.issued new.packets
-  proceeds mac now old new s t told free sends fit (first, second, issued, named, kept, nominating, giving, checking, is) =
+      → ((path : Path) (id : List ℕ) → emitted.issued ≡ Some (issued_as path class.Request id) → sent path id old.controlling)
+      → Fit (parts_of asks met sent old) → MaintainsPairs mac now old s emitted new t
+      → Goes old new × Telling old emitted new × CheckOut mac (frame_of old) old.local old.packets emitted.issued new.packets
+  maintains_pairs mac now old new s t emitted free sends fit (first, second, issued, named, kept, nominating, giving, checking, is) =
       let a = nominates asks met sent (at_moment now old) named first free fit nominating in
       let f = nominates_frame (at_moment now old) named first nominating in
       let same_role : named.controlling ≡ old.controlling = ap (λ (x : Frame H). x.controlling) f.0 in
@@ -120,18 +120,18 @@ module _ (asks met : Path → Type 0) (sent : Path → List ℕ → Bool → Typ
       let g = gives_up now named kept second giving in
       let kept_role : kept.controlling ≡ old.controlling = ap (λ (x : Frame H). x.controlling) g.0 ∙ same_role in
       let c = check_moves asks met sent mac now kept.remote_creds kept new s t issued
-      (λ path id out. subst (λ r. sent path id r) (sym kept_role) (sends path id (ap (λ (x : Told). x.issued) is ∙ out))) b.0.fit checking in
+      (λ path id out. subst (λ r. sent path id r) (sym kept_role) (sends path id (ap (λ (x : Emitted). x.issued) is ∙ out))) b.0.fit checking in
       let x : Parts = parts_of asks met sent old in
       let y : Parts = parts_of asks met sent named in
       let z : Parts = parts_of asks met sent kept in
       let ab = onward asks met sent x y z a.0 b.0 in
-      let told_two = tells_two asks met sent x y z old.announced named.announced kept.announced first second a.0 b.0 a.1 b.1 in
-      let told_all = tells_before asks met sent x z (parts_of asks met sent new) old.announced kept.announced (announced_in first second) told_two c in (
+      let emitted_two = tells_two asks met sent x y z old.selected_pair named.selected_pair kept.selected_pair first second a.0 b.0 a.1 b.1 in
+      let emitted_all = tells_before asks met sent x z (parts_of asks met sent new) old.selected_pair kept.selected_pair (announced_in first second) emitted_two c in (
         onward asks met sent x z (parts_of asks met sent new) ab c,
-        subst (λ (ps : List (Option Path)). Tells asks met sent x (parts_of asks met sent new) old.announced new.announced ps) (sym (ap (λ (x : Told). x.announced) is))
-            (subst (λ n. Tells asks met sent x (parts_of asks met sent new) old.announced n (announced_in first second))
-            (sym (check_number mac now kept.remote_creds kept new s t issued checking)) told_all),
-        subst (λ i. CheckOut mac (frame_of old) old.local old.packets i new.packets) (sym (ap (λ (x : Told). x.issued) is))
+        subst (λ (ps : List (Option Path)). Tells asks met sent x (parts_of asks met sent new) old.selected_pair new.selected_pair ps) (sym (ap (λ (x : Emitted). x.announced) is))
+            (subst (λ n. Tells asks met sent x (parts_of asks met sent new) old.selected_pair n (announced_in first second))
+            (sym (check_number mac now kept.remote_creds kept new s t issued checking)) emitted_all),
+        subst (λ i. CheckOut mac (frame_of old) old.local old.packets i new.packets) (sym (ap (λ (x : Emitted). x.issued) is))
             (subst (λ (f : Frame H). CheckOut mac f old.local old.packets issued new.packets) (g.0 ∙ f.0)
             (subst (λ cs. CheckOut mac (frame_of kept) cs old.packets issued new.packets)
             (ap (λ (x : Rest). x.local) (gives_up_rest now named kept second giving ∙ nominates_rest (at_moment now old) named first nominating))
@@ -139,17 +139,17 @@ module _ (asks met : Path → Type 0) (sent : Path → List ℕ → Bool → Typ
             (check_out mac now kept.remote_creds kept new s t issued refl b.0.fit checking)))),
       )
 
-  record_number : (now : ℕ) (old recorded : AgentRecord H P) (way : Path) (m : Message) → Records now old way m recorded → recorded.announced ≡ old.announced
-  record_number now old recorded way m (i, p, after, found, on, takes, made) = ap (λ (a : AgentRecord H P). a.announced) made
+  record_number : (now : ℕ) (old recorded : AgentRecord H P) (via : Path) (m : Message) → Records now old via m recorded → recorded.selected_pair ≡ old.selected_pair
+  record_number now old recorded via m (i, p, after, found, on, takes, made) = ap (λ (a : AgentRecord H P). a.selected_pair) made
 
   -- an announced path was valid before, or is answered now
-  pub succeeds : (now : ℕ) (old new : AgentRecord H P) (way : Path) (m : Message) (told : Told)
+  pub succeeds : (now : ℕ) (old new : AgentRecord H P) (via : Path) (m : Message) (emitted : Emitted)
       → ((old.controlling || old.lite) ≡ true → (p : Path) → asks p)
-      → ((p : PairRecord) (c : Check) → Has old.pairs p → keeps_check_on old way m.id p ≡ true → Has p.checks c → c.id ≡ m.id → met (path_of old p))
-      → Fit (parts_of asks met sent old) → TakesSuccess now old way m told new
-      → Goes old new × Telling old told new
-  succeeds now old new way m told free answers fit (recorded, records_it, (path, mid, nominating, is, done)) =
-      let r = records asks met sent now old recorded way m fit answers records_it in
+      → ((p : PairRecord) (c : Check) → Has old.pairs p → keeps_check_on old via m.id p ≡ true → Has p.checks c → c.id ≡ m.id → met (path_of old p))
+      → Fit (parts_of asks met sent old) → TakesSuccess now old via m emitted new
+      → Goes old new × Telling old emitted new
+  succeeds now old new via m emitted free answers fit (recorded, records_it, (path, mid, nominating, is, done)) =
+      let r = records asks met sent now old recorded via m fit answers records_it in
       let made = records_it.6 in
       let same_role : recorded.controlling ≡ old.controlling = ap (λ (a : AgentRecord H P). a.controlling) made in
       let same_lite : recorded.lite ≡ old.lite = ap (λ (a : AgentRecord H P). a.lite) made in
@@ -158,12 +158,12 @@ module _ (asks met : Path → Type 0) (sent : Path → List ℕ → Bool → Typ
       let x : Parts = parts_of asks met sent old in
       let y : Parts = parts_of asks met sent recorded in
       let z : Parts = parts_of asks met sent mid in
-      let one : Tells asks met sent y z recorded.announced mid.announced (announced_in path None) =
-      tells_one asks met sent y z recorded.announced mid.announced path n.1 in
-      let all : Tells asks met sent x z recorded.announced mid.announced (announced_in path None) =
-      tells_behind asks met sent x y z recorded.announced mid.announced (announced_in path None) r one in (
+      let one : Tells asks met sent y z recorded.selected_pair mid.selected_pair (announced_in path None) =
+      tells_one asks met sent y z recorded.selected_pair mid.selected_pair path n.1 in
+      let all : Tells asks met sent x z recorded.selected_pair mid.selected_pair (announced_in path None) =
+      tells_behind asks met sent x y z recorded.selected_pair mid.selected_pair (announced_in path None) r one in (
         subst (λ (a : AgentRecord H P). Goes old a) (sym done) (onward asks met sent x y z r n.0),
-        subst (λ (ps : List (Option Path)). Tells asks met sent x (parts_of asks met sent new) old.announced new.announced ps) (sym (ap (λ (x : Told). x.announced) is ∙ alone path))
-            (subst (λ (a : AgentRecord H P). Tells asks met sent x (parts_of asks met sent a) old.announced a.announced (announced_in path None)) (sym done)
-            (subst (λ k. Tells asks met sent x z k mid.announced (announced_in path None)) (record_number now old recorded way m records_it) all)),
+        subst (λ (ps : List (Option Path)). Tells asks met sent x (parts_of asks met sent new) old.selected_pair new.selected_pair ps) (sym (ap (λ (x : Emitted). x.announced) is ∙ alone path))
+            (subst (λ (a : AgentRecord H P). Tells asks met sent x (parts_of asks met sent a) old.selected_pair a.selected_pair (announced_in path None)) (sym done)
+            (subst (λ k. Tells asks met sent x z k mid.selected_pair (announced_in path None)) (record_number now old recorded via m records_it) all)),
       )

@@ -5,7 +5,7 @@ use Rattle.std.proofs.lemmas.Bool.{eq-eqb}
 use Rattle.is_proto.specs.Lists.{Has}
 use Rattle.is_pair.specs.Checks.{Check}
 use Rattle.is_pair.specs.Pairs.{PairRecord, is_valid, is_nominated, nominated}
-use Rattle.is_rules.specs.declared.told.Path.{Path}
+use Rattle.is_rules.specs.declared.emitted.Path.{Path}
 use Rattle.is_rules.specs.Agent.{AgentRecord}
 use Rattle.is_pair.specs.Bag.{change_at, change_pair, is_numbered}
 use Rattle.is_rules.proofs.Rising.{AreRising}
@@ -184,22 +184,22 @@ module _ (asks met : Path → Type 0) (sent : Path → List ℕ → Bool → Typ
 
     -- nomination leaves all but nominations, and announces a valid path
     announces_one : (old new : AgentRecord H P) (path : Option Path) → ((old.controlling || old.lite) ≡ true → (p : Path) → asks p) → Fit (parts_of old) → Announces old path new
-        → Onward asks met sent (parts_of old) (parts_of new) × Evaluates asks met sent (parts_of old) (parts_of new) old.announced new.announced path
+        → Onward asks met sent (parts_of old) (parts_of new) × Evaluates asks met sent (parts_of old) (parts_of new) old.selected_pair new.selected_pair path
     announces_one old new path free fit (None, none, (is, same)) = (
       subst (λ (a : AgentRecord H P). Onward asks met sent (parts_of old) (parts_of a)) (sym same) (here asks met sent (parts_of old) fit),
-      evaluates_none asks met sent (parts_of old) (parts_of new) old.announced new.announced path is (ap (λ (a : AgentRecord H P). a.announced) same),
+      evaluates_none asks met sent (parts_of old) (parts_of new) old.selected_pair new.selected_pair path is (ap (λ (a : AgentRecord H P). a.selected_pair) same),
     )
-    announces_one old new path free fit (Some top, (has, eligible, greatest), h) = either (stands_at old.announced top.priority old.pairs) h
+    announces_one old new path free fit (Some top, (has, eligible, greatest), h) = either (stands_at old.selected_pair top.priority old.pairs) h
         (λ _ k. (
           subst (λ (a : AgentRecord H P). Onward asks met sent (parts_of old) (parts_of a)) (sym k.1) (here asks met sent (parts_of old) fit),
-          evaluates_none asks met sent (parts_of old) (parts_of new) old.announced new.announced path k.0 (ap (λ (a : AgentRecord H P). a.announced) k.1),
+          evaluates_none asks met sent (parts_of old) (parts_of new) old.selected_pair new.selected_pair path k.0 (ap (λ (a : AgentRecord H P). a.selected_pair) k.1),
         ))
         (λ _ k. (
           subst (λ (a : AgentRecord H P). Onward asks met sent (parts_of old) (parts_of a)) (sym k.1)
               (one_changed (parts_of old) top.number g fit
               (λ p there is. by_self (not (is_nominated p)) (old.controlling || old.lite) (path_of old p) old.lite p (λ allowed. free allowed (path_of old p)))),
-          subst (λ (a : AgentRecord H P). Evaluates asks met sent (parts_of old) (parts_of a) old.announced a.announced path) (sym k.1)
-              (subst (λ (o : Option Path). Evaluates asks met sent (parts_of old) (parts_of (announced top old)) old.announced (Some top.number) o) (sym k.0) evaluates),
+          subst (λ (a : AgentRecord H P). Evaluates asks met sent (parts_of old) (parts_of a) old.selected_pair a.selected_pair path) (sym k.1)
+              (subst (λ (o : Option Path). Evaluates asks met sent (parts_of old) (parts_of (announced top old)) old.selected_pair (Some top.number) o) (sym k.0) evaluates),
         )) where
           g : PairRecord → PairRecord
           g = nominated_by_self old.controlling old.lite
@@ -224,7 +224,7 @@ module _ (asks met : Path → Type 0) (sent : Path → List ℕ → Bool → Typ
           own_path = ap (λ l. path_of old (record (nominated_by_self old.controlling old.lite top) { local = l })) facts.local
               ∙ ap (λ r. path_of old (record (nominated_by_self old.controlling old.lite top) { local = top.local; remote = r })) facts.remote
 
-          evaluates : Evaluates asks met sent (parts_of old) (parts_of (announced top old)) old.announced (Some top.number) (Some (path_of old top))
+          evaluates : Evaluates asks met sent (parts_of old) (parts_of (announced top old)) old.selected_pair (Some top.number) (Some (path_of old top))
           evaluates = record {
             valid = λ p is. (top, has, eligible_valid old.controlling top eligible, some_is (path_of old top) p is);
             asked = λ p is. asking old.controlling refl eligible p (some_is (path_of old top) p is);
@@ -240,19 +240,19 @@ module _ (asks met : Path → Type 0) (sent : Path → List ℕ → Bool → Typ
           }
 
     pub nominates : (old new : AgentRecord H P) (path : Option Path) → ((old.controlling || old.lite) ≡ true → (p : Path) → asks p) → Fit (parts_of old) → Nominates old path new
-        → Onward asks met sent (parts_of old) (parts_of new) × Evaluates asks met sent (parts_of old) (parts_of new) old.announced new.announced path
+        → Onward asks met sent (parts_of old) (parts_of new) × Evaluates asks met sent (parts_of old) (parts_of new) old.selected_pair new.selected_pair path
     nominates old new path free fit h = announces_one old new path free fit (announces old new path h)
 
     -- pairs that are given up go
     pub gives_up_moves : (now : ℕ) (old new : AgentRecord H P) (path : Option Path) → ((old.controlling || old.lite) ≡ true → (p : Path) → asks p) → Fit (parts_of old) → GivesUp now old path new
-        → Onward asks met sent (parts_of old) (parts_of new) × Evaluates asks met sent (parts_of old) (parts_of new) old.announced new.announced path
+        → Onward asks met sent (parts_of old) (parts_of new) × Evaluates asks met sent (parts_of old) (parts_of new) old.selected_pair new.selected_pair path
     gives_up_moves now old new path free fit h = either (list_any (is_given_up now old) old.pairs) h
         (λ _ k. (
         let first = thinned asks met sent (parts_of old) (λ p. not (is_given_up now old p)) fit in
         let second = nominates (given_up_gone now old) k.0 path free first.fit k.1 in (
           subst (λ (a : AgentRecord H P). Onward asks met sent (parts_of old) (parts_of a)) (sym k.2)
               (onward asks met sent (parts_of old) (parts_of (given_up_gone now old)) (parts_of k.0) first second.0),
-          subst (λ (a : AgentRecord H P). Evaluates asks met sent (parts_of old) (parts_of a) old.announced a.announced path) (sym k.2) (record {
+          subst (λ (a : AgentRecord H P). Evaluates asks met sent (parts_of old) (parts_of a) old.selected_pair a.selected_pair path) (sym k.2) (record {
             valid = λ p is. (let v = second.1.valid p is in (v.0, Has-filter (λ q. not (is_given_up now old q)) old.pairs v.0 v.1, v.2, v.3));
             asked = λ p is. elim (second.1.asked p is) [ inl v ↦ inl (v.0, Has-filter (λ q. not (is_given_up now old q)) old.pairs v.0 v.1, v.2, v.3) | inr m ↦ inr m ];
             stays = second.1.stays;
@@ -261,5 +261,5 @@ module _ (asks met : Path → Type 0) (sent : Path → List ℕ → Bool → Typ
         )))
         (λ _ k. (
           subst (λ (a : AgentRecord H P). Onward asks met sent (parts_of old) (parts_of a)) (sym k.1) (here asks met sent (parts_of old) fit),
-          evaluates_none asks met sent (parts_of old) (parts_of new) old.announced new.announced path k.0 (ap (λ (a : AgentRecord H P). a.announced) k.1),
+          evaluates_none asks met sent (parts_of old) (parts_of new) old.selected_pair new.selected_pair path k.0 (ap (λ (a : AgentRecord H P). a.selected_pair) k.1),
         ))

@@ -17,14 +17,14 @@ use Rattle.is_pair.specs.Bag.{is_numbered, change_at, change_pair}
 use Rattle.is_stun.specs.declared.header.Class.TheVariants as class
 use Rattle.is_stun.specs.declared.timing.StunTiming.{StunTiming}
 use Rattle.is_rules.specs.declared.credentials.IceCreds.{IceCreds}
-use Rattle.is_rules.specs.declared.told.Issued.{Issued}
-use Rattle.is_rules.specs.declared.told.Path.{Path}
-use Rattle.is_rules.specs.declared.told.Told.{Told}
-use Rattle.is_rules.specs.Told.{issued_as}
+use Rattle.is_rules.specs.declared.emitted.Issued.{Issued}
+use Rattle.is_rules.specs.declared.emitted.Path.{Path}
+use Rattle.is_rules.specs.declared.emitted.Emitted.{Emitted}
+use Rattle.is_rules.specs.Emitted.{issued_as}
 use Rattle.is_rules.specs.Agent.{AgentRecord}
 use Rattle.is_rules.specs.Sending.{path_of}
 use Rattle.is_rules.specs.Checking.{all_asked, all_heard, check_sent, ChecksTop, ChecksNext, MayCheck}
-use Rattle.is_rules.specs.Timeouts.{at_moment, Proceeds}
+use Rattle.is_rules.specs.Timeouts.{at_moment, MaintainsPairs}
 use Rattle.is_rules.proofs.Moves.{Has-map}
 use Rattle.is_rules.proofs.Serves.{Has-mapped}
 use Rattle.is_rules.proofs.LogLaws.{none_pass}
@@ -110,8 +110,8 @@ gone-follows xs ys n f gone q has = let o = f.back q has in let apart = gone o.0
 
 -- ---- paths
 
-abbrev way : List CandidateRecord → List CandidateRecord → ℕ → ℕ → Path
-way local remote l r = record {
+abbrev via : List CandidateRecord → List CandidateRecord → ℕ → ℕ → Path
+via local remote l r = record {
   proto = (candidate_at local l).proto;
   source = base_of (candidate_at local l);
   destination = (candidate_at remote r).addr;
@@ -120,9 +120,9 @@ way local remote l r = record {
 module _ {H P : Type 0} where
   pub same-path : (a b : AgentRecord H P) (p q : PairRecord) → b.local ≡ a.local → b.remote ≡ a.remote → Matches p q → path_of b q ≡ path_of a p
   same-path a b p q locals remotes m =
-      ap (λ cs. way cs b.remote q.local q.remote) locals
-      ∙ (ap (λ cs. way a.local cs q.local q.remote) remotes
-      ∙ (ap (λ i. way a.local a.remote i q.remote) m.local ∙ ap (λ i. way a.local a.remote p.local i) m.remote))
+      ap (λ cs. via cs b.remote q.local q.remote) locals
+      ∙ (ap (λ cs. via a.local cs q.local q.remote) remotes
+      ∙ (ap (λ i. via a.local a.remote i q.remote) m.local ∙ ap (λ i. via a.local a.remote p.local i) m.remote))
 
   module _ (mac : H → List ℕ → List ℕ → List ℕ) where
     -- ---- the check
@@ -226,15 +226,15 @@ module _ {H P : Type 0} where
     -- ---- the moment
 
     -- it gives the pair up, or checks the pair that is due first
-    pub record Moved (now by : ℕ) (old : AgentRecord H P) (told : Told) (new : AgentRecord H P) (p : PairRecord) : Type 0 where
+    pub record Moved (now by : ℕ) (old : AgentRecord H P) (emitted : Emitted) (new : AgentRecord H P) (p : PairRecord) : Type 0 where
       pub base : agent_base new ≡ record (agent_base old) { last_moment = Some now }
       pub follows : Follows old.pairs new.pairs
-      pub does : IsGone p.number new.pairs ⊎ ((o : PairRecord) × Has old.pairs o × ChecksOn old told o × ((o ≡ p) ⊎ WaitsOn now by (length (filter (is_fixed_by by) old.pairs)) old new p))
+      pub does : IsGone p.number new.pairs ⊎ ((o : PairRecord) × Has old.pairs o × ChecksOn old emitted o × ((o ≡ p) ⊎ WaitsOn now by (length (filter (is_fixed_by by) old.pairs)) old new p))
 
     -- what it leaves, whichever pair is looked at
-    pub moment-follows : (now : ℕ) (old new : AgentRecord H P) (s t : Stream) (told : Told) → is_some old.remote_creds ≡ true → old.lite ≡ false
-        → Proceeds mac now old s told new t → (agent_base new ≡ record (agent_base old) { last_moment = Some now }) × Follows old.pairs new.pairs
-    moment-follows now old new s t told known full (first, second, issued, named, kept, nominating, giving, checking, is) =
+    pub moment-follows : (now : ℕ) (old new : AgentRecord H P) (s t : Stream) (emitted : Emitted) → is_some old.remote_creds ≡ true → old.lite ≡ false
+        → MaintainsPairs mac now old s emitted new t → (agent_base new ≡ record (agent_base old) { last_moment = Some now }) × Follows old.pairs new.pairs
+    moment-follows now old new s t emitted known full (first, second, issued, named, kept, nominating, giving, checking, is) =
         let a = nominates-thins 0 (at_moment now old) named first nominating in
         let b = gives-up-thins 0 now named kept second giving in
         let c = thins-on 0 (at_moment now old) named kept a b in
@@ -250,10 +250,10 @@ module _ {H P : Type 0} where
     fixed-count now by a all = no-more (is_fixed_by by) (is_due_by by now a.timing) (asked now a.timing) a.pairs
         (λ q there is. ap (λ n. nat_le n by) (sym (fixed-is q.due _ (all q there))) ∙ is)
 
-    pub moment-moves : (now by : ℕ) (old new : AgentRecord H P) (s t : Stream) (told : Told) → is_some old.remote_creds ≡ true → old.lite ≡ false
+    pub moment-moves : (now by : ℕ) (old new : AgentRecord H P) (s t : Stream) (emitted : Emitted) → is_some old.remote_creds ≡ true → old.lite ≡ false
         → Distinct old.pairs → AllAsked old.pairs → by ≤ now → (p : PairRecord) → Has old.pairs p → unwrap_or p.due 0 ≤ by
-        → Proceeds mac now old s told new t → Moved now by old told new p
-    moment-moves now by old new s t told known full distinct all from p has due (first, second, issued, named, kept, nominating, giving, checking, is) =
+        → MaintainsPairs mac now old s emitted new t → Moved now by old emitted new p
+    moment-moves now by old new s t emitted known full distinct all from p has due (first, second, issued, named, kept, nominating, giving, checking, is) =
         let a = nominates-thins by (at_moment now old) named first nominating in
         let b = gives-up-thins by now named kept second giving in
         let c = thins-on by (at_moment now old) named kept a b in
@@ -267,17 +267,17 @@ module _ {H P : Type 0} where
           does = elim (c.1.forth distinct p has) [
             | inr gone ↦ inl (gone-follows kept.pairs new.pairs p.number d.1 gone)
             | inl k ↦
-                inr (on-kept now by old kept new s t told issued c timing distinct p has k
+                inr (on-kept now by old kept new s t emitted issued c timing distinct p has k
                 (check-moves now by (length (filter (is_fixed_by by) kept.pairs)) kept (c.1.distinct distinct) from k.0 k.1
                 (fixed-due now by kept k.0 (asked-on by old.pairs kept.pairs c.1 all k.0 k.1) (subst (λ o. unwrap_or o 0 ≤ by) (sym k.2.due) due))
                 (fixed-count now by kept (asked-on by old.pairs kept.pairs c.1 all)) new s t issued kept.remote_creds known_kept full_kept checking)
-                (ap (λ (x : Told). x.issued) is))
+                (ap (λ (x : Emitted). x.issued) is))
           ];
         } where
-          on-kept : (now by : ℕ) (old kept new : AgentRecord H P) (s t : Stream) (told : Told) (issued : Option Issued) → Thins by (at_moment now old) kept → kept.timing ≡ old.timing
-              → Distinct old.pairs → (p : PairRecord) → Has old.pairs p → (k : (q : PairRecord) × Has kept.pairs q × Alike p q) → Checked now by (length (filter (is_fixed_by by) kept.pairs)) kept issued new k.0 → told.issued ≡ issued
-              → (o : PairRecord) × Has old.pairs o × ChecksOn old told o × ((o ≡ p) ⊎ WaitsOn now by (length (filter (is_fixed_by by) old.pairs)) old new p)
-          on-kept now by old kept new s t told issued c timing distinct p has (q, there, alike) (n, n_there, (id, out), which) issues =
+          on-kept : (now by : ℕ) (old kept new : AgentRecord H P) (s t : Stream) (emitted : Emitted) (issued : Option Issued) → Thins by (at_moment now old) kept → kept.timing ≡ old.timing
+              → Distinct old.pairs → (p : PairRecord) → Has old.pairs p → (k : (q : PairRecord) × Has kept.pairs q × Alike p q) → Checked now by (length (filter (is_fixed_by by) kept.pairs)) kept issued new k.0 → emitted.issued ≡ issued
+              → (o : PairRecord) × Has old.pairs o × ChecksOn old emitted o × ((o ≡ p) ⊎ WaitsOn now by (length (filter (is_fixed_by by) old.pairs)) old new p)
+          on-kept now by old kept new s t emitted issued c timing distinct p has (q, there, alike) (n, n_there, (id, out), which) issues =
               let o = c.1.back n n_there in (
                 o.0,
                 o.1,
@@ -304,10 +304,10 @@ module _ {H P : Type 0} where
               )
 
     -- a pair that was checked less often than it may be is not given up
-    pub moment-keeps : (now : ℕ) (old new : AgentRecord H P) (s t : Stream) (told : Told) → is_some old.remote_creds ≡ true → old.lite ≡ false
+    pub moment-keeps : (now : ℕ) (old new : AgentRecord H P) (s t : Stream) (emitted : Emitted) → is_some old.remote_creds ≡ true → old.lite ≡ false
         → (p : PairRecord) → Has old.pairs p → nat_lt (unanswered_count p.checks) old.timing.max_retransmits ≡ true
-        → Proceeds mac now old s told new t → IsGone p.number new.pairs → ⊥
-    moment-keeps now old new s t told known full p has young (first, second, issued, named, kept, nominating, giving, checking, is) gone =
+        → MaintainsPairs mac now old s emitted new t → IsGone p.number new.pairs → ⊥
+    moment-keeps now old new s t emitted known full p has young (first, second, issued, named, kept, nominating, giving, checking, is) gone =
         let a = nominates-thins 0 (at_moment now old) named first nominating in
         let b = gives-up-thins 0 now named kept second giving in
         let c = thins-on 0 (at_moment now old) named kept a b in

@@ -2,11 +2,11 @@
 use Rattle.std.proofs.Common.{◌≡◌, Bool, true, false, Option, Some, None, ap, ◌∙◌}
 use Rattle.std.specs.Prelude.{MatchBool}
 use Rattle.is_pair.specs.Pairs.{PairRecord}
-use Rattle.is_rules.specs.declared.told.Path.{Path}
+use Rattle.is_rules.specs.declared.emitted.Path.{Path}
 use Rattle.is_rules.specs.Agent.{AgentRecord}
 use Rattle.is_pair.specs.Bag.{change_pair, IsGreatest}
 use Rattle.is_rules.specs.Sending.{path_of}
-use Rattle.is_rules.specs.Nominating.{is_eligible, nominated_by_self, stands_at, Selection, selection, with_selection, path_told, Nominates}
+use Rattle.is_rules.specs.Nominating.{is_eligible, nominated_by_self, stands_at, Selection, selection, with_selection, nominated_emitted, Nominates}
 
 both_ways : (b : Bool) {P Q R S : Type 0} → MatchBool b P Q → (P → R) → (Q → S) → MatchBool b R S
 both_ways true h f g = f h
@@ -16,34 +16,34 @@ module _ {H P : Type 0} where
   -- the pair becomes the announced one
   abbrev pub announced : PairRecord → AgentRecord H P → AgentRecord H P
   announced p a =
-      path_told (Some (path_of a p)) (with_selection (selection (change_pair p.number (nominated_by_self a.controlling a.lite) a.pairs) (Some p.number)) a)
+      nominated_emitted (Some (path_of a p)) (with_selection (selection (change_pair p.number (nominated_by_self a.controlling a.lite) a.pairs) (Some p.number)) a)
 
   -- nothing where no pair is eligible, or the announced one has the greatest priority among the eligible
   abbrev pub AnnouncesTop : Option PairRecord → AgentRecord H P → Option Path → AgentRecord H P → Type 0
   AnnouncesTop None old path new = (path ≡ None) × (new ≡ old)
   AnnouncesTop (Some top) old path new =
-      MatchBool (stands_at old.announced top.priority old.pairs)
+      MatchBool (stands_at old.selected_pair top.priority old.pairs)
       ((path ≡ None) × (new ≡ old))
       ((path ≡ Some (path_of old top)) × (new ≡ announced top old))
 
   abbrev pub Announces : AgentRecord H P → Option Path → AgentRecord H P → Type 0
   Announces old path new = (top : Option PairRecord) × IsGreatest (is_eligible old.controlling) old.pairs top × AnnouncesTop top old path new
 
-  nothing : (old new : AgentRecord H P) (path : Option Path) (chosen : Selection) → path ≡ None → chosen ≡ selection old.pairs old.announced
-      → new ≡ path_told path (with_selection chosen old) → new ≡ old
+  nothing : (old new : AgentRecord H P) (path : Option Path) (chosen : Selection) → path ≡ None → chosen ≡ selection old.pairs old.selected_pair
+      → new ≡ nominated_emitted path (with_selection chosen old) → new ≡ old
   nothing old new path chosen none same made =
-      made ∙ ap (λ (s : Selection). path_told path (with_selection s old)) same ∙ ap (λ o. path_told o old) none
+      made ∙ ap (λ (s : Selection). nominated_emitted path (with_selection s old)) same ∙ ap (λ o. nominated_emitted o old) none
 
   pub announces : (old new : AgentRecord H P) (path : Option Path) → Nominates old path new → Announces old path new
   announces old new path (chosen, (None, greatest, (is, same)), made) = (None, greatest, (is, nothing old new path chosen is same made))
   announces old new path (chosen, (Some top, greatest, h), made) = (
     Some top,
     greatest,
-    both_ways (stands_at old.announced top.priority old.pairs) h
+    both_ways (stands_at old.selected_pair top.priority old.pairs) h
         (λ k. (k.0, nothing old new path chosen k.0 k.1 made))
         (λ k. (
           k.0,
-          made ∙ ap (λ (s : Selection). path_told path (with_selection s old)) k.1
-              ∙ ap (λ o. path_told o (with_selection (selection (change_pair top.number (nominated_by_self old.controlling old.lite) old.pairs) (Some top.number)) old)) k.0,
+          made ∙ ap (λ (s : Selection). nominated_emitted path (with_selection s old)) k.1
+              ∙ ap (λ o. nominated_emitted o (with_selection (selection (change_pair top.number (nominated_by_self old.controlling old.lite) old.pairs) (Some top.number)) old)) k.0,
         )),
   )

@@ -11,7 +11,7 @@ use Rattle.is_pair.specs.declared.pair.states.CheckState.{CheckState}
 use Rattle.is_pair.specs.declared.pair.states.NominationState.{NominationState}
 use Rattle.is_pair.specs.declared.pair.states.NominationState.TheVariants.{None as Unnominated, Nominated, Attempt, Success}
 use Rattle.is_rules.proofs.Addresses.{both, same_address-sound, same_protocol-sound}
-use Rattle.is_rules.specs.declared.told.Path.{Path}
+use Rattle.is_rules.specs.declared.emitted.Path.{Path}
 use Rattle.is_pair.specs.Bag.{is_numbered, without, Drops}
 use Rattle.is_rules.proofs.Rising.{AreRising, AllBelow}
 use Rattle.is_rules.specs.Sound.{IsPlaced, ArePlaced}

@@ -16,11 +16,11 @@ use Rattle.is_stun.specs.Laws.{IsPut}
 use Rattle.is_rules.proofs.Rising.{rising-each, below-each}
 use Rattle.is_rules.proofs.Addresses.{both}
 use Rattle.is_rules.specs.declared.credentials.IceCreds.{IceCreds}
-use Rattle.is_rules.specs.declared.told.Path.{Path}
-use Rattle.is_rules.specs.declared.told.Told.{Told}
+use Rattle.is_rules.specs.declared.emitted.Path.{Path}
+use Rattle.is_rules.specs.declared.emitted.Emitted.{Emitted}
 use Rattle.is_rules.specs.Request.{RequestRecord, request_in}
 use Rattle.is_rules.specs.Steps.{Answer, Done, Flag, Polled, Happened, Wake, NotCalled, Refused, Entry, quiet, added, done, answer_by}
-use Rattle.is_rules.specs.Told.{nothing_told, issued_as, turned}
+use Rattle.is_rules.specs.Emitted.{nothing_emitted, issued_as, reversed}
 use Rattle.is_stun.specs.Checks.{binding_reply, binding_role_conflict_reply}
 use Rattle.is_stun.specs.Writing.{written}
 use Rattle.is_rules.specs.declared.roles.Conflict.TheVariants.{Insists}
@@ -36,8 +36,8 @@ use Rattle.is_rules.specs.Serving.{Drops, Serves}
 use Rattle.is_rules.specs.Queue.{queued, first_taken, request_at}
 use Rattle.is_pair.specs.Bag.{keeps_check}
 use Rattle.is_rules.specs.Answers.{keeps_check_on, goes_back, is_role_conflict, TakesSuccess, TakesFailure, GivesUpRole}
-use Rattle.is_rules.specs.Accepting.{Takes, IsAcceptedAs, IsAcceptedOn, source_told}
-use Rattle.is_rules.specs.Timeouts.{awake, Proceeds, ServesQueued, TimesOut}
+use Rattle.is_rules.specs.Accepting.{Takes, IsAcceptedAs, IsAcceptedOn, discovered_emitted}
+use Rattle.is_rules.specs.Timeouts.{timeout_begun, MaintainsPairs, ServesQueued, TimesOut}
 use Rattle.is_rules.specs.Steps.{Call, SetMtu, SetControlTieBreaker, SetMaxCandidatePairs, SetIceLite, SetTimingAdvance, SetInitialStunRto, SetMaxStunRto, SetMaxStunRetransmits, SetLocalPreference, SetControlling, SetLocalCredentials, SetRemoteCredentials, SkipPairIds, AddLocalCandidate, AddRemoteCandidate, InvalidateCandidate, RestartIce, RecreateCandidatePairs, ReceivePacket, HandleTimeout, PollTransmit, PollTimeout, PollEvent, Becomes, MayDo, Receives, Step}
 use Rattle.is_rules.specs.Sound.{IsSound}
 use Rattle.is_rules.specs.Brought.{Brings, IsServing, IsAskedFor, IsAnswered}
@@ -48,8 +48,8 @@ use Rattle.is_rules.proofs.Onward.{Parts, Fit, IsNominatedIn, Onward, here}
 use Rattle.is_rules.proofs.Moves.{parts_of}
 use Rattle.is_rules.proofs.Tells.{Tells, tells_none}
 use Rattle.is_rules.proofs.Calms.{Calm, calm, is_calm}
-use Rattle.is_rules.proofs.Moments.{CheckOut, proceeds, succeeds}
-use Rattle.is_rules.proofs.Serves.{Replied, Insisted, Granted, serves_does, switches}
+use Rattle.is_rules.proofs.Moments.{CheckOut, maintains_pairs, succeeds}
+use Rattle.is_rules.proofs.Serves.{Replied, ConflictSent, Granted, serves_does, switches}
 use Rattle.is_rules.proofs.Gathered.{adds_local_goes, adds_remote_goes, invalidates_goes, recreates_goes, restarts_goes, skips_goes, rtos_goes, polls_goes}
 
 or_true : (a b : Bool) → (a || b) ≡ true → (a ≡ true) ⊎ (b ≡ true)
@@ -76,7 +76,7 @@ module _ {H P : Type 0} (mac : H → List ℕ → List ℕ → List ℕ) (answer
   Met call path = IsAnswered mac old call e path ⊎ (old.lite ≡ true)
 
   abbrev pub Sent : Path → List ℕ → Bool → Type 0
-  Sent path id role = (e.told.issued ≡ Some (issued_as path class.Request id)) × (role ≡ old.controlling) × (new.controlling ≡ old.controlling)
+  Sent path id role = (e.emitted.issued ≡ Some (issued_as path class.Request id)) × (role ≡ old.controlling) × (new.controlling ≡ old.controlling)
 
   abbrev pub Moves : Call P → AgentRecord H P → Type 0
   Moves call a =
@@ -84,31 +84,31 @@ module _ {H P : Type 0} (mac : H → List ℕ → List ℕ → List ℕ) (answer
 
   abbrev pub Telling : Call P → Type 0
   Telling call =
-      Tells (Asks call) (Met call) Sent (parts_of (Asks call) (Met call) Sent old) (parts_of (Asks call) (Met call) Sent new) old.announced new.announced e.told.announced
+      Tells (Asks call) (Met call) Sent (parts_of (Asks call) (Met call) Sent old) (parts_of (Asks call) (Met call) Sent new) old.selected_pair new.selected_pair e.emitted.announced
 
   -- what goes out: nothing, a check, or an answer to the request that is served
   abbrev pub Posted : Call P → Type 0
   Posted call =
-      (e.told.issued ≡ None)
-      ⊎ (((new.controlling ≡ old.controlling) × CheckOut mac (frame_of old) old.local old.packets e.told.issued new.packets)
+      (e.emitted.issued ≡ None)
+      ⊎ (((new.controlling ≡ old.controlling) × CheckOut mac (frame_of old) old.local old.packets e.emitted.issued new.packets)
       ⊎ ((q : RequestRecord) × IsServing old call e q
-      × (Replied (Asks call) (Met call) Sent mac q old e.told new ⊎ Insisted (Asks call) (Met call) Sent mac q old e.told new)))
+      × (Replied (Asks call) (Met call) Sent mac q old e.emitted new ⊎ ConflictSent (Asks call) (Met call) Sent mac q old e.emitted new)))
 
   abbrev pub PairEffect : Call P → Type 0
   PairEffect call = Moves call new × Telling call × Posted call
 
   module _ (call : Call P) (fit : Fit (parts_of (Asks call) (Met call) Sent old)) where
-    silent : (told : Told) → e.told ≡ told → told ≡ nothing_told → new.announced ≡ old.announced → Moves call new → PairEffect call
-    silent told is nothing number moves = (
+    silent : (emitted : Emitted) → e.emitted ≡ emitted → emitted ≡ nothing_emitted → new.selected_pair ≡ old.selected_pair → Moves call new → PairEffect call
+    silent emitted is nothing number moves = (
       moves,
-      subst (λ (ps : List (Option Path)). Tells (Asks call) (Met call) Sent (parts_of (Asks call) (Met call) Sent old) (parts_of (Asks call) (Met call) Sent new) old.announced new.announced ps)
-          (sym (ap (λ (x : Told). x.announced) (is ∙ nothing)))
-          (tells_none (Asks call) (Met call) Sent (parts_of (Asks call) (Met call) Sent old) (parts_of (Asks call) (Met call) Sent new) old.announced new.announced number),
-      inl (ap (λ (x : Told). x.issued) (is ∙ nothing)),
+      subst (λ (ps : List (Option Path)). Tells (Asks call) (Met call) Sent (parts_of (Asks call) (Met call) Sent old) (parts_of (Asks call) (Met call) Sent new) old.selected_pair new.selected_pair ps)
+          (sym (ap (λ (x : Emitted). x.announced) (is ∙ nothing)))
+          (tells_none (Asks call) (Met call) Sent (parts_of (Asks call) (Met call) Sent old) (parts_of (Asks call) (Met call) Sent new) old.selected_pair new.selected_pair number),
+      inl (ap (λ (x : Emitted). x.issued) (is ∙ nothing)),
     )
 
     quietly : (answer : Answer) → e ≡ quiet answer → Calm call old e new → Moves call new → PairEffect call
-    quietly answer is calm moves = silent nothing_told (ap (λ (x : Entry). x.told) is) refl calm.announced moves
+    quietly answer is calm moves = silent nothing_emitted (ap (λ (x : Entry). x.emitted) is) refl calm.announced moves
 
     unmoved : new ≡ old → Moves call new
     unmoved made = subst (λ (a : AgentRecord H P). Moves call a) (sym made) (here (Asks call) (Met call) Sent (parts_of (Asks call) (Met call) Sent old) fit)
@@ -145,34 +145,34 @@ module _ {H P : Type 0} (mac : H → List ℕ → List ℕ → List ℕ) (answer
       free = λ h p. elim (or_true (not a.controlling) a.lite h) [ inl c ↦ inr (inr (inr (role ∙ c))) | inr l ↦ inr (inl (sym lite ∙ l)) ];
     }
 
-    serves_pairs : (q : RequestRecord) (a b : AgentRecord H P) (told : Told) → parts_of (Asks call) (Met call) Sent a ≡ parts_of (Asks call) (Met call) Sent old
+    serves_pairs : (q : RequestRecord) (a b : AgentRecord H P) (emitted : Emitted) → parts_of (Asks call) (Met call) Sent a ≡ parts_of (Asks call) (Met call) Sent old
         → parts_of (Asks call) (Met call) Sent new ≡ parts_of (Asks call) (Met call) Sent b → ((c : CandidateRecord) → Has a.local c → IsBased c)
         → a.lite ≡ old.lite → a.controlling ≡ old.controlling → new.controlling ≡ b.controlling
-        → a.announced ≡ old.announced → new.announced ≡ b.announced → a.packets ≡ old.packets → new.packets ≡ b.packets
+        → a.selected_pair ≡ old.selected_pair → new.selected_pair ≡ b.selected_pair → a.packets ≡ old.packets → new.packets ≡ b.packets
         → (a.provider ≡ old.provider) × (a.local_creds ≡ old.local_creds) × (a.tie_breaker ≡ old.tie_breaker)
-        → IsServing old call e q → e.told ≡ told → Serves mac q a told b → PairEffect call
-    serves_pairs q a b told parts behind based lite role after number number_after packets packets_after (provider, creds, tie) serving is h =
+        → IsServing old call e q → e.emitted ≡ emitted → Serves mac q a emitted b → PairEffect call
+    serves_pairs q a b emitted parts behind based lite role after number number_after packets packets_after (provider, creds, tie) serving is h =
         let fit_a : Fit (parts_of (Asks call) (Met call) Sent a) = subst (λ (x : Parts). Fit x) (sym parts) fit in
-        let k = serves_does (Asks call) (Met call) Sent mac q a b told based fit_a (λ _. grants q a lite role serving)
+        let k = serves_does (Asks call) (Met call) Sent mac q a b emitted based fit_a (λ _. grants q a lite role serving)
         (λ _ turned_role. grants_switched q a lite (after ∙ turned_role) serving) h in
         let x : Parts = parts_of (Asks call) (Met call) Sent old in
         let y : Parts = parts_of (Asks call) (Met call) Sent b in
         let bytes : (m : Message) → written (mac a.provider) (Some a.local_creds.pass) m ≡ written (mac old.provider) (Some old.local_creds.pass) m =
         (λ m. ap (λ p. written (mac p) (Some a.local_creds.pass) m) provider ∙ ap (λ (c : IceCreds). written (mac old.provider) (Some c.pass) m) creds) in
-        let out : (m : Message) → b.packets ≡ a.packets ++ packet_along (turned q.path) (written (mac a.provider) (Some a.local_creds.pass) m) ∷ []
-        → new.packets ≡ old.packets ++ packet_along (turned q.path) (written (mac old.provider) (Some old.local_creds.pass) m) ∷ [] =
-        (λ m put. packets_after ∙ put ∙ ap (λ ps. ps ++ packet_along (turned q.path) (written (mac a.provider) (Some a.local_creds.pass) m) ∷ []) packets
-        ∙ ap (λ w. old.packets ++ packet_along (turned q.path) w ∷ []) (bytes m)) in (
+        let out : (m : Message) → b.packets ≡ a.packets ++ packet_along (reversed q.path) (written (mac a.provider) (Some a.local_creds.pass) m) ∷ []
+        → new.packets ≡ old.packets ++ packet_along (reversed q.path) (written (mac old.provider) (Some old.local_creds.pass) m) ∷ [] =
+        (λ m put. packets_after ∙ put ∙ ap (λ ps. ps ++ packet_along (reversed q.path) (written (mac a.provider) (Some a.local_creds.pass) m) ∷ []) packets
+        ∙ ap (λ w. old.packets ++ packet_along (reversed q.path) w ∷ []) (bytes m)) in (
           subst (λ (x : Parts). Onward (Asks call) (Met call) Sent (parts_of (Asks call) (Met call) Sent old) x) (sym behind)
               (subst (λ (x : Parts). Onward (Asks call) (Met call) Sent x y) parts k.0),
-          subst (λ (t : Told). Tells (Asks call) (Met call) Sent x (parts_of (Asks call) (Met call) Sent new) old.announced new.announced t.announced) (sym is)
-              (subst (λ n. Tells (Asks call) (Met call) Sent x (parts_of (Asks call) (Met call) Sent new) old.announced n told.announced) (sym number_after)
-              (subst (λ n. Tells (Asks call) (Met call) Sent x (parts_of (Asks call) (Met call) Sent new) n b.announced told.announced) number
-              (subst (λ (z : Parts). Tells (Asks call) (Met call) Sent x z a.announced b.announced told.announced) (sym behind)
-              (subst (λ (z : Parts). Tells (Asks call) (Met call) Sent z y a.announced b.announced told.announced) parts k.1)))),
-          subst (λ (t : Told). (t.issued ≡ None) ⊎ (((new.controlling ≡ old.controlling) × CheckOut mac (frame_of old) old.local old.packets t.issued new.packets)
+          subst (λ (t : Emitted). Tells (Asks call) (Met call) Sent x (parts_of (Asks call) (Met call) Sent new) old.selected_pair new.selected_pair t.announced) (sym is)
+              (subst (λ n. Tells (Asks call) (Met call) Sent x (parts_of (Asks call) (Met call) Sent new) old.selected_pair n emitted.announced) (sym number_after)
+              (subst (λ n. Tells (Asks call) (Met call) Sent x (parts_of (Asks call) (Met call) Sent new) n b.selected_pair emitted.announced) number
+              (subst (λ (z : Parts). Tells (Asks call) (Met call) Sent x z a.selected_pair b.selected_pair emitted.announced) (sym behind)
+              (subst (λ (z : Parts). Tells (Asks call) (Met call) Sent z y a.selected_pair b.selected_pair emitted.announced) parts k.1)))),
+          subst (λ (t : Emitted). (t.issued ≡ None) ⊎ (((new.controlling ≡ old.controlling) × CheckOut mac (frame_of old) old.local old.packets t.issued new.packets)
               ⊎ ((q : RequestRecord) × IsServing old call e q
-              × (Replied (Asks call) (Met call) Sent mac q old t new ⊎ Insisted (Asks call) (Met call) Sent mac q old t new)))) (sym is)
+              × (Replied (Asks call) (Met call) Sent mac q old t new ⊎ ConflictSent (Asks call) (Met call) Sent mac q old t new)))) (sym is)
               (elim k.2 [
                 | inl r ↦ elim r [
                   | inl none ↦ inl none.0
@@ -183,7 +183,7 @@ module _ {H P : Type 0} (mac : H → List ℕ → List ℕ → List ℕ) (answer
                       issued,
                       subst (λ w. IsPut w (binding_reply q.id (carried q.path.source))) (bytes (binding_reply q.id q.path.source)) values,
                       out (binding_reply q.id q.path.source) put,
-                      (λ uses controlled. subst (λ (z : Parts). IsNominatedIn z (turned q.path)) (sym behind) (nominates_it uses (sym after ∙ controlled))),
+                      (λ uses controlled. subst (λ (z : Parts). IsNominatedIn z (reversed q.path)) (sym behind) (nominates_it uses (sym after ∙ controlled))),
                     )),
                   ))
                 ]
@@ -203,41 +203,41 @@ module _ {H P : Type 0} (mac : H → List ℕ → List ℕ → List ℕ) (answer
 
   -- ---- moments
 
-  moment_by : (now : ℕ) (sound : IsSound old) (fit : Fit (parts_of (Asks (HandleTimeout now)) (Met (HandleTimeout now)) Sent old)) (told : Told) (o : Option RequestRecord)
-      → request_at now old ≡ o → e ≡ record { answer = Done; told = told }
-      → MatchOption o (Proceeds mac now (awake now old) s told new t) (λ q. ServesQueued mac q (awake now old) s told new t) → PairEffect (HandleTimeout now)
-  moment_by now sound fit told None is e_is h =
+  moment_by : (now : ℕ) (sound : IsSound old) (fit : Fit (parts_of (Asks (HandleTimeout now)) (Met (HandleTimeout now)) Sent old)) (emitted : Emitted) (o : Option RequestRecord)
+      → request_at now old ≡ o → e ≡ record { answer = Done; emitted = emitted }
+      → MatchOption o (MaintainsPairs mac now (timeout_begun now old) s emitted new t) (λ q. ServesQueued mac q (timeout_begun now old) s emitted new t) → PairEffect (HandleTimeout now)
+  moment_by now sound fit emitted None is e_is h =
       let call : Call P = HandleTimeout now in
-      let frame = frames.proceeds mac now (awake now old) new s t told h in
+      let frame = frames.maintains_pairs mac now (timeout_begun now old) new s t emitted h in
       let role : new.controlling ≡ old.controlling = ap (λ (f : Frame H). f.controlling) frame.0 in
-      let told_is : e.told ≡ told = ap (λ (x : Entry). x.told) e_is in
-      let k = proceeds (Asks call) (Met call) Sent mac now (awake now old) new s t told
+      let emitted_is : e.emitted ≡ emitted = ap (λ (x : Entry). x.emitted) e_is in
+      let k = maintains_pairs (Asks call) (Met call) Sent mac now (timeout_begun now old) new s t emitted
       (λ allowed p. elim (or_true old.controlling old.lite allowed) [ inl c ↦ inr (inr (inl c)) | inr l ↦ inr (inl l) ])
-      (λ path id out. (ap (λ (x : Told). x.issued) told_is ∙ out, refl, role)) fit h in (
+      (λ path id out. (ap (λ (x : Emitted). x.issued) emitted_is ∙ out, refl, role)) fit h in (
         k.0,
-        subst (λ (x : Told). Tells (Asks call) (Met call) Sent (parts_of (Asks call) (Met call) Sent old) (parts_of (Asks call) (Met call) Sent new) old.announced new.announced x.announced) (sym told_is) k.1,
+        subst (λ (x : Emitted). Tells (Asks call) (Met call) Sent (parts_of (Asks call) (Met call) Sent old) (parts_of (Asks call) (Met call) Sent new) old.selected_pair new.selected_pair x.announced) (sym emitted_is) k.1,
         inr (inl (
           role,
-          subst (λ (x : Told). CheckOut mac (frame_of old) old.local old.packets x.issued new.packets) (sym told_is)
+          subst (λ (x : Emitted). CheckOut mac (frame_of old) old.local old.packets x.issued new.packets) (sym emitted_is)
               k.2,
         )),
       )
-  moment_by now sound fit told (Some q) is e_is (h, drawn) =
-      serves_pairs (HandleTimeout now) fit q (first_taken (awake now old)) new told refl refl sound.based refl refl refl refl refl refl refl (refl, refl, refl)
-      (is, ap (λ (x : Entry). x.answer) e_is) (ap (λ (x : Entry). x.told) e_is) h
+  moment_by now sound fit emitted (Some q) is e_is (h, drawn) =
+      serves_pairs (HandleTimeout now) fit q (first_taken (timeout_begun now old)) new emitted refl refl sound.based refl refl refl refl refl refl refl (refl, refl, refl)
+      (is, ap (λ (x : Entry). x.answer) e_is) (ap (λ (x : Entry). x.emitted) e_is) h
 
   -- ---- packets
 
-  module _ (now : ℕ) (way : Path) (bytes : List ℕ) (m : Message) (mid : AgentRecord H P) (told : Told) (sound : IsSound old)
-      (fit : Fit (parts_of (Asks (ReceivePacket now way bytes)) (Met (ReceivePacket now way bytes)) Sent old))
-      (reads : Reads bytes m) (accepted : IsAcceptedOn mac old way m) (e_is : e ≡ record { answer = Flag true; told = told }) (made : new ≡ source_told way mid) where
+  module _ (now : ℕ) (via : Path) (bytes : List ℕ) (m : Message) (mid : AgentRecord H P) (emitted : Emitted) (sound : IsSound old)
+      (fit : Fit (parts_of (Asks (ReceivePacket now via bytes)) (Met (ReceivePacket now via bytes)) Sent old))
+      (reads : Reads bytes m) (accepted : IsAcceptedOn mac old via m) (e_is : e ≡ record { answer = Flag true; emitted = emitted }) (made : new ≡ discovered_emitted via mid) where
     abbrev packet : Call P
-    packet = ReceivePacket now way bytes
+    packet = ReceivePacket now via bytes
 
-    told_is : e.told ≡ told
-    told_is = ap (λ (x : Entry). x.told) e_is
+    emitted_is : e.emitted ≡ emitted
+    emitted_is = ap (λ (x : Entry). x.emitted) e_is
 
-    brought : Brings packet e now way m
+    brought : Brings packet e now via m
     brought = (refl, refl, reads, ap (λ (x : Entry). x.answer) e_is)
 
     behind : parts_of (Asks packet) (Met packet) Sent new ≡ parts_of (Asks packet) (Met packet) Sent mid
@@ -246,80 +246,80 @@ module _ {H P : Type 0} (mac : H → List ℕ → List ℕ → List ℕ) (answer
     moved_on : Moves packet mid → Moves packet new
     moved_on k = subst (λ (x : Parts). Onward (Asks packet) (Met packet) Sent (parts_of (Asks packet) (Met packet) Sent old) x) (sym behind) k
 
-    announcing : (n : Option ℕ) → mid.announced ≡ n
-        → Tells (Asks packet) (Met packet) Sent (parts_of (Asks packet) (Met packet) Sent old) (parts_of (Asks packet) (Met packet) Sent mid) old.announced mid.announced told.announced
+    announcing : (n : Option ℕ) → mid.selected_pair ≡ n
+        → Tells (Asks packet) (Met packet) Sent (parts_of (Asks packet) (Met packet) Sent old) (parts_of (Asks packet) (Met packet) Sent mid) old.selected_pair mid.selected_pair emitted.announced
         → Telling packet
     announcing n is k =
-        subst (λ (x : Told). Tells (Asks packet) (Met packet) Sent (parts_of (Asks packet) (Met packet) Sent old) (parts_of (Asks packet) (Met packet) Sent new) old.announced new.announced x.announced) (sym told_is)
-        (subst (λ (a : AgentRecord H P). Tells (Asks packet) (Met packet) Sent (parts_of (Asks packet) (Met packet) Sent old) (parts_of (Asks packet) (Met packet) Sent a) old.announced a.announced told.announced) (sym made) k)
+        subst (λ (x : Emitted). Tells (Asks packet) (Met packet) Sent (parts_of (Asks packet) (Met packet) Sent old) (parts_of (Asks packet) (Met packet) Sent new) old.selected_pair new.selected_pair x.announced) (sym emitted_is)
+        (subst (λ (a : AgentRecord H P). Tells (Asks packet) (Met packet) Sent (parts_of (Asks packet) (Met packet) Sent old) (parts_of (Asks packet) (Met packet) Sent a) old.selected_pair a.selected_pair emitted.announced) (sym made) k)
 
-    drops_pairs : (a : AgentRecord H P) → Moves packet a → a.announced ≡ old.announced → Drops a told mid → PairEffect packet
+    drops_pairs : (a : AgentRecord H P) → Moves packet a → a.selected_pair ≡ old.selected_pair → Drops a emitted mid → PairEffect packet
     drops_pairs a moves number (nothing, same_is) =
-        silent packet fit told told_is nothing (ap (λ (x : AgentRecord H P). x.announced) made ∙ ap (λ (x : AgentRecord H P). x.announced) same_is ∙ number) (moved_on (subst (λ (x : AgentRecord H P). Moves packet x) (sym same_is) moves))
+        silent packet fit emitted emitted_is nothing (ap (λ (x : AgentRecord H P). x.selected_pair) made ∙ ap (λ (x : AgentRecord H P). x.selected_pair) same_is ∙ number) (moved_on (subst (λ (x : AgentRecord H P). Moves packet x) (sym same_is) moves))
 
     request_pairs : (peer : Option IceCreds) → old.remote_creds ≡ peer → m.class ≡ class.Request
-        → MatchOption peer ((told ≡ nothing_told) × (mid ≡ queued (request_in now way m) old)) (λ peer. Serves mac (request_in now way m) old told mid) → PairEffect packet
+        → MatchOption peer ((emitted ≡ nothing_emitted) × (mid ≡ queued (request_in now via m) old)) (λ peer. Serves mac (request_in now via m) old emitted mid) → PairEffect packet
     request_pairs None none is (nothing, same_is) =
-        silent packet fit told told_is nothing (ap (λ (x : AgentRecord H P). x.announced) made ∙ ap (λ (x : AgentRecord H P). x.announced) same_is)
+        silent packet fit emitted emitted_is nothing (ap (λ (x : AgentRecord H P). x.selected_pair) made ∙ ap (λ (x : AgentRecord H P). x.selected_pair) same_is)
         (moved_on (subst (λ (x : AgentRecord H P). Moves packet x) (sym same_is) (resting packet fit)))
     request_pairs (Some peer) known is h =
-        serves_pairs packet fit (request_in now way m) old mid told refl behind sound.based refl refl (ap (λ (a : AgentRecord H P). a.controlling) made)
-        refl (ap (λ (a : AgentRecord H P). a.announced) made) refl (ap (λ (a : AgentRecord H P). a.packets) made) (refl, refl, refl)
-        (now, way, m, brought, is, ap is_some known, refl) told_is h
+        serves_pairs packet fit (request_in now via m) old mid emitted refl behind sound.based refl refl (ap (λ (a : AgentRecord H P). a.controlling) made)
+        refl (ap (λ (a : AgentRecord H P). a.selected_pair) made) refl (ap (λ (a : AgentRecord H P). a.packets) made) (refl, refl, refl)
+        (now, via, m, brought, is, ap is_some known, refl) emitted_is h
 
-    awaited : (c : Class) → m.class ≡ c → IsAcceptedAs mac c (keeps_check_on old way m.id) old m
-    awaited c is = subst (λ x. IsAcceptedAs mac x (keeps_check_on old way m.id) old m) is accepted.1
+    awaited : (c : Class) → m.class ≡ c → IsAcceptedAs mac c (keeps_check_on old via m.id) old m
+    awaited c is = subst (λ x. IsAcceptedAs mac x (keeps_check_on old via m.id) old m) is accepted.1
 
     signed_by : (peer : Option IceCreds) → old.remote_creds ≡ peer → IsSomeAnd peer (λ p. IsSignedBy (mac old.provider) m p.pass)
         → (p : IceCreds) × (old.remote_creds ≡ Some p) × IsSignedBy (mac old.provider) m p.pass
     signed_by None none h = absurd h
     signed_by (Some p) known h = (p, known, h)
 
-    answers_path : m.class ≡ class.Success → (p : PairRecord) (c : Check) → Has old.pairs p → keeps_check_on old way m.id p ≡ true → Has p.checks c → c.id ≡ m.id
+    answers_path : m.class ≡ class.Success → (p : PairRecord) (c : Check) → Has old.pairs p → keeps_check_on old via m.id p ≡ true → Has p.checks c → c.id ≡ m.id
         → Met packet (path_of old p)
     answers_path is p c has on keeps id_is =
         let peer = signed_by old.remote_creds refl (awaited class.Success is).1 in
-        let goes = both (keeps_check m.id p) (goes_back way (path_of old p)) on in
-        inl (now, way, m, c.controlling, peer.0, brought, is, (p, c, has, keeps, id_is, refl, refl), peer.1, peer.2, goes.1)
+        let goes = both (keeps_check m.id p) (goes_back via (path_of old p)) on in
+        inl (now, via, m, c.controlling, peer.0, brought, is, (p, c, has, keeps, id_is, refl, refl), peer.1, peer.2, goes.1)
 
-    failure_pairs : TakesFailure old way m told mid → PairEffect packet
+    failure_pairs : TakesFailure old via m emitted mid → PairEffect packet
     failure_pairs h = either (is_role_conflict m) h
         (λ _ k. gives k)
         (λ _ k. drops_pairs old (resting packet fit) refl k) where
-          gives : GivesUpRole old way m told mid → PairEffect packet
+          gives : GivesUpRole old via m emitted mid → PairEffect packet
           gives (p, c, has, on, keeps, id_is, k) = either (same c.controlling old.controlling) k
               (λ _ z. drops_pairs (switched old) (switches (Asks packet) (Met packet) Sent old fit) refl z)
               (λ _ z. drops_pairs old (resting packet fit) refl z)
 
-    quiet_success : TakesSuccess now old way m told mid → told.issued ≡ None
-    quiet_success (recorded, records_it, (path, named, nominating, is, done)) = ap (λ (x : Told). x.issued) is
+    quiet_success : TakesSuccess now old via m emitted mid → emitted.issued ≡ None
+    quiet_success (recorded, records_it, (path, named, nominating, is, done)) = ap (λ (x : Emitted). x.issued) is
 
-    taken : (c : Class) → m.class ≡ c → Takes mac c now old way m told mid → PairEffect packet
+    taken : (c : Class) → m.class ≡ c → Takes mac c now old via m emitted mid → PairEffect packet
     taken class.Request is h = request_pairs old.remote_creds refl is h
     taken class.Success is h =
-        let k = succeeds (Asks packet) (Met packet) Sent now old mid way m told
+        let k = succeeds (Asks packet) (Met packet) Sent now old mid via m emitted
         (λ allowed p. elim (or_true old.controlling old.lite allowed) [ inl c ↦ inr (inr (inl c)) | inr l ↦ inr (inl l) ])
         (answers_path is) fit h in
-        (moved_on k.0, announcing mid.announced refl k.1, inl (ap (λ (x : Told). x.issued) told_is ∙ quiet_success h))
+        (moved_on k.0, announcing mid.selected_pair refl k.1, inl (ap (λ (x : Emitted). x.issued) emitted_is ∙ quiet_success h))
     taken class.Failure is h = failure_pairs h
     taken class.Indication is h = absurd h
     taken class.Unknown is h = absurd h
 
-  receives : (now : ℕ) (way : Path) (bytes : List ℕ) (sound : IsSound old) (fit : Fit (parts_of (Asks (ReceivePacket now way bytes)) (Met (ReceivePacket now way bytes)) Sent old))
-      → Receives mac answers now old way bytes e new → PairEffect (ReceivePacket now way bytes)
-  receives now way bytes sound fit (inl (fault, has, is, made)) = silent (ReceivePacket now way bytes) fit nothing_told (ap (λ (x : Entry). x.told) is) refl (ap (λ (x : AgentRecord H P). x.announced) made) (unmoved (ReceivePacket now way bytes) fit made)
-  receives now way bytes sound fit (inr (m, reads, (Ok false, told, is, (unaccepted, nothing, made)))) =
-      silent (ReceivePacket now way bytes) fit told (ap (λ (x : Entry). x.told) is) nothing (ap (λ (x : AgentRecord H P). x.announced) made) (unmoved (ReceivePacket now way bytes) fit made)
-  receives now way bytes sound fit (inr (m, reads, (Ok true, told, is, (accepted, (mid, takes, made))))) =
-      taken now way bytes m mid told sound fit reads accepted is made m.class refl takes
-  receives now way bytes sound fit (inr (m, reads, (Err error, told, is, (may, nothing, made)))) =
-      silent (ReceivePacket now way bytes) fit told (ap (λ (x : Entry). x.told) is) nothing (ap (λ (x : AgentRecord H P). x.announced) made) (unmoved (ReceivePacket now way bytes) fit made)
+  receives : (now : ℕ) (via : Path) (bytes : List ℕ) (sound : IsSound old) (fit : Fit (parts_of (Asks (ReceivePacket now via bytes)) (Met (ReceivePacket now via bytes)) Sent old))
+      → Receives mac answers now old via bytes e new → PairEffect (ReceivePacket now via bytes)
+  receives now via bytes sound fit (inl (fault, has, is, made)) = silent (ReceivePacket now via bytes) fit nothing_emitted (ap (λ (x : Entry). x.emitted) is) refl (ap (λ (x : AgentRecord H P). x.selected_pair) made) (unmoved (ReceivePacket now via bytes) fit made)
+  receives now via bytes sound fit (inr (m, reads, (Ok false, emitted, is, (unaccepted, nothing, made)))) =
+      silent (ReceivePacket now via bytes) fit emitted (ap (λ (x : Entry). x.emitted) is) nothing (ap (λ (x : AgentRecord H P). x.selected_pair) made) (unmoved (ReceivePacket now via bytes) fit made)
+  receives now via bytes sound fit (inr (m, reads, (Ok true, emitted, is, (accepted, (mid, takes, made))))) =
+      taken now via bytes m mid emitted sound fit reads accepted is made m.class refl takes
+  receives now via bytes sound fit (inr (m, reads, (Err error, emitted, is, (may, nothing, made)))) =
+      silent (ReceivePacket now via bytes) fit emitted (ap (λ (x : Entry). x.emitted) is) nothing (ap (λ (x : AgentRecord H P). x.selected_pair) made) (unmoved (ReceivePacket now via bytes) fit made)
 
-  moments : (now : ℕ) (sound : IsSound old) (fit : Fit (parts_of (Asks (HandleTimeout now)) (Met (HandleTimeout now)) Sent old)) (r : Result (Unit {0}) IceError) (told : Told)
-      → e ≡ record { answer = answer_by done r; told = told } → TimesOut mac now old s r told new t → PairEffect (HandleTimeout now)
-  moments now sound fit (Ok _) told is h = moment_by now sound fit told (request_at now old) refl is h
-  moments now sound fit (Err error) told is (may, nothing, made, drawn) =
-      silent (HandleTimeout now) fit told (ap (λ (x : Entry). x.told) is) nothing (ap (λ (x : AgentRecord H P). x.announced) made) (unmoved (HandleTimeout now) fit made)
+  moments : (now : ℕ) (sound : IsSound old) (fit : Fit (parts_of (Asks (HandleTimeout now)) (Met (HandleTimeout now)) Sent old)) (r : Result (Unit {0}) IceError) (emitted : Emitted)
+      → e ≡ record { answer = answer_by done r; emitted = emitted } → TimesOut mac now old s r emitted new t → PairEffect (HandleTimeout now)
+  moments now sound fit (Ok _) emitted is h = moment_by now sound fit emitted (request_at now old) refl is h
+  moments now sound fit (Err error) emitted is (may, nothing, made, drawn) =
+      silent (HandleTimeout now) fit emitted (ap (λ (x : Entry). x.emitted) is) nothing (ap (λ (x : AgentRecord H P). x.selected_pair) made) (unmoved (HandleTimeout now) fit made)
 
   retransmits : (b : Bool) (n : ℕ) (fit : Fit (parts_of (Asks (SetMaxStunRetransmits n)) (Met (SetMaxStunRetransmits n)) Sent old))
       → Calm (SetMaxStunRetransmits n) old e new → MatchBool b ((e ≡ quiet NotCalled) × (new ≡ old) × (t ≡ s)) (Becomes (with_retransmits n old) s e new t) → PairEffect (SetMaxStunRetransmits n)
@@ -380,8 +380,8 @@ module _ {H P : Type 0} (mac : H → List ℕ → List ℕ → List ℕ) (answer
       let call : Call P = RecreateCandidatePairs in
       done_or call (fits call sound) (Recreates old) (λ k. recreates_goes (Asks call) (Met call) Sent old new (fits call sound) k)
       (λ error k. recreation_kept old new error k) (calms RecreateCandidatePairs refl h) h
-  paired (ReceivePacket now way bytes) sound h = receives now way bytes sound (fits (ReceivePacket now way bytes) sound) h.0
-  paired (HandleTimeout now) sound (r, told, is, h) = moments now sound (fits (HandleTimeout now) sound) r told is h
+  paired (ReceivePacket now via bytes) sound h = receives now via bytes sound (fits (ReceivePacket now via bytes) sound) h.0
+  paired (HandleTimeout now) sound (r, emitted, is, h) = moments now sound (fits (HandleTimeout now) sound) r emitted is h
   paired PollTransmit sound (given, is, (polled, made), drawn) = quietly PollTransmit (fits PollTransmit sound) (Polled given) is (calms PollTransmit refl (given, is, (polled, made), drawn))
       (subst (λ (a : AgentRecord H P). Moves PollTransmit a) (sym made) (as_it_was PollTransmit sound))
   paired PollTimeout sound (wake, is, h, drawn) = quietly PollTimeout (fits PollTimeout sound) (Wake wake) is (calms PollTimeout refl (wake, is, h, drawn))

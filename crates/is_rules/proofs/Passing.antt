@@ -19,15 +19,15 @@ use Rattle.is_stun.specs.declared.header.Class.TheVariants as class
 use Rattle.is_stun.specs.declared.timing.StunTiming.{StunTiming}
 use Rattle.is_rules.specs.declared.credentials.IceCreds.{IceCreds}
 use Rattle.is_rules.specs.declared.event.IceAgentEvent.{IceAgentEvent}
-use Rattle.is_rules.specs.declared.told.Issued.{Issued}
-use Rattle.is_rules.specs.declared.told.Path.{Path}
-use Rattle.is_rules.specs.declared.told.Told.{Told}
-use Rattle.is_rules.specs.Told.{issued_as}
+use Rattle.is_rules.specs.declared.emitted.Issued.{Issued}
+use Rattle.is_rules.specs.declared.emitted.Path.{Path}
+use Rattle.is_rules.specs.declared.emitted.Emitted.{Emitted}
+use Rattle.is_rules.specs.Emitted.{issued_as}
 use Rattle.is_rules.specs.Agent.{AgentRecord}
 use Rattle.is_rules.specs.Sending.{path_of}
 use Rattle.is_rules.specs.Nominating.{Nominates}
 use Rattle.is_rules.specs.Checking.{all_asked, ChecksTop, MayCheck}
-use Rattle.is_rules.specs.Timeouts.{awake, at_moment, is_given_up, given_up_gone, GivesUp, Proceeds}
+use Rattle.is_rules.specs.Timeouts.{timeout_begun, at_moment, is_given_up, given_up_gone, GivesUp, MaintainsPairs}
 use Rattle.is_rules.specs.States.{evaluated}
 use Rattle.is_rules.specs.Sound.{IsSound}
 use Rattle.is_rules.specs.Polls.{PollsTimeout}
@@ -41,7 +41,7 @@ use Rattle.is_rules.proofs.Nominations.{Announces, announces}
 use Rattle.is_rules.proofs.Rising.{AllBelow, below-each}
 use Rattle.is_rules.proofs.Thinning.{Distinct, Base, base_of as agent_base, gives-up-has}
 use Rattle.is_rules.proofs.Moving.{Follows, same-path, WaitsOn, next-check, check-moves, moment-follows}
-use Rattle.is_rules.proofs.Starving.{none-left, proceeds-from, distinct-sound}
+use Rattle.is_rules.proofs.Starving.{none-left, maintains_pairs-from, distinct-sound}
 use Rattle.is_rules.proofs.Arriving.{NoneValid, Held}
 
 le-from : (n m : ℕ) → nat_le n m ≡ true → n ≤ m
@@ -128,15 +128,15 @@ module _ {H P : Type 0} where
     -- ---- the moment
 
     -- what it leaves of the pairs: due as asked at it, and the pair that waits is due whenever it is asked
-    abbrev ChecksFirst : ℕ → ℕ → AgentRecord H P → Told → AgentRecord H P → PairRecord → Type 0
-    ChecksFirst now by old told new p =
-        (o : PairRecord) × Has old.pairs o × ChecksOn old told o
+    abbrev ChecksFirst : ℕ → ℕ → AgentRecord H P → Emitted → AgentRecord H P → PairRecord → Type 0
+    ChecksFirst now by old emitted new p =
+        (o : PairRecord) × Has old.pairs o × ChecksOn old emitted o
         × ((o ≡ p) ⊎ WaitsOn mac now by (length (due_by by now old.timing old.pairs)) old new p)
 
-    checks-first : (now by : ℕ) (old new : AgentRecord H P) (s t : Stream) (told : Told) → is_some old.remote_creds ≡ true → old.lite ≡ false → Distinct old.pairs → NoneValid old.pairs
+    checks-first : (now by : ℕ) (old new : AgentRecord H P) (s t : Stream) (emitted : Emitted) → is_some old.remote_creds ≡ true → old.lite ≡ false → Distinct old.pairs → NoneValid old.pairs
         → by ≤ now → (p : PairRecord) → Has old.pairs p → nat_lt (unanswered_count p.checks) old.timing.max_retransmits ≡ true → due_moment now old.timing p ≤ by
-        → IsPaced old.timing → now < MAX → Proceeds mac now old s told new t → ChecksFirst now by old told new p × Held by now old.timing new.pairs
-    checks-first now by old new s t told known full distinct none from p has young due paced early (first, second, issued, named, kept, nominating, giving, checking, is) =
+        → IsPaced old.timing → now < MAX → MaintainsPairs mac now old s emitted new t → ChecksFirst now by old emitted new p × Held by now old.timing new.pairs
+    checks-first now by old new s t emitted known full distinct none from p has young due paced early (first, second, issued, named, kept, nominating, giving, checking, is) =
         let same : named ≡ at_moment now old = nominates-nothing (at_moment now old) named first none nominating in
         let gives : GivesUp now (at_moment now old) second kept = subst (λ (a : AgentRecord H P). GivesUp now a second kept) same giving in
         let g = gives-up-sifts now (at_moment now old) kept second none gives in
@@ -145,7 +145,7 @@ module _ {H P : Type 0} where
         let timing : kept.timing ≡ old.timing = ap (λ (x : Base). x.timing) g.0 in
         let known_kept : is_some kept.remote_creds ≡ true = ap (λ (x : Base). is_some x.remote_creds) g.0 ∙ known in
         let full_kept : kept.lite ≡ false = ap (λ (x : Base). x.lite) g.0 ∙ full in (
-          on-kept kept issued g.0 g.1 (ap (λ (x : Told). x.issued) is)
+          on-kept kept issued g.0 g.1 (ap (λ (x : Emitted). x.issued) is)
               (check-moves mac now by (length (due_by by now old.timing old.pairs)) kept (λ x y has_x has_y. distinct x y (g.1.sub x has_x) (g.1.sub y has_y)) from
               p (subst (λ (q : PairRecord). Has kept.pairs q) one k.1) (subst (λ (x : StunTiming). due_moment now x p ≤ by) (sym timing) due) (counted kept timing g.1)
               new s t issued kept.remote_creds known_kept full_kept checking),
@@ -161,10 +161,10 @@ module _ {H P : Type 0} where
               subst (λ (x : StunTiming). length (due_by by now x kept.pairs) ≤ length (due_by by now old.timing old.pairs)) (sym timing) (sifted.fewer (is_due_by by now old.timing)) in
               omega (arith, all, less)
 
-          on-kept : (kept : AgentRecord H P) (issued : Option Issued) → agent_base kept ≡ agent_base (at_moment now old) → Sifted old.pairs kept.pairs → told.issued ≡ issued
+          on-kept : (kept : AgentRecord H P) (issued : Option Issued) → agent_base kept ≡ agent_base (at_moment now old) → Sifted old.pairs kept.pairs → emitted.issued ≡ issued
               → (o : PairRecord) × Has kept.pairs o × ((id : List ℕ) × (issued ≡ Some (issued_as (path_of kept o) class.Request id)))
               × ((o ≡ p) ⊎ WaitsOn mac now by (length (due_by by now old.timing old.pairs)) kept new p)
-              → ChecksFirst now by old told new p
+              → ChecksFirst now by old emitted new p
           on-kept kept issued base sifted issues (o, there, (id, out), which) = (
             o,
             sifted.sub o there,
@@ -193,7 +193,7 @@ module _ {H P : Type 0} where
     placed = s.placed;
     rising = s.rising;
     below = s.below;
-    announced = s.announced;
+    announced = s.selected_pair;
     started = s.started;
     checks = s.checks;
     queued = s.queued;
@@ -291,14 +291,14 @@ module _ {H P : Type 0} where
       pub local : new.local ≡ old.local
       pub remote : new.remote ≡ old.remote
 
-    pub passed : (now : ℕ) (told : Told) (old new : AgentRecord H P) → Calm old → Passes mac old now told new → Passed now old new
-    passed now told old new calm pass =
-        let m = moment-follows mac now (awake now old) pass.after pass.before pass.behind told calm.checking.peer calm.checking.full
-        (proceeds-from mac now old pass.before pass.behind told pass.after calm.queue pass.moment) in
+    pub passed : (now : ℕ) (emitted : Emitted) (old new : AgentRecord H P) → Calm old → Passes mac old now emitted new → Passed now old new
+    passed now emitted old new calm pass =
+        let m = moment-follows mac now (timeout_begun now old) pass.after pass.before pass.behind emitted calm.checking.peer calm.checking.full
+        (maintains_pairs-from mac now old pass.before pass.behind emitted pass.after calm.queue pass.moment) in
         let taken : agent_base new ≡ agent_base pass.after = ap (λ (a : AgentRecord H P). agent_base a) pass.taken in
         let follows : Follows old.pairs new.pairs = subst (λ ps. Follows old.pairs ps) (sym (ap (λ (a : AgentRecord H P). a.pairs) pass.taken)) m.1 in
-        let after : IsSound pass.after = (path_law mac answers old pass.after pass.before pass.behind (HandleTimeout now) (record { answer = Done; told = told }) calm.sound tt
-        (Ok tt, told, refl, pass.moment)).1 in
+        let after : IsSound pass.after = (path_law mac answers old pass.after pass.before pass.behind (HandleTimeout now) (record { answer = Done; emitted = emitted }) calm.sound tt
+        (Ok tt, emitted, refl, pass.moment)).1 in
         record {
           calm = record {
             sound = subst (λ (a : AgentRecord H P). IsSound a) (sym pass.taken) (polled-sound pass.after pass.waiting pass.left after);
@@ -323,18 +323,18 @@ module _ {H P : Type 0} where
         }
 
     -- a check goes out on the path, or the pair waits, with one fewer ahead
-    pub pass-on : (by n : ℕ) (path : Path) (now k : ℕ) (told : Told) (old new : AgentRecord H P) → Stands by n path now k old → by < now → now < MAX → Passes mac old now told new
-        → ((id : List ℕ) × (told.issued ≡ Some (issued_as path class.Request id))) ⊎ Waits by n path now (suc k) new
-    pass-on by n path now k told old new st late early pass =
-        let x = passed now told old new st.calm pass in
-        let m = checks-first mac now by (awake now old) pass.after pass.before pass.behind told st.calm.checking.peer st.calm.checking.full st.calm.distinct st.calm.invalid (omega (arith, late))
-        st.pair st.there st.young st.due st.paced early (proceeds-from mac now old pass.before pass.behind told pass.after st.calm.queue pass.moment) in
+    pub pass-on : (by n : ℕ) (path : Path) (now k : ℕ) (emitted : Emitted) (old new : AgentRecord H P) → Stands by n path now k old → by < now → now < MAX → Passes mac old now emitted new
+        → ((id : List ℕ) × (emitted.issued ≡ Some (issued_as path class.Request id))) ⊎ Waits by n path now (suc k) new
+    pass-on by n path now k emitted old new st late early pass =
+        let x = passed now emitted old new st.calm pass in
+        let m = checks-first mac now by (timeout_begun now old) pass.after pass.before pass.behind emitted st.calm.checking.peer st.calm.checking.full st.calm.distinct st.calm.invalid (omega (arith, late))
+        st.pair st.there st.young st.due st.paced early (maintains_pairs-from mac now old pass.before pass.behind emitted pass.after st.calm.queue pass.moment) in
         by-check x m.0 (subst (λ ps. Held by now old.timing ps) (sym pairs) m.1) where
           pairs : new.pairs ≡ pass.after.pairs
           pairs = ap (λ (a : AgentRecord H P). a.pairs) pass.taken
 
-          by-check : Passed now old new → ChecksFirst mac now by (awake now old) told pass.after st.pair → Held by now old.timing new.pairs
-              → ((id : List ℕ) × (told.issued ≡ Some (issued_as path class.Request id))) ⊎ Waits by n path now (suc k) new
+          by-check : Passed now old new → ChecksFirst mac now by (timeout_begun now old) emitted pass.after st.pair → Held by now old.timing new.pairs
+              → ((id : List ℕ) × (emitted.issued ≡ Some (issued_as path class.Request id))) ⊎ Waits by n path now (suc k) new
           by-check x (o, there, (id, out), inl one) held =
               inl (id, out ∙ ap (λ p. Some (issued_as p class.Request id)) (ap (λ (y : PairRecord). path_of old y) one ∙ st.on))
           by-check x (o, there, out, inr (q, q_there, matches, checks, q_due, fewer)) held =

@@ -6,11 +6,11 @@ use Rattle.is_candidate.specs.Candidates.{CandidateRecord}
 use Rattle.is_pair.specs.Pairs.{PairRecord, is_valid, is_nominated}
 use Rattle.is_stun.specs.declared.header.Class.{Class}
 use Rattle.is_stun.specs.declared.header.Class.TheVariants as class
-use Rattle.is_rules.specs.declared.told.Issued.{Issued}
+use Rattle.is_rules.specs.declared.emitted.Issued.{Issued}
 use Rattle.is_rules.specs.Request.{RequestRecord}
-use Rattle.is_rules.specs.declared.told.Path.{Path}
+use Rattle.is_rules.specs.declared.emitted.Path.{Path}
 use Rattle.is_rules.specs.Steps.{Entry}
-use Rattle.is_rules.specs.Told.{issued_as, turned}
+use Rattle.is_rules.specs.Emitted.{issued_as, reversed}
 use Rattle.is_rules.specs.Effects.{last_of}
 use Rattle.is_rules.specs.Sound.{IsBelow}
 use Rattle.is_rules.specs.Sending.{path_of}
@@ -42,25 +42,25 @@ module _ {H P : Type 0} (mac : H → List ℕ → List ℕ → List ℕ) where
   pub record PathPart (old : AgentRecord H P) (call : Call P) (e : Entry) (new : AgentRecord H P) : Type 0 where
     pub checks : (path : Path) (id : List ℕ) (controlling : Bool) → IsKept new path id controlling
         → IsKept old path id controlling
-        ⊎ ((e.told.issued ≡ Some (issued_as path class.Request id)) × (controlling ≡ old.controlling) × (new.controlling ≡ old.controlling))
+        ⊎ ((e.emitted.issued ≡ Some (issued_as path class.Request id)) × (controlling ≡ old.controlling) × (new.controlling ≡ old.controlling))
     pub valid : old.lite ≡ false → (path : Path) → IsValidOn new path → IsValidOn old path ⊎ IsAnswered mac old call e path
     pub nominated : old.lite ≡ false → old.controlling ≡ false → new.controlling ≡ false
         → (path : Path) → IsNominatedOn new path → IsNominatedOn old path ⊎ IsAskedFor old call e path
-    pub announced : old.lite ≡ false → (path : Path) → Has e.told.announced (Some path)
+    pub announced : old.lite ≡ false → (path : Path) → Has e.emitted.announced (Some path)
         → IsValidOn old path ⊎ IsAnswered mac old call e path
     pub counter : old.next_number ≤ new.next_number
     pub numbers : (p : PairRecord) → Has new.pairs p
         → Continues old new p ⊎ ((old.next_number ≤ p.number) × (p.number < new.next_number))
-    pub announced_asked : old.lite ≡ false → old.controlling ≡ false → new.controlling ≡ false → (path : Path) → Has e.told.announced (Some path)
+    pub announced_asked : old.lite ≡ false → old.controlling ≡ false → new.controlling ≡ false → (path : Path) → Has e.emitted.announced (Some path)
         → IsNominatedOn old path ⊎ IsAskedFor old call e path
-    pub replied : (issued : Issued) → e.told.issued ≡ Some issued → issued.class ≡ class.Success
-        → (q : RequestRecord) × IsServing old call e q × (issued ≡ issued_as (turned q.path) class.Success q.id)
-        × (q.use_candidate ≡ true → new.controlling ≡ false → IsNominatedOn new (turned q.path))
-    pub number_stays : last_of e.told.announced ≡ None → new.announced ≡ old.announced
-    pub number_names : (path : Path) → last_of e.told.announced ≡ Some path
-        → (p : PairRecord) → Has new.pairs p → new.announced ≡ Some p.number
+    pub replied : (issued : Issued) → e.emitted.issued ≡ Some issued → issued.class ≡ class.Success
+        → (q : RequestRecord) × IsServing old call e q × (issued ≡ issued_as (reversed q.path) class.Success q.id)
+        × (q.use_candidate ≡ true → new.controlling ≡ false → IsNominatedOn new (reversed q.path))
+    pub number_stays : last_of e.emitted.announced ≡ None → new.selected_pair ≡ old.selected_pair
+    pub number_names : (path : Path) → last_of e.emitted.announced ≡ Some path
+        → (p : PairRecord) → Has new.pairs p → new.selected_pair ≡ Some p.number
         → (path_of new p ≡ path) × (is_valid p ≡ true) × (is_nominated p ≡ true)
-    pub number_below : IsBelow old.next_number old.announced → IsBelow new.next_number new.announced
+    pub number_below : IsBelow old.next_number old.selected_pair → IsBelow new.next_number new.selected_pair
 
   module _ (answers : P → CandidateRecord → ℕ → ℕ → Type 0) (old new : AgentRecord H P) (s t : Stream) (e : Entry) (call : Call P) where
     abbrev M : Path → Type 0
@@ -82,28 +82,28 @@ module _ {H P : Type 0} (mac : H → List ℕ → List ℕ → List ℕ) where
     asks_is plain before behind path (inr (inr (inl h))) = never (sym before ∙ h)
     asks_is plain before behind path (inr (inr (inr h))) = never (sym behind ∙ h)
 
-    replied_on : Posted mac answers old new s t e call → (issued : Issued) → e.told.issued ≡ Some issued → issued.class ≡ class.Success
-        → (q : RequestRecord) × IsServing old call e q × (issued ≡ issued_as (turned q.path) class.Success q.id)
-        × (q.use_candidate ≡ true → new.controlling ≡ false → IsNominatedOn new (turned q.path))
+    replied_on : Posted mac answers old new s t e call → (issued : Issued) → e.emitted.issued ≡ Some issued → issued.class ≡ class.Success
+        → (q : RequestRecord) × IsServing old call e q × (issued ≡ issued_as (reversed q.path) class.Success q.id)
+        × (q.use_candidate ≡ true → new.controlling ≡ false → IsNominatedOn new (reversed q.path))
     replied_on (inl none) issued is success = let no : None ≡ Some issued = sym none ∙ is in absurd (cc)
     replied_on (inr (inl (role, inl none))) issued is success = let no : None ≡ Some issued = sym none ∙ is in absurd (cc)
     replied_on (inr (inl (role, inr (path, id, peer, c, names, out, known, has, values, put, leads)))) issued is success =
         no_class path class.Request id issued (sym out ∙ is) success (λ (h : class.Request ≡ class.Success). cc)
     replied_on (inr (inr (r, serves, inl (inl none)))) issued is success = let no : None ≡ Some issued = sym none.0 ∙ is in absurd (cc)
     replied_on (inr (inr (r, serves, inl (inr (out, values, put, nominates))))) issued is success =
-        let both : Some issued ≡ Some (issued_as (turned r.path) class.Success r.id) = sym is ∙ out in
-        (r, serves, some_is issued (issued_as (turned r.path) class.Success r.id) both, nominates)
+        let both : Some issued ≡ Some (issued_as (reversed r.path) class.Success r.id) = sym is ∙ out in
+        (r, serves, some_is issued (issued_as (reversed r.path) class.Success r.id) both, nominates)
     replied_on (inr (inr (r, serves, inr (out, values, put, insists, stays)))) issued is success =
-        no_class (turned r.path) class.Failure r.id issued (sym out ∙ is) success (λ (h : class.Failure ≡ class.Success). cc)
+        no_class (reversed r.path) class.Failure r.id issued (sym out ∙ is) success (λ (h : class.Failure ≡ class.Success). cc)
 
-    below_on : (o : Option Path) → last_of e.told.announced ≡ o → PairEffect mac answers old new s t e call → IsBelow old.next_number old.announced → IsBelow new.next_number new.announced
-    below_on None is (o, told, posted) below =
-        below_as new.next_number new.announced
-        (λ n has. (let lt : n < old.next_number = below_is old.next_number n old.announced below (sym (told.stays is) ∙ has) in let le = o.counter in omega (arith, lt, le)))
-    below_on (Some path) is (o, told, posted) below = below_as new.next_number new.announced (λ n has. (told.names path is).below n has)
+    below_on : (o : Option Path) → last_of e.emitted.announced ≡ o → PairEffect mac answers old new s t e call → IsBelow old.next_number old.selected_pair → IsBelow new.next_number new.selected_pair
+    below_on None is (o, emitted, posted) below =
+        below_as new.next_number new.selected_pair
+        (λ n has. (let lt : n < old.next_number = below_is old.next_number n old.selected_pair below (sym (emitted.stays is) ∙ has) in let le = o.counter in omega (arith, lt, le)))
+    below_on (Some path) is (o, emitted, posted) below = below_as new.next_number new.selected_pair (λ n has. (emitted.names path is).below n has)
 
     by_paths : PairEffect mac answers old new s t e call → PathPart old call e new
-    by_paths (o, told, posted) = record {
+    by_paths (o, emitted, posted) = record {
       checks = λ path id role (p, c, has, keeps, id_is, role_is, path_is). elim (o.pairs p has) [
         | inl k ↦ elim (k.checks c keeps) [
           | inl (d, there, id_was, role_was) ↦ inl (k.was, d, k.there, there, id_was ∙ id_is, role_was ∙ role_is, k.path ∙ path_is)
@@ -119,17 +119,17 @@ module _ {H P : Type 0} (mac : H → List ℕ → List ℕ → List ℕ) where
         | inl k ↦ elim (k.asked is) [ inl v ↦ inl (k.was, k.there, v, k.path ∙ path_is) | inr m ↦ inr (asks_is plain before behind path (subst A path_is m)) ]
         | inr j ↦ elim (j.asked is) [ inl v ↦ inl (v.0, v.1, v.2, v.3 ∙ path_is) | inr m ↦ inr (asks_is plain before behind path (subst A path_is m)) ]
       ];
-      announced = λ plain path has. elim (told.valid path has) [ inl v ↦ inl v | inr m ↦ inr (met_is plain path m) ];
+      announced = λ plain path has. elim (emitted.valid path has) [ inl v ↦ inl v | inr m ↦ inr (met_is plain path m) ];
       counter = o.counter;
       numbers = λ p has. elim (o.pairs p has) [
         | inl k ↦ inl (k.was, k.there, k.number, k.path, k.still_valid, k.still_nominated)
         | inr j ↦ inr (j.above, j.below)
       ];
-      announced_asked = λ plain before behind path has. elim (told.asked path has) [ inl v ↦ inl v | inr m ↦ inr (asks_is plain before behind path m) ];
+      announced_asked = λ plain before behind path has. elim (emitted.asked path has) [ inl v ↦ inl v | inr m ↦ inr (asks_is plain before behind path m) ];
       replied = replied_on posted;
-      number_stays = told.stays;
-      number_names = λ path is. (told.names path is).is;
-      number_below = below_on (last_of e.told.announced) refl (o, told, posted);
+      number_stays = emitted.stays;
+      number_names = λ path is. (emitted.names path is).is;
+      number_below = below_on (last_of e.emitted.announced) refl (o, emitted, posted);
     }
 
     -- each step of a sound agent, and its pairs are sound behind it

@@ -18,9 +18,9 @@ use Rattle.is_stun.specs.declared.header.Class.TheVariants as class
 use Rattle.is_stun.specs.declared.timing.StunTiming.{StunTiming}
 use Rattle.is_stun.specs.Message.{Message}
 use Rattle.is_rules.specs.declared.credentials.IceCreds.{IceCreds}
-use Rattle.is_rules.specs.declared.told.Issued.{Issued}
-use Rattle.is_rules.specs.declared.told.Path.{Path}
-use Rattle.is_rules.specs.declared.told.Told.{Told}
+use Rattle.is_rules.specs.declared.emitted.Issued.{Issued}
+use Rattle.is_rules.specs.declared.emitted.Path.{Path}
+use Rattle.is_rules.specs.declared.emitted.Emitted.{Emitted}
 use Rattle.is_rules.proofs.Rising.{rising-each, below-each}
 use Rattle.is_rules.proofs.Addresses.{both}
 use Rattle.is_rules.specs.Request.{RequestRecord}
@@ -33,7 +33,7 @@ use Rattle.is_rules.specs.Queue.{request_at}
 use Rattle.is_rules.specs.Answers.{goes_back, keeps_check_on, TakesSuccess}
 use Rattle.is_rules.specs.Accepting.{Takes}
 use Rattle.is_rules.specs.Checking.{all_asked, ChecksTop, MayCheck}
-use Rattle.is_rules.specs.Timeouts.{is_given_up, given_up_gone, GivesUp, at_moment, awake, Proceeds, ServesQueued, TimesOut}
+use Rattle.is_rules.specs.Timeouts.{is_given_up, given_up_gone, GivesUp, at_moment, timeout_begun, MaintainsPairs, ServesQueued, TimesOut}
 use Rattle.is_rules.specs.Steps.{Call, ReceivePacket, HandleTimeout, Step}
 use Rattle.is_rules.specs.Sound.{IsSound, is_started_state}
 use Rattle.is_rules.specs.Brought.{Brings}
@@ -167,15 +167,15 @@ module _ {H P : Type 0} where
   checks_top mac now None old new s t issued (is, made, drawn) top = subst (λ (a : AgentRecord H P). IsTopAnnounced a) (sym made) top
   checks_top mac now (Some remote) old new s t issued h top = either old.lite h
       (λ _ k. subst (λ (a : AgentRecord H P). IsTopAnnounced a) (sym k.1)
-      (top_mapped old.controlling (heard now) old.pairs old.announced (λ p. heard_alike old.controlling now p.last_request p) top))
+      (top_mapped old.controlling (heard now) old.pairs old.selected_pair (λ p. heard_alike old.controlling now p.last_request p) top))
       (λ _ k. next k.0 k.2) where
-        all_top : TopIn old.controlling (map (asked now old.timing) old.pairs) old.announced
-        all_top = top_mapped old.controlling (asked now old.timing) old.pairs old.announced (λ p. record { number = refl; priority = refl; eligible = refl }) top
+        all_top : TopIn old.controlling (map (asked now old.timing) old.pairs) old.selected_pair
+        all_top = top_mapped old.controlling (asked now old.timing) old.pairs old.selected_pair (λ p. record { number = refl; priority = refl; eligible = refl }) top
 
         next : (due : Option PairRecord) → ChecksTop mac now remote due (all_asked now old) s issued new t → IsTopAnnounced new
         next None (is, made, drawn) = subst (λ (a : AgentRecord H P). IsTopAnnounced a) (sym made) all_top
         next (Some p) (id, drawn, values, is, made) = subst (λ (a : AgentRecord H P). IsTopAnnounced a) (sym made)
-            (top_mapped old.controlling (change_at p.number (checked now old.timing old.controlling id)) (map (asked now old.timing) old.pairs) old.announced
+            (top_mapped old.controlling (change_at p.number (checked now old.timing old.controlling id)) (map (asked now old.timing) old.pairs) old.selected_pair
             (λ q. alike_if (is_numbered p.number q) old.controlling q (checked now old.timing old.controlling id q) (checked_alike old.controlling now old.timing old.controlling id q)) all_top)
 
   abbrev FitOf : AgentRecord H P → Type 0
@@ -189,8 +189,8 @@ module _ {H P : Type 0} where
       subst (λ (a : AgentRecord H P). IsTopAnnounced a) (sym k.2) mid))
       (λ _ k. subst (λ (a : AgentRecord H P). IsTopAnnounced a) (sym k.1) top)
 
-  proceeds_top : (mac : H → List ℕ → List ℕ → List ℕ) (now : ℕ) (old new : AgentRecord H P) (s t : Stream) (told : Told) → FitOf old → Proceeds mac now old s told new t → IsTopAnnounced new
-  proceeds_top mac now old new s t told fit (first, second, issued, named, kept, nominating, giving, checking, is) =
+  maintains_pairs_top : (mac : H → List ℕ → List ℕ → List ℕ) (now : ℕ) (old new : AgentRecord H P) (s t : Stream) (emitted : Emitted) → FitOf old → MaintainsPairs mac now old s emitted new t → IsTopAnnounced new
+  maintains_pairs_top mac now old new s t emitted fit (first, second, issued, named, kept, nominating, giving, checking, is) =
       let a = nominates_top (at_moment now old) named first fit.rising nominating in
       let named_fit = (nominates All1 All1 All3 (at_moment now old) named first (λ _ _. tt) fit nominating).0.fit in
       let b = gives_up_top now named kept second named_fit giving a in
@@ -209,7 +209,7 @@ module _ {H P : Type 0} where
 
   announces_still : (old new : AgentRecord H P) (path : Option Path) (p : PairRecord) → Has old.pairs p → Announces old path new → Still p old new
   announces_still old new path p has (None, none, (is, same)) = stays_still p old new has same
-  announces_still old new path p has (Some top, chosen, h) = either (stands_at old.announced top.priority old.pairs) h
+  announces_still old new path p has (Some top, chosen, h) = either (stands_at old.selected_pair top.priority old.pairs) h
       (λ _ k. stays_still p old new has k.1)
       (λ _ k. (
       let q : PairRecord = change_at top.number (nominated_by_self old.controlling old.lite) p in
@@ -226,10 +226,10 @@ module _ {H P : Type 0} where
   nominates_still old new path p has h = announces_still old new path p has (announces old new path h)
 
   -- the pair that takes the answer is valid, and keeps the check on its path
-  taken_by : (now : ℕ) (old new : AgentRecord H P) (way : Path) (m : Message) (told : Told) → IsSound old → FitOf old → TakesSuccess now old way m told new
-      → (p : PairRecord) × Has new.pairs p × (keeps_check_on new way m.id p ≡ true) × (is_valid p ≡ true)
-  taken_by now old new way m told sound fit (recorded, (i, p, after, found, on, (place, c, at, is), made), (path, mid, nominating, is_told, done)) =
-      let o = records All1 All1 All3 now old recorded way m fit (λ q d has_q on_q keeps same. tt) (i, p, after, found, on, (place, c, at, is), made) in
+  taken_by : (now : ℕ) (old new : AgentRecord H P) (via : Path) (m : Message) (emitted : Emitted) → IsSound old → FitOf old → TakesSuccess now old via m emitted new
+      → (p : PairRecord) × Has new.pairs p × (keeps_check_on new via m.id p ≡ true) × (is_valid p ≡ true)
+  taken_by now old new via m emitted sound fit (recorded, (i, p, after, found, on, (place, c, at, is), made), (path, mid, nominating, is_emitted, done)) =
+      let o = records All1 All1 All3 now old recorded via m fit (λ q d has_q on_q keeps same. tt) (i, p, after, found, on, (place, c, at, is), made) in
       let has : Has old.pairs p = Has-get old.pairs i p found in
       let number : after.number ≡ p.number = ap (λ (q : PairRecord). q.number) is in
       let put : PairRecord → PairRecord = change_at after.number (λ _. after) in
@@ -239,7 +239,7 @@ module _ {H P : Type 0} where
       (subst (λ (x : PairRecord). Has (map put old.pairs) x) placed (Has-mapped put old.pairs p has))) in
       let started : is_started_state p.state ≡ true = sound.started p c has (Has-get p.checks place c at.0) in
       let valid : is_valid after ≡ true = ap (λ (x : PairRecord). is_valid x) is ∙ valid_once_answered p.state started in
-      let two = both (keeps_check m.id p) (goes_back way (path_of old p)) on in
+      let two = both (keeps_check m.id p) (goes_back via (path_of old p)) on in
       let keeps : keeps_check m.id after ≡ true =
       ap (λ (x : PairRecord). keeps_check m.id x) is ∙ any_set (has_id m.id) p.checks place c (answered_at now c) at.0 refl ∙ two.0 in
       let still = nominates_still recorded mid path after there nominating in
@@ -247,16 +247,16 @@ module _ {H P : Type 0} where
         | inl k ↦ (let same : k.was ≡ p = one_pair old.pairs k.was p fit.rising k.there has (k.number ∙ number) in ap (λ (x : PairRecord). path_of old x) (sym same) ∙ k.path)
         | inr j ↦ (let lt : p.number < old.next_number = fit.below p has in let le : old.next_number ≤ after.number = j.above in absurd (let none : ⊥ = omega (arith, lt, le, number) in none))
       ] in
-      let back : goes_back way (path_of mid still.now) ≡ true = ap (goes_back way) (still.path ∙ sym same_path) ∙ two.1 in
-      let on_mid : keeps_check_on mid way m.id still.now ≡ true =
-      ap (λ cs. list_any (has_id m.id) cs && goes_back way (path_of mid still.now)) still.checks
-      ∙ ap (λ b. b && goes_back way (path_of mid still.now)) keeps ∙ back in
-      subst (λ (a : AgentRecord H P). (p : PairRecord) × Has a.pairs p × (keeps_check_on a way m.id p ≡ true) × (is_valid p ≡ true)) (sym done)
+      let back : goes_back via (path_of mid still.now) ≡ true = ap (goes_back via) (still.path ∙ sym same_path) ∙ two.1 in
+      let on_mid : keeps_check_on mid via m.id still.now ≡ true =
+      ap (λ cs. list_any (has_id m.id) cs && goes_back via (path_of mid still.now)) still.checks
+      ∙ ap (λ b. b && goes_back via (path_of mid still.now)) keeps ∙ back in
+      subst (λ (a : AgentRecord H P). (p : PairRecord) × Has a.pairs p × (keeps_check_on a via m.id p ≡ true) × (is_valid p ≡ true)) (sym done)
       (still.now, still.there, on_mid, still.valid ∙ valid)
 
-  success_top : (now : ℕ) (old new : AgentRecord H P) (way : Path) (m : Message) (told : Told) → FitOf old → TakesSuccess now old way m told new → IsTopAnnounced new
-  success_top now old new way m told fit (recorded, records_it, (path, mid, nominating, is_told, done)) =
-      let o = records All1 All1 All3 now old recorded way m fit (λ q d has_q on_q keeps same. tt) records_it in
+  success_top : (now : ℕ) (old new : AgentRecord H P) (via : Path) (m : Message) (emitted : Emitted) → FitOf old → TakesSuccess now old via m emitted new → IsTopAnnounced new
+  success_top now old new via m emitted fit (recorded, records_it, (path, mid, nominating, is_emitted, done)) =
+      let o = records All1 All1 All3 now old recorded via m fit (λ q d has_q on_q keeps same. tt) records_it in
       let top : IsTopAnnounced mid = nominates_top recorded mid path o.fit.rising nominating in
       subst (λ (a : AgentRecord H P). IsTopAnnounced a) (sym done) top
 
@@ -266,44 +266,44 @@ module _ {H P : Type 0} where
 
     -- the success that a packet brought
     abbrev Succeeds : ℕ → Path → Message → Type 0
-    Succeeds now way m = IsTopAnnounced new × ((p : PairRecord) × Has new.pairs p × (keeps_check_on new way m.id p ≡ true) × (is_valid p ≡ true))
+    Succeeds now via m = IsTopAnnounced new × ((p : PairRecord) × Has new.pairs p × (keeps_check_on new via m.id p ≡ true) × (is_valid p ≡ true))
 
-    success : (now : ℕ) (way : Path) (bytes : List ℕ) → Step mac answers old s (ReceivePacket now way bytes) e new t
-        → (at : ℕ) (by : Path) (m : Message) → Brings {P = P} (ReceivePacket now way bytes) e at by m → m.class ≡ class.Success → Succeeds now by m
-    success now way bytes (inl (fault, has, is, made), drawn) at by m (at_is, by_is, reads, flag) ok =
+    success : (now : ℕ) (via : Path) (bytes : List ℕ) → Step mac answers old s (ReceivePacket now via bytes) e new t
+        → (at : ℕ) (by : Path) (m : Message) → Brings {P = P} (ReceivePacket now via bytes) e at by m → m.class ≡ class.Success → Succeeds now by m
+    success now via bytes (inl (fault, has, is, made), drawn) at by m (at_is, by_is, reads, flag) ok =
         absurd (let no : Unparsed fault ≡ Flag true = sym (ap (λ (x : Entry). x.answer) is) ∙ flag in cc)
-    success now way bytes (inr (n, reads_n, (Ok false, told, is, h)), drawn) at by m (at_is, by_is, reads, flag) ok =
+    success now via bytes (inr (n, reads_n, (Ok false, emitted, is, h)), drawn) at by m (at_is, by_is, reads, flag) ok =
         absurd (let no : Flag false ≡ Flag true = sym (ap (λ (x : Entry). x.answer) is) ∙ flag in cc)
-    success now way bytes (inr (n, reads_n, (Err error, told, is, h)), drawn) at by m (at_is, by_is, reads, flag) ok =
+    success now via bytes (inr (n, reads_n, (Err error, emitted, is, h)), drawn) at by m (at_is, by_is, reads, flag) ok =
         absurd (let no : Refused error ≡ Flag true = sym (ap (λ (x : Entry). x.answer) is) ∙ flag in cc)
-    success now way bytes (inr (n, reads_n, (Ok true, told, is, (accepted, (mid, takes, made)))), drawn) at by m (at_is, by_is, reads, flag) ok =
+    success now via bytes (inr (n, reads_n, (Ok true, emitted, is, (accepted, (mid, takes, made)))), drawn) at by m (at_is, by_is, reads, flag) ok =
         let same : n ≡ m = reads_n.spelled ∙ sym reads.spelled in
-        let k : TakesSuccess now old way m told mid = subst (λ c. Takes mac c now old way m told mid) ok
-        (subst (λ (x : Message). Takes mac x.class now old way x told mid) same takes) in
-        let top : IsTopAnnounced mid = success_top now old mid way m told fit k in
-        let taken = taken_by now old mid way m told sound fit k in (
+        let k : TakesSuccess now old via m emitted mid = subst (λ c. Takes mac c now old via m emitted mid) ok
+        (subst (λ (x : Message). Takes mac x.class now old via x emitted mid) same takes) in
+        let top : IsTopAnnounced mid = success_top now old mid via m emitted fit k in
+        let taken = taken_by now old mid via m emitted sound fit k in (
           subst (λ (a : AgentRecord H P). IsTopAnnounced a) (sym made) top,
           subst (λ w. (p : PairRecord) × Has new.pairs p × (keeps_check_on new w m.id p ≡ true) × (is_valid p ≡ true)) by_is
-              (subst (λ (a : AgentRecord H P). (p : PairRecord) × Has a.pairs p × (keeps_check_on a way m.id p ≡ true) × (is_valid p ≡ true)) (sym made)
+              (subst (λ (a : AgentRecord H P). (p : PairRecord) × Has a.pairs p × (keeps_check_on a via m.id p ≡ true) × (is_valid p ≡ true)) (sym made)
               (taken.0, taken.1, taken.2, taken.3)),
         )
 
     pub takes_valid : (call : Call P) → Step mac answers old s call e new t → AnswersAreValid call e new
-    takes_valid (ReceivePacket now way bytes) h at by m brings is = (success now way bytes h at by m brings is).1
+    takes_valid (ReceivePacket now via bytes) h at by m brings is = (success now via bytes h at by m brings is).1
     takes_valid _ h at by m brings is = absurd brings
 
-    moment_top : (now : ℕ) (told : Told) (o : Option RequestRecord) → request_at now old ≡ o → request_at now old ≡ None
-        → MatchOption o (Proceeds mac now (awake now old) s told new t) (λ q. ServesQueued mac q (awake now old) s told new t) → IsTopAnnounced new
-    moment_top now told None is none h = proceeds_top mac now (awake now old) new s t told fit h
-    moment_top now told (Some q) is none h = absurd (let no : Some q ≡ None = sym is ∙ none in cc)
+    moment_top : (now : ℕ) (emitted : Emitted) (o : Option RequestRecord) → request_at now old ≡ o → request_at now old ≡ None
+        → MatchOption o (MaintainsPairs mac now (timeout_begun now old) s emitted new t) (λ q. ServesQueued mac q (timeout_begun now old) s emitted new t) → IsTopAnnounced new
+    moment_top now emitted None is none h = maintains_pairs_top mac now (timeout_begun now old) new s t emitted fit h
+    moment_top now emitted (Some q) is none h = absurd (let no : Some q ≡ None = sym is ∙ none in cc)
 
-    moment_point : (now : ℕ) (r : Result (Unit {0}) IceError) (told : Told) → e ≡ record { answer = answer_by done r; told = told } → TimesOut mac now old s r told new t
+    moment_point : (now : ℕ) (r : Result (Unit {0}) IceError) (emitted : Emitted) → e ≡ record { answer = answer_by done r; emitted = emitted } → TimesOut mac now old s r emitted new t
         → (e.answer ≡ Done) × (request_at now old ≡ None) → IsTopAnnounced new
-    moment_point now (Ok u) told is h (flag, none) = moment_top now told (request_at now old) refl none h
-    moment_point now (Err error) told is h (flag, none) =
+    moment_point now (Ok u) emitted is h (flag, none) = moment_top now emitted (request_at now old) refl none h
+    moment_point now (Err error) emitted is h (flag, none) =
         absurd (let no : Refused error ≡ Done = sym (ap (λ (x : Entry). x.answer) is) ∙ flag in cc)
 
     pub points_top : (call : Call P) → Step mac answers old s call e new t → IsNominationPoint old call e → IsTopAnnounced new
-    points_top (ReceivePacket now way bytes) h (at, by, m, brings, is) = (success now way bytes h at by m brings is).0
-    points_top (HandleTimeout now) (r, told, is, h) point = moment_point now r told is h point
+    points_top (ReceivePacket now via bytes) h (at, by, m, brings, is) = (success now via bytes h at by m brings is).0
+    points_top (HandleTimeout now) (r, emitted, is, h) point = moment_point now r emitted is h point
     points_top call h point = absurd point.3

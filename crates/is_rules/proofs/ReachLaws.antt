@@ -14,7 +14,7 @@ use Rattle.is_stun.specs.declared.timing.StunTiming.{StunTiming}
 use Rattle.is_rules.specs.Agent.{AgentRecord}
 use Rattle.is_rules.specs.Asked.{IsAnsweredOn, IsAnsweredIn}
 use Rattle.is_rules.specs.Brought.{Brings}
-use Rattle.is_rules.specs.declared.told.Path.{Path}
+use Rattle.is_rules.specs.declared.emitted.Path.{Path}
 use Rattle.is_rules.specs.Logs.{Logged}
 use Rattle.is_rules.specs.Polls.{PollsTimeout, WakesFrom, Wakes, is_waiting, is_idle}
 use Rattle.is_rules.specs.Progress.{IsChecking}
@@ -25,8 +25,8 @@ use Rattle.is_rules.specs.Sending.{path_of}
 use Rattle.is_rules.specs.Sound.{IsSound}
 use Rattle.is_rules.specs.Staying.{Stays}
 use Rattle.is_rules.specs.Steps.{Call, Entry, ReceivePacket, HandleTimeout, PollTransmit, PollTimeout, PollEvent, Done, Step}
-use Rattle.is_rules.specs.Timeouts.{awake}
-use Rattle.is_rules.specs.Told.{issued_as}
+use Rattle.is_rules.specs.Timeouts.{timeout_begun}
+use Rattle.is_rules.specs.Emitted.{issued_as}
 use Rattle.is_rules.proofs.AskedLaws.{asked-are-announced}
 use Rattle.is_rules.proofs.EffectLaws.{path_law}
 use Rattle.is_rules.proofs.Frames.{either}
@@ -39,7 +39,7 @@ use Rattle.is_rules.proofs.Moving.{moment-follows}
 use Rattle.is_rules.proofs.Reaching.{Ready, moment-goes}
 use Rattle.is_rules.proofs.Rising.{rising-each}
 use Rattle.is_rules.proofs.Serves.{Has-mapped}
-use Rattle.is_rules.proofs.Starving.{none-left, proceeds-from, distinct-sound}
+use Rattle.is_rules.proofs.Starving.{none-left, maintains_pairs-from, distinct-sound}
 use Rattle.is_rules.proofs.StayLaws.{pairs-stay}
 use Rattle.is_rules.proofs.Tells.{one_pair}
 use Rattle.is_rules.proofs.Thinning.{Base, stays-young}
@@ -174,7 +174,7 @@ module _ {H P : Type 0} where
 
     still : (call : Call P) (e : Entry) (old new : AgentRecord H P) (s t : Stream) (p : PairRecord) → IsSound old → is_between call ≡ true → Step mac answers old s call e new t → Has old.pairs p
         → Stays old p new
-    still (ReceivePacket now way bytes) e old new s t p sound is step has = elim (pairs-stay mac answers old new s t (ReceivePacket now way bytes) e p sound tt step has) [ inl k ↦ k | inr ends ↦ absurd ends ]
+    still (ReceivePacket now via bytes) e old new s t p sound is step has = elim (pairs-stay mac answers old new s t (ReceivePacket now via bytes) e p sound tt step has) [ inl k ↦ k | inr ends ↦ absurd ends ]
     still PollTransmit e old new s t p sound is step has = elim (pairs-stay mac answers old new s t PollTransmit e p sound tt step has) [ inl k ↦ k | inr ends ↦ absurd ends ]
     still PollTimeout e old new s t p sound is step has = elim (pairs-stay mac answers old new s t PollTimeout e p sound tt step has) [ inl k ↦ k | inr ends ↦ absurd ends ]
     still PollEvent e old new s t p sound is step has = elim (pairs-stay mac answers old new s t PollEvent e p sound tt step has) [ inl k ↦ k | inr ends ↦ absurd ends ]
@@ -183,14 +183,14 @@ module _ {H P : Type 0} where
     between-goes : (at : ℕ) → by < at → at < MAX → (x : Logged P) (call : Call P) → x.call ≡ call → (old new : AgentRecord H P) (s t : Stream) → is_some old.remote_creds ≡ true → old.last_moment ≡ Some at
         → ((q : PairRecord) → Has old.pairs q → q.number ≡ n → path_of old q ≡ path) → is_between call ≡ true → Step mac answers old s call x.entry new t
         → IsAnsweredOn x path ⊎ Goes n by old new
-    between-goes at behind early x (ReceivePacket now way bytes) called old new s t known last on is (h, drawn) =
-        elim (receives-goes n by mac answers now old new way path bytes x.entry known on h) [
-          | inl (m, reads, flag, success, back) ↦ inl (now, way, m, subst (λ (c : Call P). Brings c x.entry now way m) (sym called) (refl, refl, reads, flag), success, back)
+    between-goes at behind early x (ReceivePacket now via bytes) called old new s t known last on is (h, drawn) =
+        elim (receives-goes n by mac answers now old new via path bytes x.entry known on h) [
+          | inl (m, reads, flag, success, back) ↦ inl (now, via, m, subst (λ (c : Call P). Brings c x.entry now via m) (sym called) (refl, refl, reads, flag), success, back)
           | inr k ↦ inr k
         ]
-    between-goes at behind early x PollTransmit called old new s t known last on is (given, told, (polled, made), drawn) = inr (goes-to n by old _ new (refl, onward-same n by old.pairs old.next_number) made)
-    between-goes at behind early x PollTimeout called old new s t known last on is (wake, told, woken, drawn) = inr (asks-goes n by at behind early old new wake last woken)
-    between-goes at behind early x PollEvent called old new s t known last on is (given, told, (polled, made), drawn) = inr (goes-to n by old _ new (refl, onward-same n by old.pairs old.next_number) made)
+    between-goes at behind early x PollTransmit called old new s t known last on is (given, emitted, (polled, made), drawn) = inr (goes-to n by old _ new (refl, onward-same n by old.pairs old.next_number) made)
+    between-goes at behind early x PollTimeout called old new s t known last on is (wake, emitted, woken, drawn) = inr (asks-goes n by at behind early old new wake last woken)
+    between-goes at behind early x PollEvent called old new s t known last on is (given, emitted, (polled, made), drawn) = inr (goes-to n by old _ new (refl, onward-same n by old.pairs old.next_number) made)
     between-goes at behind early x _ called old new s t known last on is step = no-case is
 
     module _ (first : AgentRecord H P) (s : Stream) (fresh : IsFresh first) where
@@ -219,12 +219,12 @@ module _ {H P : Type 0} where
 
     moment-on : (now k : ℕ) (e : Entry) (old new : AgentRecord H P) (s t : Stream) → e.answer ≡ Done → Step mac answers old s (HandleTimeout now) e new t → IsSound old → IsSound new
         → Stands by n path total base now k old
-        → ((id : List ℕ) × (e.told.issued ≡ Some (issued_as path class.Request id))) ⊎ Waits by n path total base now (suc k) new
+        → ((id : List ℕ) × (e.emitted.issued ≡ Some (issued_as path class.Request id))) ⊎ Waits by n path total base now (suc k) new
     moment-on now k e old new s t done step sound sound_new st =
         let h = passed-at mac answers old new s t now e done step in
-        let p = proceeds-from mac now old s t e.told new st.queue h in
-        let m = moment-follows mac now (awake now old) new s t e.told st.checking.peer st.checking.full p in
-        elim (moment-goes now by st.late st.early mac (awake now old) new s t e.told st.checking.peer st.checking.full (distinct-sound mac old sound) sound.checks st.pair st.there st.young st.ready p) [
+        let p = maintains_pairs-from mac now old s t e.emitted new st.queue h in
+        let m = moment-follows mac now (timeout_begun now old) new s t e.emitted st.checking.peer st.checking.full p in
+        elim (moment-goes now by st.late st.early mac (timeout_begun now old) new s t e.emitted st.checking.peer st.checking.full (distinct-sound mac old sound) sound.checks st.pair st.there st.young st.ready p) [
           | inl (id, out) ↦ inl (id, out ∙ ap (λ w. Some (issued_as w class.Request id)) st.on)
           | inr (d, before, (q, has, is, due, checks), fewer) ↦
               (let stays : Stays old st.pair new = elim (pairs-stay mac answers old new s t (HandleTimeout now) e st.pair sound tt step st.there) [

@@ -3,7 +3,7 @@ use Rattle.std.proofs.Common.{ℕ, List, [], ◌∷◌, ◌++◌, length, inl, i
 use Rattle.rand_core.specs.Stream.{Stream}
 use Rattle.is_proto.specs.Lists.{Has}
 use Rattle.is_candidate.specs.Candidates.{CandidateRecord}
-use Rattle.is_rules.specs.declared.told.Path.{Path}
+use Rattle.is_rules.specs.declared.emitted.Path.{Path}
 use Rattle.is_rules.specs.Agent.{AgentRecord}
 use Rattle.is_rules.specs.Asked.{IsAnsweredOn, IsAnsweredIn}
 use Rattle.is_rules.specs.Courses.{CourseRound}
@@ -53,7 +53,7 @@ module _ {P : Type 0} where
   checks_among before older (r ∷ later) path checks =
       elim (checks_among before (round_of (entries_of older ++ before) r ∷ older) later path checks) [
         | inl k ↦ inl (checks_later r later path k)
-        | inr (x, id, inl is, out) ↦ inl (r, id, inl refl, ap (λ (y : LoggedRound P). y.moment.entry.told.issued) is ∙ out)
+        | inr (x, id, inl is, out) ↦ inl (r, id, inl refl, ap (λ (y : LoggedRound P). y.moment.entry.emitted.issued) is ∙ out)
         | inr (x, id, inr has, out) ↦ inr (x, id, has, out)
       ]
 

@@ -16,14 +16,14 @@ use Rattle.is_stun.specs.declared.timing.StunTiming.{StunTiming}
 use Rattle.is_rules.specs.Agent.{AgentRecord}
 use Rattle.is_rules.specs.Checking.{all_asked, ChecksTop, MayCheck}
 use Rattle.is_rules.specs.declared.credentials.IceCreds.{IceCreds}
-use Rattle.is_rules.specs.declared.told.Issued.{Issued}
-use Rattle.is_rules.specs.declared.told.Path.{Path}
-use Rattle.is_rules.specs.declared.told.Told.{Told}
+use Rattle.is_rules.specs.declared.emitted.Issued.{Issued}
+use Rattle.is_rules.specs.declared.emitted.Path.{Path}
+use Rattle.is_rules.specs.declared.emitted.Emitted.{Emitted}
 use Rattle.is_rules.specs.Nominating.{nominated_by_self, stands_at, Nominates}
 use Rattle.is_rules.specs.Progress.{ChecksOn}
 use Rattle.is_rules.specs.Sending.{path_of}
-use Rattle.is_rules.specs.Timeouts.{at_moment, is_given_up, given_up_gone, GivesUp, Proceeds}
-use Rattle.is_rules.specs.Told.{issued_as}
+use Rattle.is_rules.specs.Timeouts.{at_moment, is_given_up, given_up_gone, GivesUp, MaintainsPairs}
+use Rattle.is_rules.specs.Emitted.{issued_as}
 use Rattle.is_rules.proofs.Frames.{either}
 use Rattle.is_rules.proofs.Leads.{lead, leads, own, own-le, weight, weight-sent, weight-sent-no-more, lead-asked, lead-checked-is, leads-map, leads-less, leads-filter, is_early, sent_by}
 use Rattle.is_rules.proofs.LogLaws.{none_pass}
@@ -112,7 +112,7 @@ module _ (now by : ℕ) (late : by < now) (early : now < MAX) where
     named-ready t old new path h distinct p has (due, inl invalid) = (p, from (announces old new path h), alike-none p, (due, inl invalid)) where
       from : Announces old path new → Has new.pairs p
       from (None, greatest, (is, made)) = subst (λ (a : AgentRecord H P). Has a.pairs p) (sym made) has
-      from (Some top, (top_has, eligible, most), k) = either (stands_at old.announced top.priority old.pairs) k
+      from (Some top, (top_has, eligible, most), k) = either (stands_at old.selected_pair top.priority old.pairs) k
           (λ _ l. subst (λ (a : AgentRecord H P). Has a.pairs p) (sym l.1) has)
           (λ _ l. subst (λ (a : AgentRecord H P). Has a.pairs p) (sym l.1) (still (is_numbered top.number p) refl
           (Has-mapped (change_at top.number (nominated_by_self old.controlling old.lite)) old.pairs p has))) where
@@ -220,11 +220,11 @@ module _ (now by : ℕ) (late : by < now) (early : now < MAX) where
 
       -- ---- the moment
 
-      pub moment-goes : (old new : AgentRecord H P) (s u : Stream) (told : Told) → is_some old.remote_creds ≡ true → old.lite ≡ false
+      pub moment-goes : (old new : AgentRecord H P) (s u : Stream) (emitted : Emitted) → is_some old.remote_creds ≡ true → old.lite ≡ false
           → Distinct old.pairs → 0 < old.timing.max_retransmits → (p : PairRecord) → Has old.pairs p
           → nat_lt (unanswered_count p.checks) old.timing.max_retransmits ≡ true → Ready old.timing p
-          → Proceeds mac now old s told new u → ChecksOn old told p ⊎ WaitsOn old new p
-      moment-goes old new s u told known full distinct some p has young ready (first, second, issued, named, kept, nominating, giving, checking, is) =
+          → MaintainsPairs mac now old s emitted new u → ChecksOn old emitted p ⊎ WaitsOn old new p
+      moment-goes old new s u emitted known full distinct some p has young ready (first, second, issued, named, kept, nominating, giving, checking, is) =
           let a = nominates-thins 0 (at_moment now old) named first nominating in
           let b = gives-up-thins 0 now named kept second giving in
           let x = named-ready old.timing (at_moment now old) named first nominating distinct p has ready in
@@ -245,7 +245,7 @@ module _ (now by : ℕ) (late : by < now) (early : now < MAX) where
             | inl (id, out) ↦
                 inl (
                   id,
-                  ap (λ (z : Told). z.issued) is ∙ (out ∙ ap (λ w. Some (issued_as w class.Request id))
+                  ap (λ (z : Emitted). z.issued) is ∙ (out ∙ ap (λ w. Some (issued_as w class.Request id))
                       (same-path old kept p y.0 (ap (λ (z : Base). z.local) base) (ap (λ (z : Base). z.remote) base)
                       (record { number = alike.number; local = alike.local; remote = alike.remote; valid = alike.valid }))),
                 )

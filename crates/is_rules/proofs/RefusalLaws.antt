@@ -6,7 +6,7 @@ use Rattle.is_proto.specs.declared.error.IceError.{IceError}
 use Rattle.is_proto.specs.declared.error.IceError.TheVariants.{BadCandidate, OutOfMemory, PairIdsExhausted, MtuTooSmall, CredentialsTooLong, PriorityTooHigh}
 use Rattle.is_candidate.specs.Candidates.{CandidateRecord}
 use Rattle.is_rules.specs.declared.credentials.IceCreds.{IceCreds}
-use Rattle.is_rules.specs.declared.told.Path.{Path}
+use Rattle.is_rules.specs.declared.emitted.Path.{Path}
 use Rattle.is_rules.specs.Steps.{Answer, Done, Flag, Polled, Happened, Wake, NotCalled, Entry, quiet, added, is_refusal}
 use Rattle.is_rules.specs.Agent.{AgentRecord}
 use Rattle.is_rules.specs.Settings.{SetsMtu, with_retransmits}
@@ -122,10 +122,10 @@ module _ {H P : Type 0} where
     does Does kept (Ok done, is, h, same) r = silent Done is refl r
     does Does kept (Err error, is, h, same) r = (kept error h, same)
 
-    receives : (now : ℕ) (way : Path) (bytes : List ℕ) → Receives mac answers now old way bytes e new → is_refusal e.answer ≡ true → new ≡ old
-    receives now way bytes (inl (fault, has, is, same)) r = same
-    receives now way bytes (inr (m, reads, (Ok flag, told, is, h))) r = no_refusal e (Flag flag) (ap (λ (x : Entry). x.answer) is) refl r
-    receives now way bytes (inr (m, reads, (Err error, told, is, h))) r = h.2
+    receives : (now : ℕ) (path : Path) (bytes : List ℕ) → Receives mac answers now old path bytes e new → is_refusal e.answer ≡ true → new ≡ old
+    receives now path bytes (inl (fault, has, is, same)) r = same
+    receives now path bytes (inr (m, reads, (Ok flag, emitted, is, h))) r = no_refusal e (Flag flag) (ap (λ (x : Entry). x.answer) is) refl r
+    receives now path bytes (inr (m, reads, (Err error, emitted, is, h))) r = h.2
 
     retransmits : (b : Bool) (n : ℕ) → MatchBool b ((e ≡ quiet NotCalled) × (new ≡ old) × (t ≡ s)) (Becomes (with_retransmits n old) s e new t)
         → is_refusal e.answer ≡ true → Kept
@@ -152,9 +152,9 @@ module _ {H P : Type 0} where
     kept (InvalidateCandidate c) h r = silent (Flag h.0) h.1 refl r
     kept (RestartIce creds keep) h r = does (Restarts old creds keep) (restart_kept old new creds keep) h r
     kept RecreateCandidatePairs h r = does (Recreates old) (recreation_kept old new) h r
-    kept (ReceivePacket now way bytes) h r = (receives now way bytes h.0 r, h.1)
-    kept (HandleTimeout now) (Ok done, told, is, h) r = no_refusal e Done (ap (λ (x : Entry). x.answer) is) refl r
-    kept (HandleTimeout now) (Err error, told, is, h) r = (h.2, h.3)
+    kept (ReceivePacket now path bytes) h r = (receives now path bytes h.0 r, h.1)
+    kept (HandleTimeout now) (Ok done, emitted, is, h) r = no_refusal e Done (ap (λ (x : Entry). x.answer) is) refl r
+    kept (HandleTimeout now) (Err error, emitted, is, h) r = (h.2, h.3)
     kept PollTransmit h r = silent (Polled h.0) h.1 refl r
     kept PollTimeout h r = silent (Wake h.0) h.1 refl r
     kept PollEvent h r = silent (Happened h.0) h.1 refl r

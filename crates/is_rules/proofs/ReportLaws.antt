@@ -15,14 +15,14 @@ use Rattle.is_rules.specs.declared.credentials.IceCreds.{IceCreds}
 use Rattle.is_rules.specs.declared.event.IceAgentEvent.TheVariants.{IceRestart, IceConnectionStateChange}
 use Rattle.is_rules.specs.declared.event.IceConnectionState.{IceConnectionState}
 use Rattle.is_rules.specs.declared.event.IceConnectionState.TheVariants.{New, Checking}
-use Rattle.is_rules.specs.declared.told.Path.{Path}
-use Rattle.is_rules.specs.declared.told.Told.{Told}
-use Rattle.is_rules.specs.declared.told.Issued.{Issued}
+use Rattle.is_rules.specs.declared.emitted.Path.{Path}
+use Rattle.is_rules.specs.declared.emitted.Emitted.{Emitted}
+use Rattle.is_rules.specs.declared.emitted.Issued.{Issued}
 use Rattle.is_rules.specs.declared.roles.Conflict.{Conflict}
 use Rattle.is_rules.specs.declared.roles.Conflict.TheVariants.{Absent, Insists, Yields}
 use Rattle.is_rules.specs.declared.places.RemotePlace.{RemotePlace}
 use Rattle.is_rules.specs.declared.places.RemotePlace.TheVariants.{Known, Barred, Unknown}
-use Rattle.is_rules.specs.Told.{nothing_told}
+use Rattle.is_rules.specs.Emitted.{nothing_emitted}
 use Rattle.is_rules.specs.Request.{RequestRecord, request_in}
 use Rattle.is_rules.specs.Places.{local_place}
 use Rattle.is_rules.specs.Agent.{AgentRecord}
@@ -35,13 +35,13 @@ use Rattle.is_rules.specs.Local.{AddsLocal, appended, enabled_again}
 use Rattle.is_rules.specs.Remote.{AddsRemote, as_remote, with_remote}
 use Rattle.is_rules.specs.Restarting.{restarted, emptied}
 use Rattle.is_rules.specs.States.{same_state, with_state, evaluated}
-use Rattle.is_rules.specs.Nominating.{with_selection, path_told, Nominates, NominatesWhere}
-use Rattle.is_rules.specs.Serving.{pair_served, request_counted, with_sender, is_misled, names_another, ServesPair, TakesAt, JoinsAt, Admits, SettlesBy, Settles, Drops, Serves}
+use Rattle.is_rules.specs.Nominating.{with_selection, nominated_emitted, Nominates, NominatesWhere}
+use Rattle.is_rules.specs.Serving.{pair_served, request_counted, with_sender, is_misled, names_another, RecordsAndResponds, FindsOrAddsPair, AddsUnknownSender, CountsAndServes, ResolvesRoleConflictBy, ResolvesRoleConflict, Drops, Serves}
 use Rattle.is_rules.specs.Queue.{first_taken, request_at, queued}
 use Rattle.is_rules.specs.Answers.{TakesSuccess, TakesFailure, GivesUpRole, is_role_conflict}
-use Rattle.is_rules.specs.Accepting.{Takes, source_told, is_seen, HandlesPacket}
+use Rattle.is_rules.specs.Accepting.{Takes, discovered_emitted, is_discovered, HandlesPacket}
 use Rattle.is_rules.specs.Checking.{all_asked, MayCheck, ChecksTop}
-use Rattle.is_rules.specs.Timeouts.{awake, start_told, at_moment, is_given_up, given_up_gone, GivesUp, Proceeds, ServesQueued, TimesOut}
+use Rattle.is_rules.specs.Timeouts.{timeout_begun, start_emitted, at_moment, is_given_up, given_up_gone, GivesUp, MaintainsPairs, ServesQueued, TimesOut}
 use Rattle.is_rules.specs.Steps.{Call, SetMtu, SetControlTieBreaker, SetMaxCandidatePairs, SetIceLite, SetTimingAdvance, SetInitialStunRto, SetMaxStunRto, SetMaxStunRetransmits, SetLocalPreference, SetControlling, SetLocalCredentials, SetRemoteCredentials, SkipPairIds, AddLocalCandidate, AddRemoteCandidate, InvalidateCandidate, RestartIce, RecreateCandidatePairs, ReceivePacket, HandleTimeout, PollTransmit, PollTimeout, PollEvent, Done, NotCalled, Entry, quiet, Becomes, Receives, Step}
 use Rattle.is_rules.specs.Reporting.{Extends, Begins, Reports, QueuesLaw}
 use Rattle.is_rules.proofs.Frames.{either}
@@ -88,12 +88,12 @@ module _ {H P : Type 0} where
   state_grows : (state : IceConnectionState) (a : AgentRecord H P) → Grows a (with_state state a)
   state_grows state a = one_more (same_state a.state state) a.events _
 
-  told_grows : (path : Option Path) (a : AgentRecord H P) → Grows a (path_told path a)
-  told_grows None a = kept a.events a.events refl
-  told_grows (Some path) a = (_, refl)
+  emitted_grows : (path : Option Path) (a : AgentRecord H P) → Grows a (nominated_emitted path a)
+  emitted_grows None a = kept a.events a.events refl
+  emitted_grows (Some path) a = (_, refl)
 
   nominates_grows : (old new : AgentRecord H P) (path : Option Path) → Nominates old path new → Grows old new
-  nominates_grows old new path (chosen, names, made) = grown old (path_told path (with_selection chosen old)) new made (told_grows path (with_selection chosen old))
+  nominates_grows old new path (chosen, names, made) = grown old (nominated_emitted path (with_selection chosen old)) new made (emitted_grows path (with_selection chosen old))
 
   where_grows : (evaluates : Bool) (old new : AgentRecord H P) (path : Option Path) → NominatesWhere evaluates old path new → Grows old new
   where_grows true old new path h = nominates_grows old new path h
@@ -104,75 +104,75 @@ module _ {H P : Type 0} where
 
   -- ---- serving
 
-  drops_grows : (s new : AgentRecord H P) (told : Told) → Drops s told new → Grows s new
-  drops_grows s new told h = stays s new h.1
+  drops_grows : (s new : AgentRecord H P) (emitted : Emitted) → Drops s emitted new → Grows s new
+  drops_grows s new emitted h = stays s new h.1
 
   module _ (mac : H → List ℕ → List ℕ → List ℕ) (q : RequestRecord) where
-    pair_grows : (l r number : ℕ) (s new : AgentRecord H P) (told : Told) → ServesPair mac q l r number s told new → Grows s new
-    pair_grows l r number s new told (path, mid, nominates, (put, is, made)) =
+    pair_grows : (l r number : ℕ) (s new : AgentRecord H P) (emitted : Emitted) → RecordsAndResponds mac q l r number s emitted new → Grows s new
+    pair_grows l r number s new emitted (path, mid, nominates, (put, is, made)) =
         let k : Grows s mid = where_grows (s.controlling && is_valid_at number s.pairs) (pair_served q number s) mid path nominates in
         both s mid new k (same_events mid new (ap (λ (a : AgentRecord H P). a.events) made))
 
-    takes_grows : (l r : ℕ) (number : Option ℕ) (s new : AgentRecord H P) (told : Told) → TakesAt mac q l r number s told new → Grows s new
-    takes_grows l r (Some number) s new told h = pair_grows l r number s new told h
-    takes_grows l r None s new told h = either (candidate_at s.local l).discarded h (λ _ k. drops_grows s new told k)
-        (λ _ k. pair_grows l r s.next_number (with_pair (formed s l r) s) new told k.1)
+    takes_grows : (l r : ℕ) (number : Option ℕ) (s new : AgentRecord H P) (emitted : Emitted) → FindsOrAddsPair mac q l r number s emitted new → Grows s new
+    takes_grows l r (Some number) s new emitted h = pair_grows l r number s new emitted h
+    takes_grows l r None s new emitted h = either (candidate_at s.local l).discarded h (λ _ k. drops_grows s new emitted k)
+        (λ _ k. pair_grows l r s.next_number (with_pair (formed s l r) s) new emitted k.1)
 
-    joins_grows : (l : ℕ) (place : RemotePlace) (s new : AgentRecord H P) (told : Told) → JoinsAt mac q l place s told new → Grows s new
-    joins_grows l (Known r) s new told (number, between, h) = takes_grows l r number s new told h
-    joins_grows l Barred s new told h = drops_grows s new told h
-    joins_grows l Unknown s new told (number, between, h) = takes_grows l (length s.remote) number (with_sender q s) new told h
+    joins_grows : (l : ℕ) (place : RemotePlace) (s new : AgentRecord H P) (emitted : Emitted) → AddsUnknownSender mac q l place s emitted new → Grows s new
+    joins_grows l (Known r) s new emitted (number, between, h) = takes_grows l r number s new emitted h
+    joins_grows l Barred s new emitted h = drops_grows s new emitted h
+    joins_grows l Unknown s new emitted (number, between, h) = takes_grows l (length s.remote) number (with_sender q s) new emitted h
 
-    admits_grows : (l : ℕ) (s new : AgentRecord H P) (told : Told) → Admits mac q l s told new → Grows s new
-    admits_grows l s new told h = either (is_misled s.controlling q) h (λ _ k. drops_grows s new told k)
-        (λ _ k. joins_grows l k.0 (request_counted s) new told k.2)
+    admits_grows : (l : ℕ) (s new : AgentRecord H P) (emitted : Emitted) → CountsAndServes mac q l s emitted new → Grows s new
+    admits_grows l s new emitted h = either (is_misled s.controlling q) h (λ _ k. drops_grows s new emitted k)
+        (λ _ k. joins_grows l k.0 (request_counted s) new emitted k.2)
 
-    settles_grows : (conflict : Conflict) (l : ℕ) (s new : AgentRecord H P) (told : Told) → SettlesBy mac conflict q l s told new → Grows s new
-    settles_grows Absent l s new told h = admits_grows l s new told h
-    settles_grows Insists l s new told (put, is, made) = same_events s new (ap (λ (a : AgentRecord H P). a.events) made)
-    settles_grows Yields l s new told h = admits_grows l (switched s) new told h
+    resolves_grows : (conflict : Conflict) (l : ℕ) (s new : AgentRecord H P) (emitted : Emitted) → ResolvesRoleConflictBy mac conflict q l s emitted new → Grows s new
+    resolves_grows Absent l s new emitted h = admits_grows l s new emitted h
+    resolves_grows Insists l s new emitted (put, is, made) = same_events s new (ap (λ (a : AgentRecord H P). a.events) made)
+    resolves_grows Yields l s new emitted h = admits_grows l (switched s) new emitted h
 
-    here_grows : (place : Option ℕ) (s new : AgentRecord H P) (told : Told) → MatchOption place (Drops s told new) (λ l. Settles mac q l s told new) → Grows s new
-    here_grows None s new told h = drops_grows s new told h
-    here_grows (Some l) s new told h = settles_grows (conflict_of s q) l s new told h
+    here_grows : (place : Option ℕ) (s new : AgentRecord H P) (emitted : Emitted) → MatchOption place (Drops s emitted new) (λ l. ResolvesRoleConflict mac q l s emitted new) → Grows s new
+    here_grows None s new emitted h = drops_grows s new emitted h
+    here_grows (Some l) s new emitted h = resolves_grows (conflict_of s q) l s new emitted h
 
-    serves_grows : (s new : AgentRecord H P) (told : Told) → Serves mac q s told new → Grows s new
-    serves_grows s new told h = either (names_another s q) h (λ _ k. drops_grows s new told k) (λ _ k. here_grows (local_place s.local q) s new told k)
+    serves_grows : (s new : AgentRecord H P) (emitted : Emitted) → Serves mac q s emitted new → Grows s new
+    serves_grows s new emitted h = either (names_another s q) h (λ _ k. drops_grows s new emitted k) (λ _ k. here_grows (local_place s.local q) s new emitted k)
 
-    requested_grows : (peer : Option IceCreds) (s new : AgentRecord H P) (told : Told)
-        → MatchOption peer ((told ≡ nothing_told) × (new ≡ queued q s)) (λ _. Serves mac q s told new) → Grows s new
-    requested_grows None s new told (is, made) = same_events s new (ap (λ (a : AgentRecord H P). a.events) made)
-    requested_grows (Some peer) s new told h = serves_grows s new told h
+    requested_grows : (peer : Option IceCreds) (s new : AgentRecord H P) (emitted : Emitted)
+        → MatchOption peer ((emitted ≡ nothing_emitted) × (new ≡ queued q s)) (λ _. Serves mac q s emitted new) → Grows s new
+    requested_grows None s new emitted (is, made) = same_events s new (ap (λ (a : AgentRecord H P). a.events) made)
+    requested_grows (Some peer) s new emitted h = serves_grows s new emitted h
 
   -- ---- answers
 
-  success_grows : (now : ℕ) (old new : AgentRecord H P) (way : Path) (m : Message) (told : Told) → TakesSuccess now old way m told new → Grows old new
-  success_grows now old new way m told (recorded, (place, p, after, at, keeps, takes, made), (path, mid, nominates, is, last)) =
+  success_grows : (now : ℕ) (old new : AgentRecord H P) (via : Path) (m : Message) (emitted : Emitted) → TakesSuccess now old via m emitted new → Grows old new
+  success_grows now old new via m emitted (recorded, (place, p, after, at, keeps, takes, made), (path, mid, nominates, is, last)) =
       let a : Grows old recorded = same_events old recorded (ap (λ (a : AgentRecord H P). a.events) made) in
       let b : Grows recorded mid = nominates_grows recorded mid path nominates in
       let c : Grows mid new = grown mid (evaluated now mid) new last (state_grows _ mid) in
       both old mid new (both old recorded mid a b) c
 
-  failure_grows : (old new : AgentRecord H P) (way : Path) (m : Message) (told : Told) → TakesFailure old way m told new → Grows old new
-  failure_grows old new way m told h = either (is_role_conflict m) h (λ _ k. gives k) (λ _ k. drops_grows old new told k) where
-    gives : GivesUpRole old way m told new → Grows old new
+  failure_grows : (old new : AgentRecord H P) (via : Path) (m : Message) (emitted : Emitted) → TakesFailure old via m emitted new → Grows old new
+  failure_grows old new via m emitted h = either (is_role_conflict m) h (λ _ k. gives k) (λ _ k. drops_grows old new emitted k) where
+    gives : GivesUpRole old via m emitted new → Grows old new
     gives (p, c, has, on, keeps, id_is, h) = either (same c.controlling old.controlling) h
-        (λ _ k. drops_grows (switched old) new told k) (λ _ k. drops_grows old new told k)
+        (λ _ k. drops_grows (switched old) new emitted k) (λ _ k. drops_grows old new emitted k)
 
-  taken_grows : (mac : H → List ℕ → List ℕ → List ℕ) (c : Class) (now : ℕ) (old new : AgentRecord H P) (way : Path) (m : Message) (told : Told)
-      → Takes mac c now old way m told new → Grows old new
-  taken_grows mac class.Request now old new way m told h = requested_grows mac (request_in now way m) old.remote_creds old new told h
-  taken_grows mac class.Success now old new way m told h = success_grows now old new way m told h
-  taken_grows mac class.Failure now old new way m told h = failure_grows old new way m told h
-  taken_grows mac class.Indication now old new way m told h = absurd h
-  taken_grows mac class.Unknown now old new way m told h = absurd h
+  taken_grows : (mac : H → List ℕ → List ℕ → List ℕ) (c : Class) (now : ℕ) (old new : AgentRecord H P) (via : Path) (m : Message) (emitted : Emitted)
+      → Takes mac c now old via m emitted new → Grows old new
+  taken_grows mac class.Request now old new via m emitted h = requested_grows mac (request_in now via m) old.remote_creds old new emitted h
+  taken_grows mac class.Success now old new via m emitted h = success_grows now old new via m emitted h
+  taken_grows mac class.Failure now old new via m emitted h = failure_grows old new via m emitted h
+  taken_grows mac class.Indication now old new via m emitted h = absurd h
+  taken_grows mac class.Unknown now old new via m emitted h = absurd h
 
   -- ---- moments
 
-  awake_grows : (now : ℕ) (a : AgentRecord H P) → Grows a (awake now a)
-  awake_grows now a =
-      let start : Grows a (start_told a) = one_where (same_state a.state New) a.events _ in
-      both a (start_told a) (awake now a) start (state_grows _ (start_told a))
+  timeout_begun_grows : (now : ℕ) (a : AgentRecord H P) → Grows a (timeout_begun now a)
+  timeout_begun_grows now a =
+      let start : Grows a (start_emitted a) = one_where (same_state a.state New) a.events _ in
+      both a (start_emitted a) (timeout_begun now a) start (state_grows _ (start_emitted a))
 
   gives_up_grows : (now : ℕ) (old new : AgentRecord H P) (path : Option Path) → GivesUp now old path new → Grows old new
   gives_up_grows now old new path h = either (list_any (is_given_up now old) old.pairs) h
@@ -191,19 +191,19 @@ module _ {H P : Type 0} where
         next None (is, made, drawn) = same_events old new (ap (λ (a : AgentRecord H P). a.events) made)
         next (Some p) (id, drawn, put, is, made) = same_events old new (ap (λ (a : AgentRecord H P). a.events) made)
 
-  proceeds_grows : (mac : H → List ℕ → List ℕ → List ℕ) (now : ℕ) (old new : AgentRecord H P) (s t : Stream) (told : Told)
-      → Proceeds mac now old s told new t → Grows old new
-  proceeds_grows mac now old new s t told (first, second, issued, named, kept, nominates, gives, check, is) =
+  maintains_pairs_grow : (mac : H → List ℕ → List ℕ → List ℕ) (now : ℕ) (old new : AgentRecord H P) (s t : Stream) (emitted : Emitted)
+      → MaintainsPairs mac now old s emitted new t → Grows old new
+  maintains_pairs_grow mac now old new s t emitted (first, second, issued, named, kept, nominates, gives, check, is) =
       let a : Grows old named = nominates_grows (at_moment now old) named first nominates in
       let b : Grows named kept = gives_up_grows now named kept second gives in
       let c : Grows kept new = check_grows mac now kept.remote_creds kept new s t issued check in
       both old kept new (both old named kept a b) c
 
-  moment_grows : (mac : H → List ℕ → List ℕ → List ℕ) (now : ℕ) (old new : AgentRecord H P) (s t : Stream) (told : Told) (o : Option RequestRecord)
-      → MatchOption o (Proceeds mac now (awake now old) s told new t) (λ q. ServesQueued mac q (awake now old) s told new t) → Grows old new
-  moment_grows mac now old new s t told None h = both old (awake now old) new (awake_grows now old) (proceeds_grows mac now (awake now old) new s t told h)
-  moment_grows mac now old new s t told (Some q) h =
-      both old (awake now old) new (awake_grows now old) (serves_grows mac q (first_taken (awake now old)) new told h.0)
+  moment_grows : (mac : H → List ℕ → List ℕ → List ℕ) (now : ℕ) (old new : AgentRecord H P) (s t : Stream) (emitted : Emitted) (o : Option RequestRecord)
+      → MatchOption o (MaintainsPairs mac now (timeout_begun now old) s emitted new t) (λ q. ServesQueued mac q (timeout_begun now old) s emitted new t) → Grows old new
+  moment_grows mac now old new s t emitted None h = both old (timeout_begun now old) new (timeout_begun_grows now old) (maintains_pairs_grow mac now (timeout_begun now old) new s t emitted h)
+  moment_grows mac now old new s t emitted (Some q) h =
+      both old (timeout_begun now old) new (timeout_begun_grows now old) (serves_grows mac q (first_taken (timeout_begun now old)) new emitted h.0)
 
   -- ---- candidates and restarts
 
@@ -232,20 +232,20 @@ module _ {H P : Type 0} where
     by true = inl refl
     by false = inr refl
 
-  source_grows : (way : Path) (a : AgentRecord H P) → Grows a (source_told way a)
-  source_grows way a = one_more (is_seen way a) a.events _
+  source_grows : (via : Path) (a : AgentRecord H P) → Grows a (discovered_emitted via a)
+  source_grows via a = one_more (is_discovered via a) a.events _
 
-  handles_grows : (mac : H → List ℕ → List ℕ → List ℕ) (now : ℕ) (old new : AgentRecord H P) (way : Path) (m : Message) (r : Result Bool IceError) (told : Told)
-      → HandlesPacket mac now old way m r told new → Grows old new
-  handles_grows mac now old new way m (Ok true) told (accepted, (mid, takes, made)) =
-      both old mid new (taken_grows mac m.class now old mid way m told takes) (grown mid (source_told way mid) new made (source_grows way mid))
-  handles_grows mac now old new way m (Ok false) told (unaccepted, is, made) = stays old new made
-  handles_grows mac now old new way m (Err error) told (may, is, made) = stays old new made
+  handles_grows : (mac : H → List ℕ → List ℕ → List ℕ) (now : ℕ) (old new : AgentRecord H P) (via : Path) (m : Message) (r : Result Bool IceError) (emitted : Emitted)
+      → HandlesPacket mac now old via m r emitted new → Grows old new
+  handles_grows mac now old new via m (Ok true) emitted (accepted, (mid, takes, made)) =
+      both old mid new (taken_grows mac m.class now old mid via m emitted takes) (grown mid (discovered_emitted via mid) new made (source_grows via mid))
+  handles_grows mac now old new via m (Ok false) emitted (unaccepted, is, made) = stays old new made
+  handles_grows mac now old new via m (Err error) emitted (may, is, made) = stays old new made
 
-  times_out_grows : (mac : H → List ℕ → List ℕ → List ℕ) (now : ℕ) (old new : AgentRecord H P) (s t : Stream) (r : Result (Unit {0}) IceError) (told : Told)
-      → TimesOut mac now old s r told new t → Grows old new
-  times_out_grows mac now old new s t (Ok _) told h = moment_grows mac now old new s t told (request_at now old) h
-  times_out_grows mac now old new s t (Err error) told (may, is, made, drawn) = stays old new made
+  times_out_grows : (mac : H → List ℕ → List ℕ → List ℕ) (now : ℕ) (old new : AgentRecord H P) (s t : Stream) (r : Result (Unit {0}) IceError) (emitted : Emitted)
+      → TimesOut mac now old s r emitted new t → Grows old new
+  times_out_grows mac now old new s t (Ok _) emitted h = moment_grows mac now old new s t emitted (request_at now old) h
+  times_out_grows mac now old new s t (Err error) emitted (may, is, made, drawn) = stays old new made
 
   -- ---- each call
 
@@ -257,9 +257,9 @@ module _ {H P : Type 0} where
     retransmits true n h = stays old new h.1
     retransmits false n h = becomes (with_retransmits n old) refl h
 
-    receives : (now : ℕ) (way : Path) (bytes : List ℕ) → Receives mac answers now old way bytes e new → Grows old new
-    receives now way bytes (inl (fault, has, is, made)) = stays old new made
-    receives now way bytes (inr (m, reads, (r, told, is, h))) = handles_grows mac now old new way m r told h
+    receives : (now : ℕ) (via : Path) (bytes : List ℕ) → Receives mac answers now old via bytes e new → Grows old new
+    receives now via bytes (inl (fault, has, is, made)) = stays old new made
+    receives now via bytes (inr (m, reads, (r, emitted, is, h))) = handles_grows mac now old new via m r emitted h
 
     reports : (call : Call P) → Step mac answers old s call e new t → Reports call e old.events new.events
     reports (SetMtu target warn) (Ok _, is, h, drawn) = same_events old new (ap (λ (a : AgentRecord H P). a.events) h.1)
@@ -290,8 +290,8 @@ module _ {H P : Type 0} where
         subst (λ (x : Entry). Begins x.answer creds old.events new.events) (sym is) (ap (λ (a : AgentRecord H P). a.events) (restart_kept old new creds keep error h))
     reports RecreateCandidatePairs (Ok _, is, h, drawn) = both old (emptied old) new (state_grows Checking (record old { pairs = [] })) (forms_grows (emptied old) new _ h.1)
     reports RecreateCandidatePairs (Err error, is, h, drawn) = stays old new (recreation_kept old new error h)
-    reports (ReceivePacket now way bytes) (h, drawn) = receives now way bytes h
-    reports (HandleTimeout now) (r, told, is, h) = times_out_grows mac now old new s t r told h
+    reports (ReceivePacket now via bytes) (h, drawn) = receives now via bytes h
+    reports (HandleTimeout now) (r, emitted, is, h) = times_out_grows mac now old new s t r emitted h
     reports PollTransmit (given, is, (polled, made), drawn) = same_events old new (ap (λ (a : AgentRecord H P). a.events) made)
     reports PollTimeout (wake, is, h, drawn) = by_waking old new wake h (λ made. stays old new made) (λ at made. same_events old new (ap (λ (a : AgentRecord H P). a.events) made))
     reports PollEvent (given, is, (polled, made), drawn) = (given, is, polled)

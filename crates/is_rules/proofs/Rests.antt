@@ -10,9 +10,9 @@ use Rattle.is_stun.specs.declared.timing.StunTiming.{StunTiming}
 use Rattle.is_rules.specs.declared.credentials.IceCreds.{IceCreds}
 use Rattle.is_rules.specs.declared.places.RemotePlace.{RemotePlace}
 use Rattle.is_rules.specs.declared.places.RemotePlace.TheVariants.{Known, Barred, Unknown}
-use Rattle.is_rules.specs.declared.told.Issued.{Issued}
-use Rattle.is_rules.specs.declared.told.Path.{Path}
-use Rattle.is_rules.specs.declared.told.Told.{Told}
+use Rattle.is_rules.specs.declared.emitted.Issued.{Issued}
+use Rattle.is_rules.specs.declared.emitted.Path.{Path}
+use Rattle.is_rules.specs.declared.emitted.Emitted.{Emitted}
 use Rattle.is_rules.specs.Request.{RequestRecord}
 use Rattle.is_rules.specs.Places.{local_place}
 use Rattle.is_rules.specs.declared.roles.Conflict.{Conflict}
@@ -20,11 +20,11 @@ use Rattle.is_rules.specs.declared.roles.Conflict.TheVariants.{Absent, Insists, 
 use Rattle.is_rules.specs.Agent.{AgentRecord}
 use Rattle.is_pair.specs.Bag.{is_valid_at}
 use Rattle.is_rules.specs.Forming.{formed, with_pair}
-use Rattle.is_rules.specs.Nominating.{Nominates, NominatesWhere, with_selection, path_told}
+use Rattle.is_rules.specs.Nominating.{Nominates, NominatesWhere, with_selection, nominated_emitted}
 use Rattle.is_rules.specs.Roles.{conflict_of, switched}
-use Rattle.is_rules.specs.Serving.{Drops, is_misled, names_another, pair_served, request_counted, with_sender, ServesPair, TakesAt, JoinsAt, Admits, SettlesBy, Settles, Serves}
+use Rattle.is_rules.specs.Serving.{Drops, is_misled, names_another, pair_served, request_counted, with_sender, RecordsAndResponds, FindsOrAddsPair, AddsUnknownSender, CountsAndServes, ResolvesRoleConflictBy, ResolvesRoleConflict, Serves}
 use Rattle.is_rules.specs.Checking.{all_asked, ChecksTop, MayCheck}
-use Rattle.is_rules.specs.Timeouts.{is_given_up, given_up_gone, GivesUp, at_moment, Proceeds}
+use Rattle.is_rules.specs.Timeouts.{is_given_up, given_up_gone, GivesUp, at_moment, MaintainsPairs}
 use Rattle.is_rules.proofs.Frames.{either}
 
 pub record Rest : Type 0 where
@@ -42,10 +42,10 @@ module _ {H P : Type 0} where
   same old new made = ap (λ (a : AgentRecord H P). rest_of a) made
 
   pub nominates_rest : (old new : AgentRecord H P) (path : Option Path) → Nominates old path new → Rests old new
-  nominates_rest old new path (chosen, names, made) = ap (λ (a : AgentRecord H P). rest_of a) made ∙ told_rest path (with_selection chosen old) where
-    told_rest : (path : Option Path) (a : AgentRecord H P) → Rests a (path_told path a)
-    told_rest None a = refl
-    told_rest (Some path) a = refl
+  nominates_rest old new path (chosen, names, made) = ap (λ (a : AgentRecord H P). rest_of a) made ∙ emitted_rest path (with_selection chosen old) where
+    emitted_rest : (path : Option Path) (a : AgentRecord H P) → Rests a (nominated_emitted path a)
+    emitted_rest None a = refl
+    emitted_rest (Some path) a = refl
 
   where_rest : (b : Bool) (old new : AgentRecord H P) (path : Option Path) → NominatesWhere b old path new → Rests old new
   where_rest true old new path h = nominates_rest old new path h
@@ -66,40 +66,40 @@ module _ {H P : Type 0} where
         next None (is, made, drawn) = ap (λ (a : AgentRecord H P). rest_of a) made
         next (Some p) (id, drawn, values, is, made) = ap (λ (a : AgentRecord H P). rest_of a) made
 
-  pub proceeds_rest : (mac : H → List ℕ → List ℕ → List ℕ) (now : ℕ) (old new : AgentRecord H P) (s t : Stream) (told : Told) → Proceeds mac now old s told new t → Rests old new
-  proceeds_rest mac now old new s t told (first, second, issued, named, kept, nominating, giving, checking, is) =
+  pub maintains_pairs_rest : (mac : H → List ℕ → List ℕ → List ℕ) (now : ℕ) (old new : AgentRecord H P) (s t : Stream) (emitted : Emitted) → MaintainsPairs mac now old s emitted new t → Rests old new
+  maintains_pairs_rest mac now old new s t emitted (first, second, issued, named, kept, nominating, giving, checking, is) =
       check_rest mac now kept.remote_creds kept new s t issued checking
       ∙ (gives_up_rest now named kept second giving ∙ nominates_rest (at_moment now old) named first nominating)
 
   module _ (mac : H → List ℕ → List ℕ → List ℕ) (q : RequestRecord) where
-    pair : (l r number : ℕ) (s new : AgentRecord H P) (told : Told) → ServesPair mac q l r number s told new → Rests s new
-    pair l r number s new told (path, mid, nominates, (values, is, made)) =
+    pair : (l r number : ℕ) (s new : AgentRecord H P) (emitted : Emitted) → RecordsAndResponds mac q l r number s emitted new → Rests s new
+    pair l r number s new emitted (path, mid, nominates, (values, is, made)) =
         ap (λ (a : AgentRecord H P). rest_of a) made ∙ where_rest (s.controlling && is_valid_at number s.pairs) (pair_served q number s) mid path nominates
 
-    takes : (l r : ℕ) (number : Option ℕ) (s new : AgentRecord H P) (told : Told) → TakesAt mac q l r number s told new → Rests s new
-    takes l r (Some number) s new told h = pair l r number s new told h
-    takes l r None s new told h = either (candidate_at s.local l).discarded h (λ _ k. same s new k.1) (λ _ k. pair l r s.next_number (with_pair (formed s l r) s) new told k.1)
+    takes : (l r : ℕ) (number : Option ℕ) (s new : AgentRecord H P) (emitted : Emitted) → FindsOrAddsPair mac q l r number s emitted new → Rests s new
+    takes l r (Some number) s new emitted h = pair l r number s new emitted h
+    takes l r None s new emitted h = either (candidate_at s.local l).discarded h (λ _ k. same s new k.1) (λ _ k. pair l r s.next_number (with_pair (formed s l r) s) new emitted k.1)
 
-    joins_at : (l : ℕ) (place : RemotePlace) (s new : AgentRecord H P) (told : Told) → JoinsAt mac q l place s told new → Rests s new
-    joins_at l (Known r) s new told (number, between, h) = takes l r number s new told h
-    joins_at l Barred s new told h = same s new h.1
-    joins_at l Unknown s new told (number, between, h) = takes l (length s.remote) number (with_sender q s) new told h
+    joins_at : (l : ℕ) (place : RemotePlace) (s new : AgentRecord H P) (emitted : Emitted) → AddsUnknownSender mac q l place s emitted new → Rests s new
+    joins_at l (Known r) s new emitted (number, between, h) = takes l r number s new emitted h
+    joins_at l Barred s new emitted h = same s new h.1
+    joins_at l Unknown s new emitted (number, between, h) = takes l (length s.remote) number (with_sender q s) new emitted h
 
-    admits : (l : ℕ) (s new : AgentRecord H P) (told : Told) → Admits mac q l s told new → Rests s new
-    admits l s new told h = either (is_misled s.controlling q) h (λ _ k. same s new k.1)
-        (λ _ k. joins_at l k.0 (request_counted s) new told k.2)
+    admits : (l : ℕ) (s new : AgentRecord H P) (emitted : Emitted) → CountsAndServes mac q l s emitted new → Rests s new
+    admits l s new emitted h = either (is_misled s.controlling q) h (λ _ k. same s new k.1)
+        (λ _ k. joins_at l k.0 (request_counted s) new emitted k.2)
 
-    settles_by : (conflict : Conflict) (l : ℕ) (s new : AgentRecord H P) (told : Told) → SettlesBy mac conflict q l s told new → Rests s new
-    settles_by Absent l s new told h = admits l s new told h
-    settles_by Insists l s new told (values, told_is, made) = ap (λ (a : AgentRecord H P). rest_of a) made
-    settles_by Yields l s new told h = admits l (switched s) new told h
+    resolves_by : (conflict : Conflict) (l : ℕ) (s new : AgentRecord H P) (emitted : Emitted) → ResolvesRoleConflictBy mac conflict q l s emitted new → Rests s new
+    resolves_by Absent l s new emitted h = admits l s new emitted h
+    resolves_by Insists l s new emitted (values, emitted_is, made) = ap (λ (a : AgentRecord H P). rest_of a) made
+    resolves_by Yields l s new emitted h = admits l (switched s) new emitted h
 
-    here : (place : Option ℕ) (s new : AgentRecord H P) (told : Told) → MatchOption place (Drops s told new) (λ l. Settles mac q l s told new) → Rests s new
-    here None s new told h = same s new h.1
-    here (Some l) s new told h = settles_by (conflict_of s q) l s new told h
+    here : (place : Option ℕ) (s new : AgentRecord H P) (emitted : Emitted) → MatchOption place (Drops s emitted new) (λ l. ResolvesRoleConflict mac q l s emitted new) → Rests s new
+    here None s new emitted h = same s new h.1
+    here (Some l) s new emitted h = resolves_by (conflict_of s q) l s new emitted h
 
-    pub serves_rest : (s new : AgentRecord H P) (told : Told) → Serves mac q s told new → Rests s new
-    serves_rest s new told h = either (names_another s q) h (λ _ k. same s new k.1) (λ _ k. here (local_place s.local q) s new told k)
+    pub serves_rest : (s new : AgentRecord H P) (emitted : Emitted) → Serves mac q s emitted new → Rests s new
+    serves_rest s new emitted h = either (names_another s q) h (λ _ k. same s new k.1) (λ _ k. here (local_place s.local q) s new emitted k)
 
 -- ---- based candidates
 

@@ -4,11 +4,11 @@ use Rattle.std.specs.Option.{option_map_or}
 use Rattle.std.proofs.lemmas.Bool.Decides.{leb_tells}
 use Rattle.is_candidate.specs.Addresses.{same_address}
 use Rattle.is_stun.specs.Message.{AttributesRecord}
-use Rattle.is_rules.specs.declared.told.Told.{Told}
+use Rattle.is_rules.specs.declared.emitted.Emitted.{Emitted}
 use Rattle.is_rules.specs.declared.roles.Conflict.TheVariants.{Absent, Insists, Yields}
 use Rattle.is_rules.specs.Roles.{conflict_by, rival}
 use Rattle.is_rules.specs.Serving.{names_another}
-use Rattle.is_rules.specs.Issuing.{Says, IsIssued, way_out}
+use Rattle.is_rules.specs.Issuing.{Says, IsIssued, via_out}
 use Rattle.is_rules.proofs.EffectLaws.{path_law, trade_law}
 use Rattle.is_proto.specs.Lists.{Has}
 use Rattle.is_proto.specs.Packets.{Packet}
@@ -23,7 +23,7 @@ use Rattle.is_stun.specs.Message.{Message}
 use Rattle.is_stun.specs.Reading.{Reads, fault_of, message_of}
 use Rattle.is_rules.proofs.Addresses.{both, same_address-sound}
 use Rattle.is_rules.specs.declared.credentials.IceCreds.{IceCreds}
-use Rattle.is_rules.specs.declared.told.Path.{Path}
+use Rattle.is_rules.specs.declared.emitted.Path.{Path}
 use Rattle.is_rules.specs.Places.{local_place}
 use Rattle.is_rules.specs.Request.{RequestRecord, request_in}
 use Rattle.is_rules.specs.Steps.{Answer, Done, Flag, Entry}
@@ -35,7 +35,7 @@ use Rattle.is_rules.specs.Steps.{Call, SetControlTieBreaker, SetIceLite, SetCont
 use Rattle.is_rules.specs.Queue.{request_at}
 use Rattle.is_rules.specs.Brought.{Brings, IsBrought, IsServing, IsKept, IsValidOn, IsAnswered, IsRefusedBy, IsRoleSet, role_once}
 use Rattle.is_rules.specs.Effects.{tie_set_by, lite_set_by, PathEffect, TradeEffect}
-use Rattle.is_rules.specs.RoleView.{mail_of, mail_unless, mail_read, mail_in, kept_as, all_kept, all_valid, standing_of, when_accepted, when_done, request_when, sent_as, some_paths, sets_role, sets_lite, RoleLaw, way_of, accepted_by, served_by, deed_of, FreshIsNew}
+use Rattle.is_rules.specs.RoleView.{mail_of, mail_unless, mail_read, mail_in, kept_as, all_kept, all_valid, standing_of, when_accepted, when_done, request_when, sent_as, some_paths, sets_role, sets_lite, RoleLaw, packet_path, accepted_by, served_by, deed_of, FreshIsNew}
 use Rattle.is_rules.proofs.Moves.{Has-map}
 use Rattle.is_rules.proofs.Serves.{Has-mapped}
 use Rattle.is_rules.proofs.Tells.{some_is}
@@ -84,18 +84,18 @@ mail_is : (f : Option ParseFault) (m : Message) (x : Mail) → mail_unless f m �
 mail_is None m x h = (refl, some_is (mail_of m) x h)
 mail_is (Some fault) m x h = absurd (let wrong : None ≡ Some x = h in cc)
 
-brings_to : {P : Type 0} (call : Call P) (e : Entry) (at : ℕ) (by : Path) (m : Message) → Brings call e at by m → (accepted_by call e.answer ≡ Some (mail_of m)) × (way_of call ≡ Some by)
-brings_to (ReceivePacket now way bytes) e at by m (at_is, by_is, reads, flag) = (
+brings_to : {P : Type 0} (call : Call P) (e : Entry) (at : ℕ) (by : Path) (m : Message) → Brings call e at by m → (accepted_by call e.answer ≡ Some (mail_of m)) × (packet_path call ≡ Some by)
+brings_to (ReceivePacket now via bytes) e at by m (at_is, by_is, reads, flag) = (
   ap (λ a. when_accepted a (mail_read bytes)) flag ∙ ap (λ f. mail_unless f (message_of bytes)) reads.faultless ∙ ap (λ (x : Message). Some (mail_of x)) (sym reads.spelled),
   ap Some by_is,
 )
 brings_to call e at by m h = absurd h
 
 brings_is : {P : Type 0} (call : Call P) (e : Entry) (x : Mail) → accepted_by call e.answer ≡ Some x → (at : ℕ) × (by : Path) × (m : Message) × Brings call e at by m × (mail_of m ≡ x)
-brings_is (ReceivePacket now way bytes) e x h =
+brings_is (ReceivePacket now via bytes) e x h =
     let k = when_is e.answer (mail_read bytes) x h in
     let r = mail_is (fault_of bytes) (message_of bytes) x k.1 in
-    (now, way, message_of bytes, (refl, refl, record { faultless = r.0; spelled = refl }, k.0), r.1)
+    (now, via, message_of bytes, (refl, refl, record { faultless = r.0; spelled = refl }, k.0), r.1)
 brings_is call e x h = absurd (let wrong : None ≡ Some x = h in cc)
 
 module _ {H P : Type 0} where
@@ -157,21 +157,21 @@ module _ {H P : Type 0} where
   -- ---- what was served
 
   serves_is : (old : AgentRecord H P) (call : Call P) (e : Entry) (q : RequestRecord) → served_by old call e.answer ≡ Some q → IsServing old call e q
-  serves_is old (ReceivePacket now way bytes) e q h =
-      let k = when_is e.answer (request_when (fault_of bytes) (message_of bytes).class old.remote_creds (request_in now way (message_of bytes))) q h in
-      let r = when_request (fault_of bytes) (message_of bytes).class old.remote_creds (request_in now way (message_of bytes)) q k.1 in
-      (now, way, message_of bytes, (refl, refl, record { faultless = r.0; spelled = refl }, k.0), r.1, r.2, sym r.3)
+  serves_is old (ReceivePacket now via bytes) e q h =
+      let k = when_is e.answer (request_when (fault_of bytes) (message_of bytes).class old.remote_creds (request_in now via (message_of bytes))) q h in
+      let r = when_request (fault_of bytes) (message_of bytes).class old.remote_creds (request_in now via (message_of bytes)) q k.1 in
+      (now, via, message_of bytes, (refl, refl, record { faultless = r.0; spelled = refl }, k.0), r.1, r.2, sym r.3)
   serves_is old (HandleTimeout now) e q h = let k = done_is e.answer (request_at now old) q h in (k.1, k.0)
   serves_is old call e q h = absurd (let wrong : None ≡ Some q = h in cc)
 
   serves_to : (old : AgentRecord H P) (call : Call P) (e : Entry) (q : RequestRecord) → IsServing old call e q → served_by old call e.answer ≡ Some q
-  serves_to old (ReceivePacket now way bytes) e q (at, by, m, (at_is, by_is, reads, flag), request, known, is) =
-      ap (λ a. when_accepted a (request_when (fault_of bytes) (message_of bytes).class old.remote_creds (request_in now way (message_of bytes)))) flag
-      ∙ ap (λ f. request_when f (message_of bytes).class old.remote_creds (request_in now way (message_of bytes))) reads.faultless
-      ∙ ap (λ (x : Message). request_when None x.class old.remote_creds (request_in now way x)) (sym reads.spelled)
-      ∙ ap (λ c. request_when None c old.remote_creds (request_in now way m)) request
-      ∙ known_request old.remote_creds (request_in now way m) known
-      ∙ ap Some (ap (λ n. request_in n way m) at_is ∙ ap (λ w. request_in at w m) by_is ∙ sym is)
+  serves_to old (ReceivePacket now via bytes) e q (at, by, m, (at_is, by_is, reads, flag), request, known, is) =
+      ap (λ a. when_accepted a (request_when (fault_of bytes) (message_of bytes).class old.remote_creds (request_in now via (message_of bytes)))) flag
+      ∙ ap (λ f. request_when f (message_of bytes).class old.remote_creds (request_in now via (message_of bytes))) reads.faultless
+      ∙ ap (λ (x : Message). request_when None x.class old.remote_creds (request_in now via x)) (sym reads.spelled)
+      ∙ ap (λ c. request_when None c old.remote_creds (request_in now via m)) request
+      ∙ known_request old.remote_creds (request_in now via m) known
+      ∙ ap Some (ap (λ n. request_in n via m) at_is ∙ ap (λ w. request_in at w m) by_is ∙ sym is)
   serves_to old (HandleTimeout now) e q (is, flag) = ap (λ a. when_done a (request_at now old)) flag ∙ is
   serves_to old call e q h = absurd h.3
 
@@ -258,7 +258,7 @@ module _ {H P : Type 0} (mac : H → List ℕ → List ℕ → List ℕ) (old ne
         accepted = (brings_to call e at by m brings).0;
         class = success;
         kept = is_kept_to old path m.id role kept;
-        way = by;
+        via = by;
         came = (brings_to call e at by m brings).1;
         back = (same_address-sound by.source path.destination ends.0, same_address-sound by.destination path.source ends.1);
       }
@@ -275,14 +275,14 @@ module _ {H P : Type 0} (mac : H → List ℕ → List ℕ → List ℕ) (old ne
 
   posted : (packet : Packet) (n : Message) (x : Mail) → Reads packet.contents n → mail_of n ≡ x → IsIssued mac old call e packet new.controlling
       → roles.IsPosted (standing_of old) D x new.controlling
-  posted packet n x reads is (m, contents, told, says) = subst (λ y. roles.IsPosted (standing_of old) D y new.controlling) is (by m.class refl says) where
-    out : n.class ≡ m.class → n.id ≡ m.id → D.issued ≡ Some record { path = way_out packet; class = n.class; id = n.id }
-    out c i = ap (option_map sent_as) told ∙ ap (λ k. Some (sent_of (way_out packet) k m.id)) (sym c) ∙ ap (λ k. Some (sent_of (way_out packet) n.class k)) (sym i)
+  posted packet n x reads is (m, contents, emitted, says) = subst (λ y. roles.IsPosted (standing_of old) D y new.controlling) is (by m.class refl says) where
+    out : n.class ≡ m.class → n.id ≡ m.id → D.issued ≡ Some record { path = via_out packet; class = n.class; id = n.id }
+    out c i = ap (option_map sent_as) emitted ∙ ap (λ k. Some (sent_of (via_out packet) k m.id)) (sym c) ∙ ap (λ k. Some (sent_of (via_out packet) n.class k)) (sym i)
 
-    by : (c : Class) → m.class ≡ c → Says c old call e packet.contents m (way_out packet) new.controlling → roles.IsPosted (standing_of old) D (mail_of n) new.controlling
+    by : (c : Class) → m.class ≡ c → Says c old call e packet.contents m (via_out packet) new.controlling → roles.IsPosted (standing_of old) D (mail_of n) new.controlling
     by class.Request is_c (peer, cand, uses, known, has, m_is, put, role, leads) =
         let same : SameMessage n m = put.reads n reads in record {
-          path = way_out packet;
+          path = via_out packet;
           issued = out same.class same.id;
           says = subst (λ k. roles.Conveys k (standing_of old) D (mail_of n) new.controlling) (sym (same.class ∙ is_c)) (
             (
@@ -292,15 +292,15 @@ module _ {H P : Type 0} (mac : H → List ℕ → List ℕ → List ℕ) (old ne
             role,
           );
         }
-    by class.Success is_c (q, serving, m_is, way, put) =
+    by class.Success is_c (q, serving, m_is, via, put) =
         let same = put.reads n reads in record {
-          path = way_out packet;
+          path = via_out packet;
           issued = out (same.class ∙ sym is_c) (same.id ∙ sym (ap (λ (k : Message). k.id) m_is));
           says = subst (λ k. roles.Conveys k (standing_of old) D (mail_of n) new.controlling) (sym same.class) (q, serves_to old call e q serving, sym same.id);
         }
-    by class.Failure is_c (q, serving, m_is, way, put, insists, role) =
+    by class.Failure is_c (q, serving, m_is, via, put, insists, role) =
         let same = put.reads n reads in record {
-          path = way_out packet;
+          path = via_out packet;
           issued = out same.class same.id;
           says = subst (λ k. roles.Conveys k (standing_of old) D (mail_of n) new.controlling) (sym (same.class ∙ is_c))
               (q, serves_to old call e q serving, sym (same.id ∙ ap (λ (k : Message). k.id) m_is), insists_by old.tie_breaker (rival old q) insists, role);
@@ -333,16 +333,16 @@ module _ {H P : Type 0} (mac : H → List ℕ → List ℕ → List ℕ) (old ne
       | inr out ↦ inr (ap (option_map sent_as) out.0, out.1, out.2)
     ];
     valid = λ plain _ path has. elim (f.valid plain path (valid_in new new.pairs path has)) [ inl was ↦ inl (is_valid_to old path was) | inr now ↦ inr (answered path now) ];
-    announced = λ plain _ path has. elim (f.announced plain path (in_paths e.told.announced path has)) [ inl was ↦ inl (is_valid_to old path was) | inr now ↦ inr (answered path now) ];
+    announced = λ plain _ path has. elim (f.announced plain path (in_paths e.emitted.announced path has)) [ inl was ↦ inl (is_valid_to old path was) | inr now ↦ inr (answered path now) ];
     cleared = λ clear. (
       none_kept new new.pairs (λ p has. (f.cleared_pairs clear p has).3),
       none_valid new new.pairs (λ p has. (f.cleared_pairs clear p has).1),
-      ap (λ (x : Told). some_paths x.announced) (f.cleared clear),
+      ap (λ (x : Emitted). some_paths x.announced) (f.cleared clear),
     );
     role = λ h. elim t.role [
       | inl same ↦ inl same
       | inr k ↦ elim k [
-        | inl (q, serving, yields, turned) ↦ inr (inl (q, serves_to old call e q serving, yields_by old.tie_breaker (rival old q) yields, turned))
+        | inl (q, serving, yields, reversed) ↦ inr (inl (q, serves_to old call e q serving, yields_by old.tie_breaker (rival old q) yields, reversed))
         | inr z ↦ elim z [ inl by ↦ inr (inr (refused by)) | inr set ↦ absurd (unset call new.controlling h set) ]
       ]
     ];

@@ -11,8 +11,8 @@ use Rattle.is_pair.specs.Pairs.{PairRecord}
 use Rattle.is_pair.specs.Due.{asked, due_moment}
 use Rattle.is_stun.specs.declared.header.Class.TheVariants as class
 use Rattle.is_stun.specs.declared.timing.StunTiming.{StunTiming}
-use Rattle.is_rules.specs.declared.told.Path.{Path}
-use Rattle.is_rules.specs.Told.{issued_as}
+use Rattle.is_rules.specs.declared.emitted.Path.{Path}
+use Rattle.is_rules.specs.Emitted.{issued_as}
 use Rattle.is_rules.specs.Agent.{AgentRecord}
 use Rattle.is_rules.specs.Sending.{path_of}
 use Rattle.is_rules.specs.Sound.{IsSound}
@@ -36,18 +36,18 @@ grown-at old new r (inr (c, e)) lt = (
   subst (λ cs. r < length cs) (sym e) (let long : length (old ++ c ∷ []) ≡ length old + length (c ∷ []) = length-append old (c ∷ []) in omega (arith, long, lt)),
 )
 
-way-to : List CandidateRecord → ℕ → CandidateRecord → Path
-way-to local l remote = record { proto = (candidate_at local l).proto; source = base_of (candidate_at local l); destination = remote.addr }
+via-to : List CandidateRecord → ℕ → CandidateRecord → Path
+via-to local l remote = record { proto = (candidate_at local l).proto; source = base_of (candidate_at local l); destination = remote.addr }
 
 met-later : (x : Arrival) (rest : List Arrival) → IsMet rest → IsMet (x ∷ rest)
 met-later x rest (y, has, success) = (y, inr has, success)
 
 module _ {H P : Type 0} where
   grown-path : (a b : AgentRecord H P) (p q : PairRecord) → b.local ≡ a.local → candidate_at b.remote q.remote ≡ candidate_at a.remote p.remote → q.local ≡ p.local → path_of b q ≡ path_of a p
-  unfolding way-to
+  unfolding via-to
   grown-path a b p q locals remote place =
-      ap (λ cs. way-to cs q.local (candidate_at b.remote q.remote)) locals
-      ∙ (ap (λ l. way-to a.local l (candidate_at b.remote q.remote)) place ∙ ap (λ c. way-to a.local p.local c) remote)
+      ap (λ cs. via-to cs q.local (candidate_at b.remote q.remote)) locals
+      ∙ (ap (λ l. via-to a.local l (candidate_at b.remote q.remote)) place ∙ ap (λ c. via-to a.local p.local c) remote)
 
   module _ (mac : H → List ℕ → List ℕ → List ℕ) (answers : P → CandidateRecord → ℕ → ℕ → Type 0) where
     -- ---- what does not touch a pair
@@ -111,10 +111,10 @@ module _ {H P : Type 0} where
       -- ---- arrivals
 
       came-sound : (x : Arrival) (old after mid : AgentRecord H P) (waiting : List Packet) (left : List IceAgentEvent) (s t : Stream) → IsSound old
-          → Step mac answers old s (ReceivePacket x.at x.way x.bytes) x.entry after t → mid ≡ record after { packets = waiting; events = left } → IsSound mid
+          → Step mac answers old s (ReceivePacket x.at x.via x.bytes) x.entry after t → mid ≡ record after { packets = waiting; events = left } → IsSound mid
       came-sound x old after mid waiting left s t sound step taken =
           subst (λ (a : AgentRecord H P). IsSound a) (sym taken)
-          (polled-sound after waiting left (path_law mac answers old after s t (ReceivePacket x.at x.way x.bytes) x.entry sound tt step).1)
+          (polled-sound after waiting left (path_law mac answers old after s t (ReceivePacket x.at x.via x.bytes) x.entry sound tt step).1)
 
       may-on : (n : ℕ) (path : Path) (k : ℕ) (old new : AgentRecord H P) → Waits by n path at k old → MayBeAsked old new → Waits by n path at k new
       may-on n path k old new w (inl same) = subst (λ (a : AgentRecord H P). Waits by n path at k a) (sym same) w
@@ -136,11 +136,11 @@ module _ {H P : Type 0} where
 
     -- behind an accepted success a path is announced
     announces : (x : Arrival) (old new : AgentRecord H P) (s t : Stream) → IsSound old → new.controlling ≡ true
-        → Step mac answers old s (ReceivePacket x.at x.way x.bytes) x.entry new t → IsSuccess x → HasAnnounced new
+        → Step mac answers old s (ReceivePacket x.at x.via x.bytes) x.entry new t → IsSuccess x → HasAnnounced new
     announces x old new s t sound role step (m, reads, flag, success) =
-        let effect = (path_law mac answers old new s t (ReceivePacket x.at x.way x.bytes) x.entry sound tt step).0 in
-        let p = effect.taken x.at x.way m (refl, refl, reads, flag) success in
-        (effect.points (x.at, x.way, m, (refl, refl, reads, flag), success), (p.0, p.1, eligible new.controlling p.0 role p.3))
+        let effect = (path_law mac answers old new s t (ReceivePacket x.at x.via x.bytes) x.entry sound tt step).0 in
+        let p = effect.taken x.at x.via m (refl, refl, reads, flag) success in
+        (effect.points (x.at, x.via, m, (refl, refl, reads, flag), success), (p.0, p.1, eligible new.controlling p.0 role p.3))
 
     may-sound : (old new : AgentRecord H P) → IsSound old → MayBeAsked old new → IsSound new
     may-sound old new sound (inl same) = subst (λ (a : AgentRecord H P). IsSound a) (sym same) sound
@@ -153,19 +153,19 @@ module _ {H P : Type 0} where
         inl (here, announces x old after s t sound stays step here)
     met-announces (x ∷ rest) old new sound (after, mid, polled, waiting, left, s, t, step, stays, taken, may, more) (y, inr has, success) =
         let mid_sound : IsSound mid = subst (λ (a : AgentRecord H P). IsSound a) (sym taken)
-        (polled-sound after waiting left (path_law mac answers old after s t (ReceivePacket x.at x.way x.bytes) x.entry sound tt step).1) in
+        (polled-sound after waiting left (path_law mac answers old after s t (ReceivePacket x.at x.via x.bytes) x.entry sound tt step).1) in
         inr (met-announces rest polled new (may-sound mid polled mid_sound may) more (y, has, success))
 
     -- ---- rounds
 
     one-round : (by n : ℕ) (path : Path) (k : ℕ) (x : Round) (first mid polled next : AgentRecord H P) → Stands by n path x.now k first → (by < x.now) × (x.now < MAX)
-        → Passes mac first x.now x.told mid → MayBeAsked mid polled → (came : Arrives mac answers x.arrivals polled next)
-        → ((id : List ℕ) → x.told.issued ≡ Some (issued_as path class.Request id) → IsMet x.arrivals)
+        → Passes mac first x.now x.emitted mid → MayBeAsked mid polled → (came : Arrives mac answers x.arrivals polled next)
+        → ((id : List ℕ) → x.emitted.issued ≡ Some (issued_as path class.Request id) → IsMet x.arrivals)
         → AnnouncesBehind mac answers x.arrivals polled next came ⊎ Waits by n path x.now (suc k) next
     one-round by n path k x first mid polled next st (late, early) passes may came echoes =
-        elim (pass-on mac answers by n path x.now k x.told first mid st late early passes) [
+        elim (pass-on mac answers by n path x.now k x.emitted first mid st late early passes) [
           | inl (id, out) ↦
-              inl (met-announces x.arrivals polled next (may-sound mid polled (passed mac answers x.now x.told first mid st.calm passes).calm.sound may) came (echoes id out))
+              inl (met-announces x.arrivals polled next (may-sound mid polled (passed mac answers x.now x.emitted first mid st.calm passes).calm.sound may) came (echoes id out))
           | inr w ↦
               (let w_polled = may-on by x.now late early n path (suc k) mid polled w may in
               elim (all-arrive by x.now late early n path (suc k) x.arrivals polled next w_polled came) [
@@ -176,7 +176,7 @@ module _ {H P : Type 0} where
 
     met-in : (by n : ℕ) (path : Path) (k : ℕ) (x : Round) (rounds : List Round) (first last : AgentRecord H P) → Stands by n path x.now k first
         → ((y : Round) → Has (x ∷ rounds) y → (by < y.now) × (y.now < MAX)) → (run : Rounds mac answers (x ∷ rounds) first last)
-        → ((y : Round) (id : List ℕ) → Has (x ∷ rounds) y → y.told.issued ≡ Some (issued_as path class.Request id) → IsMet y.arrivals)
+        → ((y : Round) (id : List ℕ) → Has (x ∷ rounds) y → y.emitted.issued ≡ Some (issued_as path class.Request id) → IsMet y.arrivals)
         → n ≤ k + length (x ∷ rounds) → AnnouncesIn mac answers (x ∷ rounds) first last run
     met-in by n path k x [] first last st moments (mid, polled, next, passes, may, came, is) echoes enough =
         elim (one-round by n path k x first mid polled next st (moments x (inl refl)) passes may came (λ id out. echoes x id (inl refl) out)) [

@@ -23,20 +23,20 @@ use Rattle.is_rules.specs.declared.event.IceAgentEvent.TheVariants.{IceConnectio
 use Rattle.is_rules.specs.declared.event.IceConnectionState.TheVariants.{Checking}
 use Rattle.is_rules.specs.declared.places.RemotePlace.TheVariants.{Unknown}
 use Rattle.is_rules.specs.Steps.{Done, Added, Flag, Entry, quiet}
-use Rattle.is_rules.specs.Told.{nothing_told, issued_alone, announced_alone, turned}
+use Rattle.is_rules.specs.Emitted.{nothing_emitted, issued_only, announced_only, reversed}
 use Rattle.is_rules.specs.Agent.{AgentRecord, default_timing, fresh}
 use Rattle.is_rules.specs.States.{evaluated}
 use Rattle.is_rules.specs.Serving.{Serves}
 use Rattle.is_rules.specs.Answers.{TakesSuccess, success_counted, mapped_learnt}
 use Rattle.is_rules.specs.Accepting.{HandlesPacket, IsAcceptedOn}
 use Rattle.is_rules.specs.Checking.{all_asked}
-use Rattle.is_rules.specs.Timeouts.{at_moment, awake, TimesOut}
+use Rattle.is_rules.specs.Timeouts.{at_moment, timeout_begun, TimesOut}
 use Rattle.is_rules.specs.Polls.{PollsTimeout}
 use Rattle.is_rules.specs.Steps.{Call, SetControlling, SetRemoteCredentials, AddLocalCandidate, AddRemoteCandidate, RecreateCandidatePairs, ReceivePacket, HandleTimeout, Step}
 use Rattle.is_rules.specs.Logs.{Logged}
 use Rattle.is_rules.specs.Runs.{Run}
 use Rattle.is_rules.proofs.Nominations.{announced}
-use Rattle.is_rules.proofs.Examples.{creds_1, creds_2, host_1, host_2, with_creds, with_host, with_both, with_check, with_answer, path_12, address_1, address_2, address_3, milliseconds, controlled, request, served, told_of_sender, lite_served, lite_started, lite_completed, lite_lost}
+use Rattle.is_rules.proofs.Examples.{creds_1, creds_2, host_1, host_2, with_creds, with_host, with_both, with_check, with_answer, path_12, address_1, address_2, address_3, milliseconds, controlled, request, served, emitted_of_sender, lite_served, lite_started, lite_completed, lite_lost}
 
 goes_before : (now : ℕ) (t : StunTiming) (p q : PairRecord) → Has (p ∷ []) q → GoesBefore now t p q
 goes_before now t p q (inl same) = subst (λ x. GoesBefore now t p x) same (inr (refl, omega arith))
@@ -80,7 +80,7 @@ module _ {H P : Type 0} (mac : H → List ℕ → List ℕ → List ℕ) (answer
 
   first_check : IsPut (written (mac provider) (Some (codes "p2")) (binding_request (codes "bbbb:aaaa") (fill_bytes 12 s).0 true 1 1862270719 false)) (binding_request (codes "bbbb:aaaa") (fill_bytes 12 s).0 true 1 1862270719 false)
       → Step mac answers (with_both {P = P} mac provider) s (HandleTimeout 0)
-      (record { answer = Done; told = issued_alone path_12 class.Request (fill_bytes 12 s).0 })
+      (record { answer = Done; emitted = issued_only path_12 class.Request (fill_bytes 12 s).0 })
       (with_check mac provider (fill_bytes 12 s).0) (fill_bytes 12 s).1
   unfolding asked_pair
   first_check values = (
@@ -91,8 +91,8 @@ module _ {H P : Type 0} (mac : H → List ℕ → List ℕ → List ℕ) (answer
       None,
       None,
       Some _,
-      at_moment 0 (awake 0 (with_both mac provider)),
-      at_moment 0 (awake 0 (with_both mac provider)),
+      at_moment 0 (timeout_begun 0 (with_both mac provider)),
+      at_moment 0 (timeout_begun 0 (with_both mac provider)),
       (_, (None, refl, (refl, refl)), refl),
       (refl, refl),
       (
@@ -126,7 +126,7 @@ module _ {H P : Type 0} (mac : H → List ℕ → List ℕ → List ℕ) (answer
   answer integrity = record (binding_reply zero_id address_1) { integrity = Some integrity }
 
   takes : (integrity : Integrity) (mid : AgentRecord H P) → mid ≡ evaluated (milliseconds 50) (announced valid_pair recorded)
-      → TakesSuccess (milliseconds 50) checked_agent (turned path_12) (answer integrity) (announced_alone (Some path_12)) mid
+      → TakesSuccess (milliseconds 50) checked_agent (reversed path_12) (answer integrity) (announced_only (Some path_12)) mid
   unfolding checked_agent sent_check checked_pair valid_pair recorded
   takes integrity mid is = (
     recorded,
@@ -141,8 +141,8 @@ module _ {H P : Type 0} (mac : H → List ℕ → List ℕ → List ℕ) (answer
   )
 
   first_answer : (integrity : Integrity) → IsSignedBy (mac provider) (answer integrity) (codes "p2")
-      → HandlesPacket mac (milliseconds 50) (with_check {P = P} mac provider zero_id) (turned path_12) (answer integrity) (Ok true)
-      (announced_alone (Some path_12)) (with_answer mac provider zero_id)
+      → HandlesPacket mac (milliseconds 50) (with_check {P = P} mac provider zero_id) (reversed path_12) (answer integrity) (Ok true)
+      (announced_only (Some path_12)) (with_answer mac provider zero_id)
   unfolding checked_agent sent_check checked_pair valid_pair recorded
   first_answer integrity signed = ((refl, (refl, signed)), (evaluated (milliseconds 50) (announced valid_pair recorded), takes integrity _ refl, refl))
 
@@ -160,8 +160,8 @@ module _ {H P : Type 0} (mac : H → List ℕ → List ℕ → List ℕ) (answer
 
   abbrev session : List ℕ → List (Logged P)
   session bytes =
-      entry_at 5 (ReceivePacket (milliseconds 50) (turned path_12) bytes) (record { answer = Flag true; told = announced_alone (Some path_12) })
-      ∷ entry_at 4 (HandleTimeout 0) (record { answer = Done; told = issued_alone path_12 class.Request zero_id })
+      entry_at 5 (ReceivePacket (milliseconds 50) (reversed path_12) bytes) (record { answer = Flag true; emitted = announced_only (Some path_12) })
+      ∷ entry_at 4 (HandleTimeout 0) (record { answer = Done; emitted = issued_only path_12 class.Request zero_id })
       ∷ entry_at 3 (AddRemoteCandidate (host_2 2130706175)) (quiet Done)
       ∷ entry_at 2 (AddLocalCandidate host_1) (quiet Added)
       ∷ entry_at 1 (SetRemoteCredentials creds_2) (quiet Done)
@@ -171,7 +171,7 @@ module _ {H P : Type 0} (mac : H → List ℕ → List ℕ → List ℕ) (answer
   checks_at : (t : Stream) → (zero_id, t) ≡ fill_bytes 12 s
       → IsPut (written (mac provider) (Some (codes "p2")) (binding_request (codes "bbbb:aaaa") zero_id true 1 1862270719 false)) (binding_request (codes "bbbb:aaaa") zero_id true 1 1862270719 false)
       → Step mac answers (with_both {P = P} mac provider) s (HandleTimeout 0)
-      (record { answer = Done; told = issued_alone path_12 class.Request zero_id }) (with_check mac provider zero_id) t
+      (record { answer = Done; emitted = issued_only path_12 class.Request zero_id }) (with_check mac provider zero_id) t
   unfolding asked_pair
   checks_at t drawn put = (
     Ok _,
@@ -181,8 +181,8 @@ module _ {H P : Type 0} (mac : H → List ℕ → List ℕ → List ℕ) (answer
       None,
       None,
       Some _,
-      at_moment 0 (awake 0 (with_both mac provider)),
-      at_moment 0 (awake 0 (with_both mac provider)),
+      at_moment 0 (timeout_begun 0 (with_both mac provider)),
+      at_moment 0 (timeout_begun 0 (with_both mac provider)),
       (_, (None, refl, (refl, refl)), refl),
       (refl, refl),
       (
@@ -232,7 +232,7 @@ module _ {H P : Type 0} (mac : H → List ℕ → List ℕ → List ℕ) (answer
     ),
     refl,
     tt,
-    (inr (answer integrity, reads, (Ok true, announced_alone (Some path_12), refl, first_answer integrity signed)), refl),
+    (inr (answer integrity, reads, (Ok true, announced_only (Some path_12), refl, first_answer integrity signed)), refl),
   )
 
   -- ---- the wake-ups behind each, once the packet is polled
@@ -252,14 +252,14 @@ module _ {H P : Type 0} (mac : H → List ℕ → List ℕ → List ℕ) (answer
 
   -- the peer nominates: a peer reflexive candidate, a nominated pair, and a reply
   serves : IsPut (written (mac provider) (Some (codes "p1")) (binding_reply zero_id address_2)) (binding_reply zero_id address_2)
-      → Serves mac (request zero_id) (controlled {P = P} mac provider) (issued_alone path_12 class.Success zero_id) (served mac provider zero_id)
+      → Serves mac (request zero_id) (controlled {P = P} mac provider) (issued_only path_12 class.Success zero_id) (served mac provider zero_id)
   serves values = (Unknown, (None, (λ k below. refl), refl), (None, refl, (refl, (None, _, (refl, refl), (values, refl, refl)))))
 
   nominated_pair : PairRecord
   nominated_pair = record (new_pair 0 0 0 7962116751041232382) { nomination = Nominated; requests = 1; last_request = Some 0 }
 
   -- the sender is signalled as a host: the candidate is overwritten, and the pair replaced by one of its nomination
-  overwrites : Step mac answers (served {P = P} mac provider zero_id) s (AddRemoteCandidate (host_2 2130706175)) (quiet Done) (told_of_sender mac provider zero_id) s
+  overwrites : Step mac answers (served {P = P} mac provider zero_id) s (AddRemoteCandidate (host_2 2130706175)) (quiet Done) (emitted_of_sender mac provider zero_id) s
   unfolding nominated_pair
   overwrites = (
     Ok _,
@@ -281,17 +281,17 @@ module _ {H P : Type 0} (mac : H → List ℕ → List ℕ → List ℕ) (answer
   )
 
   -- a request that claims the own role with a smaller tie-breaker: 487, back the way it came
-  insisted : IsPut (written (mac provider) (Some (codes "p1")) (binding_role_conflict_reply zero_id)) (binding_role_conflict_reply zero_id)
+  conflict_sent : IsPut (written (mac provider) (Some (codes "p1")) (binding_role_conflict_reply zero_id)) (binding_role_conflict_reply zero_id)
       → Serves mac (record (request zero_id) { ice_controlling = Some 1 }) (with_host {P = P} mac provider)
-      (issued_alone path_12 class.Failure zero_id)
+      (issued_only path_12 class.Failure zero_id)
       (record (with_host mac provider) {
         packets = record { proto = Udp; source = address_1; destination = address_2; contents = written (mac provider) (Some (codes "p1")) (binding_role_conflict_reply zero_id) } ∷ [];
       })
-  insisted values = (values, refl, refl)
+  conflict_sent values = (values, refl, refl)
 
   -- with a greater one: the role goes, the request is served, and the pair is nominated
   yielded : IsPut (written (mac provider) (Some (codes "p1")) (binding_reply zero_id address_2)) (binding_reply zero_id address_2)
-      → Serves mac (request zero_id) (with_host {P = P} mac provider) (issued_alone path_12 class.Success zero_id) (served mac provider zero_id)
+      → Serves mac (request zero_id) (with_host {P = P} mac provider) (issued_only path_12 class.Success zero_id) (served mac provider zero_id)
   yielded values = (Unknown, (None, (λ k below. refl), refl), (None, refl, (refl, (None, _, (refl, refl), (values, refl, refl)))))
 
   -- a re-created agent in New goes to Checking, and has its pair again under a new number
@@ -319,13 +319,13 @@ module _ {H P : Type 0} (mac : H → List ℕ → List ℕ → List ℕ) (answer
   -- ---- ice-lite
 
   lite_serves : IsPut (written (mac provider) (Some (codes "p1")) (binding_reply zero_id address_2)) (binding_reply zero_id address_2)
-      → Serves mac (request zero_id) (record (controlled {P = P} mac provider) { lite = true }) (issued_alone path_12 class.Success zero_id) (lite_served mac provider zero_id)
+      → Serves mac (request zero_id) (record (controlled {P = P} mac provider) { lite = true }) (issued_only path_12 class.Success zero_id) (lite_served mac provider zero_id)
   lite_serves values = (Unknown, (None, (λ k below. refl), refl), (None, refl, (refl, (None, _, (refl, refl), (values, refl, refl)))))
 
   lite_pair : PairRecord
   lite_pair = record (new_pair 0 0 0 7962116751041232382) { nomination = Success; state = Succeeded; requests = 1; last_request = Some 0 }
 
-  lite_starts : TimesOut mac 0 (lite_served {P = P} mac provider zero_id) s (Ok _) (announced_alone (Some path_12)) (lite_started mac provider zero_id) s
+  lite_starts : TimesOut mac 0 (lite_served {P = P} mac provider zero_id) s (Ok _) (announced_only (Some path_12)) (lite_started mac provider zero_id) s
   unfolding lite_pair
   lite_starts = (
     Some path_12,
@@ -342,7 +342,7 @@ module _ {H P : Type 0} (mac : H → List ℕ → List ℕ → List ℕ) (answer
   lite_wakes : PollsTimeout (polled (lite_started mac provider zero_id)) (Some (milliseconds 3000)) (polled (lite_started mac provider zero_id))
   lite_wakes = (refl, refl)
 
-  lite_completes : TimesOut mac (milliseconds 50) (lite_started {P = P} mac provider zero_id) s (Ok _) nothing_told (lite_completed mac provider zero_id) s
+  lite_completes : TimesOut mac (milliseconds 50) (lite_started {P = P} mac provider zero_id) s (Ok _) nothing_emitted (lite_completed mac provider zero_id) s
   unfolding lite_pair
   lite_completes = (
     None,
@@ -356,7 +356,7 @@ module _ {H P : Type 0} (mac : H → List ℕ → List ℕ → List ℕ) (answer
     refl,
   )
 
-  lite_stays : TimesOut mac (milliseconds 14999) (lite_completed {P = P} mac provider zero_id) s (Ok _) nothing_told
+  lite_stays : TimesOut mac (milliseconds 14999) (lite_completed {P = P} mac provider zero_id) s (Ok _) nothing_emitted
       (record (lite_completed mac provider zero_id) { last_moment = Some (milliseconds 14999) }) s
   unfolding lite_pair
   lite_stays = (
@@ -371,7 +371,7 @@ module _ {H P : Type 0} (mac : H → List ℕ → List ℕ → List ℕ) (answer
     refl,
   )
 
-  lite_loses : TimesOut mac (milliseconds 15000) (lite_completed {P = P} mac provider zero_id) s (Ok _) nothing_told (lite_lost mac provider zero_id) s
+  lite_loses : TimesOut mac (milliseconds 15000) (lite_completed {P = P} mac provider zero_id) s (Ok _) nothing_emitted (lite_lost mac provider zero_id) s
   unfolding lite_pair
   lite_loses = (
     None,

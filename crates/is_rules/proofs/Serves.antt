@@ -7,8 +7,8 @@ use Rattle.is_proto.specs.Lists.{Has}
 use Rattle.is_candidate.specs.Candidates.{CandidateRecord, IsBased, base_of, candidate_at, nowhere}
 use Rattle.is_pair.specs.Pairs.{PairRecord, is_nominated, with_request, validated, nominated}
 use Rattle.is_stun.specs.Laws.{IsPut}
-use Rattle.is_rules.specs.declared.told.Path.{Path}
-use Rattle.is_rules.specs.declared.told.Told.{Told}
+use Rattle.is_rules.specs.declared.emitted.Path.{Path}
+use Rattle.is_rules.specs.declared.emitted.Emitted.{Emitted}
 use Rattle.is_rules.specs.declared.places.RemotePlace.{RemotePlace}
 use Rattle.is_rules.specs.declared.places.RemotePlace.TheVariants.{Known, Barred, Unknown}
 use Rattle.is_rules.specs.Request.{RequestRecord}
@@ -23,7 +23,7 @@ use Rattle.is_proto.specs.declared.proto.Protocol.{Protocol}
 use Rattle.is_candidate.specs.Kinds.{is_direct}
 use Rattle.is_rules.specs.declared.roles.Conflict.{Conflict}
 use Rattle.is_rules.specs.declared.roles.Conflict.TheVariants.{Absent, Insists, Yields}
-use Rattle.is_rules.specs.Told.{turned, announced_in, issued_as}
+use Rattle.is_rules.specs.Emitted.{reversed, announced_in, issued_as}
 use Rattle.is_proto.specs.Packets.{Packet}
 use Rattle.is_stun.specs.declared.header.Class.TheVariants.{Success, Failure}
 use Rattle.is_stun.specs.Checks.{binding_reply, binding_role_conflict_reply}
@@ -34,7 +34,7 @@ use Rattle.is_rules.specs.Sending.{path_between, carried}
 use Rattle.is_rules.specs.Forming.{formed, with_pair}
 use Rattle.is_rules.specs.Nominating.{NominatesWhere}
 use Rattle.is_rules.specs.Roles.{conflict_of, switched, switched_sides, with_priority_in}
-use Rattle.is_rules.specs.Serving.{validated_by_peer, nominated_by_peer, served, with_sender, sender_candidate, request_counted, pair_served, is_misled, Drops, names_another, ServesPair, TakesAt, JoinsAt, Admits, SettlesBy, Settles, Serves}
+use Rattle.is_rules.specs.Serving.{validated_by_peer, nominated_by_peer, served, with_sender, sender_candidate, request_counted, pair_served, is_misled, Drops, names_another, RecordsAndResponds, FindsOrAddsPair, AddsUnknownSender, CountsAndServes, ResolvesRoleConflictBy, ResolvesRoleConflict, Serves}
 use Rattle.is_rules.proofs.Frames.{Frame, either, admits, where_frame, packet_along}
 use Rattle.is_rules.proofs.Onward.{Parts, path_in, Fit, IsNominatedIn, Onward, here, onward, pushed, Has-push}
 use Rattle.is_rules.proofs.Moves.{Has-at, self_kept, Changed, unchanged, mapped, one_changed, parts_of, nominates}
@@ -255,59 +255,59 @@ module _ (asks met : Path → Type 0) (sent : Path → List ℕ → Bool → Typ
       conflict_bytes s = written (mac s.provider) (Some s.local_creds.pass) (binding_role_conflict_reply q.id)
 
       -- nothing goes out, or the reply, on the way back; and the pair is nominated where the peer asks for it
-      abbrev pub Replied : AgentRecord H P → Told → AgentRecord H P → Type 0
-      Replied s told new =
-          ((told.issued ≡ None) × (new.packets ≡ s.packets))
-          ⊎ ((told.issued ≡ Some (issued_as (turned q.path) Success q.id)) × IsPut (reply_bytes s) (binding_reply q.id (carried q.path.source))
-          × (new.packets ≡ s.packets ++ packet_along (turned q.path) (reply_bytes s) ∷ [])
-          × (q.use_candidate ≡ true → new.controlling ≡ false → IsNominatedIn (parts_of asks met sent new) (turned q.path)))
+      abbrev pub Replied : AgentRecord H P → Emitted → AgentRecord H P → Type 0
+      Replied s emitted new =
+          ((emitted.issued ≡ None) × (new.packets ≡ s.packets))
+          ⊎ ((emitted.issued ≡ Some (issued_as (reversed q.path) Success q.id)) × IsPut (reply_bytes s) (binding_reply q.id (carried q.path.source))
+          × (new.packets ≡ s.packets ++ packet_along (reversed q.path) (reply_bytes s) ∷ [])
+          × (q.use_candidate ≡ true → new.controlling ≡ false → IsNominatedIn (parts_of asks met sent new) (reversed q.path)))
 
       -- the 487 goes out
-      abbrev pub Insisted : AgentRecord H P → Told → AgentRecord H P → Type 0
-      Insisted s told new =
-          (told.issued ≡ Some (issued_as (turned q.path) Failure q.id)) × IsPut (conflict_bytes s) (binding_role_conflict_reply q.id)
-          × (new.packets ≡ s.packets ++ packet_along (turned q.path) (conflict_bytes s) ∷ []) × (conflict_of s q ≡ Insists) × (new.controlling ≡ s.controlling)
+      abbrev pub ConflictSent : AgentRecord H P → Emitted → AgentRecord H P → Type 0
+      ConflictSent s emitted new =
+          (emitted.issued ≡ Some (issued_as (reversed q.path) Failure q.id)) × IsPut (conflict_bytes s) (binding_role_conflict_reply q.id)
+          × (new.packets ≡ s.packets ++ packet_along (reversed q.path) (conflict_bytes s) ∷ []) × (conflict_of s q ≡ Insists) × (new.controlling ≡ s.controlling)
 
       -- what serving does, from a fit record
-      abbrev pub Does : AgentRecord H P → Told → AgentRecord H P → Type 0
-      Does s told new =
+      abbrev pub Does : AgentRecord H P → Emitted → AgentRecord H P → Type 0
+      Does s emitted new =
           Onward asks met sent (parts_of asks met sent s) (parts_of asks met sent new)
-          × Tells asks met sent (parts_of asks met sent s) (parts_of asks met sent new) s.announced new.announced told.announced
-          × Replied s told new
+          × Tells asks met sent (parts_of asks met sent s) (parts_of asks met sent new) s.selected_pair new.selected_pair emitted.announced
+          × Replied s emitted new
 
-      abbrev pub DoesOrInsists : AgentRecord H P → Told → AgentRecord H P → Type 0
-      DoesOrInsists s told new =
+      abbrev pub DoesOrInsists : AgentRecord H P → Emitted → AgentRecord H P → Type 0
+      DoesOrInsists s emitted new =
           Onward asks met sent (parts_of asks met sent s) (parts_of asks met sent new)
-          × Tells asks met sent (parts_of asks met sent s) (parts_of asks met sent new) s.announced new.announced told.announced
-          × (Replied s told new ⊎ Insisted s told new)
+          × Tells asks met sent (parts_of asks met sent s) (parts_of asks met sent new) s.selected_pair new.selected_pair emitted.announced
+          × (Replied s emitted new ⊎ ConflictSent s emitted new)
 
-      pub or_insists : (s new : AgentRecord H P) (told : Told) → Does s told new → DoesOrInsists s told new
-      or_insists s new told (o, tells, posts) = (o, tells, inl posts)
+      pub or_insists : (s new : AgentRecord H P) (emitted : Emitted) → Does s emitted new → DoesOrInsists s emitted new
+      or_insists s new emitted (o, tells, posts) = (o, tells, inl posts)
 
-      quiet_tells : (s new : AgentRecord H P) (told : Told) → told.announced ≡ announced_in None None → new.announced ≡ s.announced
-          → Tells asks met sent (parts_of asks met sent s) (parts_of asks met sent new) s.announced new.announced told.announced
-      quiet_tells s new told is same =
-          subst (λ (ps : List (Option Path)). Tells asks met sent (parts_of asks met sent s) (parts_of asks met sent new) s.announced new.announced ps) (sym is)
-          (tells_none asks met sent (parts_of asks met sent s) (parts_of asks met sent new) s.announced new.announced same)
+      quiet_tells : (s new : AgentRecord H P) (emitted : Emitted) → emitted.announced ≡ announced_in None None → new.selected_pair ≡ s.selected_pair
+          → Tells asks met sent (parts_of asks met sent s) (parts_of asks met sent new) s.selected_pair new.selected_pair emitted.announced
+      quiet_tells s new emitted is same =
+          subst (λ (ps : List (Option Path)). Tells asks met sent (parts_of asks met sent s) (parts_of asks met sent new) s.selected_pair new.selected_pair ps) (sym is)
+          (tells_none asks met sent (parts_of asks met sent s) (parts_of asks met sent new) s.selected_pair new.selected_pair same)
 
-      drops_does : (s new : AgentRecord H P) (told : Told) → Fit (parts_of asks met sent s) → Drops s told new → Does s told new
-      drops_does s new told fit (is, same) = (
+      drops_does : (s new : AgentRecord H P) (emitted : Emitted) → Fit (parts_of asks met sent s) → Drops s emitted new → Does s emitted new
+      drops_does s new emitted fit (is, same) = (
         subst (λ (a : AgentRecord H P). Onward asks met sent (parts_of asks met sent s) (parts_of asks met sent a)) (sym same) (here asks met sent (parts_of asks met sent s) fit),
-        quiet_tells s new told (ap (λ (x : Told). x.announced) is) (ap (λ (a : AgentRecord H P). a.announced) same),
-        inl (ap (λ (x : Told). x.issued) is, ap (λ (a : AgentRecord H P). a.packets) same),
+        quiet_tells s new emitted (ap (λ (x : Emitted). x.announced) is) (ap (λ (a : AgentRecord H P). a.selected_pair) same),
+        inl (ap (λ (x : Emitted). x.issued) is, ap (λ (a : AgentRecord H P). a.packets) same),
       )
 
       -- what serving at this pair may take for granted, by the role that it finds
       pub record Grants (s : AgentRecord H P) (l r : ℕ) : Type 0 where
-        pub way : path_between s l r ≡ turned q.path
+        pub via : path_between s l r ≡ reversed q.path
         pub valid : (s.lite && not s.controlling) ≡ true → met (path_between s l r)
         pub asking : s.controlling ≡ false → q.use_candidate ≡ true → asks (path_between s l r)
         pub free : (s.controlling || s.lite) ≡ true → (p : Path) → asks p
 
-      pair_does : (l r number : ℕ) (s new : AgentRecord H P) (told : Told) → Fit (parts_of asks met sent s) → Grants s l r
+      pair_does : (l r number : ℕ) (s new : AgentRecord H P) (emitted : Emitted) → Fit (parts_of asks met sent s) → Grants s l r
           → ((p : PairRecord) → Has s.pairs p → p.number ≡ number → (p.local ≡ l) × (p.remote ≡ r))
-          → ((p : PairRecord) × Has s.pairs p × (p.number ≡ number)) → ServesPair mac q l r number s told new → Does s told new
-      pair_does l r number s new told fit grants at there (path, mid, nominating, (values, is, made)) =
+          → ((p : PairRecord) × Has s.pairs p × (p.number ≡ number)) → RecordsAndResponds mac q l r number s emitted new → Does s emitted new
+      pair_does l r number s new emitted fit grants at there (path, mid, nominating, (values, is, made)) =
           let x : Parts = parts_of asks met sent s in
           let y : AgentRecord H P = pair_served q number s in
           let z : Parts = parts_of asks met sent mid in
@@ -322,19 +322,19 @@ module _ (asks met : Path → Type 0) (sent : Path → List ℕ → Bool → Typ
           (λ c u. subst asks path_is (grants.asking c u)))) in
           let n = where_does (s.controlling && is_valid_at number s.pairs) y mid path changes.fit grants.free nominating in
           let frame = where_frame (s.controlling && is_valid_at number s.pairs) y mid path nominating in
-          let way : path_between s l r ≡ turned q.path = grants.way in
+          let via : path_between s l r ≡ reversed q.path = grants.via in
           let bytes : reply_bytes mid ≡ reply_bytes s =
           ap (λ (f : Frame H). written (mac f.provider) (Some f.local_creds.pass) (binding_reply q.id q.path.source)) frame.0 in
-          let out : packet_along (path_between s l r) (reply_bytes mid) ≡ packet_along (turned q.path) (reply_bytes s) =
-          ap (λ w. packet_along w (reply_bytes mid)) way ∙ ap (λ b. packet_along (turned q.path) b) bytes in (
+          let out : packet_along (path_between s l r) (reply_bytes mid) ≡ packet_along (reversed q.path) (reply_bytes s) =
+          ap (λ w. packet_along w (reply_bytes mid)) via ∙ ap (λ b. packet_along (reversed q.path) b) bytes in (
             subst (λ (a : AgentRecord H P). Onward asks met sent x (parts_of asks met sent a)) (sym made)
                 (onward asks met sent x (parts_of asks met sent y) z changes n.0),
-            subst (λ (ps : List (Option Path)). Tells asks met sent x (parts_of asks met sent new) s.announced new.announced ps) (sym (ap (λ (x : Told). x.announced) is))
-                (subst (λ (a : AgentRecord H P). Tells asks met sent x (parts_of asks met sent a) s.announced a.announced (announced_in path None)) (sym made)
-                (tells_behind asks met sent x (parts_of asks met sent y) z s.announced mid.announced (announced_in path None) changes
-                (tells_one asks met sent (parts_of asks met sent y) z s.announced mid.announced path n.1))),
+            subst (λ (ps : List (Option Path)). Tells asks met sent x (parts_of asks met sent new) s.selected_pair new.selected_pair ps) (sym (ap (λ (x : Emitted). x.announced) is))
+                (subst (λ (a : AgentRecord H P). Tells asks met sent x (parts_of asks met sent a) s.selected_pair a.selected_pair (announced_in path None)) (sym made)
+                (tells_behind asks met sent x (parts_of asks met sent y) z s.selected_pair mid.selected_pair (announced_in path None) changes
+                (tells_one asks met sent (parts_of asks met sent y) z s.selected_pair mid.selected_pair path n.1))),
             inr (
-              ap (λ (x : Told). x.issued) is ∙ ap (λ w. Some (issued_as w Success q.id)) way,
+              ap (λ (x : Emitted). x.issued) is ∙ ap (λ w. Some (issued_as w Success q.id)) via,
               subst (λ b. IsPut b (binding_reply q.id (carried q.path.source))) bytes values,
               ap (λ (a : AgentRecord H P). a.packets) made ∙ ap (λ (ps : List Packet). ps ++ packet_along (path_between s l r) (reply_bytes mid) ∷ []) frame.1
                   ∙ ap (λ o. s.packets ++ o ∷ []) out,
@@ -346,10 +346,10 @@ module _ (asks met : Path → Type 0) (sent : Path → List ℕ → Bool → Typ
                   let place = at p there.1 there.2 in
                   let is_served : g p ≡ served s.controlling s.lite q p = ap (λ b. if b then served s.controlling s.lite q p else p) (eq-eqb p.number number there.2) in
                   let kept = served_at s.controlling s.lite q p in
-                  let own : path_between s (served s.controlling s.lite q p).local (served s.controlling s.lite q p).remote ≡ turned q.path =
-                  ap (λ k. path_between s k (served s.controlling s.lite q p).remote) (kept.0 ∙ place.0) ∙ ap (λ k. path_between s l k) (kept.1 ∙ place.1) ∙ way in
-                  subst (λ (a : AgentRecord H P). IsNominatedIn (parts_of asks met sent a) (turned q.path)) (sym made)
-                  (subst (λ (a : AgentRecord H P). IsNominatedIn (parts_of asks met sent a) (turned q.path)) (sym unchanged_y) (
+                  let own : path_between s (served s.controlling s.lite q p).local (served s.controlling s.lite q p).remote ≡ reversed q.path =
+                  ap (λ k. path_between s k (served s.controlling s.lite q p).remote) (kept.0 ∙ place.0) ∙ ap (λ k. path_between s l k) (kept.1 ∙ place.1) ∙ via in
+                  subst (λ (a : AgentRecord H P). IsNominatedIn (parts_of asks met sent a) (reversed q.path)) (sym made)
+                  (subst (λ (a : AgentRecord H P). IsNominatedIn (parts_of asks met sent a) (reversed q.path)) (sym unchanged_y) (
                     served s.controlling s.lite q p,
                     subst (λ (z : PairRecord). Has (map g s.pairs) z) is_served (Has-mapped g s.pairs p there.1),
                     served_nominated s.controlling s.lite q p role uses,
@@ -359,11 +359,11 @@ module _ (asks met : Path → Type 0) (sent : Path → List ℕ → Bool → Typ
           ) where
             where_does : (b : Bool) (old mid : AgentRecord H P) (path : Option Path) → Fit (parts_of asks met sent old)
                 → ((old.controlling || old.lite) ≡ true → (p : Path) → asks p) → NominatesWhere b old path mid
-                → Onward asks met sent (parts_of asks met sent old) (parts_of asks met sent mid) × Evaluates asks met sent (parts_of asks met sent old) (parts_of asks met sent mid) old.announced mid.announced path
+                → Onward asks met sent (parts_of asks met sent old) (parts_of asks met sent mid) × Evaluates asks met sent (parts_of asks met sent old) (parts_of asks met sent mid) old.selected_pair mid.selected_pair path
             where_does true old mid path fit free h = nominates asks met sent old mid path free fit h
             where_does false old mid path fit free (is, same) = (
               subst (λ (a : AgentRecord H P). Onward asks met sent (parts_of asks met sent old) (parts_of asks met sent a)) (sym same) (here asks met sent (parts_of asks met sent old) fit),
-              evaluates_none asks met sent (parts_of asks met sent old) (parts_of asks met sent mid) old.announced mid.announced path is (ap (λ (a : AgentRecord H P). a.announced) same),
+              evaluates_none asks met sent (parts_of asks met sent old) (parts_of asks met sent mid) old.selected_pair mid.selected_pair path is (ap (λ (a : AgentRecord H P). a.selected_pair) same),
             )
 
             still_at : (c v : Bool) (y mid : AgentRecord H P) (path : Option Path) → c ≡ false → NominatesWhere (c && v) y path mid → mid ≡ y
@@ -372,59 +372,59 @@ module _ (asks met : Path → Type 0) (sent : Path → List ℕ → Bool → Typ
 
       -- what a request grants, by its way back
       pub record Granted (s : AgentRecord H P) : Type 0 where
-        pub valid : (s.lite && not s.controlling) ≡ true → met (turned q.path)
-        pub asking : s.controlling ≡ false → q.use_candidate ≡ true → asks (turned q.path)
+        pub valid : (s.lite && not s.controlling) ≡ true → met (reversed q.path)
+        pub asking : s.controlling ≡ false → q.use_candidate ≡ true → asks (reversed q.path)
         pub free : (s.controlling || s.lite) ≡ true → (p : Path) → asks p
 
-      grants_at : (s : AgentRecord H P) (l r : ℕ) → path_between s l r ≡ turned q.path → Granted s → Grants s l r
-      grants_at s l r way g = record {
-        way = way;
-        valid = λ h. subst met (sym way) (g.valid h);
-        asking = λ c u. subst asks (sym way) (g.asking c u);
+      grants_at : (s : AgentRecord H P) (l r : ℕ) → path_between s l r ≡ reversed q.path → Granted s → Grants s l r
+      grants_at s l r via g = record {
+        via = via;
+        valid = λ h. subst met (sym via) (g.valid h);
+        asking = λ c u. subst asks (sym via) (g.asking c u);
         free = g.free;
       }
 
       abbrev IsHere : AgentRecord H P → ℕ → Type 0
       IsHere s l = (base_of (candidate_at s.local l) ≡ q.path.destination) × ((candidate_at s.local l).proto ≡ q.path.proto)
 
-      way_back : (s : AgentRecord H P) (l r : ℕ) → IsHere s l → (candidate_at s.remote r).addr ≡ q.path.source → path_between s l r ≡ turned q.path
-      way_back s l r (base, proto) source = rw (base, proto, source) refl
+      via_back : (s : AgentRecord H P) (l r : ℕ) → IsHere s l → (candidate_at s.remote r).addr ≡ q.path.source → path_between s l r ≡ reversed q.path
+      via_back s l r (base, proto) source = rw (base, proto, source) refl
 
-      adds_does : (l r : ℕ) (s new : AgentRecord H P) (told : Told) → l < length s.local → r < length s.remote → Fit (parts_of asks met sent s) → Grants s l r
-          → ServesPair mac q l r s.next_number (with_pair (formed s l r) s) told new → Does s told new
-      adds_does l r s new told in_local in_remote fit grants h =
+      adds_does : (l r : ℕ) (s new : AgentRecord H P) (emitted : Emitted) → l < length s.local → r < length s.remote → Fit (parts_of asks met sent s) → Grants s l r
+          → RecordsAndResponds mac q l r s.next_number (with_pair (formed s l r) s) emitted new → Does s emitted new
+      adds_does l r s new emitted in_local in_remote fit grants h =
           let x : Parts = parts_of asks met sent s in
           let p : PairRecord = formed s l r in
           let y : AgentRecord H P = with_pair p s in
           let joins : Onward asks met sent x (parts_of asks met sent y) =
           pushed asks met sent x x.pairs p fit (λ k has. has) fit.rising refl (in_local, in_remote) refl (λ (is : false ≡ true). absurd (false_true is)) (λ (is : false ≡ true). absurd (false_true is)) in
-          let k = pair_does l r s.next_number y new told joins.fit (record { way = grants.way; valid = grants.valid; asking = grants.asking; free = grants.free })
+          let k = pair_does l r s.next_number y new emitted joins.fit (record { via = grants.via; valid = grants.valid; asking = grants.asking; free = grants.free })
           (λ o has same. elim (Has-push s.pairs p o has) [
             | inl was ↦ absurd (no_less o.number s.next_number (fit.below o was) same)
             | inr now ↦ subst (λ (z : PairRecord). (z.local ≡ l) × (z.remote ≡ r)) now (refl, refl)
           ]) (p, Has-last s.pairs p, refl) h in (
             onward asks met sent x (parts_of asks met sent y) (parts_of asks met sent new) joins k.0,
-            tells_behind asks met sent x (parts_of asks met sent y) (parts_of asks met sent new) s.announced new.announced told.announced joins k.1,
+            tells_behind asks met sent x (parts_of asks met sent y) (parts_of asks met sent new) s.selected_pair new.selected_pair emitted.announced joins k.1,
             k.2,
           )
 
-      takes_does : (l r : ℕ) (number : Option ℕ) (s new : AgentRecord H P) (told : Told) → l < length s.local → r < length s.remote → Fit (parts_of asks met sent s)
-          → Grants s l r → IsPairBetween s.pairs l r number → TakesAt mac q l r number s told new → Does s told new
-      takes_does l r (Some number) s new told in_local in_remote fit grants (p, has, between, is) h =
+      takes_does : (l r : ℕ) (number : Option ℕ) (s new : AgentRecord H P) (emitted : Emitted) → l < length s.local → r < length s.remote → Fit (parts_of asks met sent s)
+          → Grants s l r → IsPairBetween s.pairs l r number → FindsOrAddsPair mac q l r number s emitted new → Does s emitted new
+      takes_does l r (Some number) s new emitted in_local in_remote fit grants (p, has, between, is) h =
           let place = is_at_places l r p between in
-          pair_does l r number s new told fit grants
+          pair_does l r number s new emitted fit grants
           (λ o there same. subst (λ (z : PairRecord). (z.local ≡ l) × (z.remote ≡ r)) (one_pair s.pairs p o fit.rising has there (is ∙ sym same)) place) (p, has, is) h
-      takes_does l r None s new told in_local in_remote fit grants none h = either (candidate_at s.local l).discarded h
-          (λ _ k. drops_does s new told fit k)
-          (λ _ k. adds_does l r s new told in_local in_remote fit grants k.1)
+      takes_does l r None s new emitted in_local in_remote fit grants none h = either (candidate_at s.local l).discarded h
+          (λ _ k. drops_does s new emitted fit k)
+          (λ _ k. adds_does l r s new emitted in_local in_remote fit grants k.1)
 
-      joins_does : (l : ℕ) (place : RemotePlace) (s new : AgentRecord H P) (told : Told) → l < length s.local → IsHere s l → Fit (parts_of asks met sent s) → Granted s
-          → IsRemotePlace s.remote q place → JoinsAt mac q l place s told new → Does s told new
-      joins_does l (Known r) s new told in_local is_here fit granted remote (number, between, h) =
+      joins_does : (l : ℕ) (place : RemotePlace) (s new : AgentRecord H P) (emitted : Emitted) → l < length s.local → IsHere s l → Fit (parts_of asks met sent s) → Granted s
+          → IsRemotePlace s.remote q place → AddsUnknownSender mac q l place s emitted new → Does s emitted new
+      joins_does l (Known r) s new emitted in_local is_here fit granted remote (number, between, h) =
           let k = known_at s.remote q r remote in
-          takes_does l r number s new told in_local k.0 fit (grants_at s l r (way_back s l r is_here k.1) granted) between h
-      joins_does l Barred s new told in_local is_here fit granted remote h = drops_does s new told fit h
-      joins_does l Unknown s new told in_local is_here fit granted remote (number, between, h) =
+          takes_does l r number s new emitted in_local k.0 fit (grants_at s l r (via_back s l r is_here k.1) granted) between h
+      joins_does l Barred s new emitted in_local is_here fit granted remote h = drops_does s new emitted fit h
+      joins_does l Unknown s new emitted in_local is_here fit granted remote (number, between, h) =
           let x : Parts = parts_of asks met sent s in
           let y : AgentRecord H P = with_sender q s in
           let c : CandidateRecord = sender_candidate s q in
@@ -432,53 +432,53 @@ module _ (asks met : Path → Type 0) (sent : Path → List ℕ → Bool → Typ
           let longer : length (s.remote ++ c ∷ []) ≡ r + 1 = length-append s.remote (c ∷ []) in
           let joins = remote_joins x c fit in
           let at : (candidate_at (s.remote ++ c ∷ []) r).addr ≡ q.path.source = ap (λ (z : CandidateRecord). z.addr) (get_or-append_seam s.remote c [] nowhere) in
-          let k = takes_does l r number y new told in_local (omega (arith, longer)) joins.fit
-          (grants_at y l r (way_back y l r is_here at) (record { valid = granted.valid; asking = granted.asking; free = granted.free })) between h in (
+          let k = takes_does l r number y new emitted in_local (omega (arith, longer)) joins.fit
+          (grants_at y l r (via_back y l r is_here at) (record { valid = granted.valid; asking = granted.asking; free = granted.free })) between h in (
             onward asks met sent x (parts_of asks met sent y) (parts_of asks met sent new) joins k.0,
-            tells_behind asks met sent x (parts_of asks met sent y) (parts_of asks met sent new) s.announced new.announced told.announced joins k.1,
+            tells_behind asks met sent x (parts_of asks met sent y) (parts_of asks met sent new) s.selected_pair new.selected_pair emitted.announced joins k.1,
             k.2,
           )
 
-      pub admits_does : (l : ℕ) (s new : AgentRecord H P) (told : Told) → l < length s.local → IsHere s l → Fit (parts_of asks met sent s) → Granted s
-          → Admits mac q l s told new → Does s told new
-      admits_does l s new told in_local is_here fit granted h = either (is_misled s.controlling q) h
-          (λ _ k. drops_does s new told fit k)
-          (λ _ k. joins_does l k.0 (request_counted s) new told in_local is_here fit (record { valid = granted.valid; asking = granted.asking; free = granted.free }) k.1 k.2)
+      pub admits_does : (l : ℕ) (s new : AgentRecord H P) (emitted : Emitted) → l < length s.local → IsHere s l → Fit (parts_of asks met sent s) → Granted s
+          → CountsAndServes mac q l s emitted new → Does s emitted new
+      admits_does l s new emitted in_local is_here fit granted h = either (is_misled s.controlling q) h
+          (λ _ k. drops_does s new emitted fit k)
+          (λ _ k. joins_does l k.0 (request_counted s) new emitted in_local is_here fit (record { valid = granted.valid; asking = granted.asking; free = granted.free }) k.1 k.2)
 
-      settles_does : (conflict : Conflict) (l : ℕ) (s new : AgentRecord H P) (told : Told) → conflict_of s q ≡ conflict → l < length s.local → IsHere s l → Fit (parts_of asks met sent s)
-          → (conflict ≡ Absent → Granted s) → (conflict ≡ Yields → new.controlling ≡ not s.controlling → Granted (switched s)) → SettlesBy mac conflict q l s told new → DoesOrInsists s told new
-      settles_does Absent l s new told by in_local is_here fit stays turns h = or_insists s new told (admits_does l s new told in_local is_here fit (stays refl) h)
-      settles_does Insists l s new told by in_local is_here fit stays turns (values, is, made) = (
+      resolves_does : (conflict : Conflict) (l : ℕ) (s new : AgentRecord H P) (emitted : Emitted) → conflict_of s q ≡ conflict → l < length s.local → IsHere s l → Fit (parts_of asks met sent s)
+          → (conflict ≡ Absent → Granted s) → (conflict ≡ Yields → new.controlling ≡ not s.controlling → Granted (switched s)) → ResolvesRoleConflictBy mac conflict q l s emitted new → DoesOrInsists s emitted new
+      resolves_does Absent l s new emitted by in_local is_here fit stays turns h = or_insists s new emitted (admits_does l s new emitted in_local is_here fit (stays refl) h)
+      resolves_does Insists l s new emitted by in_local is_here fit stays turns (values, is, made) = (
         subst (λ (a : AgentRecord H P). Onward asks met sent (parts_of asks met sent s) (parts_of asks met sent a)) (sym made) (here asks met sent (parts_of asks met sent s) fit),
-        quiet_tells s new told (ap (λ (x : Told). x.announced) is) (ap (λ (a : AgentRecord H P). a.announced) made),
+        quiet_tells s new emitted (ap (λ (x : Emitted). x.announced) is) (ap (λ (a : AgentRecord H P). a.selected_pair) made),
         inr (
-          ap (λ (x : Told). x.issued) is,
+          ap (λ (x : Emitted). x.issued) is,
           values,
           ap (λ (a : AgentRecord H P). a.packets) made,
           by,
           ap (λ (a : AgentRecord H P). a.controlling) made,
         ),
       )
-      settles_does Yields l s new told by in_local is_here fit stays turns h =
+      resolves_does Yields l s new emitted by in_local is_here fit stays turns h =
           let x : Parts = parts_of asks met sent s in
           let first = switches s fit in
-          let k = admits_does l (switched s) new told in_local is_here first.fit (turns refl (ap (λ (f : Frame H). f.controlling) (admits mac q l (switched s) new told h).0)) h in (
+          let k = admits_does l (switched s) new emitted in_local is_here first.fit (turns refl (ap (λ (f : Frame H). f.controlling) (admits mac q l (switched s) new emitted h).0)) h in (
             onward asks met sent x (parts_of asks met sent (switched s)) (parts_of asks met sent new) first k.0,
-            tells_behind asks met sent x (parts_of asks met sent (switched s)) (parts_of asks met sent new) s.announced new.announced told.announced first k.1,
+            tells_behind asks met sent x (parts_of asks met sent (switched s)) (parts_of asks met sent new) s.selected_pair new.selected_pair emitted.announced first k.1,
             inl k.2,
           )
 
-      here_does : (place : Option ℕ) (s new : AgentRecord H P) (told : Told) → local_place s.local q ≡ place → ((c : CandidateRecord) → Has s.local c → IsBased c) → Fit (parts_of asks met sent s)
+      here_does : (place : Option ℕ) (s new : AgentRecord H P) (emitted : Emitted) → local_place s.local q ≡ place → ((c : CandidateRecord) → Has s.local c → IsBased c) → Fit (parts_of asks met sent s)
           → (conflict_of s q ≡ Absent → Granted s) → (conflict_of s q ≡ Yields → new.controlling ≡ not s.controlling → Granted (switched s))
-          → MatchOption place (Drops s told new) (λ l. Settles mac q l s told new) → DoesOrInsists s told new
-      here_does None s new told is based fit stays turns h = or_insists s new told (drops_does s new told fit h)
-      here_does (Some l) s new told is based fit stays turns h =
+          → MatchOption place (Drops s emitted new) (λ l. ResolvesRoleConflict mac q l s emitted new) → DoesOrInsists s emitted new
+      here_does None s new emitted is based fit stays turns h = or_insists s new emitted (drops_does s new emitted fit h)
+      here_does (Some l) s new emitted is based fit stays turns h =
           let k = reached s.local q l based is in
-          settles_does (conflict_of s q) l s new told refl k.0 k.1 fit stays turns h
+          resolves_does (conflict_of s q) l s new emitted refl k.0 k.1 fit stays turns h
 
       -- a request that is served: what becomes of the pairs, and each announced path was valid before
-      pub serves_does : (s new : AgentRecord H P) (told : Told) → ((c : CandidateRecord) → Has s.local c → IsBased c) → Fit (parts_of asks met sent s)
-          → (conflict_of s q ≡ Absent → Granted s) → (conflict_of s q ≡ Yields → new.controlling ≡ not s.controlling → Granted (switched s)) → Serves mac q s told new → DoesOrInsists s told new
-      serves_does s new told based fit stays turns h = either (names_another s q) h
-          (λ _ k. or_insists s new told (drops_does s new told fit k))
-          (λ _ k. here_does (local_place s.local q) s new told refl based fit stays turns k)
+      pub serves_does : (s new : AgentRecord H P) (emitted : Emitted) → ((c : CandidateRecord) → Has s.local c → IsBased c) → Fit (parts_of asks met sent s)
+          → (conflict_of s q ≡ Absent → Granted s) → (conflict_of s q ≡ Yields → new.controlling ≡ not s.controlling → Granted (switched s)) → Serves mac q s emitted new → DoesOrInsists s emitted new
+      serves_does s new emitted based fit stays turns h = either (names_another s q) h
+          (λ _ k. or_insists s new emitted (drops_does s new emitted fit k))
+          (λ _ k. here_does (local_place s.local q) s new emitted refl based fit stays turns k)

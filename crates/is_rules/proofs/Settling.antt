@@ -15,24 +15,24 @@ use Rattle.is_stun.specs.Reading.{Reads}
 use Rattle.is_stun.specs.Writing.{written}
 use Rattle.is_rules.specs.declared.credentials.IceCreds.{IceCreds}
 use Rattle.is_rules.specs.declared.roles.Conflict.TheVariants.{Insists, Yields}
-use Rattle.is_rules.specs.declared.told.Path.{Path}
-use Rattle.is_rules.specs.declared.told.Told.{Told}
+use Rattle.is_rules.specs.declared.emitted.Path.{Path}
+use Rattle.is_rules.specs.declared.emitted.Emitted.{Emitted}
 use Rattle.is_rules.specs.Accepting.{IsAcceptedAs, IsAcceptedOn}
 use Rattle.is_rules.specs.Agent.{AgentRecord}
 use Rattle.is_rules.specs.Answers.{is_role_conflict, keeps_check_on}
 use Rattle.is_rules.specs.Brought.{Brings, IsKept, IsRefusedBy, IsServing, IsServedPastTests, role_once}
-use Rattle.is_rules.specs.Conflicts.{AreSentUnder, ConflictsSettle, IsInsisted, handing}
+use Rattle.is_rules.specs.Conflicts.{AreSentUnder, ConflictsSettle, IsConflictSent, handing}
 use Rattle.is_rules.specs.Delivery.{KnowEachOther, Delivered, Issued, ChecksAreKept}
 use Rattle.is_rules.specs.Fitting.{USERNAME_LIMIT}
-use Rattle.is_rules.specs.Issuing.{Says, key_for, way_out}
+use Rattle.is_rules.specs.Issuing.{Says, key_for, via_out}
 use Rattle.is_rules.specs.Places.{local_place}
 use Rattle.is_rules.specs.Request.{RequestRecord, request_in, rival_in}
 use Rattle.is_rules.specs.Roles.{conflict_by, conflict_of}
-use Rattle.is_rules.specs.Serving.{names_another, Drops, InsistsOnRole, SettlesBy, Settles, ServesHere, Serves}
+use Rattle.is_rules.specs.Serving.{names_another, Drops, SendsRoleConflict, ResolvesRoleConflictBy, ResolvesRoleConflict, ServesHere, Serves}
 use Rattle.is_rules.specs.Sound.{IsSound}
 use Rattle.is_rules.specs.Steps.{Entry, HandleTimeout}
-use Rattle.is_rules.specs.Told.{issued_as, turned}
-use Rattle.is_rules.proofs.Delivered.{Comes, same_reading, took, check-comes, told_as, issued_packet, live_place, goes-back, brought-by}
+use Rattle.is_rules.specs.Emitted.{issued_as, reversed}
+use Rattle.is_rules.proofs.Delivered.{Comes, same_reading, took, check-comes, emitted_as, issued_packet, live_place, goes-back, brought-by}
 use Rattle.is_rules.proofs.EffectLaws.{path_law, trade_law}
 use Rattle.is_rules.proofs.Exchanged.{known-on, keys-moment, keys-between}
 use Rattle.is_rules.proofs.Staying.{sound-course, checks-stay}
@@ -46,32 +46,32 @@ module _ {H P : Type 0} (mac : H → List ℕ → List ℕ → List ℕ) (answer
   -- ---- the 487
 
   -- it is sent in place of all else
-  insisted : (q : RequestRecord) (s new : AgentRecord H P) (told : Told) (l : ℕ) → names_another s q ≡ false → local_place s.local q ≡ Some l
-      → conflict_of s q ≡ Insists → Serves mac q s told new → told.issued ≡ Some (issued_as (turned q.path) class.Failure q.id)
-  insisted q s new told l named place is h =
-      let k : ServesHere mac q s told new = subst (λ b. MatchBool b (Drops s told new) (ServesHere mac q s told new)) named h in
-      let m : Settles mac q l s told new = subst (λ o. MatchOption o (Drops s told new) (λ l. Settles mac q l s told new)) place k in
-      let n : InsistsOnRole mac q s told new = subst (λ c. SettlesBy mac c q l s told new) is m in
-      ap (λ (t : Told). t.issued) n.1
+  conflict_sent : (q : RequestRecord) (s new : AgentRecord H P) (emitted : Emitted) (l : ℕ) → names_another s q ≡ false → local_place s.local q ≡ Some l
+      → conflict_of s q ≡ Insists → Serves mac q s emitted new → emitted.issued ≡ Some (issued_as (reversed q.path) class.Failure q.id)
+  conflict_sent q s new emitted l named place is h =
+      let k : ServesHere mac q s emitted new = subst (λ b. MatchBool b (Drops s emitted new) (ServesHere mac q s emitted new)) named h in
+      let m : ResolvesRoleConflict mac q l s emitted new = subst (λ o. MatchOption o (Drops s emitted new) (λ l. ResolvesRoleConflict mac q l s emitted new)) place k in
+      let n : SendsRoleConflict mac q s emitted new = subst (λ c. ResolvesRoleConflictBy mac c q l s emitted new) is m in
+      ap (λ (t : Emitted). t.issued) n.1
 
   module _ (read : (m : List ℕ → List ℕ → List ℕ) (key : List ℕ) (x : Message) → WrittenIsRead m key x)
       (fits : (key id : List ℕ) → FitsInto key LONGEST_REPLY (binding_role_conflict_reply id)) where
     -- it comes to a sender that keeps the check, and is accepted as what it is
     refusal-comes : (a taken b served : AgentRecord H P) (refusal : Packet) (id : List ℕ) (at : ℕ) (e : Entry) → IsSound b → KnowEachOther mac a b
-        → Issued mac answers class.Failure id refusal b served → list_any (keeps_check_on a (way_out refusal) id) a.pairs ≡ true → Delivered mac answers refusal at a e taken
-        → (m : Message) × Brings {P = P} (handing refusal at) e at (way_out refusal) m × (m.class ≡ class.Failure) × (is_role_conflict m ≡ true) × (m.id ≡ id)
+        → Issued mac answers class.Failure id refusal b served → list_any (keeps_check_on a (via_out refusal) id) a.pairs ≡ true → Delivered mac answers refusal at a e taken
+        → (m : Message) × Brings {P = P} (handing refusal at) e at (via_out refusal) m × (m.class ≡ class.Failure) × (is_role_conflict m ≡ true) × (m.id ≡ id)
     refusal-comes a taken b served refusal id at e sound_b know issued kept delivered =
         let i = issued_packet mac answers b served class.Failure id refusal sound_b issued in
-        let same = told_as (way_out refusal) (way_out refusal) class.Failure i.0.class id i.0.id (sym issued.sends.told ∙ i.2) in
-        told i.0 (i.1 ∙ ap (λ c. written (mac b.provider) (Some (key_for c b.local_creds b.remote_creds)) i.0) (sym same.1)) (sym same.2)
-        (subst (λ c. Says c b issued.call issued.entry refusal.contents i.0 (way_out refusal) served.controlling) (sym same.1) i.3) where
-          way : Path
-          way = way_out refusal
+        let same = emitted_as (via_out refusal) (via_out refusal) class.Failure i.0.class id i.0.id (sym issued.sends.emitted ∙ i.2) in
+        emitted i.0 (i.1 ∙ ap (λ c. written (mac b.provider) (Some (key_for c b.local_creds b.remote_creds)) i.0) (sym same.1)) (sym same.2)
+        (subst (λ c. Says c b issued.call issued.entry refusal.contents i.0 (via_out refusal) served.controlling) (sym same.1) i.3) where
+          path : Path
+          via = via_out refusal
 
-          told : (m : Message) → refusal.contents ≡ written (mac b.provider) (Some b.local_creds.pass) m → m.id ≡ id
-              → Says class.Failure b issued.call issued.entry refusal.contents m way served.controlling
-              → (n : Message) × Brings {P = P} (handing refusal at) e at way n × (n.class ≡ class.Failure) × (is_role_conflict n ≡ true) × (n.id ≡ id)
-          told m contents id_is (q, serving, m_is, path_is, said, insists, stays) =
+          emitted : (m : Message) → refusal.contents ≡ written (mac b.provider) (Some b.local_creds.pass) m → m.id ≡ id
+              → Says class.Failure b issued.call issued.entry refusal.contents m path served.controlling
+              → (n : Message) × Brings {P = P} (handing refusal at) e at path n × (n.class ≡ class.Failure) × (is_role_conflict n ≡ true) × (n.id ≡ id)
+          emitted m contents id_is (q, serving, m_is, path_is, said, insists, stays) =
               let key : List ℕ = b.local_creds.pass in
               let x : Message = binding_role_conflict_reply q.id in
               let put : IsPut refusal.contents x = subst (λ (y : Message). IsPut refusal.contents y) m_is said in
@@ -85,9 +85,9 @@ module _ {H P : Type 0} (mac : H → List ℕ → List ℕ → List ℕ) (answer
               let own : n.id ≡ id = same.id ∙ sym (ap (λ (y : Message). y.id) m_is) ∙ id_is in
               let signed : IsSomeAnd a.remote_creds (λ peer. IsSignedBy (mac a.provider) n peer.pass) =
               subst (λ o. IsSomeAnd o (λ (peer : IceCreds). IsSignedBy (mac a.provider) n peer.pass)) (sym know.mine) (subst (λ k. IsSignedBy k n key) (sym know.alike) back.signed) in
-              let awaited : list_any (keeps_check_on a way n.id) a.pairs ≡ true = subst (λ k. list_any (keeps_check_on a way k) a.pairs ≡ true) (sym own) kept in
-              let accepted : IsAcceptedOn mac a way n =
-              (same.method, subst (λ k. IsAcceptedAs mac k (keeps_check_on a way n.id) a n) (sym same.class) (awaited, signed)) in
+              let awaited : list_any (keeps_check_on a path n.id) a.pairs ≡ true = subst (λ k. list_any (keeps_check_on a path k) a.pairs ≡ true) (sym own) kept in
+              let accepted : IsAcceptedOn mac a path n =
+              (same.method, subst (λ k. IsAcceptedAs mac k (keeps_check_on a path n.id) a n) (sym same.class) (awaited, signed)) in
               let reads : Reads refusal.contents n = subst (λ bs. Reads bs n) (sym bytes) back.reads in
               let t = took mac answers refusal at a e taken n reads accepted delivered in
               let conflict : is_role_conflict n ≡ true = ap (λ (r : AttributesRecord). option_map_or (λ (k : ℕ × List ℕ). k.0 == ROLE_CONFLICT) r.error_code false) same.attributes in
@@ -99,7 +99,7 @@ module _ {H P : Type 0} (mac : H → List ℕ → List ℕ → List ℕ) (answer
         → length username ≤ USERNAME_LIMIT → FitsInto key LONGEST_CHECK (binding_request username id controlling tie_breaker priority nominates)) where
       pub conflicts-settle : ChecksAreKept mac answers → ConflictsSettle mac answers
       conflicts-settle kept_law a sent near b served s t now at check id moment handed xs sound_a sound_b step sends fits_in gone know reached delivered =
-          ((q, serving, tests), λ alike. settles alike (leb_tells a.tie_breaker b.tie_breaker)) where
+          ((q, serving, tests), λ alike. resolves alike (leb_tells a.tie_breaker b.tie_breaker)) where
             sound_sent : IsSound sent
             sound_sent = (path_law mac answers a sent s t (HandleTimeout now) moment sound_a tt step).1
 
@@ -112,13 +112,13 @@ module _ {H P : Type 0} (mac : H → List ℕ → List ℕ → List ℕ) (answer
                 (record { call = HandleTimeout now; entry = moment; before = s; behind = t; step = step; sends = sends }) refl delivered
 
             q : RequestRecord
-            q = request_in at (way_out check) k.message
+            q = request_in at (via_out check) k.message
 
             place : (l : ℕ) × (local_place b.local q ≡ Some l)
             place = let p = live_place mac answers b q reached.there in (p.0, p.1)
 
             serving : IsServing b (handing {P = P} check at) handed q
-            serving = (at, way_out check, k.message, (refl, refl, k.reads, k.accepted), k.request, ap (λ o. is_some o) know.its, refl)
+            serving = (at, via_out check, k.message, (refl, refl, k.reads, k.accepted), k.request, ap (λ o. is_some o) know.its, refl)
 
             tests : IsServedPastTests b q
             tests = (k.named, place)
@@ -131,21 +131,21 @@ module _ {H P : Type 0} (mac : H → List ℕ → List ℕ → List ℕ) (answer
             role : served.controlling ≡ role_once (conflict_of b q) b.controlling
             role = (trade_law mac answers b served delivered.before delivered.behind (handing check at) handed sound_b tt delivered.step).settled q serving tests
 
-            insists : a.tie_breaker ≤ b.tie_breaker → b.controlling ≡ a.controlling → conflict_of b q ≡ Insists → IsInsisted mac answers a near b served check id handed
+            insists : a.tie_breaker ≤ b.tie_breaker → b.controlling ≡ a.controlling → conflict_of b q ≡ Insists → IsConflictSent mac answers a near b served check id handed
             insists le alike is =
-                let out : handed.told.issued ≡ Some (issued_as (turned (way_out check)) class.Failure id) =
-                insisted q b k.mid handed.told place.0 k.named place.1 is k.serves ∙ ap (λ i. Some (issued_as (turned (way_out check)) class.Failure i)) k.id_is in
+                let out : handed.emitted.issued ≡ Some (issued_as (reversed (via_out check)) class.Failure id) =
+                conflict_sent q b k.mid handed.emitted place.0 k.named place.1 is k.serves ∙ ap (λ i. Some (issued_as (reversed (via_out check)) class.Failure i)) k.id_is in
                 let back = goes-back mac answers class.Failure b served check id at handed sound_b delivered
-                (λ packet m says. says.3 ∙ ap turned (brought-by mac answers b check at handed says.0 says.1)) (turned (way_out check)) out in
+                (λ packet m says. says.3 ∙ ap reversed (brought-by mac answers b check at handed says.0 says.1)) (reversed (via_out check)) out in
                 let refusal : Packet = back.0 in
-                let way_back : list_any (keeps_check_on sent (way_out refusal) id) sent.pairs ≡ true =
+                let via_back : list_any (keeps_check_on sent (via_out refusal) id) sent.pairs ≡ true =
                 subst (λ w. list_any (keeps_check_on sent w id) sent.pairs ≡ true) (sym back.1) (kept_law a sent s t now check id moment sound_a step sends) in
-                let kept = checks-stay mac answers sent near xs (way_out refusal) id sound_sent fits_in gone way_back in
+                let kept = checks-stay mac answers sent near xs (via_out refusal) id sound_sent fits_in gone via_back in
                 let sound_near = sound-course mac answers xs sent near sound_sent gone in record {
                   no_smaller = omega (arith, le);
                   stays = role ∙ ap (λ c. role_once c b.controlling) is;
                   refusal = refusal;
-                  way_back = back.1;
+                  via_back = back.1;
                   sends = back.2;
                   returns = λ mid taken ys at_back returned fits_on on came. (
                       let sound_mid = sound-course mac answers ys near mid sound_near on in
@@ -159,8 +159,8 @@ module _ {H P : Type 0} (mac : H → List ℕ → List ℕ → List ℕ) (answer
                         step = delivered.step;
                         sends = back.2;
                       })
-                      (checks-stay mac answers near mid ys (way_out refusal) id sound_near fits_on on kept) came in
-                      let by = (trade_law mac answers mid taken came.before came.behind (handing refusal at_back) returned sound_mid tt came.step).given_up at_back (way_out refusal) r.0 r.1 r.2 r.3 in
+                      (checks-stay mac answers near mid ys (via_out refusal) id sound_near fits_on on kept) came in
+                      let by = (trade_law mac answers mid taken came.before came.behind (handing refusal at_back) returned sound_mid tt came.step).given_up at_back (via_out refusal) r.0 r.1 r.2 r.3 in
                       (by, λ under. turned_role mid taken returned refusal at_back r.0 r.1.2 r.4 alike under by));
                 } where
                   turned_role : (mid taken : AgentRecord H P) (returned : Entry) (refusal : Packet) (at_back : ℕ) (n : Message) → Reads refusal.contents n → n.id ≡ id → b.controlling ≡ a.controlling
@@ -170,7 +170,7 @@ module _ {H P : Type 0} (mac : H → List ℕ → List ℕ → List ℕ) (answer
                       let under_id : IsKept mid path id c = subst (λ i. IsKept mid path i c) (ap (λ (y : Message). y.id) m_is ∙ own) kept in
                       is ∙ ap not (under path c under_id ∙ sym same)
 
-            settles : b.controlling ≡ a.controlling → (((nat_le a.tie_breaker b.tie_breaker ≡ true) × (a.tie_breaker ≤ b.tie_breaker)) ⊎ ((nat_le a.tie_breaker b.tie_breaker ≡ false) × (b.tie_breaker < a.tie_breaker)))
-                → ((b.tie_breaker < a.tie_breaker) × (served.controlling ≡ not a.controlling)) ⊎ IsInsisted mac answers a near b served check id handed
-            settles alike (inl (is, le)) = inr (insists le alike (conflict true alike is))
-            settles alike (inr (is, lt)) = inl (omega (arith, lt), role ∙ ap (λ c. role_once c b.controlling) (conflict false alike is) ∙ ap not alike)
+            resolves : b.controlling ≡ a.controlling → (((nat_le a.tie_breaker b.tie_breaker ≡ true) × (a.tie_breaker ≤ b.tie_breaker)) ⊎ ((nat_le a.tie_breaker b.tie_breaker ≡ false) × (b.tie_breaker < a.tie_breaker)))
+                → ((b.tie_breaker < a.tie_breaker) × (served.controlling ≡ not a.controlling)) ⊎ IsConflictSent mac answers a near b served check id handed
+            resolves alike (inl (is, le)) = inr (insists le alike (conflict true alike is))
+            resolves alike (inr (is, lt)) = inl (omega (arith, lt), role ∙ ap (λ c. role_once c b.controlling) (conflict false alike is) ∙ ap not alike)

@@ -12,14 +12,14 @@ use Rattle.is_pair.specs.Due.{asked, due_moment}
 use Rattle.is_stun.specs.declared.header.Class.TheVariants as class
 use Rattle.is_stun.specs.declared.timing.StunTiming.{StunTiming}
 use Rattle.is_rules.specs.declared.credentials.IceCreds.{IceCreds}
-use Rattle.is_rules.specs.declared.told.Told.{Told}
-use Rattle.is_rules.specs.Told.{issued_as}
+use Rattle.is_rules.specs.declared.emitted.Emitted.{Emitted}
+use Rattle.is_rules.specs.Emitted.{issued_as}
 use Rattle.is_rules.specs.Request.{RequestRecord}
 use Rattle.is_rules.specs.Agent.{AgentRecord}
 use Rattle.is_rules.specs.Sending.{path_of}
 use Rattle.is_rules.specs.Queue.{is_outdated, queue_left, next_request, first_taken, request_at}
 use Rattle.is_rules.specs.Polls.{PollsTimeout, WakesFrom, is_waiting, is_idle, soon, earliest_due}
-use Rattle.is_rules.specs.Timeouts.{awake, Proceeds, ServesQueued, TimesOut}
+use Rattle.is_rules.specs.Timeouts.{timeout_begun, MaintainsPairs, ServesQueued, TimesOut}
 use Rattle.is_rules.specs.Sound.{IsSound}
 use Rattle.is_rules.proofs.Frames.{either, Frame, Turns as Yields, serves}
 use Rattle.is_rules.proofs.Moves.{Has-map}
@@ -104,22 +104,22 @@ module _ {H P : Type 0} where
                 (follows-map (asked at old.timing) old.pairs (λ p. record { number = refl; local = refl; remote = refl; valid = refl })),
           )
 
-    pub proceeds-from : (now : ℕ) (a : AgentRecord H P) (s t : Stream) (told : Told) (new : AgentRecord H P) → a.queue ≡ [] → TimesOut mac now a s (Ok tt) told new t
-        → Proceeds mac now (awake now a) s told new t
-    proceeds-from now a s t told new none h =
-        subst (λ o. MatchOption o (Proceeds mac now (awake now a) s told new t) (λ q. ServesQueued mac q (awake now a) s told new t))
+    pub maintains_pairs-from : (now : ℕ) (a : AgentRecord H P) (s t : Stream) (emitted : Emitted) (new : AgentRecord H P) → a.queue ≡ [] → TimesOut mac now a s (Ok tt) emitted new t
+        → MaintainsPairs mac now (timeout_begun now a) s emitted new t
+    maintains_pairs-from now a s t emitted new none h =
+        subst (λ o. MatchOption o (MaintainsPairs mac now (timeout_begun now a) s emitted new t) (λ q. ServesQueued mac q (timeout_begun now a) s emitted new t))
         (none-waits now a.timing a.remote_creds a.queue none) h
 
-    pub turn-fits : (old new : AgentRecord H P) (at now : ℕ) (told : Told) → Fits at old → Turn mac old now told new
+    pub turn-fits : (old new : AgentRecord H P) (at now : ℕ) (emitted : Emitted) → Fits at old → Turn mac old now emitted new
         → Fits now new × Follows old.pairs new.pairs × (new.timing ≡ old.timing) × (new.local ≡ old.local) × (new.remote ≡ old.remote)
         × (new.controlling ≡ old.controlling) × (new.next_number ≡ old.next_number)
-    turn-fits old new at now told f turn =
+    turn-fits old new at now emitted f turn =
         let a = asks-follow at turn.wake old turn.asked f.last turn.polled in
         let queue : turn.asked.queue ≡ [] = ap (λ (x : Base). x.queue) a.0 ∙ f.idle.queue in
         let known : is_some turn.asked.remote_creds ≡ true = ap (λ (x : Base). is_some x.remote_creds) a.0 ∙ f.checking.peer in
         let full : turn.asked.lite ≡ false = ap (λ (x : Base). x.lite) a.0 ∙ f.checking.full in
-        let m = moment-follows mac now (awake now turn.asked) turn.after turn.before turn.behind told known full
-        (proceeds-from now turn.asked turn.before turn.behind told turn.after queue turn.moment) in
+        let m = moment-follows mac now (timeout_begun now turn.asked) turn.after turn.before turn.behind emitted known full
+        (maintains_pairs-from now turn.asked turn.before turn.behind emitted turn.after queue turn.moment) in
         let taken : base_of new ≡ base_of turn.after = ap (λ (a : AgentRecord H P). base_of a) turn.taken in
         let all = follows-on old.pairs turn.asked.pairs turn.after.pairs a.1 m.1 in
         let follows : Follows old.pairs new.pairs = subst (λ ps. Follows old.pairs ps) (sym (ap (λ (a : AgentRecord H P). a.pairs) turn.taken)) all in (
@@ -149,29 +149,29 @@ module _ {H P : Type 0} where
         (q : PairRecord) × Has new.pairs q × Matches p q × (q.checks ≡ p.checks) × (due_moment now new.timing q ≤ by)
         × (IsPaced old.timing → now < MAX → length (due_by by now new.timing new.pairs) < length (due_by by at old.timing old.pairs))
 
-    abbrev pub Does : ℕ → ℕ → ℕ → AgentRecord H P → Told → AgentRecord H P → PairRecord → Type 0
-    Does at now by old told new p =
-        IsGone p.number new.pairs ⊎ ((o : PairRecord) × Has old.pairs o × ChecksOn old told o × ((o.number ≡ p.number) ⊎ StillWaits at now by old new p))
+    abbrev pub Does : ℕ → ℕ → ℕ → AgentRecord H P → Emitted → AgentRecord H P → PairRecord → Type 0
+    Does at now by old emitted new p =
+        IsGone p.number new.pairs ⊎ ((o : PairRecord) × Has old.pairs o × ChecksOn old emitted o × ((o.number ≡ p.number) ⊎ StillWaits at now by old new p))
 
     -- the moment behind the asking
-    asked-moves : (old new : AgentRecord H P) (s t : Stream) (at now by : ℕ) (told : Told) → Distinct old.pairs → IsChecking old → old.queue ≡ [] → by ≤ now
+    asked-moves : (old new : AgentRecord H P) (s t : Stream) (at now by : ℕ) (emitted : Emitted) → Distinct old.pairs → IsChecking old → old.queue ≡ [] → by ≤ now
         → (p : PairRecord) → Has old.pairs p → due_moment at old.timing p ≤ by
-        → TimesOut mac now (record old { pairs = map (asked at old.timing) old.pairs }) s (Ok tt) told new t
-        → Does at now by old told new p
-    asked-moves old new s t at now by told distinct checking queue from p has due h =
+        → TimesOut mac now (record old { pairs = map (asked at old.timing) old.pairs }) s (Ok tt) emitted new t
+        → Does at now by old emitted new p
+    asked-moves old new s t at now by emitted distinct checking queue from p has due h =
         let a : AgentRecord H P = record old { pairs = map (asked at old.timing) old.pairs } in
         let f = follows-map (asked at old.timing) old.pairs (λ q. record { number = refl; local = refl; remote = refl; valid = refl }) in
-        let m = moment-moves mac now by (awake now a) new s t told checking.peer checking.full (f.distinct distinct)
+        let m = moment-moves mac now by (timeout_begun now a) new s t emitted checking.peer checking.full (f.distinct distinct)
         (λ q there. (let o = Has-map (asked at old.timing) old.pairs q there in ap (λ (x : PairRecord). is_some x.due) (sym o.2)))
         from (asked at old.timing p) (Has-mapped (asked at old.timing) old.pairs p has) due
-        (proceeds-from now a s t told new queue h) in
-        on-does at now by old new told p m where
+        (maintains_pairs-from now a s t emitted new queue h) in
+        on-does at now by old new emitted p m where
           counted : (at by : ℕ) (old : AgentRecord H P) → length (filter (is_fixed_by by) (map (asked at old.timing) old.pairs)) ≤ length (due_by by at old.timing old.pairs)
           counted at by old = no-more (is_due_by by at old.timing) (is_fixed_by by) (asked at old.timing) old.pairs (λ q there is. is)
 
-          on-does : (at now by : ℕ) (old new : AgentRecord H P) (told : Told) (p : PairRecord)
-              → Moved mac now by (awake now (record old { pairs = map (asked at old.timing) old.pairs })) told new (asked at old.timing p) → Does at now by old told new p
-          on-does at now by old new told p m = elim m.does [
+          on-does : (at now by : ℕ) (old new : AgentRecord H P) (emitted : Emitted) (p : PairRecord)
+              → Moved mac now by (timeout_begun now (record old { pairs = map (asked at old.timing) old.pairs })) emitted new (asked at old.timing p) → Does at now by old emitted new p
+          on-does at now by old new emitted p m = elim m.does [
             | inl gone ↦ inl gone
             | inr (o, there, out, which) ↦
                 (let x = Has-map (asked at old.timing) old.pairs o there in
@@ -198,40 +198,40 @@ module _ {H P : Type 0} where
                 ))
           ]
 
-    pub turn-moves : (old new : AgentRecord H P) (at now by : ℕ) (told : Told) → Fits at old → by ≤ now
-        → (p : PairRecord) → Has old.pairs p → due_moment at old.timing p ≤ by → Turn mac old now told new → Does at now by old told new p
-    turn-moves old new at now by told f from p has due turn =
+    pub turn-moves : (old new : AgentRecord H P) (at now by : ℕ) (emitted : Emitted) → Fits at old → by ≤ now
+        → (p : PairRecord) → Has old.pairs p → due_moment at old.timing p ≤ by → Turn mac old now emitted new → Does at now by old emitted new p
+    turn-moves old new at now by emitted f from p has due turn =
         let a = all-are-asked old turn.asked at turn.wake f.last f.checking.full f.idle.packets f.idle.queue (some-pairs old.pairs p has) turn.polled in
-        let m : TimesOut mac now (record old { pairs = map (asked at old.timing) old.pairs }) turn.before (Ok tt) told turn.after turn.behind =
-        subst (λ (x : AgentRecord H P). TimesOut mac now x turn.before (Ok tt) told turn.after turn.behind) a.1 turn.moment in
-        let d = asked-moves old turn.after turn.before turn.behind at now by told f.distinct f.checking f.idle.queue from p has due m in
-        subst (λ (x : AgentRecord H P). Does at now by old told x p) (sym turn.taken) d
+        let m : TimesOut mac now (record old { pairs = map (asked at old.timing) old.pairs }) turn.before (Ok tt) emitted turn.after turn.behind =
+        subst (λ (x : AgentRecord H P). TimesOut mac now x turn.before (Ok tt) emitted turn.after turn.behind) a.1 turn.moment in
+        let d = asked-moves old turn.after turn.before turn.behind at now by emitted f.distinct f.checking f.idle.queue from p has due m in
+        subst (λ (x : AgentRecord H P). Does at now by old emitted x p) (sym turn.taken) d
 
     -- a pair that was checked less often than it may be is not given up
-    pub turn-keeps : (old new : AgentRecord H P) (at now : ℕ) (told : Told) → Fits at old → (p : PairRecord) → Has old.pairs p → nat_lt (unanswered_count p.checks) old.timing.max_retransmits ≡ true
-        → Turn mac old now told new → IsGone p.number new.pairs → ⊥
-    turn-keeps old new at now told f p has young turn gone =
+    pub turn-keeps : (old new : AgentRecord H P) (at now : ℕ) (emitted : Emitted) → Fits at old → (p : PairRecord) → Has old.pairs p → nat_lt (unanswered_count p.checks) old.timing.max_retransmits ≡ true
+        → Turn mac old now emitted new → IsGone p.number new.pairs → ⊥
+    turn-keeps old new at now emitted f p has young turn gone =
         let a = all-are-asked old turn.asked at turn.wake f.last f.checking.full f.idle.packets f.idle.queue (some-pairs old.pairs p has) turn.polled in
-        let m : TimesOut mac now (record old { pairs = map (asked at old.timing) old.pairs }) turn.before (Ok tt) told turn.after turn.behind =
-        subst (λ (x : AgentRecord H P). TimesOut mac now x turn.before (Ok tt) told turn.after turn.behind) a.1 turn.moment in
-        let k = proceeds-from now (record old { pairs = map (asked at old.timing) old.pairs }) turn.before turn.behind told turn.after f.idle.queue m in
-        moment-keeps mac now (awake now (record old { pairs = map (asked at old.timing) old.pairs })) turn.after turn.before turn.behind told f.checking.peer f.checking.full
+        let m : TimesOut mac now (record old { pairs = map (asked at old.timing) old.pairs }) turn.before (Ok tt) emitted turn.after turn.behind =
+        subst (λ (x : AgentRecord H P). TimesOut mac now x turn.before (Ok tt) emitted turn.after turn.behind) a.1 turn.moment in
+        let k = maintains_pairs-from now (record old { pairs = map (asked at old.timing) old.pairs }) turn.before turn.behind emitted turn.after f.idle.queue m in
+        moment-keeps mac now (timeout_begun now (record old { pairs = map (asked at old.timing) old.pairs })) turn.after turn.before turn.behind emitted f.checking.peer f.checking.full
         (asked at old.timing p) (Has-mapped (asked at old.timing) old.pairs p has) young k
         (subst (λ (a : AgentRecord H P). IsGone p.number a.pairs) turn.taken gone)
 
     -- ---- turn after turn
 
-    gone-through : (turns : List (ℕ × Told)) (first last : AgentRecord H P) (at n : ℕ) → Fits at first → Turns mac turns first last → IsGone n first.pairs → IsGone n last.pairs
+    gone-through : (turns : List (ℕ × Emitted)) (first last : AgentRecord H P) (at n : ℕ) → Fits at first → Turns mac turns first last → IsGone n first.pairs → IsGone n last.pairs
     gone-through [] first last at n f is gone = subst (λ (a : AgentRecord H P). IsGone n a.pairs) (sym is) gone
     gone-through (x ∷ rest) first last at n f (mid, turn, more) gone =
         let k = turn-fits first mid at x.0 x.1 f turn in
         gone-through rest mid last x.0 n k.0 more (gone-follows first.pairs mid.pairs n k.1 gone)
 
-    abbrev Reached : List (ℕ × Told) → AgentRecord H P → AgentRecord H P → PairRecord → Type 0
-    Reached turns first last p = ((x : ℕ × Told) × Has turns x × ChecksOn first x.1 p) ⊎ IsGone p.number last.pairs
+    abbrev Reached : List (ℕ × Emitted) → AgentRecord H P → AgentRecord H P → PairRecord → Type 0
+    Reached turns first last p = ((x : ℕ × Emitted) × Has turns x × ChecksOn first x.1 p) ⊎ IsGone p.number last.pairs
 
-    starves-not : (turns : List (ℕ × Told)) (first last : AgentRecord H P) (p : PairRecord) (at by : ℕ) → Fits at first → IsPaced first.timing → Has first.pairs p
-        → due_moment at first.timing p ≤ by → ((x : ℕ × Told) → Has turns x → (by ≤ x.0) × (x.0 < MAX)) → Turns mac turns first last
+    starves-not : (turns : List (ℕ × Emitted)) (first last : AgentRecord H P) (p : PairRecord) (at by : ℕ) → Fits at first → IsPaced first.timing → Has first.pairs p
+        → due_moment at first.timing p ≤ by → ((x : ℕ × Emitted) → Has turns x → (by ≤ x.0) × (x.0 < MAX)) → Turns mac turns first last
         → length (due_by by at first.timing first.pairs) ≤ length turns → Reached turns first last p
     starves-not [] first last p at by f paced has due moments is enough =
         let some : 0 < length (due_by by at first.timing first.pairs) = some-pass (is_due_by by at first.timing) first.pairs p has (le-is (due_moment at first.timing p) by due) in
@@ -259,50 +259,50 @@ module _ {H P : Type 0} where
     -- ---- a wake-up is of use
 
     -- a request that waited is served, or outdated ones go
-    queue-of-use : (old asked_old new : AgentRecord H P) (s t : Stream) (now : ℕ) (told : Told) (first : RequestRecord) (behind : List RequestRecord) → base_of asked_old ≡ base_of old → is_some old.remote_creds ≡ true → old.lite ≡ false
-        → old.queue ≡ first ∷ behind → TimesOut mac now asked_old s (Ok tt) told new t → length new.queue < length old.queue
-    queue-of-use old asked_old new s t now told first behind base known full waits h =
+    queue-of-use : (old asked_old new : AgentRecord H P) (s t : Stream) (now : ℕ) (emitted : Emitted) (first : RequestRecord) (behind : List RequestRecord) → base_of asked_old ≡ base_of old → is_some old.remote_creds ≡ true → old.lite ≡ false
+        → old.queue ≡ first ∷ behind → TimesOut mac now asked_old s (Ok tt) emitted new t → length new.queue < length old.queue
+    queue-of-use old asked_old new s t now emitted first behind base known full waits h =
         by (request_at now asked_old) refl (let long : length old.queue ≡ suc (length behind) = ap length waits in omega (arith, long)) h where
           queue_is : asked_old.queue ≡ old.queue
           queue_is = ap (λ (x : Base). x.queue) base
 
           by : (o : Option RequestRecord) → request_at now asked_old ≡ o → 0 < length old.queue
-              → MatchOption o (Proceeds mac now (awake now asked_old) s told new t) (λ q. ServesQueued mac q (awake now asked_old) s told new t) → length new.queue < length old.queue
+              → MatchOption o (MaintainsPairs mac now (timeout_begun now asked_old) s emitted new t) (λ q. ServesQueued mac q (timeout_begun now asked_old) s emitted new t) → length new.queue < length old.queue
           by None is some k =
-              let m = moment-follows mac now (awake now asked_old) new s t told (ap (λ (x : Base). is_some x.remote_creds) base ∙ known) (ap (λ (x : Base). x.lite) base ∙ full) k in
+              let m = moment-follows mac now (timeout_begun now asked_old) new s t emitted (ap (λ (x : Base). is_some x.remote_creds) base ∙ known) (ap (λ (x : Base). x.lite) base ∙ full) k in
               let none : new.queue ≡ [] = ap (λ (x : Base). x.queue) m.0
               ∙ queue-gone now asked_old.timing asked_old.remote_creds asked_old.queue (ap (λ (x : Base). is_some x.remote_creds) base ∙ known) is in
               subst (λ qs. length qs < length old.queue) (sym none) some
           by (Some q) is some (k, drawn) =
               let less = queue-shorter now asked_old.timing asked_old.remote_creds asked_old.queue q is in
-              let kept : new.queue ≡ drop 1 (queue_left now asked_old.timing asked_old.remote_creds asked_old.queue) = yields (serves mac q (first_taken (awake now asked_old)) new told k) in
+              let kept : new.queue ≡ drop 1 (queue_left now asked_old.timing asked_old.remote_creds asked_old.queue) = yields (serves mac q (first_taken (timeout_begun now asked_old)) new emitted k) in
               subst (λ n. length new.queue < n) (ap length queue_is) (subst (λ qs. length qs < length asked_old.queue) (sym kept) less) where
-                yields : Yields mac q (first_taken (awake now asked_old)) told new → new.queue ≡ drop 1 (queue_left now asked_old.timing asked_old.remote_creds asked_old.queue)
+                yields : Yields mac q (first_taken (timeout_begun now asked_old)) emitted new → new.queue ≡ drop 1 (queue_left now asked_old.timing asked_old.remote_creds asked_old.queue)
                 yields (inl stays) = ap (λ (f : Frame H). f.queue) stays.0
                 yields (inr (conflict, (frame, out))) = ap (λ (f : Frame H). f.queue) frame
 
     pub wakes-are-of-use : WakesAreOfUse P mac
-    wakes-are-of-use old asked_old new s t wake now told sound checking packets some early polls kept h = by-last old.last_moment refl polls where
-      by-last : (o : Option ℕ) → old.last_moment ≡ o → WakesFrom o old (Some wake) asked_old → IsOfUse old told new
+    wakes-are-of-use old asked_old new s t wake now emitted sound checking packets some early polls kept h = by-last old.last_moment refl polls where
+      by-last : (o : Option ℕ) → old.last_moment ≡ o → WakesFrom o old (Some wake) asked_old → IsOfUse old emitted new
       by-last None is (nothing, same) = absurd (cc)
       by-last (Some at) is k = by-queue old.queue refl where
         polled : PollsTimeout old (Some wake) asked_old
         polled = polls
 
-        by-queue : (queue : List RequestRecord) → old.queue ≡ queue → IsOfUse old told new
+        by-queue : (queue : List RequestRecord) → old.queue ≡ queue → IsOfUse old emitted new
         by-queue (first ∷ behind) waits =
-            inr (let fewer = queue-of-use old asked_old new s t now told first behind (asks-follow at wake old asked_old is polled).0 checking.peer checking.full waits h in omega (arith, fewer))
+            inr (let fewer = queue-of-use old asked_old new s t now emitted first behind (asks-follow at wake old asked_old is polled).0 checking.peer checking.full waits h in omega (arith, fewer))
         by-queue [] none =
             let a = all-are-asked old asked_old at wake is checking.full packets none some polled in
             let low : earliest_due old at ≤ wake = below (earliest_due old at) (soon old at) a.0 in
             let p = least-is (due_moment at old.timing) MAX wake old.pairs low early in
-            let m : TimesOut mac now (record old { pairs = map (asked at old.timing) old.pairs }) s (Ok tt) told new t =
-            subst (λ (x : AgentRecord H P). TimesOut mac now x s (Ok tt) told new t) a.1 h in
-            use_of p.0 p.1 (asked-moves old new s t at now now told (distinct-sound old sound) checking none (omega arith) p.0 p.1 (let d = p.2 in omega (arith, d, kept)) m) where
+            let m : TimesOut mac now (record old { pairs = map (asked at old.timing) old.pairs }) s (Ok tt) emitted new t =
+            subst (λ (x : AgentRecord H P). TimesOut mac now x s (Ok tt) emitted new t) a.1 h in
+            use_of p.0 p.1 (asked-moves old new s t at now now emitted (distinct-sound old sound) checking none (omega arith) p.0 p.1 (let d = p.2 in omega (arith, d, kept)) m) where
               below : (x y : ℕ) → wake ≡ max x y → x ≤ wake
               below x y e = omega (arith, e)
 
-              use_of : (p : PairRecord) → Has old.pairs p → Does at now now old told new p → IsOfUse old told new
+              use_of : (p : PairRecord) → Has old.pairs p → Does at now now old emitted new p → IsOfUse old emitted new
               use_of p has (inl gone) = inl (p, has, inr gone)
               use_of p has (inr (o, there, out, which)) = inl (o, there, inl out)
 

@@ -10,10 +10,10 @@ use Rattle.is_candidate.specs.Priorities.{candidate_priority}
 use Rattle.is_pair.specs.Due.{asked}
 use Rattle.is_pair.specs.Pairs.{PairRecord, undue}
 use Rattle.is_rules.specs.Agent.{AgentRecord}
-use Rattle.is_rules.specs.Accepting.{source_told}
+use Rattle.is_rules.specs.Accepting.{discovered_emitted}
 use Rattle.is_rules.specs.Discarding.{is_local_at, is_remote_at, place_to_discard, local_discarded, remote_discarded, InvalidatesAt}
-use Rattle.is_rules.specs.declared.told.Path.{Path}
-use Rattle.is_rules.specs.declared.told.Told.{Told}
+use Rattle.is_rules.specs.declared.emitted.Path.{Path}
+use Rattle.is_rules.specs.declared.emitted.Emitted.{Emitted}
 use Rattle.is_rules.specs.Effects.{PathEffect}
 use Rattle.is_rules.specs.Local.{comes_again, is_too_high, is_unwanted, preferred, AddsLocal, EnrolsAt}
 use Rattle.is_rules.specs.Logs.{Logged}
@@ -26,7 +26,7 @@ use Rattle.is_rules.specs.Settings.{with_rtos}
 use Rattle.is_rules.specs.Sound.{IsSound}
 use Rattle.is_rules.specs.Staying.{Stays, IsOfDiscarded, MayEnd, PairsStay, EndsIn, PairsStayOn}
 use Rattle.is_rules.specs.Steps.{Call, SetMtu, SetControlTieBreaker, SetMaxCandidatePairs, SetIceLite, SetTimingAdvance, SetInitialStunRto, SetMaxStunRto, SetMaxStunRetransmits, SetLocalPreference, SetControlling, SetLocalCredentials, SetRemoteCredentials, SkipPairIds, AddLocalCandidate, AddRemoteCandidate, InvalidateCandidate, RestartIce, RecreateCandidatePairs, ReceivePacket, HandleTimeout, PollTransmit, PollTimeout, PollEvent, Done, Flag, Entry, Receives, Step}
-use Rattle.is_rules.specs.Timeouts.{awake, is_given_up, Proceeds, ServesQueued}
+use Rattle.is_rules.specs.Timeouts.{timeout_begun, is_given_up, MaintainsPairs, ServesQueued}
 use Rattle.is_rules.proofs.EffectLaws.{path_law}
 use Rattle.is_rules.proofs.Enrolments.{by_waking}
 use Rattle.is_rules.proofs.Frames.{either}
@@ -34,7 +34,7 @@ use Rattle.is_rules.proofs.LogLaws.{runs_sound}
 use Rattle.is_rules.proofs.LogParts.{run-on}
 use Rattle.is_rules.proofs.RefusalLaws.{mtu_kept, local_kept, remote_kept, restart_kept, recreation_kept, enrolment_kept, storing_kept}
 use Rattle.is_rules.proofs.Rising.{below-each, rising-each}
-use Rattle.is_rules.proofs.Stays.{Stands, Keeps, Keep, keeps-map, keep-same, keep-as, by-class, keep-serves, proceeds-leaves}
+use Rattle.is_rules.proofs.Stays.{Stands, Keeps, Keep, keeps-map, keep-same, keep-as, by-class, keep-serves, maintains_pairs-leaves}
 use Rattle.is_rules.proofs.Tells.{one_pair}
 use Rattle.is_rules.proofs.Thinning.{Has-kept}
 
@@ -101,20 +101,20 @@ module _ {H P : Type 0} where
       becomes : (wanted : AgentRecord H P) → Keep old wanted → new ≡ wanted → Stands p.number new.pairs
       becomes wanted k made = kept (keep-as old wanted new k made)
 
-      packet : (now : ℕ) (way : Path) (bytes : List ℕ) → Receives mac answers now old way bytes e new → Stands p.number new.pairs
-      packet now way bytes (inl (fault, has_fault, is, made)) = as-it-was made
-      packet now way bytes (inr (m, reads, (Ok true, told, is, (accepted, (mid, takes, made))))) = becomes (source_told way mid) (by-class mac m.class now old mid way m told takes) made
-      packet now way bytes (inr (m, reads, (Ok false, told, is, (no_one, nothing, made)))) = as-it-was made
-      packet now way bytes (inr (m, reads, (Err error, told, is, (may, nothing, made)))) = as-it-was made
+      packet : (now : ℕ) (path : Path) (bytes : List ℕ) → Receives mac answers now old path bytes e new → Stands p.number new.pairs
+      packet now path bytes (inl (fault, has_fault, is, made)) = as-it-was made
+      packet now path bytes (inr (m, reads, (Ok true, emitted, is, (accepted, (mid, takes, made))))) = becomes (discovered_emitted path mid) (by-class mac m.class now old mid path m emitted takes) made
+      packet now path bytes (inr (m, reads, (Ok false, emitted, is, (no_one, nothing, made)))) = as-it-was made
+      packet now path bytes (inr (m, reads, (Err error, emitted, is, (may, nothing, made)))) = as-it-was made
 
-      moment-by : (now : ℕ) (told : Told) (o : Option RequestRecord) → request_at now old ≡ o → e.answer ≡ Done
-          → MatchOption o (Proceeds mac now (awake now old) s told new t) (λ q. ServesQueued mac q (awake now old) s told new t)
+      moment-by : (now : ℕ) (emitted : Emitted) (o : Option RequestRecord) → request_at now old ≡ o → e.answer ≡ Done
+          → MatchOption o (MaintainsPairs mac now (timeout_begun now old) s emitted new t) (λ q. ServesQueued mac q (timeout_begun now old) s emitted new t)
           → Stands p.number new.pairs ⊎ ((e.answer ≡ Done) × (request_at now old ≡ None) × (is_given_up now old p ≡ true))
-      moment-by now told None none is_done h = elim (proceeds-leaves mac now (awake now old) new s t told h p has) [
+      moment-by now emitted None none is_done h = elim (maintains_pairs-leaves mac now (timeout_begun now old) new s t emitted h p has) [
         | inl stands ↦ inl stands
         | inr gone ↦ inr (is_done, none, gone)
       ]
-      moment-by now told (Some q) is is_done (h, drawn) = inl (kept (keep-serves mac q (first_taken (awake now old)) new told h))
+      moment-by now emitted (Some q) is is_done (h, drawn) = inl (kept (keep-serves mac q (first_taken (timeout_begun now old)) new emitted h))
 
       lasts : (call : Call P) → Step mac answers old s call e new t → Stands p.number new.pairs ⊎ MayEnd old call e p
       lasts (SetMtu target warn) (Ok _, is, h, drawn) = inl (becomes _ (λ n x. x) h.1)
@@ -153,9 +153,9 @@ module _ {H P : Type 0} where
       lasts (RestartIce creds keep) (Err error, is, h, drawn) = inl (as-it-was (restart_kept old new creds keep error h))
       lasts RecreateCandidatePairs (Ok _, is, h, drawn) = inr (ap (λ (x : Entry). x.answer) is)
       lasts RecreateCandidatePairs (Err error, is, h, drawn) = inl (as-it-was (recreation_kept old new error h))
-      lasts (ReceivePacket now way bytes) (h, drawn) = inl (packet now way bytes h)
-      lasts (HandleTimeout now) (Ok _, told, is, h) = moment-by now told (request_at now old) refl (ap (λ (x : Entry). x.answer) is) h
-      lasts (HandleTimeout now) (Err error, told, is, (may, nothing, made, drawn)) = inl (as-it-was made)
+      lasts (ReceivePacket now path bytes) (h, drawn) = inl (packet now path bytes h)
+      lasts (HandleTimeout now) (Ok _, emitted, is, h) = moment-by now emitted (request_at now old) refl (ap (λ (x : Entry). x.answer) is) h
+      lasts (HandleTimeout now) (Err error, emitted, is, (may, nothing, made, drawn)) = inl (as-it-was made)
       lasts PollTransmit (given, is, (polled, made), drawn) = inl (becomes _ (λ n x. x) made)
       lasts PollTimeout (wake, is, h, drawn) =
           inl (by_waking old new wake h (λ made. as-it-was made)

@@ -20,9 +20,9 @@ use Rattle.is_rules.specs.declared.places.RemotePlace.{RemotePlace}
 use Rattle.is_rules.specs.declared.places.RemotePlace.TheVariants.{Known, Barred, Unknown}
 use Rattle.is_rules.specs.declared.roles.Conflict.{Conflict}
 use Rattle.is_rules.specs.declared.roles.Conflict.TheVariants.{Absent, Insists, Yields}
-use Rattle.is_rules.specs.declared.told.Path.{Path}
-use Rattle.is_rules.specs.declared.told.Told.{Told}
-use Rattle.is_rules.specs.Accepting.{Takes, HandlesPacket, source_told}
+use Rattle.is_rules.specs.declared.emitted.Path.{Path}
+use Rattle.is_rules.specs.declared.emitted.Emitted.{Emitted}
+use Rattle.is_rules.specs.Accepting.{Takes, HandlesPacket, discovered_emitted}
 use Rattle.is_rules.specs.Agent.{AgentRecord}
 use Rattle.is_rules.specs.Answers.{is_known_address, is_role_conflict, goes_back, keeps_check_on, mapped_candidate, local_with, mapped_learnt, success_counted, Records, TakesSuccess, GivesUpRole, TakesFailure}
 use Rattle.is_rules.specs.Exchange.{AreBetween, Course, ChecksStay}
@@ -34,7 +34,7 @@ use Rattle.is_rules.specs.Request.{RequestRecord, request_in}
 use Rattle.is_rules.specs.Roles.{conflict_of, switched, switched_sides, with_priority_in}
 use Rattle.is_rules.specs.Rounds.{is_between}
 use Rattle.is_rules.specs.Sending.{path_of, path_between}
-use Rattle.is_rules.specs.Serving.{served, validated_by_peer, is_misled, names_another, pair_served, request_counted, with_sender, replied, Drops, Queues, ServesPair, TakesAt, JoinsAt, Admits, SettlesBy, Settles, Serves}
+use Rattle.is_rules.specs.Serving.{served, validated_by_peer, is_misled, names_another, pair_served, request_counted, with_sender, replied, Drops, Queues, RecordsAndResponds, FindsOrAddsPair, AddsUnknownSender, CountsAndServes, ResolvesRoleConflictBy, ResolvesRoleConflict, Serves}
 use Rattle.is_rules.specs.Sound.{IsSound, IsPlaced}
 use Rattle.is_rules.specs.Steps.{Call, Entry, ReceivePacket, PollTransmit, PollTimeout, PollEvent, Step}
 use Rattle.is_rules.proofs.Addresses.{both}
@@ -189,7 +189,7 @@ module _ {H P : Type 0} where
 
     by : Announces old path new → Stays old new
     by (None, greatest, (none, is)) = stays_same old new is
-    by (Some p, greatest, k) = either (stands_at old.announced p.priority old.pairs) k
+    by (Some p, greatest, k) = either (stands_at old.selected_pair p.priority old.pairs) k
         (λ _ l. stays_same old new l.1)
         (λ _ l. subst (λ (a : AgentRecord H P). Stays old a) (sym l.1) (top p))
 
@@ -205,51 +205,51 @@ module _ {H P : Type 0} where
     -- ---- a request
 
     module _ (q : RequestRecord) where
-      at_pair : (l r number : ℕ) (s new : AgentRecord H P) (told : Told) → ServesPair mac q l r number s told new → Stays s new
-      at_pair l r number s new told (path, mid, nominates, (values, is, made)) =
+      at_pair : (l r number : ℕ) (s new : AgentRecord H P) (emitted : Emitted) → RecordsAndResponds mac q l r number s emitted new → Stays s new
+      at_pair l r number s new emitted (path, mid, nominates, (values, is, made)) =
           stays_on s (pair_served q number s) new
           (stays_by s (pair_served q number s) (inl refl) (inl refl)
           (mapped_pairs (change_at number (served s.controlling s.lite q)) s.pairs (λ p. at_alike number (served s.controlling s.lite q) p (served_alike s.controlling s.lite q p))))
           (stays_on (pair_served q number s) mid new (nominates_where (s.controlling && is_valid_at number s.pairs) (pair_served q number s) mid path nominates)
           (subst (λ (a : AgentRecord H P). Stays mid a) (sym made) (stays_by mid (replied mac q (path_between s l r) mid) (inl refl) (inl refl) (same_pairs mid.pairs))))
 
-      takes_at : (l r : ℕ) (number : Option ℕ) (s new : AgentRecord H P) (told : Told) → TakesAt mac q l r number s told new → Stays s new
-      takes_at l r (Some number) s new told h = at_pair l r number s new told h
-      takes_at l r None s new told h = either (candidate_at s.local l).discarded h
+      takes_at : (l r : ℕ) (number : Option ℕ) (s new : AgentRecord H P) (emitted : Emitted) → FindsOrAddsPair mac q l r number s emitted new → Stays s new
+      takes_at l r (Some number) s new emitted h = at_pair l r number s new emitted h
+      takes_at l r None s new emitted h = either (candidate_at s.local l).discarded h
           (λ _ k. stays_same s new k.1)
           (λ _ k. stays_on s (with_pair (formed s l r) s) new
           (stays_by s (with_pair (formed s l r) s) (inl refl) (inl refl) (λ p has. (p, has_front s.pairs (formed s l r) p has, alike_same p)))
-          (at_pair l r s.next_number (with_pair (formed s l r) s) new told k.1))
+          (at_pair l r s.next_number (with_pair (formed s l r) s) new emitted k.1))
 
-      joins_at : (l : ℕ) (place : RemotePlace) (s new : AgentRecord H P) (told : Told) → JoinsAt mac q l place s told new → Stays s new
-      joins_at l (Known r) s new told (number, between, h) = takes_at l r number s new told h
-      joins_at l Barred s new told h = stays_same s new h.1
-      joins_at l Unknown s new told (number, between, h) =
+      joins_at : (l : ℕ) (place : RemotePlace) (s new : AgentRecord H P) (emitted : Emitted) → AddsUnknownSender mac q l place s emitted new → Stays s new
+      joins_at l (Known r) s new emitted (number, between, h) = takes_at l r number s new emitted h
+      joins_at l Barred s new emitted h = stays_same s new h.1
+      joins_at l Unknown s new emitted (number, between, h) =
           stays_on s (with_sender q s) new (stays_by s (with_sender q s) (inl refl) (inr (_, refl)) (same_pairs s.pairs))
-          (takes_at l (length s.remote) number (with_sender q s) new told h)
+          (takes_at l (length s.remote) number (with_sender q s) new emitted h)
 
-      admitted : (l : ℕ) (s new : AgentRecord H P) (told : Told) → Admits mac q l s told new → Stays s new
-      admitted l s new told h = either (is_misled s.controlling q) h
+      admitted : (l : ℕ) (s new : AgentRecord H P) (emitted : Emitted) → CountsAndServes mac q l s emitted new → Stays s new
+      admitted l s new emitted h = either (is_misled s.controlling q) h
           (λ _ k. stays_same s new k.1)
           (λ _ k. stays_on s (request_counted s) new (stays_by s (request_counted s) (inl refl) (inl refl) (same_pairs s.pairs))
-          (joins_at l k.0 (request_counted s) new told k.2))
+          (joins_at l k.0 (request_counted s) new emitted k.2))
 
-      settles_by : (conflict : Conflict) (l : ℕ) (s new : AgentRecord H P) (told : Told) → SettlesBy mac conflict q l s told new → Stays s new
-      settles_by Absent l s new told h = admitted l s new told h
-      settles_by Insists l s new told (values, is, made) =
+      resolves_by : (conflict : Conflict) (l : ℕ) (s new : AgentRecord H P) (emitted : Emitted) → ResolvesRoleConflictBy mac conflict q l s emitted new → Stays s new
+      resolves_by Absent l s new emitted h = admitted l s new emitted h
+      resolves_by Insists l s new emitted (values, is, made) =
           subst (λ (a : AgentRecord H P). Stays s a) (sym made) (stays_by s _ (inl refl) (inl refl) (same_pairs s.pairs))
-      settles_by Yields l s new told h = stays_on s (switched s) new (switches s) (admitted l (switched s) new told h)
+      resolves_by Yields l s new emitted h = stays_on s (switched s) new (switches s) (admitted l (switched s) new emitted h)
 
-      here : (place : Option ℕ) (s new : AgentRecord H P) (told : Told) → MatchOption place (Drops s told new) (λ l. Settles mac q l s told new) → Stays s new
-      here None s new told h = stays_same s new h.1
-      here (Some l) s new told h = settles_by (conflict_of s q) l s new told h
+      here : (place : Option ℕ) (s new : AgentRecord H P) (emitted : Emitted) → MatchOption place (Drops s emitted new) (λ l. ResolvesRoleConflict mac q l s emitted new) → Stays s new
+      here None s new emitted h = stays_same s new h.1
+      here (Some l) s new emitted h = resolves_by (conflict_of s q) l s new emitted h
 
-      requested : (remote : Option IceCreds) (s new : AgentRecord H P) (told : Told)
-          → MatchOption remote (Queues q s told new) (λ _. Serves mac q s told new) → Stays s new
-      requested None s new told h = subst (λ (a : AgentRecord H P). Stays s a) (sym h.1) (stays_by s _ (inl refl) (inl refl) (same_pairs s.pairs))
-      requested (Some peer) s new told h = either (names_another s q) h
+      requested : (remote : Option IceCreds) (s new : AgentRecord H P) (emitted : Emitted)
+          → MatchOption remote (Queues q s emitted new) (λ _. Serves mac q s emitted new) → Stays s new
+      requested None s new emitted h = subst (λ (a : AgentRecord H P). Stays s a) (sym h.1) (stays_by s _ (inl refl) (inl refl) (same_pairs s.pairs))
+      requested (Some peer) s new emitted h = either (names_another s q) h
           (λ _ k. stays_same s new k.1)
-          (λ _ k. here (local_place s.local q) s new told k)
+          (λ _ k. here (local_place s.local q) s new emitted k)
 
     -- ---- an answer
 
@@ -260,8 +260,8 @@ module _ {H P : Type 0} where
       by true = inl refl
       by false = inr (mapped_candidate s p mapped, refl)
 
-    records : (now : ℕ) (old new : AgentRecord H P) (way : Path) (m : Message) → Records now old way m new → Stays old new
-    records now old new way m (place, p, after, at, keeps, takes, made) =
+    records : (now : ℕ) (old new : AgentRecord H P) (via : Path) (m : Message) → Records now old via m new → Stays old new
+    records now old new via m (place, p, after, at, keeps, takes, made) =
         subst (λ (a : AgentRecord H P). Stays old a) (sym made)
         (stays_by old (record (mapped_learnt p m.attributes.xor_mapped_address (success_counted old)) { pairs = slice_set old.pairs place after })
         (learnt (success_counted old) p m.attributes.xor_mapped_address) (inl refl) stand) where
@@ -271,32 +271,32 @@ module _ {H P : Type 0} where
             | inr (own, put) ↦ (after, put, subst (λ (x : PairRecord). Alike x after) (sym own) (answer_alike p after now m.id takes))
           ]
 
-    succeeds : (now : ℕ) (old new : AgentRecord H P) (way : Path) (m : Message) (told : Told) → TakesSuccess now old way m told new → Stays old new
-    succeeds now old new way m told (recorded, recording, (path, mid, nominating, is, made)) =
-        stays_on old recorded new (records now old recorded way m recording)
+    succeeds : (now : ℕ) (old new : AgentRecord H P) (via : Path) (m : Message) (emitted : Emitted) → TakesSuccess now old via m emitted new → Stays old new
+    succeeds now old new via m emitted (recorded, recording, (path, mid, nominating, is, made)) =
+        stays_on old recorded new (records now old recorded via m recording)
         (stays_on recorded mid new (nominates recorded mid path nominating)
         (subst (λ (a : AgentRecord H P). Stays mid a) (sym made) (stays_by mid _ (inl refl) (inl refl) (same_pairs mid.pairs))))
 
-    fails : (s new : AgentRecord H P) (way : Path) (m : Message) (told : Told) → TakesFailure s way m told new → Stays s new
-    fails s new way m told h = either (is_role_conflict m) h (λ _ k. given_up k) (λ _ k. stays_same s new k.1) where
-      given_up : GivesUpRole s way m told new → Stays s new
+    fails : (s new : AgentRecord H P) (via : Path) (m : Message) (emitted : Emitted) → TakesFailure s via m emitted new → Stays s new
+    fails s new via m emitted h = either (is_role_conflict m) h (λ _ k. given_up k) (λ _ k. stays_same s new k.1) where
+      given_up : GivesUpRole s via m emitted new → Stays s new
       given_up (p, c, has, keeps, kept, is, acts) = either (same c.controlling s.controlling) acts
           (λ _ k. subst (λ (a : AgentRecord H P). Stays s a) (sym k.1) (switches s))
           (λ _ k. stays_same s new k.1)
 
-    by_class : (c : Class) (now : ℕ) (old mid : AgentRecord H P) (way : Path) (m : Message) (told : Told) → Takes mac c now old way m told mid → Stays old mid
-    by_class class.Request now old mid way m told h = requested (request_in now way m) old.remote_creds old mid told h
-    by_class class.Success now old mid way m told h = succeeds now old mid way m told h
-    by_class class.Failure now old mid way m told h = fails old mid way m told h
-    by_class class.Indication now old mid way m told h = absurd h
-    by_class class.Unknown now old mid way m told h = absurd h
+    by_class : (c : Class) (now : ℕ) (old mid : AgentRecord H P) (via : Path) (m : Message) (emitted : Emitted) → Takes mac c now old via m emitted mid → Stays old mid
+    by_class class.Request now old mid via m emitted h = requested (request_in now via m) old.remote_creds old mid emitted h
+    by_class class.Success now old mid via m emitted h = succeeds now old mid via m emitted h
+    by_class class.Failure now old mid via m emitted h = fails old mid via m emitted h
+    by_class class.Indication now old mid via m emitted h = absurd h
+    by_class class.Unknown now old mid via m emitted h = absurd h
 
-    handled : (now : ℕ) (old new : AgentRecord H P) (way : Path) (m : Message) (r : Result Bool IceError) (told : Told) → HandlesPacket mac now old way m r told new → Stays old new
-    handled now old new way m (Ok false) told (refused, is, made) = stays_same old new made
-    handled now old new way m (Ok true) told (accepted, (mid, takes, made)) =
-        stays_on old mid new (by_class m.class now old mid way m told takes)
-        (subst (λ (a : AgentRecord H P). Stays mid a) (sym made) (stays_by mid (source_told way mid) (inl refl) (inl refl) (same_pairs mid.pairs)))
-    handled now old new way m (Err error) told (may, is, made) = stays_same old new made
+    handled : (now : ℕ) (old new : AgentRecord H P) (via : Path) (m : Message) (r : Result Bool IceError) (emitted : Emitted) → HandlesPacket mac now old via m r emitted new → Stays old new
+    handled now old new via m (Ok false) emitted (refused, is, made) = stays_same old new made
+    handled now old new via m (Ok true) emitted (accepted, (mid, takes, made)) =
+        stays_on old mid new (by_class m.class now old mid via m emitted takes)
+        (subst (λ (a : AgentRecord H P). Stays mid a) (sym made) (stays_by mid (discovered_emitted via mid) (inl refl) (inl refl) (same_pairs mid.pairs)))
+    handled now old new via m (Err error) emitted (may, is, made) = stays_same old new made
 
     -- ---- polls
 
@@ -312,12 +312,12 @@ module _ {H P : Type 0} where
 
     module _ (answers : P → CandidateRecord → ℕ → ℕ → Type 0) where
       one : (call : Call P) (e : Entry) (old new : AgentRecord H P) (s t : Stream) → is_between call ≡ true → Step mac answers old s call e new t → Stays old new
-      one (ReceivePacket now way bytes) e old new s t is (inl (fault, has, shown, made), drawn) = stays_same old new made
-      one (ReceivePacket now way bytes) e old new s t is (inr (m, reads, (r, told, shown, handles)), drawn) = handled now old new way m r told handles
-      one PollTransmit e old new s t is (given, told, (polled, made), drawn) =
+      one (ReceivePacket now via bytes) e old new s t is (inl (fault, has, shown, made), drawn) = stays_same old new made
+      one (ReceivePacket now via bytes) e old new s t is (inr (m, reads, (r, emitted, shown, handles)), drawn) = handled now old new via m r emitted handles
+      one PollTransmit e old new s t is (given, emitted, (polled, made), drawn) =
           subst (λ (a : AgentRecord H P). Stays old a) (sym made) (stays_by old _ (inl refl) (inl refl) (same_pairs old.pairs))
-      one PollTimeout e old new s t is (wake, told, woken, drawn) = wakes old.last_moment wake old new woken
-      one PollEvent e old new s t is (given, told, (polled, made), drawn) =
+      one PollTimeout e old new s t is (wake, emitted, woken, drawn) = wakes old.last_moment wake old new woken
+      one PollEvent e old new s t is (given, emitted, (polled, made), drawn) =
           subst (λ (a : AgentRecord H P). Stays old a) (sym made) (stays_by old _ (inl refl) (inl refl) (same_pairs old.pairs))
       one _ e old new s t is step = no-case is
 
@@ -337,10 +337,10 @@ module _ {H P : Type 0} where
           ∙ ap (λ (c : CandidateRecord). record { proto = (candidate_at old.local p.local).proto; source = base_of (candidate_at old.local p.local); destination = c.addr }) x.remote
 
       pub checks-stay : ChecksStay mac answers
-      checks-stay old new xs way id sound fits goes kept =
-          let k = any_at (keeps_check_on old way id) old.pairs kept in
+      checks-stay old new xs via id sound fits goes kept =
+          let k = any_at (keeps_check_on old via id) old.pairs kept in
           let p = k.0 in
-          let here = both (keeps_check id p) (goes_back way (path_of old p)) k.2 in
+          let here = both (keeps_check id p) (goes_back via (path_of old p)) k.2 in
           let x = all xs old new fits goes p k.1 (sound.placed p k.1) in
-          any_has (keeps_check_on new way id) new.pairs x.pair x.there
-          (ap (λ b. b && goes_back way (path_of new x.pair)) (x.checks id ∙ here.0) ∙ (ap (λ w. goes_back way w) (same_path old new p x) ∙ here.1))
+          any_has (keeps_check_on new via id) new.pairs x.pair x.there
+          (ap (λ b. b && goes_back via (path_of new x.pair)) (x.checks id ∙ here.0) ∙ (ap (λ w. goes_back via w) (same_path old new p x) ∙ here.1))

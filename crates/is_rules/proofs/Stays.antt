@@ -17,20 +17,20 @@ use Rattle.is_rules.specs.declared.places.RemotePlace.{RemotePlace}
 use Rattle.is_rules.specs.declared.places.RemotePlace.TheVariants.{Known, Barred, Unknown}
 use Rattle.is_rules.specs.declared.roles.Conflict.{Conflict}
 use Rattle.is_rules.specs.declared.roles.Conflict.TheVariants.{Absent, Insists, Yields}
-use Rattle.is_rules.specs.declared.told.Issued.{Issued}
-use Rattle.is_rules.specs.declared.told.Path.{Path}
-use Rattle.is_rules.specs.declared.told.Told.{Told}
+use Rattle.is_rules.specs.declared.emitted.Issued.{Issued}
+use Rattle.is_rules.specs.declared.emitted.Path.{Path}
+use Rattle.is_rules.specs.declared.emitted.Emitted.{Emitted}
 use Rattle.is_rules.specs.Request.{RequestRecord, request_in}
 use Rattle.is_rules.specs.Agent.{AgentRecord}
 use Rattle.is_rules.specs.Places.{local_place}
 use Rattle.is_rules.specs.Forming.{formed, with_pair}
 use Rattle.is_rules.specs.Nominating.{nominated_by_self, stands_at, Nominates}
 use Rattle.is_rules.specs.Roles.{conflict_of, switched, switched_sides, with_priority_in}
-use Rattle.is_rules.specs.Serving.{served, is_misled, names_another, pair_served, request_counted, with_sender, validated_by_peer, Drops, Queues, ServesPair, TakesAt, JoinsAt, Admits, SettlesBy, Settles, Serves}
+use Rattle.is_rules.specs.Serving.{served, is_misled, names_another, pair_served, request_counted, with_sender, validated_by_peer, Drops, Queues, RecordsAndResponds, FindsOrAddsPair, AddsUnknownSender, CountsAndServes, ResolvesRoleConflictBy, ResolvesRoleConflict, Serves}
 use Rattle.is_rules.specs.Answers.{is_role_conflict, TakesSuccess, GivesUpRole, TakesFailure}
 use Rattle.is_rules.specs.Accepting.{Takes}
 use Rattle.is_rules.specs.Checking.{all_asked, ChecksTop, MayCheck}
-use Rattle.is_rules.specs.Timeouts.{at_moment, is_given_up, given_up_gone, GivesUp, Proceeds}
+use Rattle.is_rules.specs.Timeouts.{at_moment, is_given_up, given_up_gone, GivesUp, MaintainsPairs}
 use Rattle.is_rules.specs.States.{evaluated}
 use Rattle.is_rules.proofs.Frames.{either}
 use Rattle.is_rules.proofs.Nominations.{Announces, announces}
@@ -128,7 +128,7 @@ module _ {H P : Type 0} where
 
     from : Announces old path new → Left now old p new
     from (None, greatest, (is, made)) = as-it-was made
-    from (Some top, greatest, k) = either (stands_at old.announced top.priority old.pairs) k
+    from (Some top, greatest, k) = either (stands_at old.selected_pair top.priority old.pairs) k
         (λ _ l. as-it-was l.1)
         (λ _ l. (
         let s = self-kept old.controlling old.lite top.number p old.lite now old.timing in
@@ -170,9 +170,9 @@ module _ {H P : Type 0} where
               (keeps-map (change_at p.number (checked now old.timing old.controlling id)) (all_asked now old).pairs
               (λ q. if-number (is_numbered p.number q) (checked now old.timing old.controlling id q) q refl))) made
 
-    pub proceeds-leaves : (now : ℕ) (old new : AgentRecord H P) (s t : Stream) (told : Told) → Proceeds mac now old s told new t → (p : PairRecord) → Has old.pairs p
+    pub maintains_pairs-leaves : (now : ℕ) (old new : AgentRecord H P) (s t : Stream) (emitted : Emitted) → MaintainsPairs mac now old s emitted new t → (p : PairRecord) → Has old.pairs p
         → Stands p.number new.pairs ⊎ (is_given_up now old p ≡ true)
-    proceeds-leaves now old new s t told (first, second, issued, named, kept, nominating, giving, checking, is) p has =
+    maintains_pairs-leaves now old new s t emitted (first, second, issued, named, kept, nominating, giving, checking, is) p has =
         let n = nominates-leaves now (at_moment now old) named first nominating p has in
         let base = (nominates-thins 0 (at_moment now old) named first nominating).0 in
         elim (gives-up-leaves now named kept second giving n.0 n.1) [
@@ -185,8 +185,8 @@ module _ {H P : Type 0} where
     -- ---- requests
 
     module _ (q : RequestRecord) where
-      pair : (l r number : ℕ) (s new : AgentRecord H P) (told : Told) → ServesPair mac q l r number s told new → Keep s new
-      pair l r number s new told (path, mid, nominates, (values, is, made)) =
+      pair : (l r number : ℕ) (s new : AgentRecord H P) (emitted : Emitted) → RecordsAndResponds mac q l r number s emitted new → Keep s new
+      pair l r number s new emitted (path, mid, nominates, (values, is, made)) =
           keep-as s _ new
           (keeps-on s.pairs (pair_served q number s).pairs mid.pairs
           (keeps-map (change_at number (served s.controlling s.lite q)) s.pairs
@@ -195,67 +195,67 @@ module _ {H P : Type 0} where
           (λ _ k. keep-nominates (pair_served q number s) mid path k)
           (λ _ k. keep-same (pair_served q number s) mid k.1))) made
 
-      takes : (l r : ℕ) (number : Option ℕ) (s new : AgentRecord H P) (told : Told) → TakesAt mac q l r number s told new → Keep s new
-      takes l r (Some number) s new told h = pair l r number s new told h
-      takes l r None s new told h = either (candidate_at s.local l).discarded h
+      takes : (l r : ℕ) (number : Option ℕ) (s new : AgentRecord H P) (emitted : Emitted) → FindsOrAddsPair mac q l r number s emitted new → Keep s new
+      takes l r (Some number) s new emitted h = pair l r number s new emitted h
+      takes l r None s new emitted h = either (candidate_at s.local l).discarded h
           (λ _ k. keep-same s new k.1)
           (λ _ k. keeps-on s.pairs (s.pairs ++ formed s l r ∷ []) new.pairs (keeps-push s.pairs (formed s l r ∷ []))
-          (pair l r s.next_number (with_pair (formed s l r) s) new told k.1))
+          (pair l r s.next_number (with_pair (formed s l r) s) new emitted k.1))
 
-      joins : (l : ℕ) (place : RemotePlace) (s new : AgentRecord H P) (told : Told) → JoinsAt mac q l place s told new → Keep s new
-      joins l (Known r) s new told (number, between, h) = takes l r number s new told h
-      joins l Barred s new told h = keep-same s new h.1
-      joins l Unknown s new told (number, between, h) = takes l _ number (with_sender q s) new told h
+      joins : (l : ℕ) (place : RemotePlace) (s new : AgentRecord H P) (emitted : Emitted) → AddsUnknownSender mac q l place s emitted new → Keep s new
+      joins l (Known r) s new emitted (number, between, h) = takes l r number s new emitted h
+      joins l Barred s new emitted h = keep-same s new h.1
+      joins l Unknown s new emitted (number, between, h) = takes l _ number (with_sender q s) new emitted h
 
-      admitted : (l : ℕ) (s new : AgentRecord H P) (told : Told) → Admits mac q l s told new → Keep s new
-      admitted l s new told h = either (is_misled s.controlling q) h
+      admitted : (l : ℕ) (s new : AgentRecord H P) (emitted : Emitted) → CountsAndServes mac q l s emitted new → Keep s new
+      admitted l s new emitted h = either (is_misled s.controlling q) h
           (λ _ k. keep-same s new k.1)
-          (λ _ k. joins l k.0 (request_counted s) new told k.2)
+          (λ _ k. joins l k.0 (request_counted s) new emitted k.2)
 
       keep-switched : (s : AgentRecord H P) → Keep s (switched s)
       keep-switched s = keeps-map (with_priority_in (switched_sides s)) s.pairs (λ p. refl)
 
-      settles : (conflict : Conflict) (l : ℕ) (s new : AgentRecord H P) (told : Told) → SettlesBy mac conflict q l s told new → Keep s new
-      settles Absent l s new told h = admitted l s new told h
-      settles Insists l s new told (values, is, made) = keep-as s _ new (λ n x. x) made
-      settles Yields l s new told h = keeps-on s.pairs (switched s).pairs new.pairs (keep-switched s) (admitted l (switched s) new told h)
+      resolves : (conflict : Conflict) (l : ℕ) (s new : AgentRecord H P) (emitted : Emitted) → ResolvesRoleConflictBy mac conflict q l s emitted new → Keep s new
+      resolves Absent l s new emitted h = admitted l s new emitted h
+      resolves Insists l s new emitted (values, is, made) = keep-as s _ new (λ n x. x) made
+      resolves Yields l s new emitted h = keeps-on s.pairs (switched s).pairs new.pairs (keep-switched s) (admitted l (switched s) new emitted h)
 
-      here : (place : Option ℕ) (s new : AgentRecord H P) (told : Told) → MatchOption place (Drops s told new) (λ l. Settles mac q l s told new) → Keep s new
-      here None s new told h = keep-same s new h.1
-      here (Some l) s new told h = settles (conflict_of s q) l s new told h
+      here : (place : Option ℕ) (s new : AgentRecord H P) (emitted : Emitted) → MatchOption place (Drops s emitted new) (λ l. ResolvesRoleConflict mac q l s emitted new) → Keep s new
+      here None s new emitted h = keep-same s new h.1
+      here (Some l) s new emitted h = resolves (conflict_of s q) l s new emitted h
 
-      pub keep-serves : (s new : AgentRecord H P) (told : Told) → Serves mac q s told new → Keep s new
-      keep-serves s new told h = either (names_another s q) h
+      pub keep-serves : (s new : AgentRecord H P) (emitted : Emitted) → Serves mac q s emitted new → Keep s new
+      keep-serves s new emitted h = either (names_another s q) h
           (λ _ k. keep-same s new k.1)
-          (λ _ k. here (local_place s.local q) s new told k)
+          (λ _ k. here (local_place s.local q) s new emitted k)
 
-      requested : (remote : Option IceCreds) (s new : AgentRecord H P) (told : Told) → MatchOption remote (Queues q s told new) (λ _. Serves mac q s told new) → Keep s new
-      requested None s new told h = keep-as s _ new (λ n x. x) h.1
-      requested (Some peer) s new told h = keep-serves s new told h
+      requested : (remote : Option IceCreds) (s new : AgentRecord H P) (emitted : Emitted) → MatchOption remote (Queues q s emitted new) (λ _. Serves mac q s emitted new) → Keep s new
+      requested None s new emitted h = keep-as s _ new (λ n x. x) h.1
+      requested (Some peer) s new emitted h = keep-serves s new emitted h
 
     -- ---- answers
 
-    success : (now : ℕ) (old new : AgentRecord H P) (way : Path) (m : Message) (told : Told) → TakesSuccess now old way m told new → Keep old new
-    success now old new way m told (recorded, (place, p, after, at, keeps, (k, c, is_at, is), made), (path, mid, nominates, told_is, done)) =
+    success : (now : ℕ) (old new : AgentRecord H P) (via : Path) (m : Message) (emitted : Emitted) → TakesSuccess now old via m emitted new → Keep old new
+    success now old new via m emitted (recorded, (place, p, after, at, keeps, (k, c, is_at, is), made), (path, mid, nominates, emitted_is, done)) =
         keep-as old (evaluated now mid) new
         (keeps-on old.pairs recorded.pairs mid.pairs
         (keep-as old _ recorded (keeps-set old.pairs place p after at (ap (λ (x : PairRecord). x.number) is)) made)
         (keep-nominates recorded mid path nominates)) done
 
-    failure : (old new : AgentRecord H P) (way : Path) (m : Message) (told : Told) → TakesFailure old way m told new → Keep old new
-    failure old new way m told h = either (is_role_conflict m) h
+    failure : (old new : AgentRecord H P) (via : Path) (m : Message) (emitted : Emitted) → TakesFailure old via m emitted new → Keep old new
+    failure old new via m emitted h = either (is_role_conflict m) h
         (λ _ k. given_up k)
         (λ _ k. keep-same old new k.1) where
-          given_up : GivesUpRole old way m told new → Keep old new
+          given_up : GivesUpRole old via m emitted new → Keep old new
           given_up (p, c, has, keeps, kept, is, acts) = either (same c.controlling old.controlling) acts
               (λ _ k. keep-as old (switched old) new (keeps-map (with_priority_in (switched_sides old)) old.pairs (λ p. refl)) k.1)
               (λ _ k. keep-same old new k.1)
 
     -- ---- packets
 
-    pub by-class : (c : Class) (now : ℕ) (old mid : AgentRecord H P) (way : Path) (m : Message) (told : Told) → Takes mac c now old way m told mid → Keep old mid
-    by-class class.Request now old mid way m told h = requested (request_in now way m) old.remote_creds old mid told h
-    by-class class.Success now old mid way m told h = success now old mid way m told h
-    by-class class.Failure now old mid way m told h = failure old mid way m told h
-    by-class class.Indication now old mid way m told h = absurd h
-    by-class class.Unknown now old mid way m told h = absurd h
+    pub by-class : (c : Class) (now : ℕ) (old mid : AgentRecord H P) (via : Path) (m : Message) (emitted : Emitted) → Takes mac c now old via m emitted mid → Keep old mid
+    by-class class.Request now old mid via m emitted h = requested (request_in now via m) old.remote_creds old mid emitted h
+    by-class class.Success now old mid via m emitted h = success now old mid via m emitted h
+    by-class class.Failure now old mid via m emitted h = failure old mid via m emitted h
+    by-class class.Indication now old mid via m emitted h = absurd h
+    by-class class.Unknown now old mid via m emitted h = absurd h

@@ -2,9 +2,9 @@
 use Rattle.std.proofs.Common.{◌≡◌, ◌≢◌, ℕ, ◌<◌, ◌≤◌, Bool, true, List, [], ◌∷◌, Option, Some, None, inl, inr, ◌⊎◌, refl, ap, sym, ◌∙◌, subst, arith}
 use Rattle.is_proto.specs.Lists.{Has}
 use Rattle.is_pair.specs.Pairs.{PairRecord, is_valid, is_nominated}
-use Rattle.is_rules.specs.declared.told.Path.{Path}
+use Rattle.is_rules.specs.declared.emitted.Path.{Path}
 use Rattle.is_rules.proofs.Rising.{AreRising}
-use Rattle.is_rules.specs.Told.{announced_in}
+use Rattle.is_rules.specs.Emitted.{announced_in}
 use Rattle.is_rules.specs.Effects.{last_of}
 use Rattle.is_rules.proofs.Onward.{Parts, path_in, IsValidIn, IsNominatedIn, Onward, valid_before, nominated_before}
 

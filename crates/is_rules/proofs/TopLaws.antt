@@ -5,7 +5,7 @@ use Rattle.std.specs.Option.{option_map_or}
 use Rattle.std.proofs.lemmas.Bool.{eqb-true, eq-eqb}
 use Rattle.is_proto.specs.Lists.{Has}
 use Rattle.is_pair.specs.Pairs.{PairRecord, is_valid, is_nominated, nominated}
-use Rattle.is_rules.specs.declared.told.Path.{Path}
+use Rattle.is_rules.specs.declared.emitted.Path.{Path}
 use Rattle.is_rules.specs.Agent.{AgentRecord}
 use Rattle.is_pair.specs.Bag.{is_numbered, change_at, change_pair}
 use Rattle.is_rules.proofs.Rising.{AreRising}
@@ -105,7 +105,7 @@ module _ {H P : Type 0} where
   announces_greatest : (old new : AgentRecord H P) (path : Option Path) → AreRising old.pairs → Announces old path new → IsTopAnnounced new
   announces_greatest old new path rising (None, none, (is, same)) =
       subst (λ (a : AgentRecord H P). IsTopAnnounced a) (sym same) (None, none, tt)
-  announces_greatest old new path rising (Some top, (has, eligible, greatest), h) = either (stands_at old.announced top.priority old.pairs) h
+  announces_greatest old new path rising (Some top, (has, eligible, greatest), h) = either (stands_at old.selected_pair top.priority old.pairs) h
       (λ stands k. subst (λ (a : AgentRecord H P). IsTopAnnounced a) (sym k.1) (Some top, (has, eligible, greatest), stands))
       (λ _ k. subst (λ (a : AgentRecord H P). IsTopAnnounced a) (sym k.1) (announces_top old top rising has eligible greatest))
 

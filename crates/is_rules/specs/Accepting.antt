@@ -14,10 +14,10 @@ use Rattle.is_stun.specs.Message.{Message, split_username}
 use Rattle.is_stun.specs.Integrity.{IsSignedBy}
 use Rattle.is_rules.specs.declared.accepting.Source.{Source}
 use Rattle.is_rules.specs.declared.event.IceAgentEvent.TheVariants.{DiscoveredRecv}
-use Rattle.is_rules.specs.declared.told.Path.{Path}
-use Rattle.is_rules.specs.declared.told.Told.{Told}
+use Rattle.is_rules.specs.declared.emitted.Path.{Path}
+use Rattle.is_rules.specs.declared.emitted.Emitted.{Emitted}
 use Rattle.is_rules.specs.Request.{RequestRecord, request_in}
-use Rattle.is_rules.specs.Told.{nothing_told}
+use Rattle.is_rules.specs.Emitted.{nothing_emitted}
 use Rattle.is_rules.specs.Agent.{AgentRecord}
 use Rattle.is_rules.specs.Serving.{TakesRequest, MayRefuseArrival}
 use Rattle.is_pair.specs.Bag.{keeps_check}
@@ -25,7 +25,7 @@ use Rattle.is_rules.specs.Answers.{keeps_check_on, TakesSuccess, TakesFailure}
 
 -- the source of a packet was told of
 abbrev pub is_source : Path → Source → Bool
-is_source way s = same_address s.address way.source && same_protocol s.proto way.proto
+is_source path s = same_address s.address path.source && same_protocol s.proto path.proto
 
 module _ {H P : Type 0} where
   -- ---- accepting
@@ -56,31 +56,31 @@ module _ {H P : Type 0} where
 
   -- `accepts_packet`: an answer comes back on its check's path
   abbrev pub IsAcceptedOn : (H → List ℕ → List ℕ → List ℕ) → AgentRecord H P → Path → Message → Type 0
-  IsAcceptedOn mac a way m = IsAcceptedBy mac (keeps_check_on a way m.id) a m
+  IsAcceptedOn mac a path m = IsAcceptedBy mac (keeps_check_on a path m.id) a m
 
   -- ---- sources
 
-  abbrev pub is_seen : Path → AgentRecord H P → Bool
-  is_seen way a = list_any (is_source way) a.seen
+  abbrev pub is_discovered : Path → AgentRecord H P → Bool
+  is_discovered path a = list_any (is_source path) a.discovered_sources
 
   -- a protocol and source that was not seen since the last restart is told of
-  abbrev pub source_told : Path → AgentRecord H P → AgentRecord H P
-  source_told way a = record a {
-    seen = if is_seen way a then a.seen else a.seen ++ record { proto = way.proto; address = way.source } ∷ [];
-    events = if is_seen way a then a.events else a.events ++ DiscoveredRecv way.proto way.source ∷ [];
+  abbrev pub discovered_emitted : Path → AgentRecord H P → AgentRecord H P
+  discovered_emitted path a = record a {
+    seen = if is_discovered path a then a.discovered_sources else a.discovered_sources ++ record { proto = path.proto; address = path.source } ∷ [];
+    events = if is_discovered path a then a.events else a.events ++ DiscoveredRecv path.proto path.source ∷ [];
     stats = record a.stats {
-      discovered_recv_count = if is_seen way a then a.stats.discovered_recv_count else counted a.stats.discovered_recv_count;
+      discovered_recv_count = if is_discovered path a then a.stats.discovered_recv_count else counted a.stats.discovered_recv_count;
     };
   }
 
   -- ---- packets
 
   -- what an accepted message does, by its class
-  abbrev pub Takes : (H → List ℕ → List ℕ → List ℕ) → Class → ℕ → AgentRecord H P → Path → Message → Told → AgentRecord H P → Type 0
-  Takes mac Request now old way m told new = TakesRequest mac (request_in now way m) old told new
-  Takes mac Success now old way m told new = TakesSuccess now old way m told new
-  Takes mac Failure now old way m told new = TakesFailure old way m told new
-  Takes mac _ now old way m told new = ⊥
+  abbrev pub Takes : (H → List ℕ → List ℕ → List ℕ) → Class → ℕ → AgentRecord H P → Path → Message → Emitted → AgentRecord H P → Type 0
+  Takes mac Request now old path m emitted new = TakesRequest mac (request_in now path m) old emitted new
+  Takes mac Success now old path m emitted new = TakesSuccess now old path m emitted new
+  Takes mac Failure now old path m emitted new = TakesFailure old path m emitted new
+  Takes mac _ now old path m emitted new = ⊥
 
   -- an accepted request may be refused as its arrival may be, an answer for want of memory alone
   abbrev pub MayRefuseAs : Class → AgentRecord H P → RequestRecord → IceError → Type 0
@@ -88,19 +88,19 @@ module _ {H P : Type 0} where
   MayRefuseAs _ a q error = error ≡ OutOfMemory
 
   abbrev pub MayRefusePacket : (H → List ℕ → List ℕ → List ℕ) → ℕ → AgentRecord H P → Path → Message → IceError → Type 0
-  MayRefusePacket mac now a way m error = IsAcceptedOn mac a way m × MayRefuseAs m.class a (request_in now way m) error
+  MayRefusePacket mac now a path m error = IsAcceptedOn mac a path m × MayRefuseAs m.class a (request_in now path m) error
 
   -- `handle_packet`: what is not accepted changes nothing
-  abbrev pub HandlesPacket : (H → List ℕ → List ℕ → List ℕ) → ℕ → AgentRecord H P → Path → Message → Result Bool IceError → Told
+  abbrev pub HandlesPacket : (H → List ℕ → List ℕ → List ℕ) → ℕ → AgentRecord H P → Path → Message → Result Bool IceError → Emitted
       → AgentRecord H P → Type 0
-  HandlesPacket mac now old way m (Ok false) told new = ¬ IsAcceptedOn mac old way m × (told ≡ nothing_told) × (new ≡ old)
-  HandlesPacket mac now old way m (Ok true) told new =
-      IsAcceptedOn mac old way m × ((mid : AgentRecord H P) × Takes mac m.class now old way m told mid × (new ≡ source_told way mid))
-  HandlesPacket mac now old way m (Err error) told new = MayRefusePacket mac now old way m error × (told ≡ nothing_told) × (new ≡ old)
+  HandlesPacket mac now old path m (Ok false) emitted new = ¬ IsAcceptedOn mac old path m × (emitted ≡ nothing_emitted) × (new ≡ old)
+  HandlesPacket mac now old path m (Ok true) emitted new =
+      IsAcceptedOn mac old path m × ((mid : AgentRecord H P) × Takes mac m.class now old path m emitted mid × (new ≡ discovered_emitted path mid))
+  HandlesPacket mac now old path m (Err error) emitted new = MayRefusePacket mac now old path m error × (emitted ≡ nothing_emitted) × (new ≡ old)
 
   -- what becomes of a packet of the class, by whether it is accepted
   abbrev pub Arrives : Type 0 → (H → List ℕ → List ℕ → List ℕ) → Class → ℕ → AgentRecord H P → Path → Message
-      → Result (Option Told) IceError → AgentRecord H P → Type 0
-  Arrives Accepted mac class now old way m (Ok None) new = ¬ Accepted × (new ≡ old)
-  Arrives Accepted mac class now old way m (Ok (Some told)) new = Accepted × Takes mac class now old way m told new
-  Arrives Accepted mac class now old way m (Err error) new = Accepted × MayRefuseAs class old (request_in now way m) error × (new ≡ old)
+      → Result (Option Emitted) IceError → AgentRecord H P → Type 0
+  Arrives Accepted mac class now old path m (Ok None) new = ¬ Accepted × (new ≡ old)
+  Arrives Accepted mac class now old path m (Ok (Some emitted)) new = Accepted × Takes mac class now old path m emitted new
+  Arrives Accepted mac class now old path m (Err error) new = Accepted × MayRefuseAs class old (request_in now path m) error × (new ≡ old)

@@ -39,7 +39,7 @@ pub record AgentRecord (H P : Type 0) : Type 0 where
   pub pairs : List PairRecord
   pub next_number : ℕ
   -- the number of the pair that was announced last
-  pub announced : Option ℕ
+  pub selected_pair : Option ℕ
   -- the requests that wait for remote credentials
   pub queue : List RequestRecord
   pub state : IceConnectionState
@@ -49,7 +49,7 @@ pub record AgentRecord (H P : Type 0) : Type 0 where
   pub packets : List Packet
   pub events : List IceAgentEvent
   -- the sources that were told of, and what was counted
-  pub seen : List Source
+  pub discovered_sources : List Source
   pub stats : IceAgentStats
 
 abbrev pub no_stats : IceAgentStats
@@ -85,13 +85,13 @@ module _ {H P : Type 0} where
     remote = [];
     pairs = [];
     next_number = 0;
-    announced = None;
+    selected_pair = None;
     queue = [];
     state = New;
     last_moment = None;
     packets = [];
     events = [];
-    seen = [];
+    discovered_sources = [];
     stats = no_stats;
   }
 

@@ -15,9 +15,9 @@ use Rattle.is_pair.specs.Checks.{Check}
 use Rattle.is_pair.specs.Pairs.{PairRecord, TakesAnswer}
 use Rattle.is_stun.specs.Checks.{ROLE_CONFLICT}
 use Rattle.is_stun.specs.Message.{Message}
-use Rattle.is_rules.specs.declared.told.Path.{Path}
-use Rattle.is_rules.specs.declared.told.Told.{Told}
-use Rattle.is_rules.specs.Told.{announced_alone}
+use Rattle.is_rules.specs.declared.emitted.Path.{Path}
+use Rattle.is_rules.specs.declared.emitted.Emitted.{Emitted}
+use Rattle.is_rules.specs.Emitted.{announced_only}
 use Rattle.is_rules.specs.Agent.{AgentRecord}
 use Rattle.is_rules.specs.Sending.{path_of}
 use Rattle.is_rules.specs.Nominating.{Nominates}
@@ -40,12 +40,12 @@ joined_by (Some c) cs = cs ++ c ∷ []
 
 -- a packet of the first path came back on the second one; protocols are not compared
 abbrev pub goes_back : Path → Path → Bool
-goes_back way path = same_address way.source path.destination && same_address way.destination path.source
+goes_back via path = same_address via.source path.destination && same_address via.destination path.source
 
 module _ {H P : Type 0} where
   -- and the packet came back on the pair's path
   abbrev pub keeps_check_on : AgentRecord H P → Path → List ℕ → PairRecord → Bool
-  keeps_check_on a way id p = keeps_check id p && goes_back way (path_of a p)
+  keeps_check_on a via id p = keeps_check id p && goes_back via (path_of a p)
 
   -- ---- success: any pair and kept check with the id, on the packet's path, may take it
 
@@ -68,27 +68,27 @@ module _ {H P : Type 0} where
 
   -- the pair at the place takes the answer
   abbrev pub Records : ℕ → AgentRecord H P → Path → Message → AgentRecord H P → Type 0
-  Records now old way m new =
+  Records now old via m new =
       (place : ℕ) × (p after : PairRecord)
-      × (slice_get old.pairs place ≡ Some p) × (keeps_check_on old way m.id p ≡ true) × TakesAnswer p now m.id after
+      × (slice_get old.pairs place ≡ Some p) × (keeps_check_on old via m.id p ≡ true) × TakesAnswer p now m.id after
       × (new ≡ record (mapped_learnt p m.attributes.xor_mapped_address (success_counted old)) { pairs = slice_set old.pairs place after })
 
-  abbrev pub Concludes : ℕ → AgentRecord H P → Told → AgentRecord H P → Type 0
-  Concludes now old told new =
-      (path : Option Path) × (mid : AgentRecord H P) × Nominates old path mid × (told ≡ announced_alone path) × (new ≡ evaluated now mid)
+  abbrev pub Concludes : ℕ → AgentRecord H P → Emitted → AgentRecord H P → Type 0
+  Concludes now old emitted new =
+      (path : Option Path) × (mid : AgentRecord H P) × Nominates old path mid × (emitted ≡ announced_only path) × (new ≡ evaluated now mid)
 
   -- then nomination and state are evaluated
-  abbrev pub TakesSuccess : ℕ → AgentRecord H P → Path → Message → Told → AgentRecord H P → Type 0
-  TakesSuccess now old way m told new =
-      (recorded : AgentRecord H P) × Records now old way m recorded × Concludes now recorded told new
+  abbrev pub TakesSuccess : ℕ → AgentRecord H P → Path → Message → Emitted → AgentRecord H P → Type 0
+  TakesSuccess now old via m emitted new =
+      (recorded : AgentRecord H P) × Records now old via m recorded × Concludes now recorded emitted new
 
   -- ---- failure: a 487 (RFC 8445, section 7.2.5.1) acts only where its check was sent under the present role
 
   -- nomination and state are not evaluated, and the check is not answered
-  abbrev pub GivesUpRole : AgentRecord H P → Path → Message → Told → AgentRecord H P → Type 0
-  GivesUpRole old way m told new =
-      (p : PairRecord) × (c : Check) × Has old.pairs p × (keeps_check_on old way m.id p ≡ true) × Has p.checks c × (c.id ≡ m.id)
-      × MatchBool (same c.controlling old.controlling) (Drops (switched old) told new) (Drops old told new)
+  abbrev pub GivesUpRole : AgentRecord H P → Path → Message → Emitted → AgentRecord H P → Type 0
+  GivesUpRole old via m emitted new =
+      (p : PairRecord) × (c : Check) × Has old.pairs p × (keeps_check_on old via m.id p ≡ true) × Has p.checks c × (c.id ≡ m.id)
+      × MatchBool (same c.controlling old.controlling) (Drops (switched old) emitted new) (Drops old emitted new)
 
-  abbrev pub TakesFailure : AgentRecord H P → Path → Message → Told → AgentRecord H P → Type 0
-  TakesFailure old way m told new = MatchBool (is_role_conflict m) (GivesUpRole old way m told new) (Drops old told new)
+  abbrev pub TakesFailure : AgentRecord H P → Path → Message → Emitted → AgentRecord H P → Type 0
+  TakesFailure old via m emitted new = MatchBool (is_role_conflict m) (GivesUpRole old via m emitted new) (Drops old emitted new)

@@ -9,7 +9,7 @@ use Rattle.is_stun.specs.Message.{Message}
 use Rattle.is_rules.specs.Agent.{AgentRecord}
 use Rattle.is_rules.specs.Answers.{goes_back}
 use Rattle.is_rules.specs.Brought.{Brings, IsServing}
-use Rattle.is_rules.specs.declared.told.Path.{Path}
+use Rattle.is_rules.specs.declared.emitted.Path.{Path}
 use Rattle.is_rules.specs.Logs.{Logged}
 use Rattle.is_rules.specs.Queue.{request_at}
 use Rattle.is_rules.specs.Request.{RequestRecord}
@@ -18,7 +18,7 @@ use Rattle.is_rules.specs.Runs.{IsFresh, Point, IsTopPath}
 use Rattle.is_rules.specs.Sending.{path_of}
 use Rattle.is_rules.specs.Staying.{MayEnd}
 use Rattle.is_rules.specs.Steps.{HandleTimeout, Done}
-use Rattle.is_rules.specs.Told.{issued_as}
+use Rattle.is_rules.specs.Emitted.{issued_as}
 
 -- an accepted success came back on the path
 abbrev pub IsAnsweredOn : {P : Type 0} → Logged P → Path → Type 0
@@ -40,7 +40,7 @@ module _ {H P : Type 0} where
   abbrev pub IsAskedOn : AgentRecord H P → Logged P → AgentRecord H P → Path → Type 0
   IsAskedOn old x new path =
       (q : RequestRecord) × (id : List ℕ) × IsServing old x.call x.entry q × (q.use_candidate ≡ true)
-      × (x.entry.told.issued ≡ Some (issued_as path class.Success id)) × (new.controlling ≡ false)
+      × (x.entry.emitted.issued ≡ Some (issued_as path class.Success id)) × (new.controlling ≡ false)
 
   module _ (mac : H → List ℕ → List ℕ → List ℕ) (answers : P → CandidateRecord → ℕ → ℕ → Type 0) where
     -- an entry of the part asks for the path

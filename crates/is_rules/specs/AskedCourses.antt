@@ -6,7 +6,7 @@ use Rattle.is_candidate.specs.Candidates.{CandidateRecord}
 use Rattle.is_pair.specs.Pairs.{PairRecord}
 use Rattle.is_stun.specs.declared.header.Class.TheVariants as class
 use Rattle.is_stun.specs.Message.{Message}
-use Rattle.is_rules.specs.declared.told.Path.{Path}
+use Rattle.is_rules.specs.declared.emitted.Path.{Path}
 use Rattle.is_rules.specs.Agent.{AgentRecord}
 use Rattle.is_rules.specs.Answers.{goes_back}
 use Rattle.is_rules.specs.Asked.{Joins, IsAlone}
@@ -29,7 +29,7 @@ abbrev pub IsAnsweredAlong : {P : Type 0} → List (Call P × Entry) → Path �
 IsAnsweredAlong xs path = (x : Call _ × Entry) × Has xs x × AcceptsSuccessOn x.0 x.1 path
 
 abbrev pub AnnouncesAlong : {P : Type 0} → List (Call P × Entry) → Type 0
-AnnouncesAlong xs = (x : Call _ × Entry) × Has xs x × (is_some (last_of x.1.told.announced) ≡ true)
+AnnouncesAlong xs = (x : Call _ × Entry) × Has xs x × (is_some (last_of x.1.emitted.announced) ≡ true)
 
 module _ {H P : Type 0} where
   -- the step may take away a pair that joins the path

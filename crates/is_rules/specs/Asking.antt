@@ -6,17 +6,17 @@ use Rattle.is_proto.specs.Packets.{Packet}
 use Rattle.is_candidate.specs.Candidates.{CandidateRecord}
 use Rattle.is_pair.specs.Pairs.{PairRecord, is_nominated}
 use Rattle.is_stun.specs.declared.header.Class.TheVariants.{Request, Success}
-use Rattle.is_rules.specs.declared.told.Path.{Path}
+use Rattle.is_rules.specs.declared.emitted.Path.{Path}
 use Rattle.is_rules.specs.Agent.{AgentRecord}
 use Rattle.is_rules.specs.Brought.{IsServing}
 use Rattle.is_rules.specs.Delivery.{KnowEachOther, IsReachedBy, Sends, Delivered}
 use Rattle.is_rules.specs.Exchange.{AreBetween, Course}
-use Rattle.is_rules.specs.Issuing.{way_out}
+use Rattle.is_rules.specs.Issuing.{via_out}
 use Rattle.is_rules.specs.Request.{RequestRecord}
 use Rattle.is_rules.specs.Sending.{path_of}
 use Rattle.is_rules.specs.Sound.{IsSound}
 use Rattle.is_rules.specs.Steps.{Call, Entry, HandleTimeout, ReceivePacket, Step}
-use Rattle.is_rules.specs.Told.{issued_as, turned}
+use Rattle.is_rules.specs.Emitted.{issued_as, reversed}
 
 module _ {H P : Type 0} where
   -- each pair on the path is nominated
@@ -26,7 +26,7 @@ module _ {H P : Type 0} where
   -- the step serves a request that asks for the path, and answers it with success
   abbrev pub Grants : AgentRecord H P → Call P → Entry → Path → Type 0
   Grants old call e path =
-      (q : RequestRecord) × (id : List ℕ) × IsServing old call e q × (q.use_candidate ≡ true) × (e.told.issued ≡ Some (issued_as path Success id))
+      (q : RequestRecord) × (id : List ℕ) × IsServing old call e q × (q.use_candidate ≡ true) × (e.emitted.issued ≡ Some (issued_as path Success id))
 
   module _ (mac : H → List ℕ → List ℕ → List ℕ) (answers : P → CandidateRecord → ℕ → ℕ → Type 0) where
     -- A check that a controlling agent sends at a moment on a path whose pairs are nominated behind it, delivered to the controlled one that knows
@@ -35,6 +35,6 @@ module _ {H P : Type 0} where
     ChecksAsk =
         (a sent near b served : AgentRecord H P) (s t : Stream) (now at : ℕ) (check : Packet) (id : List ℕ) (moment handed : Entry) (xs : List (Call P × Entry))
         → IsSound a → IsSound b → Step mac answers a s (HandleTimeout now) moment sent t → Sends a moment Request id check sent
-        → a.controlling ≡ true → AreNominatedOn sent (way_out check) → AreBetween xs → Course mac answers xs sent near
-        → KnowEachOther mac near b → b.controlling ≡ false → IsReachedBy b (way_out check) → Delivered mac answers check at b handed served
-        → Grants b (ReceivePacket at (way_out check) check.contents) handed (turned (way_out check))
+        → a.controlling ≡ true → AreNominatedOn sent (via_out check) → AreBetween xs → Course mac answers xs sent near
+        → KnowEachOther mac near b → b.controlling ≡ false → IsReachedBy b (via_out check) → Delivered mac answers check at b handed served
+        → Grants b (ReceivePacket at (via_out check) check.contents) handed (reversed (via_out check))

@@ -8,13 +8,13 @@ use Rattle.is_stun.specs.Integrity.{IsSignedBy}
 use Rattle.is_stun.specs.Message.{Message}
 use Rattle.is_stun.specs.Reading.{Reads}
 use Rattle.is_rules.specs.declared.credentials.IceCreds.{IceCreds}
-use Rattle.is_rules.specs.declared.told.Path.{Path}
+use Rattle.is_rules.specs.declared.emitted.Path.{Path}
 use Rattle.is_rules.specs.Places.{local_place}
 use Rattle.is_rules.specs.Request.{RequestRecord, request_in}
 use Rattle.is_rules.specs.Steps.{Done, Flag, Entry}
 use Rattle.is_rules.specs.declared.roles.Conflict.{Conflict}
 use Rattle.is_rules.specs.declared.roles.Conflict.TheVariants.{Yields}
-use Rattle.is_rules.specs.Told.{turned}
+use Rattle.is_rules.specs.Emitted.{reversed}
 use Rattle.is_rules.specs.Agent.{AgentRecord}
 use Rattle.is_rules.specs.Sending.{path_of}
 use Rattle.is_rules.specs.Roles.{conflict_of}
@@ -30,7 +30,7 @@ role_once _ controlling = controlling
 
 -- this message, by this path at this moment, and it was accepted
 abbrev pub Brings : {P : Type 0} → Call P → Entry → ℕ → Path → Message → Type 0
-Brings (ReceivePacket now way bytes) e at by m = (now ≡ at) × (way ≡ by) × Reads bytes m × (e.answer ≡ Flag true)
+Brings (ReceivePacket now path bytes) e at by m = (now ≡ at) × (path ≡ by) × Reads bytes m × (e.answer ≡ Flag true)
 Brings _ e at by m = ⊥
 
 -- a request that was accepted now
@@ -68,7 +68,7 @@ module _ {H P : Type 0} where
 
   -- the peer nominates the path
   abbrev pub IsAskedFor : AgentRecord H P → Call P → Entry → Path → Type 0
-  IsAskedFor old call e path = (q : RequestRecord) × IsServing old call e q × (q.use_candidate ≡ true) × (turned q.path ≡ path)
+  IsAskedFor old call e path = (q : RequestRecord) × IsServing old call e q × (q.use_candidate ≡ true) × (reversed q.path ≡ path)
 
   -- ----
 

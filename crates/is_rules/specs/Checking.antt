@@ -12,8 +12,8 @@ use Rattle.is_stun.specs.Checks.{binding_request}
 use Rattle.is_stun.specs.Laws.{IsPut}
 use Rattle.is_stun.specs.Writing.{written}
 use Rattle.is_rules.specs.declared.credentials.IceCreds.{IceCreds}
-use Rattle.is_rules.specs.declared.told.Issued.{Issued}
-use Rattle.is_rules.specs.Told.{issued_as}
+use Rattle.is_rules.specs.declared.emitted.Issued.{Issued}
+use Rattle.is_rules.specs.Emitted.{issued_as}
 use Rattle.is_pair.specs.Bag.{change_pair}
 use Rattle.is_rules.specs.Agent.{AgentRecord}
 use Rattle.is_rules.specs.Sending.{with_packet, path_of}

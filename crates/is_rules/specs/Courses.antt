@@ -9,7 +9,7 @@ use Rattle.is_pair.specs.Pairs.{PairRecord}
 use Rattle.is_pair.specs.Turns.{due_by}
 use Rattle.is_stun.specs.declared.header.Class.TheVariants as class
 use Rattle.is_stun.specs.Message.{Message}
-use Rattle.is_rules.specs.declared.told.Path.{Path}
+use Rattle.is_rules.specs.declared.emitted.Path.{Path}
 use Rattle.is_rules.specs.Agent.{AgentRecord}
 use Rattle.is_rules.specs.Brought.{Brings}
 use Rattle.is_rules.specs.Effects.{last_of}
@@ -18,7 +18,7 @@ use Rattle.is_rules.specs.Progress.{Awaits, IsUnanswered}
 use Rattle.is_rules.specs.Runs.{IsFresh}
 use Rattle.is_rules.specs.Sending.{path_of}
 use Rattle.is_rules.specs.Steps.{Call, Entry, HandleTimeout, Done, Step}
-use Rattle.is_rules.specs.Told.{issued_as}
+use Rattle.is_rules.specs.Emitted.{issued_as}
 
 -- a moment with what became of it, and what came behind it, oldest first
 pub record CourseRound (P : Type 0) : Type 0 where
@@ -36,13 +36,13 @@ pub record IsAnsweredRound {P : Type 0} (by : ℕ) (path : Path) (r : CourseRoun
   pub late : by < r.now
   pub early : r.now < MAX
   pub between : AreBetween r.behind
-  pub met : (id : List ℕ) → r.moment.told.issued ≡ Some (issued_as path class.Request id)
+  pub met : (id : List ℕ) → r.moment.emitted.issued ≡ Some (issued_as path class.Request id)
       → (x : Call P × Entry) × Has r.behind x × AcceptsSuccess x.0 x.1
 
 -- an accepted success announces a path in one of the rounds
 abbrev pub AnnouncesAmong : {P : Type 0} → List (CourseRound P) → Type 0
 AnnouncesAmong rounds =
-    (r : CourseRound _) × Has rounds r × ((x : Call _ × Entry) × Has r.behind x × AcceptsSuccess x.0 x.1 × (is_some (last_of x.1.told.announced) ≡ true))
+    (r : CourseRound _) × Has rounds r × ((x : Call _ × Entry) × Has r.behind x × AcceptsSuccess x.0 x.1 × (is_some (last_of x.1.emitted.announced) ≡ true))
 
 module _ {H P : Type 0} (mac : H → List ℕ → List ℕ → List ℕ) (answers : P → CandidateRecord → ℕ → ℕ → Type 0) where
   -- controlling behind each call

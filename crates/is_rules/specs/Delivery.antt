@@ -9,16 +9,16 @@ use Rattle.is_candidate.specs.Kinds.{is_direct}
 use Rattle.is_stun.specs.declared.header.Class.{Class}
 use Rattle.is_stun.specs.declared.header.Class.TheVariants.{Request, Success}
 use Rattle.is_stun.specs.Message.{Message}
-use Rattle.is_rules.specs.declared.told.Path.{Path}
+use Rattle.is_rules.specs.declared.emitted.Path.{Path}
 use Rattle.is_rules.specs.Agent.{AgentRecord}
 use Rattle.is_rules.specs.Answers.{keeps_check_on}
 use Rattle.is_rules.specs.Brought.{Brings}
 use Rattle.is_rules.specs.Fitting.{are_too_long}
-use Rattle.is_rules.specs.Issuing.{way_out}
+use Rattle.is_rules.specs.Issuing.{via_out}
 use Rattle.is_rules.specs.Places.{is_at, is_live}
 use Rattle.is_rules.specs.Sound.{IsSound}
 use Rattle.is_rules.specs.Steps.{Call, Entry, HandleTimeout, ReceivePacket, Step, is_refusal}
-use Rattle.is_rules.specs.Told.{issued_as, turned}
+use Rattle.is_rules.specs.Emitted.{issued_as, reversed}
 
 -- a user fragment that stands in user names: not empty, and without a colon (RFC 8445, section 5.3)
 pub record IsFragment (ufrag : List ℕ) : Type 0 where
@@ -27,11 +27,11 @@ pub record IsFragment (ufrag : List ℕ) : Type 0 where
 
 -- the candidate receives what comes on the way (RFC 8445, section 7.3)
 abbrev pub receives : Path → CandidateRecord → Bool
-receives way c = is_direct c.kind && is_at way.destination way.proto c
+receives path c = is_direct c.kind && is_at path.destination path.proto c
 
 -- the way begins at the candidate, and it was discarded
 abbrev pub is_gone_at : Path → CandidateRecord → Bool
-is_gone_at way c = is_at way.source way.proto c && c.discarded
+is_gone_at path c = is_at path.source path.proto c && c.discarded
 
 module _ {H P : Type 0} where
   -- the agents have each other's credentials, which fit into user names, and compute the same MACs, of twenty bytes
@@ -45,13 +45,13 @@ module _ {H P : Type 0} where
     pub twenty : (key text : List ℕ) → length (mac a.provider key text) ≡ 20
 
   -- the way leads to a candidate that stands, and from none that was discarded
-  pub record IsReachedBy (a : AgentRecord H P) (way : Path) : Type 0 where
-    pub there : list_any (is_live (receives way)) a.local ≡ true
-    pub from : list_any (is_gone_at way) a.remote ≡ false
+  pub record IsReachedBy (a : AgentRecord H P) (path : Path) : Type 0 where
+    pub there : list_any (is_live (receives path)) a.local ≡ true
+    pub from : list_any (is_gone_at path) a.remote ≡ false
 
   -- the step tells of this packet, and puts it behind the others
   pub record Sends (old : AgentRecord H P) (e : Entry) (class : Class) (id : List ℕ) (packet : Packet) (new : AgentRecord H P) : Type 0 where
-    pub told : e.told.issued ≡ Some (issued_as (way_out packet) class id)
+    pub emitted : e.emitted.issued ≡ Some (issued_as (via_out packet) class id)
     pub put : new.packets ≡ old.packets ++ packet ∷ []
 
   module _ (mac : H → List ℕ → List ℕ → List ℕ) (answers : P → CandidateRecord → ℕ → ℕ → Type 0) where
@@ -59,13 +59,13 @@ module _ {H P : Type 0} where
     pub record Delivered (packet : Packet) (at : ℕ) (old : AgentRecord H P) (e : Entry) (new : AgentRecord H P) : Type 0 where
       pub before : Stream
       pub behind : Stream
-      pub step : Step mac answers old before (ReceivePacket at (way_out packet) packet.contents) e new behind
+      pub step : Step mac answers old before (ReceivePacket at (via_out packet) packet.contents) e new behind
       pub granted : is_refusal e.answer ≡ false
 
     -- it was accepted, and reads as a message of the class
     abbrev pub IsTaken : Packet → ℕ → Entry → Class → Type 0
     IsTaken packet at e class =
-        (m : Message) × Brings {P = P} (ReceivePacket at (way_out packet) packet.contents) e at (way_out packet) m × (m.class ≡ class)
+        (m : Message) × Brings {P = P} (ReceivePacket at (via_out packet) packet.contents) e at (via_out packet) m × (m.class ≡ class)
 
     -- the step of a call issues the packet
     pub record Issued (class : Class) (id : List ℕ) (packet : Packet) (old : AgentRecord H P) (new : AgentRecord H P) : Type 0 where
@@ -81,17 +81,17 @@ module _ {H P : Type 0} where
     abbrev pub ChecksAreServed : Type 0
     ChecksAreServed =
         (a sent b served : AgentRecord H P) (check : Packet) (id : List ℕ) (at : ℕ) (e : Entry)
-        → IsSound a → IsSound b → KnowEachOther mac a b → b.controlling ≡ not a.controlling → IsReachedBy b (way_out check)
+        → IsSound a → IsSound b → KnowEachOther mac a b → b.controlling ≡ not a.controlling → IsReachedBy b (via_out check)
         → Issued Request id check a sent → Delivered check at b e served
         → IsTaken check at e Request
-        × ((reply : Packet) × (way_out reply ≡ turned (way_out check)) × Sends b e Success id reply served)
+        × ((reply : Packet) × (via_out reply ≡ reversed (via_out check)) × Sends b e Success id reply served)
 
     -- And that success, delivered to the first while it keeps the check, is accepted.
     abbrev pub RepliesAreAccepted : Type 0
     RepliesAreAccepted =
         (a taken b served : AgentRecord H P) (reply : Packet) (id : List ℕ) (at : ℕ) (e : Entry)
         → IsSound b → KnowEachOther mac a b → Issued Success id reply b served
-        → list_any (keeps_check_on a (way_out reply) id) a.pairs ≡ true → Delivered reply at a e taken
+        → list_any (keeps_check_on a (via_out reply) id) a.pairs ≡ true → Delivered reply at a e taken
         → IsTaken reply at e Success
 
     -- A moment that sends a check keeps it, and so its way back.
@@ -99,4 +99,4 @@ module _ {H P : Type 0} where
     ChecksAreKept =
         (a sent : AgentRecord H P) (s t : Stream) (now : ℕ) (check : Packet) (id : List ℕ) (e : Entry)
         → IsSound a → Step mac answers a s (HandleTimeout now) e sent t → Sends a e Request id check sent
-        → list_any (keeps_check_on sent (turned (way_out check)) id) sent.pairs ≡ true
+        → list_any (keeps_check_on sent (reversed (via_out check)) id) sent.pairs ≡ true

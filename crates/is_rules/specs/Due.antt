@@ -11,7 +11,7 @@ use Rattle.is_pair.specs.Due.{is_due}
 use Rattle.is_pair.specs.Pairs.{PairRecord, is_nominated, is_valid}
 use Rattle.is_stun.specs.declared.timing.StunTiming.{StunTiming}
 use Rattle.is_rules.specs.declared.checking.Draft.{Draft}
-use Rattle.is_rules.specs.declared.told.Path.{Path}
+use Rattle.is_rules.specs.declared.emitted.Path.{Path}
 use Rattle.is_rules.specs.Agent.{AgentRecord}
 use Rattle.is_rules.specs.Answers.{keeps_check_on, success_counted}
 use Rattle.is_rules.specs.Sending.{path_of}
@@ -44,7 +44,7 @@ module _ {H P : Type 0} where
 
   -- the pair of the number keeps a check with the id, and the packet came back on its path
   abbrev pub KeepsCheckOn : AgentRecord H P → Path → List ℕ → ℕ → Type 0
-  KeepsCheckOn a way id number = (p : PairRecord) × (pair_numbered number a.pairs ≡ Some p) × (keeps_check_on a way id p ≡ true)
+  KeepsCheckOn a path id number = (p : PairRecord) × (pair_numbered number a.pairs ≡ Some p) × (keeps_check_on a path id p ≡ true)
 
   -- what is recorded of an answer, once room is made
   abbrev pub IsRecorded : ℕ → ℕ → List ℕ → List CandidateRecord → AgentRecord H P → AgentRecord H P → Type 0

@@ -10,11 +10,11 @@ use Rattle.is_stun.specs.declared.header.Class.TheVariants as class
 use Rattle.is_stun.specs.Message.{Message}
 use Rattle.is_stun.specs.Reading.{Reads}
 use Rattle.is_rules.specs.declared.credentials.IceCreds.{IceCreds}
-use Rattle.is_rules.specs.declared.told.Issued.{Issued}
-use Rattle.is_rules.specs.declared.told.Path.{Path}
+use Rattle.is_rules.specs.declared.emitted.Issued.{Issued}
+use Rattle.is_rules.specs.declared.emitted.Path.{Path}
 use Rattle.is_rules.specs.Request.{RequestRecord}
 use Rattle.is_rules.specs.Steps.{Answer, Entry, is_done, is_refusal, is_turned_down}
-use Rattle.is_rules.specs.Told.{nothing_told, issued_as, turned}
+use Rattle.is_rules.specs.Emitted.{nothing_emitted, issued_as, reversed}
 use Rattle.is_rules.specs.Agent.{AgentRecord}
 use Rattle.is_rules.specs.Sending.{path_of}
 use Rattle.is_rules.specs.Roles.{conflict_of}
@@ -27,7 +27,7 @@ use Rattle.is_rules.specs.Brought.{role_once, Brings, IsBrought, IsKept, IsValid
 use Rattle.is_rules.specs.Brought.{IsServedPastTests, IsAnswered, YieldsTo, IsRefusedBy, IsRoleSet}
 use Rattle.is_rules.specs.Owed.{Owes}
 use Rattle.is_rules.specs.Points.{IsNominationPoint, IsTopAnnounced, AnswersAreValid}
-use Rattle.is_rules.specs.Issuing.{way_out, Queues, Waits, IsIssued}
+use Rattle.is_rules.specs.Issuing.{via_out, Queues, Waits, IsIssued}
 
 -- ---- what calls that answer Ok set
 
@@ -73,7 +73,7 @@ module _ {H P : Type 0} where
   module _ (mac : H → List ℕ → List ℕ → List ℕ) where
     -- the call brought bytes that do not read as a message that is accepted
     abbrev pub IsTurnedDown : AgentRecord H P → Call P → Type 0
-    IsTurnedDown old (ReceivePacket now way bytes) = ¬ ((m : Message) × Reads bytes m × IsAcceptedOn mac old way m)
+    IsTurnedDown old (ReceivePacket now path bytes) = ¬ ((m : Message) × Reads bytes m × IsAcceptedOn mac old path m)
     IsTurnedDown old _ = ⊥
 
     -- ---- paths: what the theorems of one agent stand on. Fields with a premise on lite are those that lite breaks
@@ -92,29 +92,29 @@ module _ {H P : Type 0} where
       -- a kept check was there, on its path, or went out now under the role that stays
       pub checks : (path : Path) (id : List ℕ) (controlling : Bool) → IsKept new path id controlling
           → IsKept old path id controlling
-          ⊎ ((e.told.issued ≡ Some (issued_as path class.Request id)) × (controlling ≡ old.controlling) × (new.controlling ≡ old.controlling))
+          ⊎ ((e.emitted.issued ≡ Some (issued_as path class.Request id)) × (controlling ≡ old.controlling) × (new.controlling ≡ old.controlling))
       -- a valid path was valid, or is answered now
       pub valid : old.lite ≡ false → (path : Path) → IsValidOn new path → IsValidOn old path ⊎ IsAnswered mac old call e path
       -- while the agent is controlled, a nominated path was nominated, or is asked for now
       pub nominated : old.lite ≡ false → old.controlling ≡ false → new.controlling ≡ false
           → (path : Path) → IsNominatedOn new path → IsNominatedOn old path ⊎ IsAskedFor old call e path
       -- a success is the reply to the request that is served; and where that asks for it, the path is nominated while the agent is controlled
-      pub replied : (issued : Issued) → e.told.issued ≡ Some issued → issued.class ≡ class.Success
-          → (q : RequestRecord) × IsServing old call e q × (issued ≡ issued_as (turned q.path) class.Success q.id)
-          × (q.use_candidate ≡ true → new.controlling ≡ false → IsNominatedOn new (turned q.path))
+      pub replied : (issued : Issued) → e.emitted.issued ≡ Some issued → issued.class ≡ class.Success
+          → (q : RequestRecord) × IsServing old call e q × (issued ≡ issued_as (reversed q.path) class.Success q.id)
+          × (q.use_candidate ≡ true → new.controlling ≡ false → IsNominatedOn new (reversed q.path))
       -- an announced path was valid, or is answered now; while the agent is controlled it was nominated, or is asked for now
-      pub announced : old.lite ≡ false → (path : Path) → Has e.told.announced (Some path)
+      pub announced : old.lite ≡ false → (path : Path) → Has e.emitted.announced (Some path)
           → IsValidOn old path ⊎ IsAnswered mac old call e path
       pub announced_asked : old.lite ≡ false → old.controlling ≡ false → new.controlling ≡ false
-          → (path : Path) → Has e.told.announced (Some path) → IsNominatedOn old path ⊎ IsAskedFor old call e path
+          → (path : Path) → Has e.emitted.announced (Some path) → IsNominatedOn old path ⊎ IsAskedFor old call e path
       -- the announced number stays where no path is announced; else it is that of the last path, whose pair is valid and
       -- nominated where it still stands
-      pub number_stays : last_of e.told.announced ≡ None → new.announced ≡ old.announced
-      pub number_names : (path : Path) → last_of e.told.announced ≡ Some path
-          → (p : PairRecord) → Has new.pairs p → new.announced ≡ Some p.number
+      pub number_stays : last_of e.emitted.announced ≡ None → new.selected_pair ≡ old.selected_pair
+      pub number_names : (path : Path) → last_of e.emitted.announced ≡ Some path
+          → (p : PairRecord) → Has new.pairs p → new.selected_pair ≡ Some p.number
           → (path_of new p ≡ path) × (is_valid p ≡ true) × (is_nominated p ≡ true)
       -- a clear tells nothing, and leaves new pairs alone, without checks, validity and nomination
-      pub cleared : clears call e.answer ≡ true → e.told ≡ nothing_told
+      pub cleared : clears call e.answer ≡ true → e.emitted ≡ nothing_emitted
       pub cleared_pairs : clears call e.answer ≡ true → (p : PairRecord) → Has new.pairs p
           → (old.next_number ≤ p.number) × (is_valid p ≡ false) × (is_nominated p ≡ false) × (p.checks ≡ [])
       -- numbers rise, no number is given twice, and a pair keeps its path, its validity and its nomination
@@ -131,12 +131,12 @@ module _ {H P : Type 0} where
       pub tie_breaker : new.tie_breaker ≡ tie_set_by call old.tie_breaker
       pub local_creds : new.local_creds ≡ local_after call e.answer old.local_creds
       -- a refusal leaves the record, and tells nothing; and so do bytes that are not accepted
-      pub refused : is_refusal e.answer ≡ true → (new ≡ old) × (e.told ≡ nothing_told)
-      pub turned_down : IsTurnedDown old call → (new ≡ old) × (e.told ≡ nothing_told) × (is_turned_down e.answer ≡ true)
+      pub refused : is_refusal e.answer ≡ true → (new ≡ old) × (e.emitted ≡ nothing_emitted)
+      pub turned_down : IsTurnedDown old call → (new ≡ old) × (e.emitted ≡ nothing_emitted) × (is_turned_down e.answer ≡ true)
       -- a packet was there, or is issued now; what is told to be issued stands among the packets
       pub packets : (packet : Packet) → Has new.packets packet → Has old.packets packet ⊎ IsIssued mac old call e packet new.controlling
-      pub issued : (issued : Issued) → e.told.issued ≡ Some issued
-          → (packet : Packet) × Has new.packets packet × (way_out packet ≡ issued.path) × IsIssued mac old call e packet new.controlling
+      pub issued : (issued : Issued) → e.emitted.issued ≡ Some issued
+          → (packet : Packet) × Has new.packets packet × (via_out packet ≡ issued.path) × IsIssued mac old call e packet new.controlling
       pub sends : Queues call e old.packets new.packets
       pub waits : Waits old call e new
       -- the role stays, or yields, or is given up, or is set

@@ -6,15 +6,15 @@ use Rattle.is_proto.specs.Lists.{Has}
 use Rattle.is_proto.specs.Packets.{Packet}
 use Rattle.is_candidate.specs.Candidates.{CandidateRecord}
 use Rattle.is_stun.specs.declared.header.Class.TheVariants.{Request, Success}
-use Rattle.is_rules.specs.declared.told.Path.{Path}
+use Rattle.is_rules.specs.declared.emitted.Path.{Path}
 use Rattle.is_rules.specs.Agent.{AgentRecord}
 use Rattle.is_rules.specs.Answers.{keeps_check_on}
 use Rattle.is_rules.specs.Delivery.{KnowEachOther, IsReachedBy, Sends, Delivered, IsTaken}
-use Rattle.is_rules.specs.Issuing.{way_out}
+use Rattle.is_rules.specs.Issuing.{via_out}
 use Rattle.is_rules.specs.Rounds.{is_between}
 use Rattle.is_rules.specs.Sound.{IsSound, GivesBased}
 use Rattle.is_rules.specs.Steps.{Call, Entry, HandleTimeout, Step}
-use Rattle.is_rules.specs.Told.{turned}
+use Rattle.is_rules.specs.Emitted.{reversed}
 
 -- polls, and packets that come
 abbrev pub AreBetween : {P : Type 0} → List (Call P × Entry) → Type 0
@@ -30,8 +30,8 @@ module _ {H P : Type 0} (mac : H → List ℕ → List ℕ → List ℕ) (answer
   -- Polls and packets leave each check that is kept, on its path: an answer marks it alone, and is accepted where it comes again.
   abbrev pub ChecksStay : Type 0
   ChecksStay =
-      (old new : AgentRecord H P) (xs : List (Call P × Entry)) (way : Path) (id : List ℕ) → IsSound old → AreBetween xs → Course xs old new
-      → list_any (keeps_check_on old way id) old.pairs ≡ true → list_any (keeps_check_on new way id) new.pairs ≡ true
+      (old new : AgentRecord H P) (xs : List (Call P × Entry)) (path : Path) (id : List ℕ) → IsSound old → AreBetween xs → Course xs old new
+      → list_any (keeps_check_on old path id) old.pairs ≡ true → list_any (keeps_check_on new path id) new.pairs ≡ true
 
   -- One of two agents that know each other sends a check at a moment, which is delivered to the other while its role differs from the one
   -- that the check was sent under. Then it is accepted, and its success, delivered before the first one's next moment, is accepted too.
@@ -40,8 +40,8 @@ module _ {H P : Type 0} (mac : H → List ℕ → List ℕ → List ℕ) (answer
       (a sent near b served : AgentRecord H P) (s t : Stream) (now at : ℕ) (check : Packet) (id : List ℕ) (moment handed : Entry) (xs : List (Call P × Entry))
       → IsSound a → IsSound b → Step mac answers a s (HandleTimeout now) moment sent t → Sends a moment Request id check sent
       → AreBetween xs → Course xs sent near
-      → KnowEachOther mac near b → b.controlling ≡ not a.controlling → IsReachedBy b (way_out check) → Delivered mac answers check at b handed served
+      → KnowEachOther mac near b → b.controlling ≡ not a.controlling → IsReachedBy b (via_out check) → Delivered mac answers check at b handed served
       → IsTaken mac answers check at handed Request
-      × ((reply : Packet) × (way_out reply ≡ turned (way_out check)) × Sends b handed Success id reply served
+      × ((reply : Packet) × (via_out reply ≡ reversed (via_out check)) × Sends b handed Success id reply served
       × ((mid taken : AgentRecord H P) (ys : List (Call P × Entry)) (back : ℕ) (returned : Entry) → AreBetween ys → Course ys near mid
       → Delivered mac answers reply back mid returned taken → IsTaken mac answers reply back returned Success))

@@ -11,13 +11,13 @@ use Rattle.is_stun.specs.Checks.{binding_request, binding_reply, binding_role_co
 use Rattle.is_stun.specs.Writing.{written}
 use Rattle.is_stun.specs.Laws.{IsPut}
 use Rattle.is_rules.specs.declared.credentials.IceCreds.{IceCreds}
-use Rattle.is_rules.specs.declared.told.Issued.{Issued}
-use Rattle.is_rules.specs.declared.told.Path.{Path}
+use Rattle.is_rules.specs.declared.emitted.Issued.{Issued}
+use Rattle.is_rules.specs.declared.emitted.Path.{Path}
 use Rattle.is_rules.specs.Request.{RequestRecord, request_in}
 use Rattle.is_rules.specs.Polls.{IsPolled}
 use Rattle.is_rules.specs.Steps.{Answer, Done, Polled, Entry, quiet, is_done}
 use Rattle.is_rules.specs.declared.roles.Conflict.TheVariants.{Insists}
-use Rattle.is_rules.specs.Told.{turned}
+use Rattle.is_rules.specs.Emitted.{reversed}
 use Rattle.is_rules.specs.Agent.{AgentRecord}
 use Rattle.is_rules.specs.Sending.{carried}
 use Rattle.is_rules.specs.Roles.{conflict_of}
@@ -29,13 +29,13 @@ use Rattle.is_rules.specs.Brought.{Brings, IsServing}
 -- ---- the queue of packets
 
 -- the way that a packet takes
-abbrev pub way_out : Packet → Path
-way_out packet = record { proto = packet.proto; source = packet.source; destination = packet.destination }
+abbrev pub via_out : Packet → Path
+via_out packet = record { proto = packet.proto; source = packet.source; destination = packet.destination }
 
 -- at most one packet is appended: the one that is told of
 abbrev pub IsQueued : Option Issued → List Packet → List Packet → Type 0
 IsQueued None old new = new ≡ old
-IsQueued (Some issued) old new = (packet : Packet) × (way_out packet ≡ issued.path) × (new ≡ old ++ packet ∷ [])
+IsQueued (Some issued) old new = (packet : Packet) × (via_out packet ≡ issued.path) × (new ≡ old ++ packet ∷ [])
 
 abbrev pub IsEmptied : {X : Type 0} → Answer → List X → List X → Type 0
 IsEmptied answer old new = new ≡ (if is_done answer then [] else old)
@@ -43,8 +43,8 @@ IsEmptied answer old new = new ≡ (if is_done answer then [] else old)
 -- a poll hands out the first packet, a restart empties the queue, and any other call appends the one that it tells of
 abbrev pub Queues : {P : Type 0} → Call P → Entry → List Packet → List Packet → Type 0
 Queues PollTransmit e old new = (given : Option Packet) × (e ≡ quiet (Polled given)) × IsPolled old given new
-Queues (RestartIce creds keep) e old new = (e.told.issued ≡ None) × IsEmptied e.answer old new
-Queues _ e old new = IsQueued e.told.issued old new
+Queues (RestartIce creds keep) e old new = (e.emitted.issued ≡ None) × IsEmptied e.answer old new
+Queues _ e old new = IsQueued e.emitted.issued old new
 
 -- ---- the queue of requests
 
@@ -83,11 +83,11 @@ module _ {H P : Type 0} where
       × IsPut bytes m × (controlling ≡ old.controlling) × (use_candidate ≡ true → old.controlling ≡ true)
   -- a success is the reply to the request served, and goes back where that came from
   Says class.Success old call e bytes m path controlling =
-      (q : RequestRecord) × IsServing old call e q × (m ≡ binding_reply q.id q.path.source) × (path ≡ turned q.path)
+      (q : RequestRecord) × IsServing old call e q × (m ≡ binding_reply q.id q.path.source) × (path ≡ reversed q.path)
       × IsPut bytes (binding_reply q.id (carried q.path.source))
   -- and so does a 487, which came to the agent's own role and no greater tie-breaker; the role stays
   Says class.Failure old call e bytes m path controlling =
-      (q : RequestRecord) × IsServing old call e q × (m ≡ binding_role_conflict_reply q.id) × (path ≡ turned q.path)
+      (q : RequestRecord) × IsServing old call e q × (m ≡ binding_role_conflict_reply q.id) × (path ≡ reversed q.path)
       × IsPut bytes m × (conflict_of old q ≡ Insists) × (controlling ≡ old.controlling)
   -- no other message is issued
   Says _ old call e bytes m path controlling = ⊥
@@ -97,5 +97,5 @@ module _ {H P : Type 0} where
   IsIssued mac old call e packet controlling =
       (m : Message)
       × (packet.contents ≡ written (mac old.provider) (Some (key_for m.class old.local_creds old.remote_creds)) m)
-      × (e.told.issued ≡ Some record { path = way_out packet; class = m.class; id = record { 0 = m.id } })
-      × Says m.class old call e packet.contents m (way_out packet) controlling
+      × (e.emitted.issued ≡ Some record { path = via_out packet; class = m.class; id = record { 0 = m.id } })
+      × Says m.class old call e packet.contents m (via_out packet) controlling

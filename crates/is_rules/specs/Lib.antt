@@ -1,5 +1,5 @@
 pub mod Fitting
-pub mod Told
+pub mod Emitted
 pub mod Kept
 pub mod Agent
 pub mod Credentials
@@ -28,7 +28,7 @@ pub mod Restarting
 pub mod States
 pub mod Checking
 pub mod Due
-pub mod Waking
+pub mod TimeoutStart
 pub mod Timeouts
 pub mod Steps
 pub mod Sound

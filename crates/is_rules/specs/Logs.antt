@@ -6,9 +6,9 @@ use Rattle.is_stun.specs.declared.header.Method.TheVariants.{Binding}
 use Rattle.is_stun.specs.Integrity.{IsSignedBy}
 use Rattle.is_stun.specs.Message.{Message}
 use Rattle.is_rules.specs.declared.credentials.IceCreds.{IceCreds}
-use Rattle.is_rules.specs.declared.told.Path.{Path}
+use Rattle.is_rules.specs.declared.emitted.Path.{Path}
 use Rattle.is_rules.specs.Steps.{Entry}
-use Rattle.is_rules.specs.Told.{issued_as, turned}
+use Rattle.is_rules.specs.Emitted.{issued_as, reversed}
 use Rattle.is_rules.specs.Answers.{goes_back}
 use Rattle.is_rules.specs.Steps.{Call}
 use Rattle.is_rules.specs.Brought.{Brings}
@@ -40,12 +40,12 @@ NeverLite (x ∷ before) = (lite_set_by x.call false ≡ false) × NeverLite bef
 abbrev pub IsSent : {P : Type 0} → List (Logged P) → Path → List ℕ → Type 0
 IsSent [] path id = ⊥
 IsSent (x ∷ before) path id =
-    (x.entry.told.issued ≡ Some (issued_as path class.Request id)) ⊎ ((clears_at x ≡ false) × IsSent before path id)
+    (x.entry.emitted.issued ≡ Some (issued_as path class.Request id)) ⊎ ((clears_at x ≡ false) × IsSent before path id)
 
 -- the path announced last since the last clear
 abbrev pub last_announced : {P : Type 0} → List (Logged P) → Option Path
 last_announced [] = None
-last_announced (x ∷ before) = option_or (last_of x.entry.told.announced) (if clears_at x then None else last_announced before)
+last_announced (x ∷ before) = option_or (last_of x.entry.emitted.announced) (if clears_at x then None else last_announced before)
 
 -- the transactions of the accepted Binding requests of a log, and those of its responses
 abbrev pub requests : {P : Type 0} → List (Logged P) → List Transaction
@@ -54,7 +54,7 @@ requests (x ∷ before) = request_of x.call x.entry.answer ++ requests before
 
 abbrev pub replies : {P : Type 0} → List (Logged P) → List Transaction
 replies [] = []
-replies (x ∷ before) = reply_of x.entry.told.issued ++ replies before
+replies (x ∷ before) = reply_of x.entry.emitted.issued ++ replies before
 
 -- ---- answered, and asked for
 
@@ -80,7 +80,7 @@ module _ {H P : Type 0} (mac : H → List ℕ → List ℕ → List ℕ) (provid
 abbrev pub AsksAt : {P : Type 0} → Logged P → Path → Type 0
 AsksAt x path =
     (at : ℕ) × (by : Path) × (m : Message) × Brings x.call x.entry at by m × (m.method ≡ Binding) × (m.class ≡ class.Request)
-    × (m.attributes.use_candidate ≡ true) × (turned by ≡ path)
+    × (m.attributes.use_candidate ≡ true) × (reversed by ≡ path)
 
 abbrev pub AskedFor : {P : Type 0} → List (Logged P) → Path → Type 0
 AskedFor [] path = ⊥

@@ -5,7 +5,7 @@ use Rattle.is_proto.specs.Moments.{counted}
 use Rattle.is_candidate.specs.Candidates.{base_of, candidate_at}
 use Rattle.is_pair.specs.Pairs.{PairRecord, is_valid, is_nominated, nominated}
 use Rattle.is_rules.specs.declared.event.IceAgentEvent.TheVariants.{NominatedSend}
-use Rattle.is_rules.specs.declared.told.Path.{Path}
+use Rattle.is_rules.specs.declared.emitted.Path.{Path}
 use Rattle.is_rules.specs.Agent.{AgentRecord}
 use Rattle.is_pair.specs.Bag.{change_pair, IsGreatest, pair_numbered}
 use Rattle.is_rules.specs.Forming.{SidesRecord, sides_of}
@@ -19,20 +19,20 @@ abbrev pub nominated_by_self : Bool → Bool → PairRecord → PairRecord
 nominated_by_self controlling lite p = if not (is_nominated p) && (controlling || lite) then nominated lite p else p
 
 -- the pair that was announced last, while it stands
-abbrev pub announced_pair : Option ℕ → List PairRecord → Option PairRecord
-announced_pair announced pairs = option_and_then (λ number. pair_numbered number pairs) announced
+abbrev pub pair_selected : Option ℕ → List PairRecord → Option PairRecord
+pair_selected number pairs = option_and_then (λ n. pair_numbered n pairs) number
 
 -- it stands, with this priority
 abbrev pub stands_at : Option ℕ → ℕ → List PairRecord → Bool
-stands_at announced priority pairs = option_map_or (λ (p : PairRecord). p.priority == priority) (announced_pair announced pairs) false
+stands_at number priority pairs = option_map_or (λ (p : PairRecord). p.priority == priority) (pair_selected number pairs) false
 
 -- the pairs, and the number that was announced last
 pub record Selection : Type 0 where
   pub pairs : List PairRecord
-  pub announced : Option ℕ
+  pub selected_pair : Option ℕ
 
 abbrev pub selection : List PairRecord → Option ℕ → Selection
-selection pairs announced = record { pairs = pairs; announced = announced }
+selection pairs number = record { pairs = pairs; selected_pair = number }
 
 abbrev pub path_in : SidesRecord → PairRecord → Path
 path_in s p = record {
@@ -43,33 +43,33 @@ path_in s p = record {
 
 -- an eligible pair of greatest priority is announced, unless the announced one has that priority
 abbrev pub NamesTop : SidesRecord → Option PairRecord → Selection → Option Path → Selection → Type 0
-NamesTop s None old told new = (told ≡ None) × (new ≡ old)
-NamesTop s (Some top) old told new =
-    MatchBool (stands_at old.announced top.priority old.pairs)
-    ((told ≡ None) × (new ≡ old))
-    ((told ≡ Some (path_in s top)) × (new ≡ selection (change_pair top.number (nominated_by_self s.controlling s.lite) old.pairs) (Some top.number)))
+NamesTop s None old emitted new = (emitted ≡ None) × (new ≡ old)
+NamesTop s (Some top) old emitted new =
+    MatchBool (stands_at old.selected_pair top.priority old.pairs)
+    ((emitted ≡ None) × (new ≡ old))
+    ((emitted ≡ Some (path_in s top)) × (new ≡ selection (change_pair top.number (nominated_by_self s.controlling s.lite) old.pairs) (Some top.number)))
 
 abbrev pub Names : SidesRecord → Selection → Option Path → Selection → Type 0
-Names s old told new = (top : Option PairRecord) × IsGreatest (is_eligible s.controlling) old.pairs top × NamesTop s top old told new
+Names s old emitted new = (top : Option PairRecord) × IsGreatest (is_eligible s.controlling) old.pairs top × NamesTop s top old emitted new
 
 module _ {H P : Type 0} where
   -- the agent with these pairs, and this number
   abbrev pub with_selection : Selection → AgentRecord H P → AgentRecord H P
-  with_selection s a = record a { pairs = s.pairs; announced = s.announced }
+  with_selection s a = record a { pairs = s.pairs; selected_pair = s.selected_pair }
 
   -- a path was announced
-  abbrev pub path_told : Option Path → AgentRecord H P → AgentRecord H P
-  path_told None a = a
-  path_told (Some path) a = record a {
+  abbrev pub nominated_emitted : Option Path → AgentRecord H P → AgentRecord H P
+  nominated_emitted None a = a
+  nominated_emitted (Some path) a = record a {
     events = a.events ++ NominatedSend path.proto path.source path.destination ∷ [];
     stats = record a.stats { nomination_send_count = counted a.stats.nomination_send_count };
   }
 
   -- and the path is told of
   abbrev pub Nominates : AgentRecord H P → Option Path → AgentRecord H P → Type 0
-  Nominates old told new =
-      (chosen : Selection) × Names (sides_of old) (selection old.pairs old.announced) told chosen × (new ≡ path_told told (with_selection chosen old))
+  Nominates old emitted new =
+      (chosen : Selection) × Names (sides_of old) (selection old.pairs old.selected_pair) emitted chosen × (new ≡ nominated_emitted emitted (with_selection chosen old))
 
   -- where it is evaluated at all
   abbrev pub NominatesWhere : Bool → AgentRecord H P → Option Path → AgentRecord H P → Type 0
-  NominatesWhere evaluates old told new = MatchBool evaluates (Nominates old told new) ((told ≡ None) × (new ≡ old))
+  NominatesWhere evaluates old emitted new = MatchBool evaluates (Nominates old emitted new) ((emitted ≡ None) × (new ≡ old))

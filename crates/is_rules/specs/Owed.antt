@@ -6,17 +6,17 @@ use Rattle.is_stun.specs.declared.header.Method.{Method}
 use Rattle.is_stun.specs.declared.header.Method.TheVariants.{Binding}
 use Rattle.is_stun.specs.Message.{Message}
 use Rattle.is_stun.specs.Reading.{message_of}
-use Rattle.is_rules.specs.declared.told.Path.{Path}
-use Rattle.is_rules.specs.declared.told.Issued.{Issued}
+use Rattle.is_rules.specs.declared.emitted.Path.{Path}
+use Rattle.is_rules.specs.declared.emitted.Issued.{Issued}
 use Rattle.is_rules.specs.Request.{RequestRecord}
 use Rattle.is_rules.specs.Steps.{Answer, Flag, Entry}
-use Rattle.is_rules.specs.Told.{turned}
+use Rattle.is_rules.specs.Emitted.{reversed}
 use Rattle.is_rules.specs.Agent.{AgentRecord}
 use Rattle.is_rules.specs.Steps.{Call, ReceivePacket}
 
 -- an id, and the way of its request
 pub record Transaction : Type 0 where
-  pub way : Path
+  pub via : Path
   pub id : List ℕ
 
 -- how many pass
@@ -30,25 +30,25 @@ count test (x ∷ xs) = one_if (test x) + count test xs
 
 -- the transaction of a Binding request that came this way
 abbrev pub requested_as : Path → List ℕ → Method → Class → List Transaction
-requested_as way id Binding Request = record { way = way; id = id } ∷ []
-requested_as way id _ _ = []
+requested_as via id Binding Request = record { via = via; id = id } ∷ []
+requested_as via id _ _ = []
 
 abbrev pub requested_by : Path → Message → List Transaction
-requested_by way m = requested_as way m.id m.method m.class
+requested_by via m = requested_as via m.id m.method m.class
 
 -- the transaction of the Binding request that a packet brought, where it was accepted
 abbrev pub requested_in : Path → List ℕ → Answer → List Transaction
-requested_in way bytes (Flag true) = requested_by way (message_of bytes)
-requested_in way bytes _ = []
+requested_in via bytes (Flag true) = requested_by via (message_of bytes)
+requested_in via bytes _ = []
 
 abbrev pub request_of : {P : Type 0} → Call P → Answer → List Transaction
-request_of (ReceivePacket now way bytes) answer = requested_in way bytes answer
+request_of (ReceivePacket now via bytes) answer = requested_in via bytes answer
 request_of _ answer = []
 
 -- the transaction of a response, which goes back on the way of its request
 abbrev pub replied_as : Path → List ℕ → Class → List Transaction
-replied_as path id Success = record { way = turned path; id = id } ∷ []
-replied_as path id Failure = record { way = turned path; id = id } ∷ []
+replied_as path id Success = record { via = reversed path; id = id } ∷ []
+replied_as path id Failure = record { via = reversed path; id = id } ∷ []
 replied_as path id _ = []
 
 abbrev pub reply_of : Option Issued → List Transaction
@@ -57,7 +57,7 @@ reply_of (Some issued) = replied_as issued.path issued.id.0 issued.class
 
 -- what waits
 abbrev pub transaction_of : RequestRecord → Transaction
-transaction_of q = record { way = q.path; id = q.id }
+transaction_of q = record { via = q.path; id = q.id }
 
 abbrev pub owed : (Transaction → Bool) → List RequestRecord → ℕ
 owed test [] = 0
@@ -67,7 +67,7 @@ owed test (q ∷ qs) = one_if (test (transaction_of q)) + owed test qs
 abbrev pub Owes : {H P : Type 0} → AgentRecord H P → Call P → Entry → AgentRecord H P → Type 0
 Owes old call e new =
     (test : Transaction → Bool)
-    → count test (reply_of e.told.issued) + owed test new.queue ≤ owed test old.queue + count test (request_of call e.answer)
+    → count test (reply_of e.emitted.issued) + owed test new.queue ≤ owed test old.queue + count test (request_of call e.answer)
 
 -- each of xs stands among ys, and no two of them at one place
 abbrev pub AreAmong : {X : Type 0} → List X → List X → Type 0

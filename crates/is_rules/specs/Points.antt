@@ -5,7 +5,7 @@ use Rattle.is_proto.specs.Lists.{Has}
 use Rattle.is_pair.specs.Pairs.{PairRecord, is_valid}
 use Rattle.is_stun.specs.declared.header.Class.TheVariants as class
 use Rattle.is_stun.specs.Message.{Message}
-use Rattle.is_rules.specs.declared.told.Path.{Path}
+use Rattle.is_rules.specs.declared.emitted.Path.{Path}
 use Rattle.is_rules.specs.Steps.{Done, Entry}
 use Rattle.is_rules.specs.Agent.{AgentRecord}
 use Rattle.is_pair.specs.Bag.{IsGreatest}
@@ -20,7 +20,7 @@ module _ {H P : Type 0} where
   abbrev pub IsTopAnnounced : AgentRecord H P → Type 0
   IsTopAnnounced a =
       (top : Option PairRecord) × IsGreatest (is_eligible a.controlling) a.pairs top
-      × IfSome top (λ best. stands_at a.announced best.priority a.pairs ≡ true)
+      × IfSome top (λ best. stands_at a.selected_pair best.priority a.pairs ≡ true)
 
   abbrev pub IsNominationPoint : AgentRecord H P → Call P → Entry → Type 0
   IsNominationPoint old (HandleTimeout now) e = (e.answer ≡ Done) × (request_at now old ≡ None)

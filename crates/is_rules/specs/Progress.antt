@@ -11,9 +11,9 @@ use Rattle.is_pair.specs.Due.{due_moment}
 use Rattle.is_stun.specs.declared.header.Class.TheVariants as class
 use Rattle.is_stun.specs.Message.{Message}
 use Rattle.is_rules.specs.declared.event.IceAgentEvent.{IceAgentEvent}
-use Rattle.is_rules.specs.declared.told.Path.{Path}
-use Rattle.is_rules.specs.declared.told.Told.{Told}
-use Rattle.is_rules.specs.Told.{issued_as}
+use Rattle.is_rules.specs.declared.emitted.Path.{Path}
+use Rattle.is_rules.specs.declared.emitted.Emitted.{Emitted}
+use Rattle.is_rules.specs.Emitted.{issued_as}
 use Rattle.is_rules.specs.Agent.{AgentRecord}
 use Rattle.is_rules.specs.Sending.{path_of}
 use Rattle.is_stun.specs.Reading.{Reads}
@@ -36,7 +36,7 @@ IsGone number pairs = (p : PairRecord) → Has pairs p → p.number ≢ number
 -- raw bytes that came, and what became of them
 pub record Arrival : Type 0 where
   pub at : ℕ
-  pub way : Path
+  pub via : Path
   pub bytes : List ℕ
   pub entry : Entry
 
@@ -50,7 +50,7 @@ IsMet arrivals = (x : Arrival) × Has arrivals x × IsSuccess x
 -- a moment, and what came behind it
 pub record Round : Type 0 where
   pub now : ℕ
-  pub told : Told
+  pub emitted : Emitted
   pub arrivals : List Arrival
 
 module _ {H P : Type 0} where
@@ -60,13 +60,13 @@ module _ {H P : Type 0} where
     pub peer : is_some a.remote_creds ≡ true
 
   -- a check goes out on the pair's path
-  abbrev pub ChecksOn : AgentRecord H P → Told → PairRecord → Type 0
-  ChecksOn a told p = (id : List ℕ) × (told.issued ≡ Some (issued_as (path_of a p) class.Request id))
+  abbrev pub ChecksOn : AgentRecord H P → Emitted → PairRecord → Type 0
+  ChecksOn a emitted p = (id : List ℕ) × (emitted.issued ≡ Some (issued_as (path_of a p) class.Request id))
 
   -- a check goes out, a pair is given up, or fewer requests wait
-  abbrev pub IsOfUse : AgentRecord H P → Told → AgentRecord H P → Type 0
-  IsOfUse old told new =
-      ((p : PairRecord) × Has old.pairs p × (ChecksOn old told p ⊎ IsGone p.number new.pairs)) ⊎ (length new.queue < length old.queue)
+  abbrev pub IsOfUse : AgentRecord H P → Emitted → AgentRecord H P → Type 0
+  IsOfUse old emitted new =
+      ((p : PairRecord) × Has old.pairs p × (ChecksOn old emitted p ⊎ IsGone p.number new.pairs)) ⊎ (length new.queue < length old.queue)
 
   -- a pair is eligible, and the announced pair is one of the greatest of these
   abbrev pub HasAnnounced : AgentRecord H P → Type 0
@@ -98,30 +98,30 @@ module _ {H P : Type 0} where
 
   module _ (mac : H → List ℕ → List ℕ → List ℕ) where
     -- asked for its wake-up, the agent is given a moment, and what it has to send and to tell is taken
-    pub record Turn (old : AgentRecord H P) (now : ℕ) (told : Told) (new : AgentRecord H P) : Type 0 where
+    pub record Turn (old : AgentRecord H P) (now : ℕ) (emitted : Emitted) (new : AgentRecord H P) : Type 0 where
       pub wake : ℕ
       pub asked : AgentRecord H P
       pub polled : PollsTimeout old (Some wake) asked
       pub before : Stream
       pub behind : Stream
       pub after : AgentRecord H P
-      pub moment : TimesOut mac now asked before (Ok tt) told after behind
+      pub moment : TimesOut mac now asked before (Ok tt) emitted after behind
       pub left : List IceAgentEvent
       pub taken : new ≡ record after { packets = []; events = left }
 
     -- turn after turn, each at its moment and with what it tells
-    abbrev pub Turns : List (ℕ × Told) → AgentRecord H P → AgentRecord H P → Type 0
+    abbrev pub Turns : List (ℕ × Emitted) → AgentRecord H P → AgentRecord H P → Type 0
     Turns [] old new = new ≡ old
     Turns (x ∷ rest) old new = (mid : AgentRecord H P) × Turn old x.0 x.1 mid × Turns rest mid new
 
     -- ---- rounds
 
     -- the agent is given a moment, and some of what it has to send and to tell is taken
-    pub record Passes (old : AgentRecord H P) (now : ℕ) (told : Told) (new : AgentRecord H P) : Type 0 where
+    pub record Passes (old : AgentRecord H P) (now : ℕ) (emitted : Emitted) (new : AgentRecord H P) : Type 0 where
       pub before : Stream
       pub behind : Stream
       pub after : AgentRecord H P
-      pub moment : TimesOut mac now old before (Ok tt) told after behind
+      pub moment : TimesOut mac now old before (Ok tt) emitted after behind
       pub waiting : List Packet
       pub left : List IceAgentEvent
       pub taken : new ≡ record after { packets = waiting; events = left }
@@ -132,13 +132,13 @@ module _ {H P : Type 0} where
       Arrives [] old new = new ≡ old
       Arrives (x ∷ rest) old new =
           (after mid asked : AgentRecord H P) × (waiting : List Packet) × (left : List IceAgentEvent) × (s t : Stream)
-          × Step mac answers old s (ReceivePacket x.at x.way x.bytes) x.entry after t × (after.controlling ≡ true)
+          × Step mac answers old s (ReceivePacket x.at x.via x.bytes) x.entry after t × (after.controlling ≡ true)
           × (mid ≡ record after { packets = waiting; events = left }) × MayBeAsked mid asked × Arrives rest asked new
 
       abbrev pub Rounds : List Round → AgentRecord H P → AgentRecord H P → Type 0
       Rounds [] old new = new ≡ old
       Rounds (x ∷ rest) old new =
-          (mid asked next : AgentRecord H P) × Passes old x.now x.told mid × MayBeAsked mid asked × Arrives x.arrivals asked next
+          (mid asked next : AgentRecord H P) × Passes old x.now x.emitted mid × MayBeAsked mid asked × Arrives x.arrivals asked next
           × Rounds rest next new
 
       -- behind one of the packets, which is an accepted success, a path is announced
@@ -172,22 +172,22 @@ WakesInTime H P = (old new : AgentRecord H P) (wake : Option ℕ) → PollsTimeo
 -- none is in vain: a moment at it, or later, is of use
 abbrev pub WakesAreOfUse : {H : Type 0} (P : Type 0) → (H → List ℕ → List ℕ → List ℕ) → Type 0
 WakesAreOfUse {H = H} P mac =
-    (old asked new : AgentRecord H P) (s t : Stream) (wake now : ℕ) (told : Told)
+    (old asked new : AgentRecord H P) (s t : Stream) (wake now : ℕ) (emitted : Emitted)
     → IsSound old → IsChecking old → old.packets ≡ [] → is_empty old.pairs ≡ false → wake < MAX
-    → PollsTimeout old (Some wake) asked → wake ≤ now → TimesOut mac now asked s (Ok tt) told new t
-    → IsOfUse old told new
+    → PollsTimeout old (Some wake) asked → wake ≤ now → TimesOut mac now asked s (Ok tt) emitted new t
+    → IsOfUse old emitted new
 
 -- A pair is checked, or given up, within as many turns as there are pairs that are due no later than it. The turns come at the
 -- moment at which it is due, or later. A pair that is nominated goes before all others, unless it was asked before: so the agent is
 -- asked before each moment.
 abbrev pub NoPairStarves : {H : Type 0} (P : Type 0) → (H → List ℕ → List ℕ → List ℕ) → Type 0
 NoPairStarves {H = H} P mac =
-    (first last : AgentRecord H P) (turns : List (ℕ × Told)) (p : PairRecord) (at by : ℕ)
+    (first last : AgentRecord H P) (turns : List (ℕ × Emitted)) (p : PairRecord) (at by : ℕ)
     → IsSound first → first.packets ≡ [] → first.last_moment ≡ Some at → Awaits at by first p
-    → ((x : ℕ × Told) → Has turns x → (by ≤ x.0) × (x.0 < MAX))
+    → ((x : ℕ × Emitted) → Has turns x → (by ≤ x.0) × (x.0 < MAX))
     → Turns mac turns first last
     → length (due_by by at first.timing first.pairs) ≤ length turns
-    → ((x : ℕ × Told) × Has turns x × ChecksOn first x.1 p) ⊎ IsGone p.number last.pairs
+    → ((x : ℕ × Emitted) × Has turns x × ChecksOn first x.1 p) ⊎ IsGone p.number last.pairs
 
 -- ---- answers
 
@@ -200,7 +200,7 @@ AnsweredAnnounce {H = H} {P = P} mac answers =
     → IsSound first → first.controlling ≡ true → Awaits r.now by first p → IsUnanswered first p
     → ((x : Round) → Has (r ∷ rounds) x → (by < x.now) × (x.now < MAX))
     → (run : Rounds mac answers (r ∷ rounds) first last)
-    → ((x : Round) (id : List ℕ) → Has (r ∷ rounds) x → x.told.issued ≡ Some (issued_as (path_of first p) class.Request id) → IsMet x.arrivals)
+    → ((x : Round) (id : List ℕ) → Has (r ∷ rounds) x → x.emitted.issued ≡ Some (issued_as (path_of first p) class.Request id) → IsMet x.arrivals)
     → length (due_by by r.now first.timing first.pairs) ≤ length (r ∷ rounds)
     → AnnouncesIn mac answers (r ∷ rounds) first last run
 

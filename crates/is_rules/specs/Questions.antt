@@ -10,7 +10,7 @@ use Rattle.is_pair.specs.Pairs.{PairRecord, is_valid}
 use Rattle.is_stun.specs.Timing.{timeout_of}
 use Rattle.is_rules.specs.Agent.{AgentRecord}
 use Rattle.is_rules.specs.Forming.{is_alive}
-use Rattle.is_rules.specs.Nominating.{announced_pair}
+use Rattle.is_rules.specs.Nominating.{pair_selected}
 use Rattle.is_pair.specs.Bag.{IsGreatest}
 use Rattle.is_rules.specs.Remote.{has_equivalent}
 
@@ -37,7 +37,7 @@ module _ {H P : Type 0} where
 
   -- the pair that was announced last, while it stands
   abbrev pub nominated_pair : AgentRecord H P → Option PairRecord
-  nominated_pair a = announced_pair a.announced a.pairs
+  nominated_pair a = pair_selected a.selected_pair a.pairs
 
   -- `nominated_pair_rtt`, `nominated_pair_total_rtt` and `nominated_pair_responses_received`
   abbrev pub nominated_rtt : AgentRecord H P → Option ℕ

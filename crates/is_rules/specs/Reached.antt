@@ -11,7 +11,7 @@ use Rattle.is_pair.specs.Pairs.{PairRecord, is_valid}
 use Rattle.is_stun.specs.declared.header.Class.TheVariants as class
 use Rattle.is_rules.specs.Agent.{AgentRecord}
 use Rattle.is_rules.specs.Asked.{IsAlone, IsAnsweredIn, IsAskedIn, MayEndIn}
-use Rattle.is_rules.specs.declared.told.Path.{Path}
+use Rattle.is_rules.specs.declared.emitted.Path.{Path}
 use Rattle.is_rules.specs.Logs.{Logged}
 use Rattle.is_rules.specs.Progress.{IsChecking}
 use Rattle.is_rules.specs.Queue.{request_at}
@@ -19,7 +19,7 @@ use Rattle.is_rules.specs.Rounds.{LoggedRound, entries_of, began_at, is_between,
 use Rattle.is_rules.specs.Runs.{IsFresh, IsTopPath}
 use Rattle.is_rules.specs.Sending.{path_of}
 use Rattle.is_rules.specs.Steps.{HandleTimeout, Done}
-use Rattle.is_rules.specs.Told.{issued_as}
+use Rattle.is_rules.specs.Emitted.{issued_as}
 
 -- a moment behind this one, and then packets and polls
 pub record IsPassing {P : Type 0} (by : ℕ) (r : LoggedRound P) : Type 0 where
@@ -32,11 +32,11 @@ pub record IsPassing {P : Type 0} (by : ℕ) (r : LoggedRound P) : Type 0 where
 -- the moment of one of the rounds sends a check on the path
 abbrev pub ChecksIn : {P : Type 0} → List (LoggedRound P) → Path → Type 0
 ChecksIn rounds path =
-    (r : LoggedRound _) × (id : List ℕ) × Has rounds r × (r.moment.entry.told.issued ≡ Some (issued_as path class.Request id))
+    (r : LoggedRound _) × (id : List ℕ) × Has rounds r × (r.moment.entry.emitted.issued ≡ Some (issued_as path class.Request id))
 
 -- where a check goes out on the path, it is answered on it in the same round
 abbrev pub IsMetOn : {P : Type 0} → Path → LoggedRound P → Type 0
-IsMetOn path r = (id : List ℕ) → r.moment.entry.told.issued ≡ Some (issued_as path class.Request id) → IsAnsweredIn r.behind path
+IsMetOn path r = (id : List ℕ) → r.moment.entry.emitted.issued ≡ Some (issued_as path class.Request id) → IsAnsweredIn r.behind path
 
 module _ {H P : Type 0} where
   -- A pair waits for its check: asked at the moment, it is due by the other one, and it will not be given up before. It is not valid, so that

@@ -6,7 +6,7 @@ use Rattle.is_proto.specs.Moments.{MAX}
 use Rattle.is_candidate.specs.Candidates.{CandidateRecord}
 use Rattle.is_pair.specs.Pairs.{PairRecord}
 use Rattle.is_stun.specs.declared.header.Class.TheVariants as class
-use Rattle.is_rules.specs.declared.told.Path.{Path}
+use Rattle.is_rules.specs.declared.emitted.Path.{Path}
 use Rattle.is_rules.specs.Agent.{AgentRecord}
 use Rattle.is_rules.specs.AskedCourses.{IsAnsweredAlong}
 use Rattle.is_rules.specs.Courses.{CourseRound}
@@ -15,7 +15,7 @@ use Rattle.is_rules.specs.Reached.{IsInLine}
 use Rattle.is_rules.specs.Runs.{IsFresh}
 use Rattle.is_rules.specs.Sending.{path_of}
 use Rattle.is_rules.specs.Steps.{Call, Entry, HandleTimeout, Done, Step}
-use Rattle.is_rules.specs.Told.{issued_as}
+use Rattle.is_rules.specs.Emitted.{issued_as}
 
 -- a moment behind this one, and then packets and polls
 pub record IsPassed {P : Type 0} (by : ℕ) (r : CourseRound P) : Type 0 where
@@ -27,7 +27,7 @@ pub record IsPassed {P : Type 0} (by : ℕ) (r : CourseRound P) : Type 0 where
 -- the moment of one of the rounds sends a check on the path
 abbrev pub ChecksAmong : {P : Type 0} → List (CourseRound P) → Path → Type 0
 ChecksAmong rounds path =
-    (r : CourseRound _) × (id : List ℕ) × Has rounds r × (r.moment.told.issued ≡ Some (issued_as path class.Request id))
+    (r : CourseRound _) × (id : List ℕ) × Has rounds r × (r.moment.emitted.issued ≡ Some (issued_as path class.Request id))
 
 -- an accepted success comes back on it in one of them
 abbrev pub IsAnsweredAmong : {P : Type 0} → List (CourseRound P) → Path → Type 0

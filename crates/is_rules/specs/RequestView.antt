@@ -2,7 +2,7 @@
 use Rattle.is_stun.specs.declared.message.StunPacket.{StunPacket}
 use Rattle.is_rules.specs.declared.request.Request.{Request}
 use Rattle.is_rules.specs.declared.request.Waiting.{Waiting}
-use Rattle.is_rules.specs.declared.told.Path.{Path}
+use Rattle.is_rules.specs.declared.emitted.Path.{Path}
 use Rattle.is_rules.specs.Request.{RequestRecord}
 
 abbrev pub request_view : Request → RequestRecord
@@ -31,5 +31,5 @@ waiting_view q = record {
 }
 
 -- the way that a packet came
-abbrev pub way_of : StunPacket → Path
-way_of packet = record { proto = packet.proto; source = packet.source; destination = packet.destination }
+abbrev pub packet_path : StunPacket → Path
+packet_path packet = record { proto = packet.proto; source = packet.source; destination = packet.destination }

@@ -30,7 +30,7 @@ module _ {H P : Type 0} where
     pairs = [];
     packets = [];
     events = [];
-    seen = [];
+    discovered_sources = [];
     stats = no_stats;
   }
 

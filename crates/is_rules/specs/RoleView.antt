@@ -11,8 +11,8 @@ use Rattle.is_stun.specs.declared.header.Class.TheVariants as class
 use Rattle.is_stun.specs.Message.{Message}
 use Rattle.is_stun.specs.Reading.{fault_of, message_of}
 use Rattle.is_rules.specs.declared.credentials.IceCreds.{IceCreds}
-use Rattle.is_rules.specs.declared.told.Issued.{Issued}
-use Rattle.is_rules.specs.declared.told.Path.{Path}
+use Rattle.is_rules.specs.declared.emitted.Issued.{Issued}
+use Rattle.is_rules.specs.declared.emitted.Path.{Path}
 use Rattle.is_rules.specs.Places.{local_place}
 use Rattle.is_rules.specs.Request.{RequestRecord, request_in}
 use Rattle.is_rules.specs.Steps.{Answer, Done, Flag, Entry}
@@ -105,28 +105,28 @@ abbrev pub sets_lite : {P : Type 0} → Call P → Bool
 sets_lite (SetIceLite lite) = lite
 sets_lite _ = false
 
-abbrev pub way_of : {P : Type 0} → Call P → Option Path
-way_of (ReceivePacket now way bytes) = Some way
-way_of _ = None
+abbrev pub packet_path : {P : Type 0} → Call P → Option Path
+packet_path (ReceivePacket now path bytes) = Some path
+packet_path _ = None
 
 abbrev pub accepted_by : {P : Type 0} → Call P → Answer → Option Mail
-accepted_by (ReceivePacket now way bytes) answer = when_accepted answer (mail_read bytes)
+accepted_by (ReceivePacket now path bytes) answer = when_accepted answer (mail_read bytes)
 accepted_by _ answer = None
 
 module _ {H P : Type 0} where
   abbrev pub served_by : AgentRecord H P → Call P → Answer → Option RequestRecord
-  served_by old (ReceivePacket now way bytes) answer =
-      when_accepted answer (request_when (fault_of bytes) (message_of bytes).class old.remote_creds (request_in now way (message_of bytes)))
+  served_by old (ReceivePacket now path bytes) answer =
+      when_accepted answer (request_when (fault_of bytes) (message_of bytes).class old.remote_creds (request_in now path (message_of bytes)))
   served_by old (HandleTimeout now) answer = when_done answer (request_at now old)
   served_by old _ answer = None
 
   abbrev pub deed_of : AgentRecord H P → Call P → Entry → Deed
   deed_of old call e = record {
     accepts = accepted_by call e.answer;
-    way = way_of call;
+    via = packet_path call;
     serves = served_by old call e.answer;
-    issued = option_map sent_as e.told.issued;
-    announced = some_paths e.told.announced;
+    issued = option_map sent_as e.emitted.issued;
+    announced = some_paths e.emitted.announced;
     clears = clears call e.answer;
     sets = sets_role call;
     makes_lite = sets_lite call;

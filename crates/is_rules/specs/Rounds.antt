@@ -9,8 +9,8 @@ use Rattle.is_pair.specs.Pairs.{PairRecord}
 use Rattle.is_pair.specs.Turns.{due_by}
 use Rattle.is_stun.specs.declared.header.Class.TheVariants as class
 use Rattle.is_stun.specs.Message.{Message}
-use Rattle.is_rules.specs.declared.told.Path.{Path}
-use Rattle.is_rules.specs.Told.{issued_as}
+use Rattle.is_rules.specs.declared.emitted.Path.{Path}
+use Rattle.is_rules.specs.Emitted.{issued_as}
 use Rattle.is_rules.specs.Agent.{AgentRecord}
 use Rattle.is_rules.specs.Sending.{path_of}
 use Rattle.is_rules.specs.Steps.{Call, ReceivePacket, HandleTimeout, PollTransmit, PollTimeout, PollEvent, Done, Polled, Wake, Step}
@@ -48,7 +48,7 @@ is_poll _ = false
 
 -- a poll, or a packet that comes
 abbrev pub is_between : {P : Type 0} → Call P → Bool
-is_between (ReceivePacket now way bytes) = true
+is_between (ReceivePacket now path bytes) = true
 is_between call = is_poll call
 
 -- no packet was left to be polled, and nothing but polls came since
@@ -77,7 +77,7 @@ pub record IsRound {P : Type 0} (by : ℕ) (path : Path) (r : LoggedRound P) : T
   pub late : by < r.now
   pub early : r.now < MAX
   pub between : (x : Logged P) → Has r.behind x → is_between x.call ≡ true
-  pub met : (id : List ℕ) → r.moment.entry.told.issued ≡ Some (issued_as path class.Request id)
+  pub met : (id : List ℕ) → r.moment.entry.emitted.issued ≡ Some (issued_as path class.Request id)
       → (x : Logged P) × Has r.behind x × BringsSuccess x
 
 module _ {H P : Type 0} (mac : H → List ℕ → List ℕ → List ℕ) (answers : P → CandidateRecord → ℕ → ℕ → Type 0) where
@@ -112,7 +112,7 @@ module _ {H P : Type 0} (mac : H → List ℕ → List ℕ → List ℕ) (answer
   AnnouncesIn first s log part =
       (before : List (Logged P)) × (mid after : AgentRecord H P) × (x : Logged P)
       × Point mac answers first s log before mid x after × Has part x × BringsSuccess x
-      × (is_some (last_of x.entry.told.announced) ≡ true) × IsTopPath mac answers (x ∷ before) after
+      × (is_some (last_of x.entry.emitted.announced) ≡ true) × IsTopPath mac answers (x ∷ before) after
 
   -- ---- the laws
 
@@ -128,7 +128,7 @@ module _ {H P : Type 0} (mac : H → List ℕ → List ℕ → List ℕ) (answer
       (before : List (Logged P)) (start last : AgentRecord H P) (asked moment : Logged P) (wake now : ℕ)
       → Part first s log before start (moment ∷ asked ∷ []) last → IsTurn before asked moment wake now
       → IsChecking start → is_empty start.pairs ≡ false → wake < MAX
-      → IsOfUse start moment.entry.told last
+      → IsOfUse start moment.entry.emitted last
 
   -- Wherever a moment stands in the log at which n pairs are due by an earlier one, and it begins n rounds behind that one in which the
   -- checks of one of these pairs are answered, a path is announced in one of the rounds. Whatever else comes.

@@ -7,9 +7,9 @@ use Rattle.is_pair.specs.Pairs.{PairRecord, is_valid}
 use Rattle.is_stun.specs.declared.header.Class.TheVariants as class
 use Rattle.is_stun.specs.Message.{Message}
 use Rattle.is_rules.specs.declared.credentials.IceCreds.{IceCreds}
-use Rattle.is_rules.specs.declared.told.Issued.{Issued}
-use Rattle.is_rules.specs.declared.told.Path.{Path}
-use Rattle.is_rules.specs.Told.{nothing_told}
+use Rattle.is_rules.specs.declared.emitted.Issued.{Issued}
+use Rattle.is_rules.specs.declared.emitted.Path.{Path}
+use Rattle.is_rules.specs.Emitted.{nothing_emitted}
 use Rattle.is_rules.specs.Agent.{AgentRecord, fresh}
 use Rattle.is_rules.specs.Sending.{path_of}
 use Rattle.is_rules.specs.Nominating.{is_eligible}
@@ -64,7 +64,7 @@ module _ {H P : Type 0} (mac : H → List ℕ → List ℕ → List ℕ) (answer
   -- each announced path is answered
   abbrev pub PathsAreAnswered : AgentRecord H P → Stream → List (Logged P) → Type 0
   PathsAreAnswered first s log =
-      AtEach first s log (λ before mid x after. (path : Path) → Has x.entry.told.announced (Some path)
+      AtEach first s log (λ before mid x after. (path : Path) → Has x.entry.emitted.announced (Some path)
       → IsAnsweredBy mac first.provider x before path)
 
   -- controlled in every record from the last clear, or the start
@@ -79,7 +79,7 @@ module _ {H P : Type 0} (mac : H → List ℕ → List ℕ → List ℕ) (answer
   PathsAreAskedFor first s log =
       (before : List (Logged P)) (mid after : AgentRecord H P) (x : Logged P) (point : Point first s log before mid x after)
       → IsControlledSince first s (x ∷ before) after point.behind (run_to first s log before mid x after point)
-      → (path : Path) → Has x.entry.told.announced (Some path) → AskedFor (x ∷ before) path
+      → (path : Path) → Has x.entry.emitted.announced (Some path) → AskedFor (x ∷ before) path
 
   -- the path announced last is that of an eligible pair of greatest stored priority
   abbrev pub IsTopPath : List (Logged P) → AgentRecord H P → Type 0
@@ -104,7 +104,7 @@ module _ {H P : Type 0} (mac : H → List ℕ → List ℕ → List ℕ) (answer
   abbrev pub RequestsNominate : AgentRecord H P → Stream → List (Logged P) → Type 0
   RequestsNominate first s log =
       AtEach first s log (λ before mid x after. (at : ℕ) (by : Path) (m : Message) (issued : Issued) → Brings x.call x.entry at by m
-      → m.attributes.use_candidate ≡ true → x.entry.told.issued ≡ Some issued → issued.class ≡ class.Success → after.controlling ≡ false
+      → m.attributes.use_candidate ≡ true → x.entry.emitted.issued ≡ Some issued → issued.class ≡ class.Success → after.controlling ≡ false
       → IsNominatedOn after issued.path)
 
   -- ---- the laws
@@ -145,4 +145,4 @@ module _ {H P : Type 0} (mac : H → List ℕ → List ℕ → List ℕ) (answer
   abbrev pub UnacceptedChangeNothing : Type 0
   UnacceptedChangeNothing =
       (old new : AgentRecord H P) (s t : Stream) (call : Call P) (e : Entry) → Step mac answers old s call e new t → IsTurnedDown mac old call
-      → (new ≡ old) × (e.told ≡ nothing_told) × (is_turned_down e.answer ≡ true)
+      → (new ≡ old) × (e.emitted ≡ nothing_emitted) × (is_turned_down e.answer ≡ true)

@@ -5,7 +5,7 @@ use Rattle.std.specs.declared.net.socket_addr.SocketAddr.{SocketAddr}
 use Rattle.is_candidate.specs.Addresses.{plain_socket}
 use Rattle.is_candidate.specs.Candidates.{base_of, candidate_at}
 use Rattle.is_pair.specs.Pairs.{PairRecord}
-use Rattle.is_rules.specs.declared.told.Path.{Path}
+use Rattle.is_rules.specs.declared.emitted.Path.{Path}
 use Rattle.is_rules.specs.Agent.{AgentRecord}
 
 -- what a message carries of an address: no flow information and no scope

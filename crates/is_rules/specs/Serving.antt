@@ -1,5 +1,5 @@
 -- Serving a Binding request (RFC 8445, section 7.3): a definition for each rule, in the order in which they act, each ending
--- in the next one. `s` is the record as the rule finds it; `told` and `new` are what serving tells and leaves.
+-- in the next one. `s` is the record as the rule finds it; `emitted` and `new` are what serving tells and leaves.
 use Rattle.std.specs.Prelude.{◌≡◌, ℕ, ◌==◌, ◌&&◌, Bool, true, false, not, List, [], ◌∷◌, ◌++◌, length, bytes_eq, Option, Some, None}
 use Rattle.std.specs.Prelude.{is_some, MatchBool, MatchOption, if◌then◌else◌}
 use Rattle.std.specs.Option.{option_map_or}
@@ -20,9 +20,9 @@ use Rattle.is_rules.specs.declared.places.RemotePlace.TheVariants.{Known, Barred
 use Rattle.is_rules.specs.declared.roles.Conflict.{Conflict}
 use Rattle.is_rules.specs.declared.roles.Conflict.TheVariants.{Absent, Insists, Yields}
 use Rattle.is_rules.specs.declared.serving.Places.{Places}
-use Rattle.is_rules.specs.declared.told.Path.{Path}
-use Rattle.is_rules.specs.declared.told.Told.{Told}
-use Rattle.is_rules.specs.Told.{nothing_told, issued_as, issued_alone, told_by, turned}
+use Rattle.is_rules.specs.declared.emitted.Path.{Path}
+use Rattle.is_rules.specs.declared.emitted.Emitted.{Emitted}
+use Rattle.is_rules.specs.Emitted.{nothing_emitted, issued_as, issued_only, emitted_by, reversed}
 use Rattle.is_rules.specs.Request.{RequestRecord}
 use Rattle.is_rules.specs.Agent.{AgentRecord}
 use Rattle.is_pair.specs.Bag.{change_pair, is_valid_at, IsPairBetween}
@@ -63,12 +63,12 @@ wants_pair_at Unknown pair discarded = not (is_some pair) && not discarded
 
 module _ {H P : Type 0} where
   -- the request is dropped
-  abbrev pub Drops : AgentRecord H P → Told → AgentRecord H P → Type 0
-  Drops s told new = (told ≡ nothing_told) × (new ≡ s)
+  abbrev pub Drops : AgentRecord H P → Emitted → AgentRecord H P → Type 0
+  Drops s emitted new = (emitted ≡ nothing_emitted) × (new ≡ s)
 
   -- the request waits
-  abbrev pub Queues : RequestRecord → AgentRecord H P → Told → AgentRecord H P → Type 0
-  Queues q s told new = (told ≡ nothing_told) × (new ≡ queued q s)
+  abbrev pub Queues : RequestRecord → AgentRecord H P → Emitted → AgentRecord H P → Type 0
+  Queues q s emitted new = (emitted ≡ nothing_emitted) × (new ≡ queued q s)
 
   -- ---- what each rule looks at and changes
 
@@ -106,76 +106,76 @@ module _ {H P : Type 0} where
     replied q path s = with_packet path (written (mac s.provider) (Some s.local_creds.pass) (binding_reply q.id q.path.source)) s
 
     -- the 487, under the same password, goes back the way that the request came
-    abbrev pub role_insisted : RequestRecord → AgentRecord H P → AgentRecord H P
-    role_insisted q s = with_packet (turned q.path) (written (mac s.provider) (Some s.local_creds.pass) (binding_role_conflict_reply q.id)) s
+    abbrev pub role_conflict_sent : RequestRecord → AgentRecord H P → AgentRecord H P
+    role_conflict_sent q s = with_packet (reversed q.path) (written (mac s.provider) (Some s.local_creds.pass) (binding_role_conflict_reply q.id)) s
 
     -- the reply goes out, behind what was announced
-    abbrev pub Replies : RequestRecord → Path → Option Path → AgentRecord H P → Told → AgentRecord H P → Type 0
-    Replies q path announced s told new =
+    abbrev pub Replies : RequestRecord → Path → Option Path → AgentRecord H P → Emitted → AgentRecord H P → Type 0
+    Replies q path announced s emitted new =
         IsPut (written (mac s.provider) (Some s.local_creds.pass) (binding_reply q.id q.path.source)) (binding_reply q.id (carried q.path.source))
-        × (told ≡ told_by (Some (issued_as path Success q.id)) announced None) × (new ≡ replied q path s)
+        × (emitted ≡ emitted_by (Some (issued_as path Success q.id)) announced None) × (new ≡ replied q path s)
 
     -- the pair takes the request; a controlling agent evaluates nomination where it is valid; and the reply goes out
-    abbrev pub ServesPair : RequestRecord → ℕ → ℕ → ℕ → AgentRecord H P → Told → AgentRecord H P → Type 0
-    ServesPair q l r number s told new =
+    abbrev pub RecordsAndResponds : RequestRecord → ℕ → ℕ → ℕ → AgentRecord H P → Emitted → AgentRecord H P → Type 0
+    RecordsAndResponds q l r number s emitted new =
         (path : Option Path) × (mid : AgentRecord H P)
         × NominatesWhere (s.controlling && is_valid_at number s.pairs) (pair_served q number s) path mid
-        × Replies q (path_between s l r) path mid told new
+        × Replies q (path_between s l r) path mid emitted new
 
     -- a pair is added, without limit or redundancy: a number is left
-    abbrev pub AddsPair : RequestRecord → ℕ → ℕ → AgentRecord H P → Told → AgentRecord H P → Type 0
-    AddsPair q l r s told new = (s.next_number == MAX ≡ false) × ServesPair q l r s.next_number (with_pair (formed s l r) s) told new
+    abbrev pub AddsPairAndResponds : RequestRecord → ℕ → ℕ → AgentRecord H P → Emitted → AgentRecord H P → Type 0
+    AddsPairAndResponds q l r s emitted new = (s.next_number == MAX ≡ false) × RecordsAndResponds q l r s.next_number (with_pair (formed s l r) s) emitted new
 
     -- a pair of the places takes it; where there is none, one is added, but none at a discarded local place, which drops it
     -- (RFC 8445, section 7.3.1.4)
-    abbrev pub TakesAt : RequestRecord → ℕ → ℕ → Option ℕ → AgentRecord H P → Told → AgentRecord H P → Type 0
-    TakesAt q l r (Some number) s told new = ServesPair q l r number s told new
-    TakesAt q l r None s told new =
-        MatchBool (candidate_at s.local l).discarded (Drops s told new) (AddsPair q l r s told new)
+    abbrev pub FindsOrAddsPair : RequestRecord → ℕ → ℕ → Option ℕ → AgentRecord H P → Emitted → AgentRecord H P → Type 0
+    FindsOrAddsPair q l r (Some number) s emitted new = RecordsAndResponds q l r number s emitted new
+    FindsOrAddsPair q l r None s emitted new =
+        MatchBool (candidate_at s.local l).discarded (Drops s emitted new) (AddsPairAndResponds q l r s emitted new)
 
-    abbrev pub Joins : RequestRecord → ℕ → ℕ → AgentRecord H P → Told → AgentRecord H P → Type 0
-    Joins q l r s told new = (pair : Option ℕ) × IsPairBetween s.pairs l r pair × TakesAt q l r pair s told new
+    abbrev pub Joins : RequestRecord → ℕ → ℕ → AgentRecord H P → Emitted → AgentRecord H P → Type 0
+    Joins q l r s emitted new = (pair : Option ℕ) × IsPairBetween s.pairs l r pair × FindsOrAddsPair q l r pair s emitted new
 
     -- an unknown sender is appended, and discarded candidates alone drop it
-    abbrev pub JoinsAt : RequestRecord → ℕ → RemotePlace → AgentRecord H P → Told → AgentRecord H P → Type 0
-    JoinsAt q l (Known r) s told new = Joins q l r s told new
-    JoinsAt q l Barred s told new = Drops s told new
-    JoinsAt q l Unknown s told new = Joins q l (length s.remote) (with_sender q s) told new
+    abbrev pub AddsUnknownSender : RequestRecord → ℕ → RemotePlace → AgentRecord H P → Emitted → AgentRecord H P → Type 0
+    AddsUnknownSender q l (Known r) s emitted new = Joins q l r s emitted new
+    AddsUnknownSender q l Barred s emitted new = Drops s emitted new
+    AddsUnknownSender q l Unknown s emitted new = Joins q l (length s.remote) (with_sender q s) emitted new
 
     -- the remote place
-    abbrev pub MeetsSender : RequestRecord → ℕ → AgentRecord H P → Told → AgentRecord H P → Type 0
-    MeetsSender q l s told new = (place : RemotePlace) × IsRemotePlace s.remote q place × JoinsAt q l place s told new
+    abbrev pub FindsSender : RequestRecord → ℕ → AgentRecord H P → Emitted → AgentRecord H P → Type 0
+    FindsSender q l s emitted new = (place : RemotePlace) × IsRemotePlace s.remote q place × AddsUnknownSender q l place s emitted new
 
     -- USE-CANDIDATE while controlling is dropped; any other request counts
-    abbrev pub Admits : RequestRecord → ℕ → AgentRecord H P → Told → AgentRecord H P → Type 0
-    Admits q l s told new = MatchBool (is_misled s.controlling q) (Drops s told new) (MeetsSender q l (request_counted s) told new)
+    abbrev pub CountsAndServes : RequestRecord → ℕ → AgentRecord H P → Emitted → AgentRecord H P → Type 0
+    CountsAndServes q l s emitted new = MatchBool (is_misled s.controlling q) (Drops s emitted new) (FindsSender q l (request_counted s) emitted new)
 
     -- the 487 goes out, and serving ends
-    abbrev pub InsistsOnRole : RequestRecord → AgentRecord H P → Told → AgentRecord H P → Type 0
-    InsistsOnRole q s told new =
+    abbrev pub SendsRoleConflict : RequestRecord → AgentRecord H P → Emitted → AgentRecord H P → Type 0
+    SendsRoleConflict q s emitted new =
         IsPut (written (mac s.provider) (Some s.local_creds.pass) (binding_role_conflict_reply q.id)) (binding_role_conflict_reply q.id)
-        × (told ≡ issued_alone (turned q.path) Failure q.id) × (new ≡ role_insisted q s)
+        × (emitted ≡ issued_only (reversed q.path) Failure q.id) × (new ≡ role_conflict_sent q s)
 
     -- a sender of the agent's own role: the greater tie-breaker keeps it (RFC 8445, section 7.3.1.1)
-    abbrev pub SettlesBy : Conflict → RequestRecord → ℕ → AgentRecord H P → Told → AgentRecord H P → Type 0
-    SettlesBy Absent q l s told new = Admits q l s told new
-    SettlesBy Insists q l s told new = InsistsOnRole q s told new
-    SettlesBy Yields q l s told new = Admits q l (switched s) told new
+    abbrev pub ResolvesRoleConflictBy : Conflict → RequestRecord → ℕ → AgentRecord H P → Emitted → AgentRecord H P → Type 0
+    ResolvesRoleConflictBy Absent q l s emitted new = CountsAndServes q l s emitted new
+    ResolvesRoleConflictBy Insists q l s emitted new = SendsRoleConflict q s emitted new
+    ResolvesRoleConflictBy Yields q l s emitted new = CountsAndServes q l (switched s) emitted new
 
-    abbrev pub Settles : RequestRecord → ℕ → AgentRecord H P → Told → AgentRecord H P → Type 0
-    Settles q l s told new = SettlesBy (conflict_of s q) q l s told new
+    abbrev pub ResolvesRoleConflict : RequestRecord → ℕ → AgentRecord H P → Emitted → AgentRecord H P → Type 0
+    ResolvesRoleConflict q l s emitted new = ResolvesRoleConflictBy (conflict_of s q) q l s emitted new
 
     -- the local place; none drops it
-    abbrev pub ServesHere : RequestRecord → AgentRecord H P → Told → AgentRecord H P → Type 0
-    ServesHere q s told new = MatchOption (local_place s.local q) (Drops s told new) (λ l. Settles q l s told new)
+    abbrev pub ServesHere : RequestRecord → AgentRecord H P → Emitted → AgentRecord H P → Type 0
+    ServesHere q s emitted new = MatchOption (local_place s.local q) (Drops s emitted new) (λ l. ResolvesRoleConflict q l s emitted new)
 
     -- a request that names another peer is dropped
-    abbrev pub Serves : RequestRecord → AgentRecord H P → Told → AgentRecord H P → Type 0
-    Serves q s told new = MatchBool (names_another s q) (Drops s told new) (ServesHere q s told new)
+    abbrev pub Serves : RequestRecord → AgentRecord H P → Emitted → AgentRecord H P → Type 0
+    Serves q s emitted new = MatchBool (names_another s q) (Drops s emitted new) (ServesHere q s emitted new)
 
     -- where no remote credentials are known the request waits
-    abbrev pub TakesRequest : RequestRecord → AgentRecord H P → Told → AgentRecord H P → Type 0
-    TakesRequest q s told new = MatchOption s.remote_creds (Queues q s told new) (λ _. Serves q s told new)
+    abbrev pub TakesRequest : RequestRecord → AgentRecord H P → Emitted → AgentRecord H P → Type 0
+    TakesRequest q s emitted new = MatchOption s.remote_creds (Queues q s emitted new) (λ _. Serves q s emitted new)
 
   -- ---- when a pair is wanted and no number is left
 

@@ -39,7 +39,7 @@ pub record IsSound {H P : Type 0} (a : AgentRecord H P) : Type 0 where
   pub rising : rises a.pairs ≡ true
   pub below : are_below a.next_number a.pairs ≡ true
   -- the announced number never names another pair
-  pub announced : IsBelow a.next_number a.announced
+  pub announced : IsBelow a.next_number a.selected_pair
   -- a pair that keeps a check left Waiting: so an answer makes it valid
   pub started : (p : PairRecord) (c : Check) → Has a.pairs p → Has p.checks c → is_started_state p.state ≡ true
   -- a check that is sent is kept

@@ -5,7 +5,7 @@ use Rattle.std.specs.Option.{option_map_or}
 use Rattle.is_proto.specs.Lists.{Has}
 use Rattle.is_stun.specs.declared.header.Class.{Class}
 use Rattle.is_stun.specs.declared.header.Class.TheVariants as class
-use Rattle.is_rules.specs.declared.told.Path.{Path}
+use Rattle.is_rules.specs.declared.emitted.Path.{Path}
 use Rattle.is_rules.specs.Request.{RequestRecord, rival_in}
 
 -- what the bytes of a packet read as, as far as roles and transactions go
@@ -46,7 +46,7 @@ pub record Standing : Type 0 where
 pub record Deed : Type 0 where
   -- the packet that came and was accepted, and its way
   pub accepts : Option Mail
-  pub way : Option Path
+  pub via : Option Path
   -- the request that was served: the one that came, or one that had waited
   pub serves : Option RequestRecord
   pub issued : Option Sent
@@ -107,9 +107,9 @@ pub record MeetsSuccess (old : Standing) (d : Deed) (path : Path) : Type 0 where
   pub accepted : d.accepts ≡ Some mail
   pub class : mail.class ≡ class.Success
   pub kept : Has old.kept (record { path = path; id = mail.id; controlling = role })
-  pub way : Path
-  pub came : d.way ≡ Some way
-  pub back : (way.source ≡ path.destination) × (way.destination ≡ path.source)
+  pub via : Path
+  pub came : d.via ≡ Some via
+  pub back : (via.source ≡ path.destination) × (via.destination ≡ path.source)
 
 -- a request of a greater tie-breaker claims the agent's role, which is given up
 abbrev pub Yields : Standing → Deed → Standing → Type 0

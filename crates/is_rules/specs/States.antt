@@ -21,12 +21,12 @@ abbrev pub same_state : IceConnectionState → IceConnectionState → Bool
 same_state a b = state_number a == state_number b
 
 -- a pair that media goes on
-abbrev pub is_selected : PairRecord → Bool
-is_selected p = is_valid p && is_nominated p
+abbrev pub is_nominated_and_valid : PairRecord → Bool
+is_nominated_and_valid p = is_valid p && is_nominated p
 
 -- one that is possible, and not selected
 abbrev pub is_possible_beside : ℕ → StunTiming → PairRecord → Bool
-is_possible_beside now t p = not (is_selected p) && is_possible now t p
+is_possible_beside now t p = not (is_nominated_and_valid p) && is_possible now t p
 
 -- by the state, whether a pair is selected, whether another one is possible, and lite
 abbrev pub next_state : IceConnectionState → Bool → Bool → Bool → IceConnectionState
@@ -35,8 +35,8 @@ next_state state false possible lite = if possible then Checking else Disconnect
 next_state state true possible lite = if possible && (not lite || same_state state Connected) then Connected else Completed
 
 module _ {H P : Type 0} where
-  abbrev pub has_selected : AgentRecord H P → Bool
-  has_selected a = list_any is_selected a.pairs
+  abbrev pub has_nominated : AgentRecord H P → Bool
+  has_nominated a = list_any is_nominated_and_valid a.pairs
 
   -- a pair that is not selected is possible, or a list of candidates is empty
   abbrev pub has_possible : ℕ → AgentRecord H P → Bool
@@ -52,4 +52,4 @@ module _ {H P : Type 0} where
 
   -- the state is evaluated
   abbrev pub evaluated : ℕ → AgentRecord H P → AgentRecord H P
-  evaluated now a = with_state (next_state a.state (has_selected a) (has_possible now a) a.lite) a
+  evaluated now a = with_state (next_state a.state (has_nominated a) (has_possible now a) a.lite) a

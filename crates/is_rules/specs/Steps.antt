@@ -9,9 +9,9 @@ use Rattle.is_stun.specs.Message.{Message}
 use Rattle.is_stun.specs.Reading.{Reads, Fault}
 use Rattle.is_rules.specs.declared.credentials.IceCreds.{IceCreds}
 use Rattle.is_rules.specs.declared.event.IceAgentEvent.{IceAgentEvent}
-use Rattle.is_rules.specs.declared.told.Path.{Path}
-use Rattle.is_rules.specs.declared.told.Told.{Told}
-use Rattle.is_rules.specs.Told.{nothing_told}
+use Rattle.is_rules.specs.declared.emitted.Path.{Path}
+use Rattle.is_rules.specs.declared.emitted.Emitted.{Emitted}
+use Rattle.is_rules.specs.Emitted.{nothing_emitted}
 use Rattle.is_rules.specs.Agent.{AgentRecord}
 use Rattle.is_rules.specs.Settings.{SetsMtu, with_rtos, with_retransmits, numbers_skipped}
 use Rattle.is_rules.specs.Credentials.{SetsLocal, SetsRemote}
@@ -73,11 +73,11 @@ pub data Answer : Type 0 where
 -- the answer, and what was told
 pub record Entry : Type 0 where
   pub answer : Answer
-  pub told : Told
+  pub emitted : Emitted
 
 -- nothing issued and nothing announced
 abbrev pub quiet : Answer → Entry
-quiet answer = record { answer = answer; told = nothing_told }
+quiet answer = record { answer = answer; emitted = nothing_emitted }
 
 -- what a call answers by its result
 
@@ -119,10 +119,10 @@ MayDo Does s e new t = (r : Result (Unit {0}) IceError) × (e ≡ quiet (answer_
 module _ {H P : Type 0} (mac : H → List ℕ → List ℕ → List ℕ) (answers : P → CandidateRecord → ℕ → ℕ → Type 0) where
   -- a packet is the step of what its bytes read as; bytes that do not read change nothing
   abbrev pub Receives : ℕ → AgentRecord H P → Path → List ℕ → Entry → AgentRecord H P → Type 0
-  Receives now old way bytes e new =
+  Receives now old path bytes e new =
       ((fault : ParseFault) × Fault bytes fault × (e ≡ quiet (Unparsed fault)) × (new ≡ old))
-      ⊎ ((m : Message) × Reads bytes m × ((r : Result Bool IceError) × (told : Told)
-      × (e ≡ record { answer = answer_by Flag r; told = told }) × HandlesPacket mac now old way m r told new))
+      ⊎ ((m : Message) × Reads bytes m × ((r : Result Bool IceError) × (emitted : Emitted)
+      × (e ≡ record { answer = answer_by Flag r; emitted = emitted }) × HandlesPacket mac now old path m r emitted new))
 
   -- a limit of no retransmits breaks a condition of the agent: the call is not made
   abbrev pub SetsRetransmits : ℕ → AgentRecord H P → Stream → Entry → AgentRecord H P → Stream → Type 0
@@ -150,10 +150,10 @@ module _ {H P : Type 0} (mac : H → List ℕ → List ℕ → List ℕ) (answer
   Step old s (InvalidateCandidate c) e new t = (found : Bool) × (e ≡ quiet (Flag found)) × Invalidates old c found new × (t ≡ s)
   Step old s (RestartIce creds keep) e new t = MayDo (Restarts old creds keep) s e new t
   Step old s RecreateCandidatePairs e new t = MayDo (Recreates old) s e new t
-  Step old s (ReceivePacket now way bytes) e new t = Receives now old way bytes e new × (t ≡ s)
+  Step old s (ReceivePacket now path bytes) e new t = Receives now old path bytes e new × (t ≡ s)
   Step old s (HandleTimeout now) e new t =
-      (r : Result (Unit {0}) IceError) × (told : Told) × (e ≡ record { answer = answer_by done r; told = told })
-      × TimesOut mac now old s r told new t
+      (r : Result (Unit {0}) IceError) × (emitted : Emitted) × (e ≡ record { answer = answer_by done r; emitted = emitted })
+      × TimesOut mac now old s r emitted new t
   Step old s PollTransmit e new t = (given : Option Packet) × (e ≡ quiet (Polled given)) × PollsTransmit old given new × (t ≡ s)
   Step old s PollTimeout e new t = (wake : Option ℕ) × (e ≡ quiet (Wake wake)) × PollsTimeout old wake new × (t ≡ s)
   Step old s PollEvent e new t = (given : Option IceAgentEvent) × (e ≡ quiet (Happened given)) × PollsEvent old given new × (t ≡ s)

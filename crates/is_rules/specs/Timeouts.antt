@@ -8,11 +8,11 @@ use Rattle.is_pair.specs.Pairs.{PairRecord}
 use Rattle.is_pair.specs.Due as due
 use Rattle.is_rules.specs.declared.event.IceAgentEvent.TheVariants.{IceRestart}
 use Rattle.is_rules.specs.declared.event.IceConnectionState.TheVariants.{New}
-use Rattle.is_rules.specs.declared.told.Issued.{Issued}
-use Rattle.is_rules.specs.declared.told.Path.{Path}
-use Rattle.is_rules.specs.declared.told.Told.{Told}
+use Rattle.is_rules.specs.declared.emitted.Issued.{Issued}
+use Rattle.is_rules.specs.declared.emitted.Path.{Path}
+use Rattle.is_rules.specs.declared.emitted.Emitted.{Emitted}
 use Rattle.is_rules.specs.Request.{RequestRecord}
-use Rattle.is_rules.specs.Told.{nothing_told, told_by}
+use Rattle.is_rules.specs.Emitted.{nothing_emitted, emitted_by}
 use Rattle.is_pair.specs.Bag.{without}
 use Rattle.is_rules.specs.Agent.{AgentRecord}
 use Rattle.is_rules.specs.Nominating.{Nominates}
@@ -25,12 +25,12 @@ module _ {H P : Type 0} where
   -- ---- waking
 
   -- in New the start is told of
-  abbrev pub start_told : AgentRecord H P → AgentRecord H P
-  start_told a = record a { events = if same_state a.state New then a.events ++ IceRestart a.local_creds ∷ [] else a.events }
+  abbrev pub start_emitted : AgentRecord H P → AgentRecord H P
+  start_emitted a = record a { events = if same_state a.state New then a.events ++ IceRestart a.local_creds ∷ [] else a.events }
 
   -- then the state is evaluated, and outdated requests go
-  abbrev pub awake : ℕ → AgentRecord H P → AgentRecord H P
-  awake now a = queue_cleared now (evaluated now (start_told a))
+  abbrev pub timeout_begun : ℕ → AgentRecord H P → AgentRecord H P
+  timeout_begun now a = queue_cleared now (evaluated now (start_emitted a))
 
   -- ---- pairs given up
 
@@ -56,26 +56,26 @@ module _ {H P : Type 0} where
   -- why a moment is refused: as the queued request is that it serves, else for want of memory alone
   abbrev pub MayRefuseMoment : ℕ → AgentRecord H P → IceError → Type 0
   MayRefuseMoment now a error =
-      MatchOption (request_at now a) (error ≡ OutOfMemory) (λ q. MayRefuseRequest (first_taken (awake now a)) q error)
+      MatchOption (request_at now a) (error ≡ OutOfMemory) (λ q. MayRefuseRequest (first_taken (timeout_begun now a)) q error)
 
   module _ (mac : H → List ℕ → List ℕ → List ℕ) where
     -- a queued request is served, and the call ends: the last moment stays
-    abbrev pub ServesQueued : RequestRecord → AgentRecord H P → Stream → Told → AgentRecord H P → Stream → Type 0
-    ServesQueued q old s told new t = Serves mac q (first_taken old) told new × (t ≡ s)
+    abbrev pub ServesQueued : RequestRecord → AgentRecord H P → Stream → Emitted → AgentRecord H P → Stream → Type 0
+    ServesQueued q old s emitted new t = Serves mac q (first_taken old) emitted new × (t ≡ s)
 
     -- nomination, pairs given up, and a check
-    abbrev pub Proceeds : ℕ → AgentRecord H P → Stream → Told → AgentRecord H P → Stream → Type 0
-    Proceeds now old s told new t =
+    abbrev pub MaintainsPairs : ℕ → AgentRecord H P → Stream → Emitted → AgentRecord H P → Stream → Type 0
+    MaintainsPairs now old s emitted new t =
         (first second : Option Path) × (issued : Option Issued) × (named kept : AgentRecord H P)
         × Nominates (at_moment now old) first named
         × GivesUp now named second kept
         × MayCheck mac now kept.remote_creds kept s issued new t
-        × (told ≡ told_by issued first second)
+        × (emitted ≡ emitted_by issued first second)
 
     -- `handle_timeout`
-    abbrev pub TimesOut : ℕ → AgentRecord H P → Stream → Result (Unit {0}) IceError → Told → AgentRecord H P → Stream → Type 0
-    TimesOut now old s (Ok _) told new t =
+    abbrev pub TimesOut : ℕ → AgentRecord H P → Stream → Result (Unit {0}) IceError → Emitted → AgentRecord H P → Stream → Type 0
+    TimesOut now old s (Ok _) emitted new t =
         MatchOption (request_at now old)
-        (Proceeds now (awake now old) s told new t)
-        (λ q. ServesQueued q (awake now old) s told new t)
-    TimesOut now old s (Err error) told new t = MayRefuseMoment now old error × (told ≡ nothing_told) × (new ≡ old) × (t ≡ s)
+        (MaintainsPairs now (timeout_begun now old) s emitted new t)
+        (λ q. ServesQueued q (timeout_begun now old) s emitted new t)
+    TimesOut now old s (Err error) emitted new t = MayRefuseMoment now old error × (emitted ≡ nothing_emitted) × (new ≡ old) × (t ≡ s)

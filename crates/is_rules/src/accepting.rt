@@ -4,7 +4,7 @@ ghost use Rattle.std.specs.Prelude.{◌≡◌, ◌↔◌, IsTrue};
 ghost use Rattle.std.specs.List.{list_any};
 ghost use Rattle.is_rules.specs.Accepting.{is_source};
 
-use crate::told::Path;
+use crate::emitted::Path;
 use is_candidate::candidate::address::{same_address, same_protocol};
 use is_proto::Protocol;
 use std::net::SocketAddr;
@@ -18,17 +18,17 @@ pub struct Source {
     pub address: SocketAddr,
 }
 
-fn is_source(source: &Source, way: &Path) -> bool
-    ensures { result ≡ is_source way.now source.now }
+fn is_source(source: &Source, path: &Path) -> bool
+    ensures { result ≡ is_source path.now source.now }
 {
-    same_address(source.address, way.source) && same_protocol(source.proto, way.proto)
+    same_address(source.address, path.source) && same_protocol(source.proto, path.proto)
 }
 
 /// Packets from this source were told of.
-pub fn is_seen(seen: &[Source], way: &Path) -> bool
-    ensures { result ≡ list_any (is_source way.now) seen.now }
+pub fn is_discovered(seen: &[Source], path: &Path) -> bool
+    ensures { result ≡ list_any (is_source path.now) seen.now }
 {
-    seen.iter().any(|source| is_source(source, way))
+    seen.iter().any(|source| is_source(source, path))
 }
 
 /// Two texts are equal.

@@ -5,7 +5,7 @@ ghost use Rattle.std.specs.List.{list_any};
 ghost use Rattle.is_candidate.specs.Priorities.{candidate_priority};
 ghost use Rattle.is_pair.specs.Checks.{is_kept};
 ghost use Rattle.is_pair.specs.Pairs.{PairRecord};
-ghost use Rattle.is_pair.specs.Bag.{is_keeper, keeps_check, pair_numbered};
+ghost use Rattle.is_pair.specs.Bag.{is_awaiting, keeps_check, pair_numbered};
 ghost use Rattle.is_pair.specs.Checklists.{bag_of};
 ghost use Rattle.is_rules.specs.FormingView.{sides_view};
 ghost use Rattle.is_rules.specs.Nominating.{path_in};
@@ -14,10 +14,10 @@ ghost use Rattle.is_rules.specs.Kept.{TOO_HIGH, NoneTooHigh};
 ghost use Rattle.is_rules.specs.Due.{IsSentUnder};
 ghost use Rattle.is_rules.specs.Answers.{is_known_address, is_role_conflict, goes_back, joined_by};
 
+use crate::emitted::Path;
 use crate::local::append;
 use crate::nomination::path_in;
 use crate::sides::Sides;
-use crate::told::Path;
 use is_candidate::Candidate;
 use is_candidate::candidate::address::same_address;
 use is_pair::checklist::{Checklist, PairTest};
@@ -48,21 +48,21 @@ impl PairTest for Any {
 pub fn keeps_any(pairs: &Checklist, id: TransId) -> bool
     ensures { result ≡ list_any (keeps_check id.0) (bag_of pairs.now) }
 {
-    pairs.has_keeper(id, &Any)
+    pairs.has_awaiting(id, &Any)
 }
 
 /// A packet that went the first way goes back on this path. Protocols are not compared.
-fn goes_back(way: &Path, path: &Path) -> bool
-    ensures { result ≡ goes_back way.now path.now }
+fn goes_back(via: &Path, path: &Path) -> bool
+    ensures { result ≡ goes_back via.now path.now }
 {
-    same_address(way.source, path.destination) && same_address(way.destination, path.source)
+    same_address(via.source, path.destination) && same_address(via.destination, path.source)
 }
 
 /// Whether a packet came back on a pair's path.
 #[derive(Clone, Copy)]
 struct GoesBack<'a> {
     sides: Sides<'a>,
-    way: &'a Path,
+    via: &'a Path,
 }
 
 impl PairTest for GoesBack<'_> {
@@ -70,21 +70,21 @@ impl PairTest for GoesBack<'_> {
     ghost use Rattle.is_rules.specs.FormingView.{sides_view};
     ghost use Rattle.is_rules.specs.Nominating.{path_in};
 
-    ghost passes = { λ t p. goes_back t.way.now (path_in (sides_view t.sides) p) };
+    ghost passes = { λ t p. goes_back t.via.now (path_in (sides_view t.sides) p) };
 
     fn passes(&self, pair: &CandidatePair) -> bool {
-        goes_back(self.way, &path_in(self.sides, pair))
+        goes_back(self.via, &path_in(self.sides, pair))
     }
 }
 
 /// The number of a pair that keeps a check of the id and on whose path the packet came back.
-pub fn keeper_on(pairs: &Checklist, sides: Sides<'_>, way: &Path, id: TransId) -> Option<u64>
-    ensures any { list_any (is_keeper id.0 (λ p. goes_back way.now (path_in (sides_view sides.entry) p))) (bag_of pairs.now) ≡ is_some result }
+pub fn pair_awaiting(pairs: &Checklist, sides: Sides<'_>, via: &Path, id: TransId) -> Option<u64>
+    ensures any { list_any (is_awaiting id.0 (λ p. goes_back via.now (path_in (sides_view sides.entry) p))) (bag_of pairs.now) ≡ is_some result }
     ensures kept { IfSome result (λ number. (p : PairRecord) × (pair_numbered number (bag_of pairs.now) ≡ Some p)
-        × (is_keeper id.0 (λ p. goes_back way.now (path_in (sides_view sides.entry) p)) p ≡ true)) }
+        × (is_awaiting id.0 (λ p. goes_back via.now (path_in (sides_view sides.entry) p)) p ≡ true)) }
 {
     pairs.numbers_rise();
-    match pairs.keeper(id, &GoesBack { sides, way }) {
+    match pairs.awaiting(id, &GoesBack { sides, via }) {
         Some(pair) => Some(pair.id().0),
         None => None,
     }

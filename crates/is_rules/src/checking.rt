@@ -4,7 +4,7 @@ ghost use Rattle.std.specs.Prelude.{◌≡◌, OnOk, string_bytes};
 ghost use Rattle.is_rules.specs.Checking.{username_between};
 
 use crate::credentials::IceCreds;
-use crate::told::Path;
+use crate::emitted::Path;
 use std::alloc::AllocError;
 
 /// Writes the peer's user fragment, a colon and the own one over the name.

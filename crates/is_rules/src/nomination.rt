@@ -9,11 +9,11 @@ ghost use Rattle.is_rules.specs.FormingView.{sides_view};
 ghost use Rattle.is_pair.specs.Bag.{are_below, change_pair, IsGreatest};
 ghost use Rattle.is_pair.specs.Checklists as checklists;
 ghost use Rattle.is_pair.specs.Checklists.{bag_of, HasRoom};
-ghost use Rattle.is_rules.specs.Nominating.{is_eligible, nominated_by_self, announced_pair, stands_at, selection, path_in, Names};
+ghost use Rattle.is_rules.specs.Nominating.{is_eligible, nominated_by_self, pair_selected, stands_at, selection, path_in, Names};
 
+use crate::emitted::Path;
 use crate::places::{address_at, base_at, proto_at};
 use crate::sides::Sides;
-use crate::told::Path;
 use is_pair::checklist::{Checklist, PairChange, PairTest};
 use is_pair::pair::{CandidatePair, CheckState};
 
@@ -41,20 +41,20 @@ fn top_eligible(pairs: &Checklist, controlling: bool) -> Option<&CandidatePair>
 }
 
 /// The pair that was announced last, while it stands.
-pub fn announced_pair(announced: Option<u64>, pairs: &Checklist) -> Option<&CandidatePair>
-    ensures { option_copied result ≡ announced_pair announced (bag_of pairs.now) }
+pub fn pair_selected(selected: Option<u64>, pairs: &Checklist) -> Option<&CandidatePair>
+    ensures { option_copied result ≡ pair_selected selected (bag_of pairs.now) }
 {
-    match announced {
+    match selected {
         Some(number) => pairs.get(number),
         None => None,
     }
 }
 
 /// It stands, with this priority.
-fn stands_at(announced: Option<u64>, priority: u64, pairs: &Checklist) -> bool
-    ensures { result ≡ stands_at announced priority (bag_of pairs.now) }
+fn stands_at(selected: Option<u64>, priority: u64, pairs: &Checklist) -> bool
+    ensures { result ≡ stands_at selected priority (bag_of pairs.now) }
 {
-    match announced_pair(announced, pairs) {
+    match pair_selected(selected, pairs) {
         Some(pair) => pair.prio() == priority,
         None => false,
     }
@@ -100,8 +100,12 @@ pub(crate) fn path_in(sides: Sides<'_>, pair: &CandidatePair) -> Path
 }
 
 /// An eligible pair of greatest priority is announced, unless the announced one has that priority.
-pub fn name(sides: Sides<'_>, pairs: &mut Checklist, announced: &mut Option<u64>) -> Option<Path>
-    ensures named { Names (sides_view sides.entry) (selection (bag_of pairs.old) announced.old) result (selection (bag_of pairs.new) announced.new) }
+pub fn select_pair(
+    sides: Sides<'_>,
+    pairs: &mut Checklist,
+    selected: &mut Option<u64>,
+) -> Option<Path>
+    ensures named { Names (sides_view sides.entry) (selection (bag_of pairs.old) selected.old) result (selection (bag_of pairs.new) selected.new) }
     ensures room { (n : ℕ) → HasRoom n pairs.old → HasRoom n pairs.new }
     ensures check_room { checklists.HasCheckRoom pairs.old → checklists.HasCheckRoom pairs.new }
     ensures below { (n : ℕ) → are_below n (bag_of pairs.old) ≡ true → are_below n (bag_of pairs.new) ≡ true }
@@ -113,13 +117,13 @@ pub fn name(sides: Sides<'_>, pairs: &mut Checklist, announced: &mut Option<u64>
     match top_eligible(pairs, controlling) {
         None => None,
         Some(top) => {
-            if stands_at(*announced, top.prio(), pairs) {
+            if stands_at(*selected, top.prio(), pairs) {
                 return None;
             }
             let number = top.id().0;
             let path = path_in(sides, top);
             nominate_pair(pairs, number, controlling, sides.lite);
-            *announced = Some(number);
+            *selected = Some(number);
             Some(path)
         }
     }

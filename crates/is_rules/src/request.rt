@@ -3,9 +3,9 @@
 ghost use Rattle.std.specs.Prelude.{◌≡◌, IfOk};
 ghost use Rattle.is_stun.specs.MessageView.{message_view};
 ghost use Rattle.is_rules.specs.Request.{request_in, sender_ufrag};
-ghost use Rattle.is_rules.specs.RequestView.{request_view, waiting_view, way_of};
+ghost use Rattle.is_rules.specs.RequestView.{request_view, waiting_view, packet_path};
 
-use crate::told::Path;
+use crate::emitted::Path;
 use is_proto::{Instant, Text};
 use is_stun::stun::{StunMessage, StunPacket, TransId};
 use std::alloc::{AllocError, Global};
@@ -32,8 +32,8 @@ pub struct Request<'a> {
 }
 
 /// The way that a packet came.
-pub fn way_of(packet: &StunPacket<'_>) -> Path
-    ensures { result ≡ way_of packet.now }
+pub fn packet_path(packet: &StunPacket<'_>) -> Path
+    ensures { result ≡ packet_path packet.now }
 {
     Path {
         proto: packet.proto,
@@ -55,12 +55,12 @@ fn sender_ufrag<'a>(message: &StunMessage<'a>) -> &'a str
 impl<'a> Request<'a> {
     /// The request that the packet is, which came at this moment.
     pub fn new(now: Instant, packet: &StunPacket<'a>) -> Request<'a>
-        ensures { request_view result ≡ request_in now.0 (way_of packet.now) (message_view packet.now.message) }
+        ensures { request_view result ≡ request_in now.0 (packet_path packet.now) (message_view packet.now.message) }
     {
         let message = &packet.message;
         Request {
             moment: now,
-            path: way_of(packet),
+            path: packet_path(packet),
             id: message.trans_id(),
             priority: message.prio().unwrap_or(0),
             use_candidate: message.use_candidate(),

@@ -3,7 +3,7 @@
 ghost use Rattle.std.specs.Prelude.{◌≡◌, ◌<◌, ◌≤◌, ◌+◌, ◌++◌, ◌∷◌, [], if◌then◌else◌};
 ghost use Rattle.std.specs.VecDeque.{deque_len, deque_capacity};
 ghost use Rattle.is_rules.specs.declared.event.IceAgentEvent.TheVariants.{IceConnectionStateChange};
-ghost use Rattle.is_rules.specs.States.{same_state, next_state, is_selected, is_possible_beside};
+ghost use Rattle.is_rules.specs.States.{same_state, next_state, is_nominated_and_valid, is_possible_beside};
 
 use crate::event::{IceAgentEvent, IceConnectionState};
 use is_pair::checklist::PairTest;
@@ -32,7 +32,7 @@ pub fn same_state(a: IceConnectionState, b: IceConnectionState) -> bool
 }
 
 /// The state is this one now, and told of where it is another one.
-pub fn tell_state(
+pub fn emit_state(
     state: &mut IceConnectionState,
     events: &mut VecDeque<IceAgentEvent>,
     next: IceConnectionState,
@@ -51,8 +51,8 @@ pub fn tell_state(
 }
 
 /// A pair that media goes on.
-fn is_selected(pair: &CandidatePair) -> bool
-    ensures { result ≡ is_selected pair.now }
+fn is_nominated_and_valid(pair: &CandidatePair) -> bool
+    ensures { result ≡ is_nominated_and_valid pair.now }
 {
     pair.state() == CheckState::Succeeded && pair.is_nominated()
 }
@@ -62,12 +62,12 @@ fn is_selected(pair: &CandidatePair) -> bool
 pub struct Selected;
 
 impl PairTest for Selected {
-    ghost use Rattle.is_rules.specs.States.{is_selected};
+    ghost use Rattle.is_rules.specs.States.{is_nominated_and_valid};
 
-    ghost passes = { λ t p. is_selected p };
+    ghost passes = { λ t p. is_nominated_and_valid p };
 
     fn passes(&self, pair: &CandidatePair) -> bool {
-        is_selected(pair)
+        is_nominated_and_valid(pair)
     }
 }
 
@@ -87,7 +87,7 @@ impl PairTest for PossibleBeside<'_> {
     ghost passes = { λ t p. is_possible_beside t.now.0 t.timing.now p };
 
     fn passes(&self, pair: &CandidatePair) -> bool {
-        !is_selected(pair) && pair.is_still_possible(self.now, self.timing)
+        !is_nominated_and_valid(pair) && pair.is_still_possible(self.now, self.timing)
     }
 }
 

@@ -9,7 +9,7 @@ use is::stun::Builder;
 struct Answers;
 
 impl Subject for Answers {
-    fn play(&self, player: &mut Player) -> Told {
+    fn play(&self, player: &mut Player) -> Emitted {
         off_its_path_nothing_comes_of_an_answer(player)?;
         an_answer_on_its_path_announces_it(player)?;
         figures_are_those_of_the_announced_pair(player)?;
@@ -40,7 +40,7 @@ fn is_off_path(player: &mut Player, from: SocketAddr, to: SocketAddr) -> bool {
         && player.has_no_figures()
 }
 
-fn off_its_path_nothing_comes_of_an_answer(player: &mut Player) -> Told {
+fn off_its_path_nothing_comes_of_an_answer(player: &mut Player) -> Emitted {
     Story("off_its_path_nothing_comes_of_an_answer").holds(&[
         player.is_paired(),
         player.checks(0) && player.tells(b"Rc"),
@@ -67,7 +67,7 @@ fn announces(player: &mut Player, from: SocketAddr, to: SocketAddr) -> bool {
     }
 }
 
-fn an_answer_on_its_path_announces_it(player: &mut Player) -> Told {
+fn an_answer_on_its_path_announces_it(player: &mut Player) -> Emitted {
     Story("an_answer_on_its_path_announces_it").holds(&[
         player.is_paired(),
         player.checks(0) && player.tells(b"Rc"),
@@ -78,7 +78,7 @@ fn an_answer_on_its_path_announces_it(player: &mut Player) -> Told {
     ])
 }
 
-fn figures_are_those_of_the_announced_pair(player: &mut Player) -> Told {
+fn figures_are_those_of_the_announced_pair(player: &mut Player) -> Emitted {
     Story("figures_are_those_of_the_announced_pair").holds(&[
         player.is_paired(),
         player.has_no_figures() && player.is_answered(at(1, 1000)),
@@ -108,7 +108,7 @@ fn expects_forged(player: &mut Player) -> bool {
     }
 }
 
-fn an_answer_of_another_key_or_id_is_none(player: &mut Player) -> Told {
+fn an_answer_of_another_key_or_id_is_none(player: &mut Player) -> Emitted {
     Story("an_answer_of_another_key_or_id_is_none").holds(&[
         player.is_paired(),
         player.checks(0) && player.tells(b"Rc"),
@@ -131,7 +131,7 @@ fn expects_failure(player: &mut Player) -> bool {
     player.expects(message, "farpass")
 }
 
-fn a_failure_of_another_code_is_taken_and_does_nothing(player: &mut Player) -> Told {
+fn a_failure_of_another_code_is_taken_and_does_nothing(player: &mut Player) -> Emitted {
     Story("a_failure_of_another_code_is_taken_and_does_nothing").holds(&[
         player.is_paired(),
         player.checks(0) && expects_failure(player),
@@ -151,7 +151,7 @@ fn checks_under_one_id(player: &mut Player, ms: u64) -> bool {
 
 const OTHER: &str = "candidate:1 1 udp 2130706175 10.0.0.3 3000 typ host";
 
-fn of_equal_ids_the_one_on_the_path_is_answered(player: &mut Player) -> Told {
+fn of_equal_ids_the_one_on_the_path_is_answered(player: &mut Player) -> Emitted {
     Story("of_equal_ids_the_one_on_the_path_is_answered").holds(&[
         player.is_paired(),
         checks_under_one_id(player, 0) && player.hears(OTHER),
@@ -183,7 +183,7 @@ fn has_checked_twice(player: &mut Player) -> bool {
         && player.expects_answer(at(1, 1000))
 }
 
-fn of_two_checks_of_one_id_that_of_the_pair_left_is_answered(player: &mut Player) -> Told {
+fn of_two_checks_of_one_id_that_of_the_pair_left_is_answered(player: &mut Player) -> Emitted {
     Story("of_two_checks_of_one_id_that_of_the_pair_left_is_answered").holds(&[
         has_checked_twice(player),
         player.loses(PEER) && player.takes(60, at(3, 2000), at(1, 1000)),
@@ -191,7 +191,7 @@ fn of_two_checks_of_one_id_that_of_the_pair_left_is_answered(player: &mut Player
     ])
 }
 
-fn of_two_checks_of_one_id_that_of_the_pair_gone_is_not(player: &mut Player) -> Told {
+fn of_two_checks_of_one_id_that_of_the_pair_gone_is_not(player: &mut Player) -> Emitted {
     Story("of_two_checks_of_one_id_that_of_the_pair_gone_is_not").holds(&[
         has_checked_twice(player),
         player.loses(SECOND) && !player.takes(60, at(3, 2000), at(1, 1000)),
@@ -212,7 +212,7 @@ fn accepts_bare_failure(player: &Player) -> bool {
     }
 }
 
-fn a_failure_that_carries_nothing_is_refused(player: &mut Player) -> Told {
+fn a_failure_that_carries_nothing_is_refused(player: &mut Player) -> Emitted {
     Story("a_failure_that_carries_nothing_is_refused").holds(&[
         player.is_paired() && checks_under_zeros(player, 0, at(2, 2000)),
         !accepts_bare_failure(player),
@@ -226,7 +226,7 @@ fn answered_from(player: &mut Player, source: SocketAddr) -> (bool, bool) {
     (taken, player.accepts())
 }
 
-fn of_two_checks_of_one_id_each_goes_with_its_pair(player: &mut Player) -> Told {
+fn of_two_checks_of_one_id_each_goes_with_its_pair(player: &mut Player) -> Emitted {
     let (first, second) = (at(2, 2000), at(3, 2000));
     Story("of_two_checks_of_one_id_each_goes_with_its_pair").holds(&[
         has_checked_twice(player) && answered_from(player, second) == (true, true),
@@ -254,7 +254,7 @@ fn has_learnt(player: &Player, base: SocketAddr, prio: u32) -> bool {
     is_learnt
 }
 
-fn an_unknown_mapped_address_is_a_candidate(player: &mut Player) -> Told {
+fn an_unknown_mapped_address_is_a_candidate(player: &mut Player) -> Emitted {
     Story("an_unknown_mapped_address_is_a_candidate").holds(&[
         player.is_paired(),
         player.is_answered(at(9, 9000)),
@@ -264,7 +264,7 @@ fn an_unknown_mapped_address_is_a_candidate(player: &mut Player) -> Told {
     ])
 }
 
-fn a_discarded_candidate_keeps_its_address_from_being_learnt(player: &mut Player) -> Told {
+fn a_discarded_candidate_keeps_its_address_from_being_learnt(player: &mut Player) -> Emitted {
     Story("a_discarded_candidate_keeps_its_address_from_being_learnt").holds(&[
         player.is_paired(),
         player.host(at(9, 9000)),
@@ -273,7 +273,7 @@ fn a_discarded_candidate_keeps_its_address_from_being_learnt(player: &mut Player
     ])
 }
 
-fn a_learnt_candidate_pairs_with_later_ones(player: &mut Player) -> Told {
+fn a_learnt_candidate_pairs_with_later_ones(player: &mut Player) -> Emitted {
     Story("a_learnt_candidate_pairs_with_later_ones").holds(&[
         player.is_paired(),
         player.is_answered(at(9, 9000)),

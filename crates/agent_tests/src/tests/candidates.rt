@@ -7,7 +7,7 @@ use is::{CandidateKind, LocalPreference};
 struct Candidates;
 
 impl Subject for Candidates {
-    fn play(&self, player: &mut Player) -> Told {
+    fn play(&self, player: &mut Player) -> Emitted {
         the_greatest_priority_is_refused(player)?;
         equal_candidates_supersede_unless_they_are_less(player)?;
         a_candidate_that_comes_again_is_as_it_was(player)?;
@@ -105,14 +105,14 @@ fn refuses_greatest(player: &mut Player) -> bool {
     }
 }
 
-fn the_greatest_priority_is_refused(player: &mut Player) -> Told {
+fn the_greatest_priority_is_refused(player: &mut Player) -> Emitted {
     Story("the_greatest_priority_is_refused").holds(&[
         is_unnamed(player),
         refuses_greatest(player) && player.is_at(&[]),
     ])
 }
 
-fn equal_candidates_supersede_unless_they_are_less(player: &mut Player) -> Told {
+fn equal_candidates_supersede_unless_they_are_less(player: &mut Player) -> Emitted {
     Story("equal_candidates_supersede_unless_they_are_less").holds(&[
         is_unnamed(player),
         player.own("candidate:1 1 udp 100 10.0.0.1 1000 typ host"),
@@ -136,7 +136,7 @@ fn is_first(player: &Player, ufrag: &str, prio: u32) -> bool {
 
 const OWN: &str = "candidate:1 1 udp 1 10.0.0.1 1000 typ host";
 
-fn a_candidate_that_comes_again_is_as_it_was(player: &mut Player) -> Told {
+fn a_candidate_that_comes_again_is_as_it_was(player: &mut Player) -> Emitted {
     Story("a_candidate_that_comes_again_is_as_it_was").holds(&[
         player.is_paired(),
         player.loses(OWN) && !player.loses(OWN),
@@ -148,14 +148,14 @@ fn a_candidate_that_comes_again_is_as_it_was(player: &mut Player) -> Told {
     ])
 }
 
-fn discarded_candidates_count_for_preference(player: &mut Player) -> Told {
+fn discarded_candidates_count_for_preference(player: &mut Player) -> Emitted {
     Story("discarded_candidates_count_for_preference").holds(&[
         player.is_alone(),
         player.loses(OWN) && stands_at(player, at(1, 1001), 2130705663),
     ])
 }
 
-fn the_first_equal_candidate_decides_though_discarded(player: &mut Player) -> Told {
+fn the_first_equal_candidate_decides_though_discarded(player: &mut Player) -> Emitted {
     Story("the_first_equal_candidate_decides_though_discarded").holds(&[
         is_unnamed(player),
         player.own("candidate:1 1 udp 200 10.0.0.1 1000 typ host"),
@@ -167,7 +167,7 @@ fn the_first_equal_candidate_decides_though_discarded(player: &mut Player) -> To
     ])
 }
 
-fn a_lite_agent_has_hosts_alone(player: &mut Player) -> Told {
+fn a_lite_agent_has_hosts_alone(player: &mut Player) -> Emitted {
     Story("a_lite_agent_has_hosts_alone").holds(&[
         is_unnamed(player) && player.becomes_lite(),
         !player.own("candidate:1 1 udp 100 10.0.0.1 1000 typ srflx"),
@@ -182,7 +182,7 @@ fn ignores(player: &mut Player, line: &str) -> bool {
     player.hears(line) && player.has_heard_of(&[at(2, 2000)])
 }
 
-fn some_remote_candidates_are_ignored(player: &mut Player) -> Told {
+fn some_remote_candidates_are_ignored(player: &mut Player) -> Emitted {
     Story("some_remote_candidates_are_ignored").holds(&[
         player.is_paired(),
         ignores(
@@ -210,7 +210,7 @@ fn are_unnamed(player: &Player) -> bool {
     true
 }
 
-fn a_candidate_without_a_pair_is_stored_again(player: &mut Player) -> Told {
+fn a_candidate_without_a_pair_is_stored_again(player: &mut Player) -> Emitted {
     Story("a_candidate_without_a_pair_is_stored_again").holds(&[
         player.is_alone() && player.is_limited(0),
         player.hears(PEER) && player.hears(PEER),
@@ -218,7 +218,7 @@ fn a_candidate_without_a_pair_is_stored_again(player: &mut Player) -> Told {
     ])
 }
 
-fn lists_skip_what_was_taken_back(player: &mut Player) -> Told {
+fn lists_skip_what_was_taken_back(player: &mut Player) -> Emitted {
     Story("lists_skip_what_was_taken_back").holds(&[
         player.is_paired(),
         player.hears("candidate:1 1 udp 7 10.0.0.3 3000 typ host"),

@@ -6,7 +6,7 @@ use super::*;
 struct Credentials;
 
 impl Subject for Credentials {
-    fn play(&self, player: &mut Player) -> Told {
+    fn play(&self, player: &mut Player) -> Emitted {
         user_fragments_leave_room_for_a_check(player)?;
         an_agent_is_made_under_507_letters(player)?;
         the_longest_check_reads_again(player)?;
@@ -67,7 +67,7 @@ enum Setting {
 }
 
 /// Both fragments and the colon between them have 508 bytes at most.
-fn user_fragments_leave_room_for_a_check(player: &mut Player) -> Told {
+fn user_fragments_leave_room_for_a_check(player: &mut Player) -> Emitted {
     Story("user_fragments_leave_room_for_a_check").holds(&[
         player.begins("near", "nearpass", 1),
         refuses(player, Setting::Local, 508),
@@ -96,7 +96,7 @@ fn is_made_under_none(player: &Player, len: usize) -> bool {
     }
 }
 
-fn an_agent_is_made_under_507_letters(player: &mut Player) -> Told {
+fn an_agent_is_made_under_507_letters(player: &mut Player) -> Emitted {
     Story("an_agent_is_made_under_507_letters").holds(&[is_made_under_none(player, 508)])
 }
 
@@ -105,7 +105,7 @@ fn is_longest(player: &mut Player) -> bool {
     player.is_paired() && takes(player, Setting::Local, 254) && takes(player, Setting::Remote, 253)
 }
 
-fn the_longest_check_reads_again(player: &mut Player) -> Told {
+fn the_longest_check_reads_again(player: &mut Player) -> Emitted {
     Story("the_longest_check_reads_again").holds(&[
         is_longest(player),
         player.is_answered(at(1, 1000)) && player.checks(50),
@@ -124,7 +124,7 @@ fn goes_by(player: &Player, ufrag: &str) -> bool {
     }
 }
 
-fn candidates_keep_their_fragment_until_a_restart(player: &mut Player) -> Told {
+fn candidates_keep_their_fragment_until_a_restart(player: &mut Player) -> Emitted {
     Story("candidates_keep_their_fragment_until_a_restart").holds(&[
         player.is_paired(),
         goes_by(player, "near") && player.is_renamed("new1", "pass"),
@@ -134,7 +134,7 @@ fn candidates_keep_their_fragment_until_a_restart(player: &mut Player) -> Told {
     ])
 }
 
-fn requests_are_taken_under_the_present_credentials(player: &mut Player) -> Told {
+fn requests_are_taken_under_the_present_credentials(player: &mut Player) -> Emitted {
     Story("requests_are_taken_under_the_present_credentials").holds(&[
         player.is_alone(),
         player.knows("SQAt", "x") && !player.is_asked(0, at(1, 1000)),

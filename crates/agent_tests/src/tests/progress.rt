@@ -10,7 +10,7 @@ use is::Duration;
 struct Progress;
 
 impl Subject for Progress {
-    fn play(&self, player: &mut Player) -> Told {
+    fn play(&self, player: &mut Player) -> Emitted {
         the_least_of_four_pairs_is_announced_in_the_fourth_round(player)?;
         the_least_of_a_hundred_pairs_is_announced_in_the_hundredth_round(player)?;
         without_an_advance_the_wake_up_is_the_last_moment(player)?;
@@ -123,7 +123,7 @@ fn checks_nothing(player: &mut Player, rounds: u64) -> bool {
 
 // ---- of n pairs the last is checked in round n, (n - 1) * 50 ms behind the first
 
-fn the_least_of_four_pairs_is_announced_in_the_fourth_round(player: &mut Player) -> Told {
+fn the_least_of_four_pairs_is_announced_in_the_fourth_round(player: &mut Player) -> Emitted {
     Story("the_least_of_four_pairs_is_announced_in_the_fourth_round").holds(&[
         has_pairs(player, 4),
         announced(player, peer(4), 100) == Some((4, 150)),
@@ -131,7 +131,7 @@ fn the_least_of_four_pairs_is_announced_in_the_fourth_round(player: &mut Player)
     ])
 }
 
-fn the_least_of_a_hundred_pairs_is_announced_in_the_hundredth_round(player: &mut Player) -> Told {
+fn the_least_of_a_hundred_pairs_is_announced_in_the_hundredth_round(player: &mut Player) -> Emitted {
     Story("the_least_of_a_hundred_pairs_is_announced_in_the_hundredth_round").holds(&[
         has_pairs(player, 100),
         announced(player, peer(100), 200) == Some((100, 4950)),
@@ -141,7 +141,7 @@ fn the_least_of_a_hundred_pairs_is_announced_in_the_hundredth_round(player: &mut
 
 // ---- runs that hold it up
 
-fn without_an_advance_the_wake_up_is_the_last_moment(player: &mut Player) -> Told {
+fn without_an_advance_the_wake_up_is_the_last_moment(player: &mut Player) -> Emitted {
     Story("without_an_advance_the_wake_up_is_the_last_moment").holds(&[
         has_pairs(player, 2) && player.is_paced(0),
         player.checks(100) && player.wakes_at(100),
@@ -158,7 +158,7 @@ fn waits(player: &mut Player, nanos: u64) -> bool {
     true
 }
 
-fn below_a_millisecond_a_pair_goes_twice_before_another(player: &mut Player) -> Told {
+fn below_a_millisecond_a_pair_goes_twice_before_another(player: &mut Player) -> Emitted {
     Story("below_a_millisecond_a_pair_goes_twice_before_another").holds(&[
         // due again at 1 ms, behind the other
         waits(player, 1_000_000) && announced(player, peer(2), 9) == Some((2, 50)),
@@ -167,7 +167,7 @@ fn below_a_millisecond_a_pair_goes_twice_before_another(player: &mut Player) -> 
     ])
 }
 
-fn a_lite_agent_checks_nothing(player: &mut Player) -> Told {
+fn a_lite_agent_checks_nothing(player: &mut Player) -> Emitted {
     Story("a_lite_agent_checks_nothing").holds(&[
         player.is_alone() && player.becomes_lite(),
         hears_of_all(player, 1) && checks_nothing(player, 10),
@@ -176,7 +176,7 @@ fn a_lite_agent_checks_nothing(player: &mut Player) -> Told {
     ])
 }
 
-fn without_the_credentials_of_the_peer_nothing_is_checked(player: &mut Player) -> Told {
+fn without_the_credentials_of_the_peer_nothing_is_checked(player: &mut Player) -> Emitted {
     Story("without_the_credentials_of_the_peer_nothing_is_checked").holds(&[
         player.begins("near", "nearpass", 7) && player.takes_role(true),
         player.host(at(1, 1000)) && hears_of_all(player, 1),
@@ -210,7 +210,7 @@ fn has_checked_one(player: &mut Player) -> bool {
     has_pairs(player, 2) && player.checks(60_000) && player.has_sent_from(at(1, 1000), peer(1))
 }
 
-fn a_role_that_turns_twice_within_a_round_puts_a_pair_ahead(player: &mut Player) -> Told {
+fn a_role_that_turns_twice_within_a_round_puts_a_pair_ahead(player: &mut Player) -> Emitted {
     Story("a_role_that_turns_twice_within_a_round_puts_a_pair_ahead").holds(&[
         has_checked_one(player),
         announced(player, peer(2), 9) == Some((1, 60_050)),
@@ -226,7 +226,7 @@ fn is_waited_for(player: &mut Player) -> bool {
     player.checks(0) && player.expects_answer(at(1, 1000)) && player.wakes_at(250)
 }
 
-fn a_pair_of_one_check_is_given_up_before_a_late_answer(player: &mut Player) -> Told {
+fn a_pair_of_one_check_is_given_up_before_a_late_answer(player: &mut Player) -> Emitted {
     Story("a_pair_of_one_check_is_given_up_before_a_late_answer").holds(&[
         has_pairs(player, 1) && is_waited_for(player) && player.checks(250),
         // the answer to the first check counts behind the second one too

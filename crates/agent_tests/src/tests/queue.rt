@@ -6,7 +6,7 @@ use super::*;
 struct Queue;
 
 impl Subject for Queue {
-    fn play(&self, player: &mut Player) -> Told {
+    fn play(&self, player: &mut Player) -> Emitted {
         the_last_100_requests_wait(player)?;
         a_request_waits_as_long_as_a_pair_is_checked(player)?;
         an_old_request_is_dropped(player)?;
@@ -62,7 +62,7 @@ fn replies_in_order(player: &mut Player) -> bool {
     true
 }
 
-fn the_last_100_requests_wait(player: &mut Player) -> Told {
+fn the_last_100_requests_wait(player: &mut Player) -> Emitted {
     Story("the_last_100_requests_wait").holds(&[
         is_waiting(player),
         takes_many(player) && player.tells(b"D") && player.is_silent(),
@@ -82,28 +82,28 @@ fn is_told_late(player: &mut Player) -> bool {
         && player.knows("SQAt", "x")
 }
 
-fn a_request_waits_as_long_as_a_pair_is_checked(player: &mut Player) -> Told {
+fn a_request_waits_as_long_as_a_pair_is_checked(player: &mut Player) -> Emitted {
     Story("a_request_waits_as_long_as_a_pair_is_checked").holds(&[
         is_told_late(player),
         player.checks(21499) && player.has_replied(PASSWORD),
     ])
 }
 
-fn an_old_request_is_dropped(player: &mut Player) -> Told {
+fn an_old_request_is_dropped(player: &mut Player) -> Emitted {
     Story("an_old_request_is_dropped").holds(&[
         is_told_late(player),
         player.timeout(21500) && player.is_silent() && player.wakes_at(24500),
     ])
 }
 
-fn without_delays_no_request_waits(player: &mut Player) -> Told {
+fn without_delays_no_request_waits(player: &mut Player) -> Emitted {
     Story("without_delays_no_request_waits").holds(&[
         is_told_late(player) && player.waits_at_most(0),
         player.timeout(0) && player.is_silent(),
     ])
 }
 
-fn a_refused_moment_changes_nothing(player: &mut Player) -> Told {
+fn a_refused_moment_changes_nothing(player: &mut Player) -> Emitted {
     Story("a_refused_moment_changes_nothing").holds(&[
         // the request wants a pair, and no number is left
         is_told_late(player) && player.skips_to(18446744073709551615),
@@ -114,7 +114,7 @@ fn a_refused_moment_changes_nothing(player: &mut Player) -> Told {
     ])
 }
 
-fn a_waiting_request_wants_to_be_served_soon(player: &mut Player) -> Told {
+fn a_waiting_request_wants_to_be_served_soon(player: &mut Player) -> Emitted {
     Story("a_waiting_request_wants_to_be_served_soon").holds(&[
         is_waiting(player),
         player.timeout(10) && player.wakes_at(3010),
@@ -122,7 +122,7 @@ fn a_waiting_request_wants_to_be_served_soon(player: &mut Player) -> Told {
     ])
 }
 
-fn a_waiting_request_outlives_a_restart(player: &mut Player) -> Told {
+fn a_waiting_request_outlives_a_restart(player: &mut Player) -> Emitted {
     Story("a_waiting_request_outlives_a_restart").holds(&[
         is_waiting(player),
         player.is_asked(0, at(1, 1000)) && player.restarts("new1", "newpass", true),

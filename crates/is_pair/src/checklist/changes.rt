@@ -85,7 +85,7 @@ impl Checklist {
     }
 
     /// Asks all pairs for the moments of their next checks, which stand from now on.
-    pub fn ask_all(&mut self, now: Instant, timing: &StunTiming)
+    pub fn fix_due_times(&mut self, now: Instant, timing: &StunTiming)
         ensures asked { bag_of self.new ≡ map (asked now.0 timing.now) (bag_of self.old) }
         ensures room { (n : ℕ) → HasRoom n self.old → HasRoom n self.new }
         ensures check_room { HasCheckRoom self.old → HasCheckRoom self.new }

@@ -4,7 +4,7 @@ ghost use Rattle.std.specs.Prelude.{◌≡◌, ◌<◌, ℕ, true, IfSome, OnOk}
 ghost use Rattle.std.specs.List.{list_any};
 ghost use Rattle.std.specs.Option.{option_copied};
 ghost use Rattle.rand_core.specs.Stream.{fill_bytes};
-ghost use Rattle.is_pair.specs.Bag.{are_below, change_pair, has_number, is_keeper, keeps, IsKeeper, RecordsAnswer};
+ghost use Rattle.is_pair.specs.Bag.{are_below, change_pair, has_number, is_awaiting, keeps, IsAwaiting, RecordsAnswer};
 ghost use Rattle.is_pair.specs.Pairs.{checked};
 ghost use Rattle.is_pair.specs.Checklists.{bag_of, HasRoom, HasCheckRoom};
 
@@ -64,21 +64,21 @@ impl Checklist {
     }
 
     /// A pair that keeps a check of the id and passes.
-    pub fn keeper<T: PairTest>(&self, trans_id: TransId, test: &T) -> Option<&CandidatePair>
-        ensures keeper { IsKeeper trans_id.0 (T.passes test.now) (bag_of self.now) (option_copied result) }
+    pub fn awaiting<T: PairTest>(&self, trans_id: TransId, test: &T) -> Option<&CandidatePair>
+        ensures awaiting { IsAwaiting trans_id.0 (T.passes test.now) (bag_of self.now) (option_copied result) }
         ensures kept { IfSome (option_copied result) (λ p. keeps trans_id.0 p.number (bag_of self.now) ≡ true) }
     {
-        match index::keeper(&self.index, &self.pairs, trans_id, test) {
+        match index::awaiting(&self.index, &self.pairs, trans_id, test) {
             Some(kept) => self.pairs.get(&kept.number),
             None => None,
         }
     }
 
     /// Whether a pair keeps a check of the id and passes.
-    pub fn has_keeper<T: PairTest>(&self, trans_id: TransId, test: &T) -> bool
-        ensures { result ≡ list_any (is_keeper trans_id.0 (T.passes test.now)) (bag_of self.now) }
+    pub fn has_awaiting<T: PairTest>(&self, trans_id: TransId, test: &T) -> bool
+        ensures { result ≡ list_any (is_awaiting trans_id.0 (T.passes test.now)) (bag_of self.now) }
     {
-        self.keeper(trans_id, test).is_some()
+        self.awaiting(trans_id, test).is_some()
     }
 
     /// The pair of the number, which keeps a check of the id, takes its answer.

@@ -122,7 +122,7 @@ fn put(index: &mut Vec<Kept>, kept: Kept)
 }
 
 /// The first entry of the id whose pair passes.
-pub(crate) fn keeper<T: PairTest>(
+pub(crate) fn awaiting<T: PairTest>(
     index: &[Kept],
     pairs: &IndexMap<u64, CandidatePair>,
     id: TransId,
@@ -135,7 +135,7 @@ pub(crate) fn keeper<T: PairTest>(
 {
     let behind = &index[count_before(index, id)..];
     let many = count_through(behind, id);
-    first_keeper(&behind[..many], pairs, id, test)
+    first_awaiting(&behind[..many], pairs, id, test)
 }
 
 fn names_passing<T: PairTest>(
@@ -151,7 +151,7 @@ fn names_passing<T: PairTest>(
     kept.id == id && passes(pairs, kept.number, test)
 }
 
-fn first_keeper<T: PairTest>(
+fn first_awaiting<T: PairTest>(
     index: &[Kept],
     pairs: &IndexMap<u64, CandidatePair>,
     id: TransId,

@@ -7,7 +7,7 @@ use is::{IceAgentEvent, IceConnectionState};
 struct Order;
 
 impl Subject for Order {
-    fn play(&self, stage: &mut Stage) -> Told {
+    fn play(&self, stage: &mut Stage) -> Emitted {
         packets_are_polled_in_order(stage)?;
         events_are_polled_in_order(stage)?;
         a_restart_empties_both_queues(stage)
@@ -59,7 +59,7 @@ fn polls(log: &RunLog, number: usize, class: Class, id: TransId) -> bool {
     }
 }
 
-fn packets_are_polled_in_order(stage: &mut Stage) -> Told {
+fn packets_are_polled_in_order(stage: &mut Stage) -> Emitted {
     let packets = [(3, check(0, at(2, 2000))), (4, reply(1, Class::Success))];
     Story("packets_are_polled_in_order").holds(&[
         has_two_packets(stage, &[Step::PollPacket; 3]),
@@ -71,7 +71,7 @@ fn packets_are_polled_in_order(stage: &mut Stage) -> Told {
 }
 
 /// A letter for each event of a poll: `-` where there is none.
-fn letter(answer: &Answer) -> u8 {
+fn in_flight(answer: &Answer) -> u8 {
     match answer {
         Answer::Event(Some(IceAgentEvent::IceRestart(_))) => b'R',
         Answer::Event(Some(IceAgentEvent::IceConnectionStateChange(state))) => match state {
@@ -86,25 +86,25 @@ fn letter(answer: &Answer) -> u8 {
 }
 
 /// From the entry on these events are polled.
-fn tells(log: &RunLog, first: usize, letters: &[u8]) -> bool {
+fn tells(log: &RunLog, first: usize, all_in_flight: &[u8]) -> bool {
     let mut told = log.entries.iter().skip(first);
-    for wanted in letters {
+    for wanted in all_in_flight {
         match told.next() {
-            Some(entry) if letter(&entry.answer) == *wanted => {}
+            Some(entry) if in_flight(&entry.answer) == *wanted => {}
             _ => return false,
         }
     }
     true
 }
 
-fn events_are_polled_in_order(stage: &mut Stage) -> Told {
+fn events_are_polled_in_order(stage: &mut Stage) -> Emitted {
     Story("events_are_polled_in_order").holds(&[
         has_two_packets(stage, &[Step::PollEvent; 4]),
         tells(&stage.log, 5, b"RcD-"),
     ])
 }
 
-fn a_restart_empties_both_queues(stage: &mut Stage) -> Told {
+fn a_restart_empties_both_queues(stage: &mut Stage) -> Emitted {
     let steps = [
         Step::Restart,
         Step::PollPacket,

@@ -9,7 +9,7 @@ use is::stun::{
 };
 use is::{
     AgentSpec, CandidateBuilder, CandidateKind, Duration, Entry, FnPreference, IceAgentEvent,
-    IceAgentStats, IceConnectionState, IceError, Letter, LocalCandidates, LocalPreference,
+    IceAgentStats, IceConnectionState, IceError, InFlight, LocalCandidates, LocalPreference,
     ParseFault, PreferenceFunction, RemoteCandidates, Sha1HmacProvider, SocketText, StunError,
     TcpType, Trace, Transmit, TwoAgents, TwoAgentsEvent, World, WorldEntry, WorldEvent, WorldLog,
 };
@@ -146,7 +146,7 @@ fn runs() {
 fn worlds() {
     is_plain::<Side>();
     is_plain::<Trace>();
-    is_told::<Letter>();
+    is_told::<InFlight>();
     is_compared::<WorldEntry>();
     is_compared::<WorldLog>();
 }

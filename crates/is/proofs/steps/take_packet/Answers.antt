@@ -1,6 +1,6 @@
 use Rattle.std.proofs.Common.{inr, ap, ◌∙◌}
 use Rattle.is_stun.specs.MessageView.{message_view}
-use Rattle.is_agent.specs.View.{told_of}
+use Rattle.is_agent.specs.View.{emitted_of}
 use Rattle.is_rules.specs.Steps as agent
 use Rattle.is.proofs.steps.take_packet.Goals as goal
 
@@ -12,9 +12,9 @@ returns-in-Ok-clause-did g c =
       c.in-Ok.ensures.reads,
       (
         c.handle_packet.result,
-        told_of c.handle_packet.new.self,
-        c.telling.ensures.told
-            ∙ ap (λ (a : agent.Answer). let e : agent.Entry = record { answer = a; told = told_of c.handle_packet.new.self } in e) c.flag_or_refused-answer.ensures,
+        emitted_of c.handle_packet.new.self,
+        c.telling.ensures.emitted
+            ∙ ap (λ (a : agent.Answer). let e : agent.Entry = record { answer = a; emitted = emitted_of c.handle_packet.new.self } in e) c.flag_or_refused-answer.ensures,
         c.handle_packet.ensures,
       ),
     )

@@ -108,13 +108,13 @@ impl Paths {
         self.list.remove(number);
     }
 
-    fn keeper(&self, id: TransId) -> Option<u64> {
-        self.list.keeper(id, &Any).map(|pair| pair.id().0)
+    fn awaiting(&self, id: TransId) -> Option<u64> {
+        self.list.awaiting(id, &Any).map(|pair| pair.id().0)
     }
 
     /// Whether the pair of the number keeps the id.
     fn keeps(&self, id: TransId, number: u64) -> bool {
-        self.list.has_keeper(id, &Numbered(number))
+        self.list.has_awaiting(id, &Numbered(number))
     }
 
     fn greatest(&self) -> Option<u64> {
@@ -144,9 +144,9 @@ fn an_id_of_two_pairs_names_both(rt: HostRuntime) -> Result<(), Fail> {
     assert!(rt; paths.check(1, 50, 1)? == id);
     assert!(rt; paths.keeps(id, 0) && paths.keeps(id, 1));
     paths.remove(0);
-    assert!(rt; paths.keeper(id) == Some(1));
+    assert!(rt; paths.awaiting(id) == Some(1));
     paths.remove(1);
-    assert!(rt; paths.keeper(id).is_none());
+    assert!(rt; paths.awaiting(id).is_none());
     Ok(())
 }
 
@@ -154,10 +154,10 @@ fn an_id_of_two_pairs_names_both(rt: HostRuntime) -> Result<(), Fail> {
 fn an_id_that_was_cut_is_found_no_more(rt: HostRuntime) -> Result<(), Fail> {
     let mut paths = paths_of(rt.alloc(), 1, &[50, 60])?;
     let first = paths.check(0, 0, 1)?;
-    assert!(rt; paths.keeper(first) == Some(0));
+    assert!(rt; paths.awaiting(first) == Some(0));
     let second = paths.check(0, 250, 2)?;
-    assert!(rt; paths.keeper(first).is_none());
-    assert!(rt; paths.keeper(second) == Some(0));
+    assert!(rt; paths.awaiting(first).is_none());
+    assert!(rt; paths.awaiting(second) == Some(0));
     Ok(())
 }
 

@@ -6,14 +6,14 @@ use Rattle.is_agent.specs.View.{record_of}
 use Rattle.is_agent.proofs.DueLemmas.{due-there, next-found}
 use Rattle.is_agent.proofs.agent.Agent.check_next.Goals as goal
 
-pub check_and_tell-requires-clause-room : goal.check_and_tell-requires-clause-room
-check_and_tell-requires-clause-room g c =
+pub check_and_emit-requires-clause-room : goal.check_and_emit-requires-clause-room
+check_and_emit-requires-clause-room g c =
     let self = c.args.self.now in let (next, is, numbered) = c.next_number.ensures.next in
     c.requires.room (due-there (record_of self) c.args.now.0 self.timing next c.in-Some.number is (sym numbered ∙ c.in-Some.is))
 
 pub returns-in-Some : goal.returns-in-Some
-returns-in-Some g c peer first second known told =
+returns-in-Some g c peer first second known emitted =
     let self = c.args.self.now in let now = c.args.now.0 in let (next, is, numbered) = c.next_number.ensures.next in
     let (p, there, same, found) = next-found (bag_of self.pairs) now self.timing next c.in-Some.number c.next_number.ensures.rises is (sym numbered ∙ c.in-Some.is) in
-    let (issued, checked, tells) = c.check_and_tell.ensures peer p first second known same found told in
+    let (issued, checked, tells) = c.check_and_emit.ensures peer p first second known same found emitted in
     (issued, (Some p, subst (λ (o : Option PairRecord). IsNextDue now self.timing (bag_of self.pairs) o) there is, checked), tells)

@@ -10,15 +10,15 @@ use Rattle.is_agent.proofs.agent.Agent.evaluate_nomination.Goals as goal
 
 pub returns-clause-nominates : goal.returns-clause-nominates
 returns-clause-nominates g c =
-    let self = c.args.self.now in let chosen = selection (bag_of c.name-path.new.pairs) c.name-path.new.announced in
-    let named : Names (sides_of (record_of self)) (selection (bag_of self.pairs) self.announced) c.name-path.result chosen = rw (c.deref.ensures.value, c.deref-2.ensures.value) at c.name-path.ensures.named in
-    (chosen, named, c.tell_path.ensures.told)
+    let self = c.args.self.now in let chosen = selection (bag_of c.select_pair-path.new.pairs) c.select_pair-path.new.selected in
+    let named : Names (sides_of (record_of self)) (selection (bag_of self.pairs) self.selected_pair) c.select_pair-path.result chosen = rw (c.deref.ensures.value, c.deref-2.ensures.value) at c.select_pair-path.ensures.named in
+    (chosen, named, c.emit_nominated.ensures.emitted)
 
 pub returns-clause-checks : goal.returns-clause-checks
 returns-clause-checks g c = λ now room.
     let self = c.args.self.now in
-    c.tell_path.ensures.checks now (λ falls.
+    c.emit_nominated.ensures.checks now (λ falls.
     let all = and-third (not self.lite) (is_some self.remote_creds) (list_any (falls_due self.controlling now self.timing) (bag_of self.pairs))
-    (list_any (falls_due self.controlling now self.timing) (bag_of c.name-path.new.pairs)) (c.name-path.ensures.due now self.timing) falls in
+    (list_any (falls_due self.controlling now self.timing) (bag_of c.select_pair-path.new.pairs)) (c.select_pair-path.ensures.due now self.timing) falls in
     let old = room all in
-    (old.0, c.name-path.ensures.check_room old.1, old.2))
+    (old.0, c.select_pair-path.ensures.check_room old.1, old.2))

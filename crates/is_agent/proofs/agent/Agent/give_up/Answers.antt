@@ -6,6 +6,6 @@ use Rattle.is_agent.proofs.agent.Agent.give_up.Goals as goal
 
 pub returns-clause-given_up : goal.returns-clause-given_up
 returns-clause-given_up g c =
-    let old = record_of c.args.self.now in let (second, mid, named, evaluated, told) = c.give_up_and_tell.ensures.given_up in
+    let old = record_of c.args.self.now in let (second, mid, named, evaluated, emitted) = c.give_up_and_emit.ensures.given_up in
     let any : list_any (is_given_up c.args.now.0 old) old.pairs ≡ true = sym c.any_given_up.ensures ∙ c.if-not-any_given_up.false in
-    (second, rw (any) (mid, named, evaluated), told)
+    (second, rw (any) (mid, named, evaluated), emitted)

@@ -14,7 +14,7 @@ returns-then-is_of_present_role-clause-gives_up g c =
     let (p, found, on) = c.requires.kept in let present = c.is_of_present_role.result in
     let under = subst (λ (o : Option PairRecord). IfSome o (λ (q : PairRecord). IsSentUnder q c.trans_id.result.0 old.controlling present)) found c.is_of_present_role.ensures in
     let named = subst (λ (id : List ℕ). IsSentUnder p id old.controlling present) c.trans_id.ensures under in
-    role-given_up old new c.args.way.now m c.args.number p present found on named
+    role-given_up old new c.args.path.now m c.args.number p present found on named
     (subst (λ (b : Bool). MatchBool b (new ≡ switched old) (new ≡ old)) (sym c.if-is_of_present_role.true) c.switch_role.ensures.record)
 
 pub returns-else-is_of_present_role-clause-gives_up : goal.returns-else-is_of_present_role-clause-gives_up
@@ -23,5 +23,5 @@ returns-else-is_of_present_role-clause-gives_up g c =
     let (p, found, on) = c.requires.kept in let present = c.is_of_present_role.result in
     let under = subst (λ (o : Option PairRecord). IfSome o (λ (q : PairRecord). IsSentUnder q c.trans_id.result.0 old.controlling present)) found c.is_of_present_role.ensures in
     let named = subst (λ (id : List ℕ). IsSentUnder p id old.controlling present) c.trans_id.ensures under in
-    role-given_up old old c.args.way.now m c.args.number p present found on named
+    role-given_up old old c.args.path.now m c.args.number p present found on named
     (subst (λ (b : Bool). MatchBool b (old ≡ switched old) (old ≡ old)) (sym c.if-is_of_present_role.false) refl)

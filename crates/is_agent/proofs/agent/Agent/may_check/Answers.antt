@@ -14,15 +14,15 @@ check_next-requires g c =
     let known : is_some self.remote_creds ≡ true = search rules in
     record {
       room = λ due.
-          let falls = falls-asked self.controlling now self.timing (bag_of self.pairs) (rw (c.ask_all.ensures.asked) at due) in
+          let falls = falls-asked self.controlling now self.timing (bag_of self.pairs) (rw (c.fix_due_times.ensures.asked) at due) in
           let old = c.requires (all-three (not self.lite) (is_some self.remote_creds) (list_any (falls_due self.controlling now self.timing) (bag_of self.pairs)) full known falls) in
-          (old.0, c.ask_all.ensures.check_room old.1, old.2);
+          (old.0, c.fix_due_times.ensures.check_room old.1, old.2);
     }
 
 pub returns-else-self : goal.returns-else-self
-returns-else-self g c first second told =
-    let (issued, checked, tells) = c.check_next.ensures c.in-Some.field-0 first second c.in-Some.is told in
+returns-else-self g c first second emitted =
+    let (issued, checked, tells) = c.check_next.ensures c.in-Some.field-0 first second c.in-Some.is emitted in
     let old = record_of c.args.self.now in
-    let asked = ap (λ (ps : List PairRecord). record old { pairs = ps }) c.ask_all.ensures.asked in
+    let asked = ap (λ (ps : List PairRecord). record old { pairs = ps }) c.fix_due_times.ensures.asked in
     let may = may-check g.H.Sha1HmacProvider.mac c.args.now.0 c.args.self.now.remote_creds c.in-Some.field-0 old _ _ _ issued _ c.in-Some.is c.if-self.false asked checked in
     (issued, may, tells)

@@ -9,6 +9,6 @@ use Rattle.is_agent.proofs.agent.Agent.reply.Goals as goal
 pub returns-clause-put : goal.returns-clause-put
 returns-clause-put g c =
     let request = c.args.request.now in let mac = g.H.Sha1HmacProvider.mac in
-    let message = binding_reply request.id.0 request.path.source in let told = binding_reply request.id.0 (carried request.path.source) in
-    let put = subst (λ (pass : List ℕ). IsPut (written (mac c.by_local_key.result.provider.now) (Some pass) message) told) c.as_str-password.ensures c.write_reply.ensures.put in
-    subst (λ (signs : List ℕ → List ℕ → List ℕ). IsPut (written signs (Some c.args.self.now.local_creds.pass) message) told) c.by_local_key.ensures put
+    let message = binding_reply request.id.0 request.path.source in let emitted = binding_reply request.id.0 (carried request.path.source) in
+    let put = subst (λ (pass : List ℕ). IsPut (written (mac c.by_local_key.result.provider.now) (Some pass) message) emitted) c.as_str-password.ensures c.write_reply.ensures.put in
+    subst (λ (signs : List ℕ → List ℕ → List ℕ). IsPut (written signs (Some c.args.self.now.local_creds.pass) message) emitted) c.by_local_key.ensures put

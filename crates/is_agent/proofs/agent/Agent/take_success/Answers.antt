@@ -16,7 +16,7 @@ pub record-requires-clause-kept : goal.record-requires-clause-kept
 record-requires-clause-kept g c =
     let old = record_of c.args.self.now in let m = message_view c.args.message.now in
     let (p, found, on) = c.requires.kept in
-    let kept = kept-at m.id c.args.number old.pairs p found (both (keeps_check m.id p) (goes_back c.args.way.now (path_of old p)) on).0 in
+    let kept = kept-at m.id c.args.number old.pairs p found (both (keeps_check m.id p) (goes_back c.args.path.now (path_of old p)) on).0 in
     let named = subst (λ (id : List ℕ). keeps id c.args.number old.pairs ≡ true) (sym c.trans_id.ensures) kept in
     subst (λ (a : AgentRecord g.row.H.Denot g.row.P.Denot). keeps c.trans_id.result.0 c.args.number a.pairs ≡ true) (sym c.take_success_room.ensures.record) named
 
@@ -30,5 +30,5 @@ returns-clause-taken g c =
     let named = subst (λ (id : List ℕ). IsRecorded number now id (joined_by mapped old.local) old recorded) c.trans_id.ensures ready in
     let place = subst (λ (o : Option PairRecord). IfSome o (λ (q : PairRecord). c.local_place_of-l.result ≡ q.local)) found c.local_place_of-l.ensures in
     let learnt = c.in_ok-mapped.ensures.learnt p place ∙ ap (λ (a : Option SocketAddr). local_with p a (success_counted old)) c.mapped_address.ensures in
-    success-taken now old recorded (record_of c.conclude.new.self) c.args.way.now m c.conclude.result number p (joined_by mapped old.local)
+    success-taken now old recorded (record_of c.conclude.new.self) c.args.path.now m c.conclude.result number p (joined_by mapped old.local)
     c.numbers_rise.ensures found on learnt named c.conclude.ensures.concludes

@@ -1,7 +1,0 @@
-use Rattle.std.specs.Prelude.{Some}
-use Rattle.is_agent.proofs.agent.Agent.check_and_tell.Goals as goal
-
-pub returns : goal.returns
-returns g c peer p first second known numbered found told =
-    let checked = c.check-issued.ensures.checked peer p known numbered (c.draft_of-draft.ensures p found) in
-    (Some c.check-issued.result, checked, search (told, c.check-issued.ensures.told))

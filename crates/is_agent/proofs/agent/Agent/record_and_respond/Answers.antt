@@ -1,0 +1,28 @@
+use Rattle.std.proofs.Common.{Bool, Some, None, subst, ap, ◌∙◌}
+use Rattle.is_stun.specs.declared.header.Class.TheVariants.{Success}
+use Rattle.is_rules.specs.declared.emitted.Issued.{Issued}
+use Rattle.is_rules.specs.declared.emitted.Path.{Path}
+use Rattle.is_rules.specs.Agent.{AgentRecord}
+use Rattle.is_agent.specs.View.{record_of}
+use Rattle.is_rules.specs.RequestView.{request_view}
+use Rattle.is_rules.specs.Emitted.{issued_as, emitted_by}
+use Rattle.is_rules.specs.Nominating.{NominatesWhere}
+use Rattle.is_rules.specs.Serving.{pair_served, replied}
+use Rattle.is_agent.proofs.agent.Agent.record_and_respond.Goals as goal
+
+pub returns-clause-served : goal.returns-clause-served
+returns-clause-served g c =
+    let q = request_view c.args.request.now in let served = pair_served q c.args.number (record_of c.args.self.now) in
+    let path = c.nominate_where-announced.result in let named = record_of c.nominate_where-announced.new.self in
+    let there = subst (λ (a : AgentRecord g.row.H.Denot g.row.P.Denot). NominatesWhere c.evaluates_at-evaluates.result a path named) c.serve_pair.ensures.served c.nominate_where-announced.ensures.nominates in
+    let where_valid = subst (λ (evaluates : Bool). NominatesWhere evaluates served path named) c.evaluates_at-evaluates.ensures there in
+    let issued = c.new-issued.ensures ∙ ap (λ (via : Path). issued_as via Success c.args.request.now.id.0) c.path_between-path.ensures in (
+      path,
+      named,
+      where_valid,
+      (
+        c.reply.ensures.put,
+        c.by.ensures ∙ ap (λ (i : Issued). emitted_by (Some i) path None) issued,
+        c.reply.ensures.replied ∙ ap (λ (via : Path). replied g.H.Sha1HmacProvider.mac q via named) c.path_between-path.ensures,
+      ),
+    )

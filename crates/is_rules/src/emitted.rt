@@ -1,0 +1,111 @@
+//! What the last packet or moment made an agent do: the packet that it issued, and the paths that it announced.
+
+ghost use Rattle.std.specs.Prelude.{◌≡◌};
+ghost use Rattle.is_rules.specs.Emitted.{nothing_emitted, issued_only, announced_only, issued_as, emitted_by, reversed};
+
+use is_proto::Protocol;
+use is_stun::stun::{Class, TransId};
+use std::net::SocketAddr;
+
+/// The way of a packet, or of the packets of a pair: from the local base to the remote address.
+#[derive(Clone, Copy, Debug, PartialEq, Eq)]
+pub struct Path {
+    /// The transport protocol.
+    pub proto: Protocol,
+    /// Where packets are sent from.
+    pub source: SocketAddr,
+    /// Where they are sent to.
+    pub destination: SocketAddr,
+}
+
+/// A packet that was issued.
+#[derive(Clone, Copy, Debug, PartialEq, Eq)]
+pub struct Issued {
+    /// The way that it takes.
+    pub path: Path,
+    /// The class of its message.
+    pub class: Class,
+    /// The transaction id of its message.
+    pub id: TransId,
+}
+
+impl Issued {
+    /// This packet, on this path.
+    pub fn new(path: Path, class: Class, id: TransId) -> Issued
+        ensures { result ≡ issued_as path class id.0 }
+    {
+        Issued { path, class, id }
+    }
+}
+
+impl Path {
+    /// The way back.
+    pub fn reversed(self) -> Path
+        ensures { result ≡ reversed self }
+    {
+        Path {
+            proto: self.proto,
+            source: self.destination,
+            destination: self.source,
+        }
+    }
+}
+
+/// What one call told: at most one packet and two paths.
+#[derive(Clone, Copy, Debug, PartialEq, Eq)]
+pub struct Emitted {
+    /// The packet that the call issued.
+    pub issued: Option<Issued>,
+    /// The paths that it announced by `NominatedSend`, in order.
+    pub announced: [Option<Path>; 2],
+}
+
+impl Emitted {
+    /// Nothing issued, and nothing announced.
+    pub fn nothing() -> Emitted
+        ensures { result ≡ nothing_emitted }
+    {
+        Emitted {
+            issued: None,
+            announced: [None, None],
+        }
+    }
+
+    /// Nothing issued, and this path announced, where there is one.
+    pub fn announced_only(path: Option<Path>) -> Emitted
+        ensures { result ≡ announced_only path }
+    {
+        Emitted {
+            issued: None,
+            announced: [path, None],
+        }
+    }
+
+    /// This packet issued, where there is one, and these paths announced.
+    pub fn by(issued: Option<Issued>, first: Option<Path>, second: Option<Path>) -> Emitted
+        ensures { result ≡ emitted_by issued first second }
+    {
+        if first.is_none() && second.is_none() {
+            return Emitted {
+                issued,
+                announced: [None, None],
+            };
+        }
+        let announced = match second {
+            None => [first, None],
+            Some(_) if first.is_none() => [second, None],
+            Some(_) => [first, second],
+        };
+        Emitted { issued, announced }
+    }
+
+    /// This packet issued, and nothing announced.
+    pub fn issued_only(path: Path, class: Class, id: TransId) -> Emitted
+        ensures { result ≡ issued_only path class id.0 }
+    {
+        Emitted {
+            issued: Some(Issued { path, class, id }),
+            announced: [None, None],
+        }
+    }
+}
