@@ -1,4 +1,4 @@
-//! What the last packet or moment made an agent do: the packet that it issued, and the paths that it announced.
+//! What the last `handle_packet` or `handle_timeout` call emitted: the packet that it issued, and the paths that it announced.
 
 ghost use Rattle.std.specs.Prelude.{◌≡◌};
 ghost use Rattle.is_agent.specs.View.{emitted_of};

@@ -215,7 +215,7 @@ impl<H: Sha1HmacProvider + Drop, P: LocalPreference> Agent<H, P> {
         serve_pair(&mut self.pairs, number, request, standing);
     }
 
-    /// The pair takes the request; a controlling agent evaluates nomination where it is valid; and the reply goes out.
+    /// The pair records the request, a controlling agent evaluates nomination if the pair is valid, and the response goes out.
     fn record_and_respond(
         &mut self,
         request: &Request<'_>,
@@ -267,7 +267,7 @@ impl<H: Sha1HmacProvider + Drop, P: LocalPreference> Agent<H, P> {
         self.next_number += 1;
     }
 
-    /// A new pair takes the request.
+    /// A new pair is added, and records the request.
     fn add_pair_and_respond(
         &mut self,
         request: &Request<'_>,
@@ -288,8 +288,8 @@ impl<H: Sha1HmacProvider + Drop, P: LocalPreference> Agent<H, P> {
         self.record_and_respond(request, l, r, number, reply)
     }
 
-    /// A pair of the places takes the request; where there is none, one is added, but none at a discarded local place (RFC
-    /// 8445, section 7.3.1.4).
+    /// The pair of both candidates records the request. If there is none, one is added, unless the local candidate is discarded
+    /// (RFC 8445, section 7.3.1.4).
     fn find_or_add_pair(
         &mut self,
         request: &Request<'_>,
@@ -317,8 +317,8 @@ impl<H: Sha1HmacProvider + Drop, P: LocalPreference> Agent<H, P> {
         }
     }
 
-    /// Serving goes on at a remote place: an unknown sender is appended (RFC 8445, section 7.3.1.3), and discarded candidates
-    /// alone drop it.
+    /// An unknown sender is added as a peer-reflexive candidate (RFC 8445, section 7.3.1.3), then the pair is found or added. A
+    /// request of a sender whose candidates are all discarded is dropped.
     fn add_unknown_sender(
         &mut self,
         request: &Request<'_>,
@@ -344,8 +344,8 @@ impl<H: Sha1HmacProvider + Drop, P: LocalPreference> Agent<H, P> {
         }
     }
 
-    /// USE-CANDIDATE while controlling is dropped, since the controlling agent alone nominates (RFC 8445, section 8.1.1); any
-    /// other request counts, and serving goes on.
+    /// A request with USE-CANDIDATE is dropped while controlling, since only the controlling agent nominates (RFC 8445, section
+    /// 8.1.1). Any other request counts and is served.
     fn count_and_serve(&mut self, request: &Request<'_>, at: Places, supplies: Supplies) -> Emitted
         requires { IsReady (not (is_misled self.old.controlling (request_view request.now)) && wants_pair_at at.remote at.pair
             (candidate_at self.old.local.items at.local).discarded) self.old (request_view request.now) at supplies }
@@ -359,7 +359,7 @@ impl<H: Sha1HmacProvider + Drop, P: LocalPreference> Agent<H, P> {
         self.add_unknown_sender(request, at, supplies)
     }
 
-    /// The 487 goes back the way that the request came, signed with the local password (RFC 8445, section 7.3.1.1).
+    /// The 487 goes back on the reverse path of the request, signed with the local password (RFC 8445, section 7.3.1.1).
     fn send_role_conflict(&mut self, request: &Request<'_>, supplies: Supplies) -> Emitted
         requires packets { HasPacketRoom self.old }
         requires news { HasNewsRoom 2 self.old }
@@ -375,7 +375,7 @@ impl<H: Sha1HmacProvider + Drop, P: LocalPreference> Agent<H, P> {
         Emitted::issued_only(path, Class::Failure, request.id)
     }
 
-    /// The role switches, and serving goes on.
+    /// The role switches, and the request is served.
     fn switch_role_and_serve(
         &mut self,
         request: &Request<'_>,
@@ -391,7 +391,7 @@ impl<H: Sha1HmacProvider + Drop, P: LocalPreference> Agent<H, P> {
         self.count_and_serve(request, at, supplies)
     }
 
-    /// A sender of the agent's own role: the greater tie-breaker keeps it (RFC 8445, section 7.3.1.1).
+    /// A sender that claims the agent's role: the greater tie-breaker keeps it (RFC 8445, section 7.3.1.1).
     pub(crate) fn resolve_role_conflict(
         &mut self,
         request: &Request<'_>,

@@ -280,7 +280,7 @@ impl<H: Sha1HmacProvider + Drop, P: LocalPreference> Agent<H, P> {
 // ---- the moment
 
 impl<H: Sha1HmacProvider + Drop, P: LocalPreference> Agent<H, P> {
-    /// All that the moment does behind waking, with room for it. What it tells is written where it is kept.
+    /// Nomination, removal of failed pairs and a check, with room for them. What they emit is written where it is kept.
     fn maintain_pairs<R: Rng>(&mut self, now: Instant, rng: &mut R)
         requires events { HasEventRoom 3 self.old }
         requires checks { HasCheckRoomAt now.0 self.old }
@@ -292,7 +292,7 @@ impl<H: Sha1HmacProvider + Drop, P: LocalPreference> Agent<H, P> {
         self.may_check(now, rng);
     }
 
-    /// The agent wakes, and all follows, with room for both. The start was told of.
+    /// The state and the early requests are updated, then the pairs, with room for both. `IceRestart` was emitted before.
     fn update_and_maintain_pairs<R: Rng>(&mut self, now: Instant, rng: &mut R)
         requires events { HasEventRoom 4 self.old }
         requires checks { HasCheckRoomAt now.0 self.old }
@@ -303,7 +303,7 @@ impl<H: Sha1HmacProvider + Drop, P: LocalPreference> Agent<H, P> {
         self.maintain_pairs(now, rng);
     }
 
-    /// All that the first moment does, where it serves no request: the start is told of before all else.
+    /// The first `handle_timeout` call, if it serves no request: `IceRestart` is emitted first.
     #[inline(never)]
     fn run_first_timeout<R: Rng>(&mut self, now: Instant, rng: &mut R) -> Result<(), AllocError>
         ensures advanced { OnOk result (MaintainsPairs H.mac now.0 (timeout_begun now.0 (record_of self.old)) (R.stream rng.old) (emitted_of self.new)
@@ -317,7 +317,7 @@ impl<H: Sha1HmacProvider + Drop, P: LocalPreference> Agent<H, P> {
         Ok(())
     }
 
-    /// All that this moment does where it serves no request.
+    /// A `handle_timeout` call that serves no request.
     fn run_timeout_without_request<R: Rng>(
         &mut self,
         now: Instant,
@@ -335,7 +335,7 @@ impl<H: Sha1HmacProvider + Drop, P: LocalPreference> Agent<H, P> {
         Ok(())
     }
 
-    /// The request that waited is served; where the moment serves none, the agent advances.
+    /// The first early request is served, if there is one; else the call does its work without one.
     #[inline(never)]
     fn run_timeout_with_requests<R: Rng>(
         &mut self,
@@ -358,7 +358,7 @@ impl<H: Sha1HmacProvider + Drop, P: LocalPreference> Agent<H, P> {
         }
     }
 
-    /// The same; mostly no request waits.
+    /// The same. Mostly the queue is empty.
     fn run_timeout<R: Rng>(&mut self, now: Instant, rng: &mut R) -> Result<(), IceError>
         ensures passed { OnOk result (MatchOption (request_at now.0 (record_of self.old))
             (MaintainsPairs H.mac now.0 (timeout_begun now.0 (record_of self.old)) (R.stream rng.old) (emitted_of self.new) (record_of self.new) (R.stream rng.new))

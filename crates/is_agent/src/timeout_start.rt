@@ -1,4 +1,4 @@
-//! What a moment begins with: the start is told of, the state is evaluated, and outdated requests go.
+//! How a `handle_timeout` call begins: `IceRestart` is emitted in New, the state is evaluated, and outdated requests go.
 
 ghost use Rattle.std.specs.Prelude.{◌≡◌, ℕ, ◌<◌, ◌+◌, true, false, IfOk, IfErr, IfSome, OnOk, IsOkUnless, MatchOption, option_map, slice_get};
 ghost use Rattle.is_rules.specs.RequestView.{request_view, waiting_view};
@@ -104,7 +104,7 @@ impl<H: Sha1HmacProvider + Drop, P: LocalPreference> Agent<H, P> {
         }
     }
 
-    /// A copy of the request that this moment serves, if there is one. Numbers are looked at before memory.
+    /// A copy of the early request that this call serves, if there is one. Numbers are looked at before memory.
     pub(crate) fn early_request(&self, now: Instant) -> Result<Option<Waiting>, IceError>
         ensures copy { IfOk result (λ copy. option_map waiting_view copy ≡ request_at now.0 (record_of self.now)) }
         ensures has { IfOk result (λ copy. IfSome copy (λ q. ¬ AlwaysLacksNumber (record_of self.now) (waiting_view q))) }

@@ -1,4 +1,4 @@
--- What a step tells: the packet that it issues, and the paths that it announces.
+-- What a call emits: the packet that it issues, and the paths that it announces.
 use Rattle.std.specs.Prelude.{ℕ, List, [], ◌∷◌, Option, Some, None}
 use Rattle.is_stun.specs.declared.header.Class.{Class}
 use Rattle.is_rules.specs.declared.emitted.Path.{Path}
@@ -19,7 +19,7 @@ issued_only path class id = record {
 abbrev pub announced_only : Option Path → Emitted
 announced_only path = record { issued = None; announced = path ∷ None ∷ [] }
 
--- the way back
+-- the reverse path
 abbrev pub reversed : Path → Path
 reversed path = record { proto = path.proto; source = path.destination; destination = path.source }
 

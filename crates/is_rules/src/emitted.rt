@@ -1,4 +1,4 @@
-//! What the last packet or moment made an agent do: the packet that it issued, and the paths that it announced.
+//! What a call emits: at most one packet, and the paths of the pairs that it selects (events `NominatedSend`).
 
 ghost use Rattle.std.specs.Prelude.{◌≡◌};
 ghost use Rattle.is_rules.specs.Emitted.{nothing_emitted, issued_only, announced_only, issued_as, emitted_by, reversed};
@@ -7,7 +7,7 @@ use is_proto::Protocol;
 use is_stun::stun::{Class, TransId};
 use std::net::SocketAddr;
 
-/// The way of a packet, or of the packets of a pair: from the local base to the remote address.
+/// The path of a packet, or of a pair: from the local base to the remote address.
 #[derive(Clone, Copy, Debug, PartialEq, Eq)]
 pub struct Path {
     /// The transport protocol.
@@ -21,7 +21,7 @@ pub struct Path {
 /// A packet that was issued.
 #[derive(Clone, Copy, Debug, PartialEq, Eq)]
 pub struct Issued {
-    /// The way that it takes.
+    /// The path that it takes.
     pub path: Path,
     /// The class of its message.
     pub class: Class,
@@ -39,7 +39,7 @@ impl Issued {
 }
 
 impl Path {
-    /// The way back.
+    /// The reverse path.
     pub fn reversed(self) -> Path
         ensures { result ≡ reversed self }
     {
@@ -51,7 +51,7 @@ impl Path {
     }
 }
 
-/// What one call told: at most one packet and two paths.
+/// What one call emitted: at most one packet and two paths.
 #[derive(Clone, Copy, Debug, PartialEq, Eq)]
 pub struct Emitted {
     /// The packet that the call issued.

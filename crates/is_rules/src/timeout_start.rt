@@ -1,4 +1,4 @@
-//! What a moment begins with: the start is told of, the state is evaluated, and outdated requests go.
+//! How a `handle_timeout` call begins: the event of the start, and the requests that wait in the queue.
 
 ghost use Rattle.std.specs.Prelude.{◌≡◌, ◌<◌, ◌≤◌, ◌+◌, slice_get};
 ghost use Rattle.std.specs.VecDeque.{deque_len, deque_capacity};
