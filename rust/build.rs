@@ -1,13 +1,13 @@
-//! Links the library: the archive that IS_LIB names, or that of `pkg-config is`.
+//! Links the library: the archive that IS_ICE_LIB names, or that of `pkg-config is_ice`.
 
 use std::path::{Path, PathBuf};
 use std::process::Command;
 
-/// The folder that is.pc names, where `c/run install` was run and PKG_CONFIG_PATH says where.
+/// The folder that is_ice.pc names, where `c/run install` was run and PKG_CONFIG_PATH says where.
 fn installed() -> Option<PathBuf> {
-    let told = Command::new("pkg-config").args(["--variable=libdir", "is"]).output().ok()?;
+    let told = Command::new("pkg-config").args(["--variable=libdir", "is_ice"]).output().ok()?;
     let folder = String::from_utf8(told.stdout).ok()?;
-    told.status.success().then(|| Path::new(folder.trim()).join("libis.a"))
+    told.status.success().then(|| Path::new(folder.trim()).join("libis_ice.a"))
 }
 
 /// The name that a linker knows an archive by: that of the file, less "lib" and ".a".
@@ -16,13 +16,15 @@ fn link_name(archive: &Path) -> Option<&str> {
 }
 
 fn main() {
-    println!("cargo:rerun-if-env-changed=IS_LIB");
+    println!("cargo:rerun-if-env-changed=IS_ICE_LIB");
     println!("cargo:rerun-if-env-changed=PKG_CONFIG_PATH");
-    let archive =
-        std::env::var_os("IS_LIB").map(PathBuf::from).or_else(installed).expect("IS_LIB=/path/libis.a, as `c/run install` writes it");
-    let archive = archive.canonicalize().expect("the archive of IS_LIB");
+    let archive = std::env::var_os("IS_ICE_LIB")
+        .map(PathBuf::from)
+        .or_else(installed)
+        .expect("IS_ICE_LIB=/path/libis_ice.a, as `c/run install` writes it");
+    let archive = archive.canonicalize().expect("the archive of IS_ICE_LIB");
     let folder = archive.parent().expect("an archive lies in a folder");
-    let name = link_name(&archive).expect("IS_LIB names a file libNAME.a");
+    let name = link_name(&archive).expect("IS_ICE_LIB names a file libNAME.a");
     println!("cargo:rerun-if-changed={}", archive.display());
     println!("cargo:rustc-link-search=native={}", folder.display());
     println!("cargo:rustc-link-lib=static={name}");

@@ -35,15 +35,15 @@ struct options {
 };
 
 struct session {
-    is_agent agent;
+    is_ice_agent agent;
     struct net net;
     struct stun stun;
     const char *message;
     uint64_t end, next_message, not_before;
     int32_t state;
     bool has_path, has_heard, is_over, is_late;
-    is_address path_from, path_to;
-    is_address sources[SOURCES]; /* where authentic packets came from */
+    is_ice_address path_from, path_to;
+    is_ice_address sources[SOURCES]; /* where authentic packets came from */
     size_t source_count;
     char input[INPUT];
     size_t input_length;
@@ -53,7 +53,7 @@ struct session {
 /* Tells of a refusal on standard error; the agent is as it was, and the program goes on. */
 static int32_t warn(const char *what, int32_t code)
 {
-    if (code < 0) fprintf(stderr, "peer: %s: %s\n", what, is_code_text(code));
+    if (code < 0) fprintf(stderr, "peer: %s: %s\n", what, is_ice_code_text(code));
     return code;
 }
 
@@ -68,28 +68,28 @@ static void stop(const char *what, const char *why)
 /* Tells the agent of the moment. A refused call is made again a little later. */
 static void tell_moment(struct session *s, uint64_t now)
 {
-    uint8_t random[IS_TIMEOUT_RANDOM];
+    uint8_t random[IS_ICE_TIMEOUT_RANDOM];
     if (!net_random(random, sizeof random)) stop("no random bytes", strerror(errno));
-    if (warn("moment", is_agent_handle_timeout(&s->agent, now, random, sizeof random)) < 0) s->not_before = now + 50 * MILLISECOND;
+    if (warn("moment", is_ice_handle_timeout(&s->agent, now, random, sizeof random)) < 0) s->not_before = now + 50 * MILLISECOND;
 }
 
 /* When the agent wants to be told next. */
 static uint64_t wake_up(struct session *s)
 {
     uint64_t at;
-    if (warn("wake-up", is_agent_poll_timeout(&s->agent, &at)) != IS_OK) at = UINT64_MAX;
+    if (warn("wake-up", is_ice_poll_timeout(&s->agent, &at)) != IS_ICE_OK) at = UINT64_MAX;
     return at > s->not_before ? at : s->not_before;
 }
 
 static void send_all(struct session *s)
 {
     uint8_t buffer[1500];
-    is_packet packet;
-    while (warn("transmit", is_agent_poll_transmit(&s->agent, buffer, sizeof buffer, &packet)) == IS_OK)
+    is_ice_packet packet;
+    while (warn("transmit", is_ice_poll_transmit(&s->agent, buffer, sizeof buffer, &packet)) == IS_ICE_OK)
         net_send(&s->net, &packet.source, &packet.destination, buffer, packet.length);
 }
 
-static void note_path(struct session *s, const is_event *event)
+static void note_path(struct session *s, const is_ice_event *event)
 {
     char from[NET_TEXT], to[NET_TEXT];
     s->path_from = event->source;
@@ -102,23 +102,23 @@ static void note_state(struct session *s, int32_t state)
 {
     static const char *const names[] = {"New", "Checking", "Connected", "Completed", "Disconnected"};
     s->state = state;
-    if (state == IS_DISCONNECTED) s->has_path = false;
+    if (state == IS_ICE_DISCONNECTED) s->has_path = false;
     fprintf(stderr, "state %s\n", names[state]);
 }
 
 static void note_all(struct session *s)
 {
     char text[NET_TEXT];
-    is_event event = {0};
-    while (warn("event", is_agent_poll_event(&s->agent, &event)) == IS_OK) {
+    is_ice_event event = {0};
+    while (warn("event", is_ice_poll_event(&s->agent, &event)) == IS_ICE_OK) {
         switch (event.kind) {
-        case IS_RESTARTED: fprintf(stderr, "session begins\n"); break;
-        case IS_STATE_CHANGED: note_state(s, event.state); break;
-        case IS_DISCOVERED_RECV:
+        case IS_ICE_RESTARTED: fprintf(stderr, "session begins\n"); break;
+        case IS_ICE_STATE_CHANGED: note_state(s, event.state); break;
+        case IS_ICE_DISCOVERED_RECV:
             s->sources[s->source_count++ % SOURCES] = event.source;
             fprintf(stderr, "source %s\n", net_text(&event.source, text));
             break;
-        case IS_NOMINATED_SEND: note_path(s, &event); break;
+        case IS_ICE_NOMINATED_SEND: note_path(s, &event); break;
         default: break;
         }
     }
@@ -127,7 +127,7 @@ static void note_all(struct session *s)
 /* ---- what comes by the sockets */
 
 /* Prints what the other peer says, where it comes from an address that authentic packets came from. */
-static void hear(struct session *s, const is_address *from, uint8_t *bytes, size_t length)
+static void hear(struct session *s, const is_ice_address *from, uint8_t *bytes, size_t length)
 {
     bool is_known = false;
     for (size_t i = 0; i < SOURCES && i < s->source_count; i++) is_known = is_known || net_equal(from, &s->sources[i]);
@@ -139,21 +139,21 @@ static void hear(struct session *s, const is_address *from, uint8_t *bytes, size
 }
 
 /* The STUN server saw the socket at this address: a candidate that comes later than the signal. */
-static void gathered(struct session *s, size_t index, const is_address *mapped)
+static void gathered(struct session *s, size_t index, const is_ice_address *mapped)
 {
-    is_candidate candidate = {0};
-    candidate.kind = IS_SERVER_REFLEXIVE;
-    candidate.protocol = IS_UDP;
+    is_ice_candidate candidate = {0};
+    candidate.kind = IS_ICE_SERVER_REFLEXIVE;
+    candidate.protocol = IS_ICE_UDP;
     candidate.address = *mapped;
     candidate.base = s->net.addresses[index];
-    if (warn("server reflexive candidate", is_agent_add_local(&s->agent, &candidate)) == IS_OK)
+    if (warn("server reflexive candidate", is_ice_add_local(&s->agent, &candidate)) == IS_ICE_OK)
         warn("candidate", signal_print_last(&s->agent));
 }
 
 static void receive(struct session *s, size_t index)
 {
     uint8_t bytes[2048];
-    is_address from, mapped;
+    is_ice_address from, mapped;
     ssize_t got;
     for (int i = 0; i < BURST && (got = net_receive(&s->net, index, bytes, sizeof bytes, &from)) >= 0; i++) {
         size_t length = (size_t)got;
@@ -161,9 +161,9 @@ static void receive(struct session *s, size_t index)
             gathered(s, index, &mapped);
             continue;
         }
-        int32_t code = is_agent_handle_packet(&s->agent, net_now(), IS_UDP, &from, &s->net.addresses[index], bytes, length);
-        if (code == IS_OK) note_all(s);
-        else if (code == IS_UNPARSED) hear(s, &from, bytes, length);
+        int32_t code = is_ice_handle_packet(&s->agent, net_now(), IS_ICE_UDP, &from, &s->net.addresses[index], bytes, length);
+        if (code == IS_ICE_OK) note_all(s);
+        else if (code == IS_ICE_UNPARSED) hear(s, &from, bytes, length);
         else warn("packet", code);
     }
 }
@@ -178,12 +178,12 @@ static void say(struct session *s, const char *text)
 
 static void print_stats(struct session *s)
 {
-    is_stats stats;
-    is_nominated path;
-    if (warn("stats", is_agent_stats(&s->agent, &stats)) != IS_OK) return;
+    is_ice_agent_stats stats;
+    is_ice_nominated_pair path;
+    if (warn("stats", is_ice_stats(&s->agent, &stats)) != IS_ICE_OK) return;
     fprintf(stderr, "stats sent %llu answered %llu served %llu lost %llu", (unsigned long long)stats.bind_request_sent,
             (unsigned long long)stats.bind_success_recv, (unsigned long long)stats.bind_request_recv, (unsigned long long)s->net.lost);
-    if (is_agent_nominated(&s->agent, &path) == IS_OK && path.has_rtt)
+    if (is_ice_nominated(&s->agent, &path) == IS_ICE_OK && path.has_rtt)
         fprintf(stderr, " last round trip %llu us", (unsigned long long)(path.rtt / 1000));
     fprintf(stderr, "\n");
 }
@@ -196,7 +196,7 @@ static void take_line(struct session *s, char *line)
     else if (strcmp(line, "/quit") == 0) s->is_over = true;
     else if (strcmp(line, "/stats") == 0) print_stats(s);
     else if (strcmp(line, "/restart") == 0) {
-        if (warn("restart", signal_restart(&s->agent)) == IS_OK) warn("signal", signal_print(&s->agent));
+        if (warn("restart", signal_restart(&s->agent)) == IS_ICE_OK) warn("signal", signal_print(&s->agent));
     } else if (*line) say(s, line);
 }
 
@@ -240,7 +240,7 @@ static void say_message(struct session *s, uint64_t now)
     if (!s->message || !s->has_path || now < s->next_message) return;
     say(s, s->message);
     s->next_message = now + SECOND / 5;
-    if (s->has_heard && s->state != IS_CHECKING && s->end > now + SECOND) s->end = now + SECOND;
+    if (s->has_heard && s->state != IS_ICE_CHECKING && s->end > now + SECOND) s->end = now + SECOND;
 }
 
 static uint64_t least(uint64_t a, uint64_t b)
@@ -267,7 +267,7 @@ static void run(struct session *s)
 {
     tell_moment(s, net_now());
     while (!s->is_over) {
-        uint64_t now = net_now(), wake = wake_up(s); /* before packets are polled: see is_agent_poll_timeout */
+        uint64_t now = net_now(), wake = wake_up(s); /* before packets are polled: see is_ice_poll_timeout */
         unsigned closed = stun_send(&s->stun, &s->net, now);
         if (closed > 0) fprintf(stderr, "peer: the STUN server did not answer %u socket%s\n", closed, closed == 1 ? "" : "s");
         send_all(s);
@@ -292,7 +292,7 @@ static void begin_sockets(struct session *s, const struct options *o)
     if (o->address_count == 0) net_bind_all(&s->net, o->loopback);
     if (s->net.count == 0) stop("no interface has an address (-l takes loopback ones too)", NULL);
     if (o->server) {
-        is_address servers[2];
+        is_ice_address servers[2];
         const char *why;
         size_t count = net_resolve(o->server, "3478", servers, &why);
         if (count == 0) stop(o->server, why);
@@ -303,17 +303,17 @@ static void begin_sockets(struct session *s, const struct options *o)
 static void begin_agent(struct session *s, const struct options *o)
 {
     int32_t code = signal_begin(&s->agent);
-    if (code == IS_OK) code = is_agent_set_controlling(&s->agent, o->controlling);
-    if (code == IS_OK) code = is_agent_set_lite(&s->agent, o->lite);
+    if (code == IS_ICE_OK) code = is_ice_set_controlling(&s->agent, o->controlling);
+    if (code == IS_ICE_OK) code = is_ice_set_lite(&s->agent, o->lite);
     for (size_t i = 0; i < s->net.count && code >= 0; i++) {
-        is_candidate host = {0};
-        host.kind = IS_HOST;
-        host.protocol = IS_UDP;
+        is_ice_candidate host = {0};
+        host.kind = IS_ICE_HOST;
+        host.protocol = IS_ICE_UDP;
         host.address = s->net.addresses[i];
-        code = is_agent_add_local(&s->agent, &host);
+        code = is_ice_add_local(&s->agent, &host);
     }
     if (code >= 0) code = signal_print(&s->agent);
-    if (code < 0) stop("agent", is_code_text(code));
+    if (code < 0) stop("agent", is_ice_code_text(code));
 }
 
 static const char usage[] = "peer [-l] [-a ADDRESS].. [-s SERVER[:PORT]] [-L] [-m TEXT] [-t SECONDS] controlling|controlled";
@@ -354,7 +354,7 @@ int main(int count, char **words)
 {
     static struct session session; /* all zero; too long for some stacks */
     struct options options = {0};
-    if (is_version() != IS_VERSION) stop("is.h belongs to another library", NULL);
+    if (is_ice_version() != IS_ICE_VERSION) stop("is_ice.h belongs to another library", NULL);
     read_options(&options, count, words);
     begin_sockets(&session, &options);
     begin_agent(&session, &options);
@@ -364,7 +364,7 @@ int main(int count, char **words)
     if (session.net.lost > 0)
         fprintf(stderr, "peer: %llu datagrams could not be sent: %s\n", (unsigned long long)session.net.lost,
                 strerror(session.net.lost_why));
-    is_agent_free(&session.agent);
+    is_ice_agent_free(&session.agent);
     net_close(&session.net);
     return session.is_late ? 1 : 0;
 }

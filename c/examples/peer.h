@@ -2,7 +2,7 @@
 #ifndef PEER_H
 #define PEER_H
 
-#include "is.h"
+#include "is_ice.h"
 #include <sys/types.h>
 
 #define SECOND UINT64_C(1000000000)
@@ -16,7 +16,7 @@ enum { NET_SOCKETS = 16, NET_TEXT = 80 };
 struct net {
     size_t count;
     int sockets[NET_SOCKETS];
-    is_address addresses[NET_SOCKETS];
+    is_ice_address addresses[NET_SOCKETS];
     uint64_t lost; /* datagrams that could not be sent */
     int lost_why;  /* errno of the last one */
 };
@@ -35,18 +35,18 @@ void net_close(struct net *net);
 
 /* Finds the addresses of a server, as "stun.example.org:3478", "192.0.2.1" or "[2001:db8::1]:3478": at most one of each IP
  * version, the first found. Returns how many; where none, *why is a text that says why. */
-size_t net_resolve(const char *server, const char *port, is_address found[2], const char **why);
+size_t net_resolve(const char *server, const char *port, is_ice_address found[2], const char **why);
 
 /* Sends a datagram from the socket at this address. One that can't be sent is lost, as others are on their way. */
-void net_send(struct net *net, const is_address *from, const is_address *to, const void *bytes, size_t length);
+void net_send(struct net *net, const is_ice_address *from, const is_ice_address *to, const void *bytes, size_t length);
 
 /* Takes a datagram from a socket; -1 where there is none left. */
-ssize_t net_receive(const struct net *net, size_t index, void *bytes, size_t size, is_address *from);
+ssize_t net_receive(const struct net *net, size_t index, void *bytes, size_t size, is_ice_address *from);
 
-bool net_equal(const is_address *a, const is_address *b);
+bool net_equal(const is_ice_address *a, const is_ice_address *b);
 
 /* The address as "192.0.2.1:1000" or "[2001:db8::1]:1000". Returns the text. */
-const char *net_text(const is_address *address, char text[NET_TEXT]);
+const char *net_text(const is_ice_address *address, char text[NET_TEXT]);
 
 /* ---- peer_stun.c: asking a STUN server (RFC 8489) for the address that it sees */
 
@@ -56,7 +56,7 @@ struct stun_question {
     uint8_t id[12];
     unsigned sent;
     uint64_t due;
-    is_address server;
+    is_ice_address server;
 };
 
 struct stun {
@@ -64,7 +64,7 @@ struct stun {
 };
 
 /* Opens the questions, which stun_send sends. False where there are no random bytes. */
-bool stun_begin(struct stun *stun, const struct net *net, const is_address *servers, size_t count, uint64_t now);
+bool stun_begin(struct stun *stun, const struct net *net, const is_ice_address *servers, size_t count, uint64_t now);
 
 /* Sends the questions that are due, and closes those that were asked too often. Returns how many it closed. */
 unsigned stun_send(struct stun *stun, struct net *net, uint64_t now);
@@ -74,25 +74,25 @@ uint64_t stun_due(const struct stun *stun);
 
 /* Takes a datagram that came to this socket, where it answers its question, and closes that; *mapped is the address that the
  * server saw. False: it is something else. */
-bool stun_take(struct stun *stun, size_t index, const is_address *from, const uint8_t *bytes, size_t length, is_address *mapped);
+bool stun_take(struct stun *stun, size_t index, const is_ice_address *from, const uint8_t *bytes, size_t length, is_ice_address *mapped);
 
 /* ---- peer_signal.c: what is told to the other peer, and what is told by it, a line each */
 
 /* Prints "signal UFRAG PASSWORD LINE,LINE,..": the agent's credentials and candidates. */
-int32_t signal_print(is_agent *agent);
+int32_t signal_print(is_ice_agent *agent);
 
 /* Prints the line of the candidate that was added last: for one that comes later than the signal. */
-int32_t signal_print_last(is_agent *agent);
+int32_t signal_print_last(is_ice_agent *agent);
 
 /* Draws credentials, and begins an agent under them, or begins its session anew. */
-int32_t signal_begin(is_agent *agent);
-int32_t signal_restart(is_agent *agent);
+int32_t signal_begin(is_ice_agent *agent);
+int32_t signal_restart(is_ice_agent *agent);
 
 /* Takes the other peer's signal, the text behind the word "signal". Where it has other credentials than before, the other
  * peer began anew, so this one does too, and prints its own signal. */
-int32_t signal_take(is_agent *agent, char *text);
+int32_t signal_take(is_ice_agent *agent, char *text);
 
 /* Takes one candidate line of the other peer's. One that does not read is told of on standard error and left out. */
-int32_t signal_take_candidate(is_agent *agent, const char *line);
+int32_t signal_take_candidate(is_ice_agent *agent, const char *line);
 
 #endif

@@ -28,7 +28,7 @@ bool net_random(void *bytes, size_t length)
 
 /* ---- addresses, ours and the system's */
 
-static bool address_of(const struct sockaddr *from, is_address *address)
+static bool address_of(const struct sockaddr *from, is_ice_address *address)
 {
     memset(address, 0, sizeof *address);
     if (from->sa_family == AF_INET) {
@@ -52,7 +52,7 @@ static bool address_of(const struct sockaddr *from, is_address *address)
     return false;
 }
 
-static socklen_t socket_of(const is_address *address, struct sockaddr_storage *to)
+static socklen_t socket_of(const is_ice_address *address, struct sockaddr_storage *to)
 {
     memset(to, 0, sizeof *to);
     if (address->family == 4) {
@@ -73,12 +73,12 @@ static socklen_t socket_of(const is_address *address, struct sockaddr_storage *t
     return sizeof v6;
 }
 
-bool net_equal(const is_address *a, const is_address *b)
+bool net_equal(const is_ice_address *a, const is_ice_address *b)
 {
     return a->family == b->family && a->port == b->port && memcmp(a->bytes, b->bytes, a->family == 4 ? 4 : 16) == 0;
 }
 
-const char *net_text(const is_address *address, char text[NET_TEXT])
+const char *net_text(const is_ice_address *address, char text[NET_TEXT])
 {
     char ip[INET6_ADDRSTRLEN] = "?";
     inet_ntop(address->family == 4 ? AF_INET : AF_INET6, address->bytes, ip, sizeof ip);
@@ -86,7 +86,7 @@ const char *net_text(const is_address *address, char text[NET_TEXT])
     return text;
 }
 
-size_t net_resolve(const char *server, const char *port, is_address found[2], const char **why)
+size_t net_resolve(const char *server, const char *port, is_ice_address found[2], const char **why)
 {
     char host[256];
     const char *behind = strchr(server, ':');
@@ -120,7 +120,7 @@ size_t net_resolve(const char *server, const char *port, is_address found[2], co
 /* ---- sockets */
 
 /* Binds a socket at this address, whose port is 0. */
-static bool bind_at(struct net *net, const is_address *address)
+static bool bind_at(struct net *net, const is_ice_address *address)
 {
     struct sockaddr_storage own;
     socklen_t size = socket_of(address, &own);
@@ -144,7 +144,7 @@ static bool bind_at(struct net *net, const is_address *address)
 bool net_bind(struct net *net, const char *address)
 {
     struct addrinfo hints = {0}, *list = NULL;
-    is_address own;
+    is_ice_address own;
     hints.ai_socktype = SOCK_DGRAM;
     hints.ai_flags = AI_NUMERICHOST;
     if (getaddrinfo(address, "0", &hints, &list) != 0) {
@@ -157,7 +157,7 @@ bool net_bind(struct net *net, const char *address)
 }
 
 /* A link-local address means nothing to the other peer. */
-static bool is_link_local(const is_address *a)
+static bool is_link_local(const is_ice_address *a)
 {
     return a->family == 4 ? a->bytes[0] == 169 && a->bytes[1] == 254 : a->bytes[0] == 0xfe && (a->bytes[1] & 0xc0) == 0x80;
 }
@@ -165,7 +165,7 @@ static bool is_link_local(const is_address *a)
 void net_bind_all(struct net *net, bool loopback)
 {
     struct ifaddrs *list = NULL;
-    is_address own;
+    is_ice_address own;
     if (getifaddrs(&list) != 0) {
         perror("peer: interfaces");
         return;
@@ -185,7 +185,7 @@ void net_close(struct net *net)
     while (net->count > 0) close(net->sockets[--net->count]);
 }
 
-void net_send(struct net *net, const is_address *from, const is_address *to, const void *bytes, size_t length)
+void net_send(struct net *net, const is_ice_address *from, const is_ice_address *to, const void *bytes, size_t length)
 {
     struct sockaddr_storage name;
     socklen_t size = socket_of(to, &name);
@@ -199,7 +199,7 @@ void net_send(struct net *net, const is_address *from, const is_address *to, con
     }
 }
 
-ssize_t net_receive(const struct net *net, size_t index, void *bytes, size_t size, is_address *from)
+ssize_t net_receive(const struct net *net, size_t index, void *bytes, size_t size, is_ice_address *from)
 {
     struct sockaddr_storage name;
     memset(&name, 0, sizeof name);

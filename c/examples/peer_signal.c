@@ -8,57 +8,57 @@ enum { LINE = 1024 };
 /* ---- credentials */
 
 struct creds {
-    uint8_t ufrag[IS_UFRAG_LENGTH], pass[IS_PASS_LENGTH];
+    uint8_t ufrag[IS_ICE_UFRAG_LENGTH], pass[IS_ICE_PASS_LENGTH];
 };
 
 static int32_t draw(struct creds *creds)
 {
-    uint8_t random[IS_CREDENTIALS_RANDOM];
-    if (!net_random(random, sizeof random)) return IS_TOO_FEW_RANDOM_BYTES;
-    return is_make_credentials(random, sizeof random, creds->ufrag, sizeof creds->ufrag, creds->pass, sizeof creds->pass);
+    uint8_t random[IS_ICE_CREDENTIALS_RANDOM];
+    if (!net_random(random, sizeof random)) return IS_ICE_TOO_FEW_RANDOM_BYTES;
+    return is_ice_make_credentials(random, sizeof random, creds->ufrag, sizeof creds->ufrag, creds->pass, sizeof creds->pass);
 }
 
-int32_t signal_begin(is_agent *agent)
+int32_t signal_begin(is_ice_agent *agent)
 {
     struct creds creds;
     uint64_t tie_breaker;
     int32_t code = draw(&creds);
-    if (code != IS_OK) return code;
-    if (!net_random(&tie_breaker, sizeof tie_breaker)) return IS_TOO_FEW_RANDOM_BYTES;
-    return is_agent_new(agent, creds.ufrag, sizeof creds.ufrag, creds.pass, sizeof creds.pass, tie_breaker);
+    if (code != IS_ICE_OK) return code;
+    if (!net_random(&tie_breaker, sizeof tie_breaker)) return IS_ICE_TOO_FEW_RANDOM_BYTES;
+    return is_ice_agent_new(agent, creds.ufrag, sizeof creds.ufrag, creds.pass, sizeof creds.pass, tie_breaker);
 }
 
-int32_t signal_restart(is_agent *agent)
+int32_t signal_restart(is_ice_agent *agent)
 {
     struct creds creds;
     int32_t code = draw(&creds);
-    if (code != IS_OK) return code;
-    return is_agent_restart(agent, creds.ufrag, sizeof creds.ufrag, creds.pass, sizeof creds.pass, true);
+    if (code != IS_ICE_OK) return code;
+    return is_ice_restart(agent, creds.ufrag, sizeof creds.ufrag, creds.pass, sizeof creds.pass, true);
 }
 
 /* ---- told */
 
-int32_t signal_print(is_agent *agent)
+int32_t signal_print(is_ice_agent *agent)
 {
     uint8_t ufrag[LINE], pass[LINE], line[LINE];
     size_t ufrag_length, pass_length, length;
-    int32_t code = is_agent_local_ufrag(agent, ufrag, sizeof ufrag, &ufrag_length);
-    if (code == IS_OK) code = is_agent_local_pass(agent, pass, sizeof pass, &pass_length);
-    if (code != IS_OK) return code;
+    int32_t code = is_ice_local_ufrag(agent, ufrag, sizeof ufrag, &ufrag_length);
+    if (code == IS_ICE_OK) code = is_ice_local_pass(agent, pass, sizeof pass, &pass_length);
+    if (code != IS_ICE_OK) return code;
     printf("signal %.*s %.*s", (int)ufrag_length, (const char *)ufrag, (int)pass_length, (const char *)pass);
-    for (size_t i = 0; (code = is_agent_local_candidate(agent, i, line, sizeof line, &length)) == IS_OK; i++)
+    for (size_t i = 0; (code = is_ice_local_candidate(agent, i, line, sizeof line, &length)) == IS_ICE_OK; i++)
         printf("%c%.*s", i == 0 ? ' ' : ',', (int)length, (const char *)line);
     printf("\n");
     fflush(stdout);
     return code;
 }
 
-int32_t signal_print_last(is_agent *agent)
+int32_t signal_print_last(is_ice_agent *agent)
 {
     uint8_t line[LINE], next[LINE];
     size_t length = 0, next_length;
     int32_t code;
-    for (size_t i = 0; (code = is_agent_local_candidate(agent, i, next, sizeof next, &next_length)) == IS_OK; i++) {
+    for (size_t i = 0; (code = is_ice_local_candidate(agent, i, next, sizeof next, &next_length)) == IS_ICE_OK; i++) {
         length = next_length;
         memcpy(line, next, length);
     }
@@ -80,46 +80,46 @@ static char *word(char **rest, const char *ends)
     return begin;
 }
 
-int32_t signal_take_candidate(is_agent *agent, const char *line)
+int32_t signal_take_candidate(is_ice_agent *agent, const char *line)
 {
     uint8_t why[LINE];
     size_t length;
     const uint8_t *text = (const uint8_t *)line;
-    int32_t code = is_agent_add_remote(agent, text, strlen(line));
-    if (code == IS_BAD_CANDIDATE && is_line_refusal(text, strlen(line), why, sizeof why, &length) == IS_OK)
+    int32_t code = is_ice_add_remote(agent, text, strlen(line));
+    if (code == IS_ICE_BAD_CANDIDATE && is_ice_line_refusal(text, strlen(line), why, sizeof why, &length) == IS_ICE_OK)
         fprintf(stderr, "peer: %.*s\n", (int)length, (const char *)why);
-    else if (code == IS_BAD_CANDIDATE || code == IS_NOT_UTF8)
-        fprintf(stderr, "peer: candidate: %s\n", is_code_text(code));
+    else if (code == IS_ICE_BAD_CANDIDATE || code == IS_ICE_NOT_UTF8)
+        fprintf(stderr, "peer: candidate: %s\n", is_ice_code_text(code));
     else
         return code;
-    return IS_NOTHING;
+    return IS_ICE_NOTHING;
 }
 
-/* Whether the other peer's user fragment is known: IS_OK where it is this one, IS_NOTHING where none is known, else
- * IS_HAS_AGENT, for another one. */
-static int32_t known(is_agent *agent, const char *ufrag)
+/* Whether the other peer's user fragment is known: IS_ICE_OK where it is this one, IS_ICE_NOTHING where none is known, else
+ * IS_ICE_HAS_AGENT, for another one. */
+static int32_t known(is_ice_agent *agent, const char *ufrag)
 {
     uint8_t before[LINE];
     size_t length;
-    int32_t code = is_agent_remote_ufrag(agent, before, sizeof before, &length);
-    if (code != IS_OK) return code;
-    return length == strlen(ufrag) && memcmp(before, ufrag, length) == 0 ? IS_OK : IS_HAS_AGENT;
+    int32_t code = is_ice_remote_ufrag(agent, before, sizeof before, &length);
+    if (code != IS_ICE_OK) return code;
+    return length == strlen(ufrag) && memcmp(before, ufrag, length) == 0 ? IS_ICE_OK : IS_ICE_HAS_AGENT;
 }
 
-int32_t signal_take(is_agent *agent, char *text)
+int32_t signal_take(is_ice_agent *agent, char *text)
 {
     const char *ufrag = word(&text, " "), *pass = ufrag ? word(&text, " ") : NULL, *line;
     if (!pass) {
         fprintf(stderr, "peer: no signal, which is a user fragment, a password and candidates\n");
-        return IS_NOTHING;
+        return IS_ICE_NOTHING;
     }
     int32_t code = known(agent, ufrag);
-    if (code == IS_HAS_AGENT) {
+    if (code == IS_ICE_HAS_AGENT) {
         code = signal_restart(agent);
-        if (code == IS_OK) code = signal_print(agent);
+        if (code == IS_ICE_OK) code = signal_print(agent);
     }
-    if (code == IS_NOTHING)
-        code = is_agent_set_remote_credentials(agent, (const uint8_t *)ufrag, strlen(ufrag), (const uint8_t *)pass, strlen(pass));
+    if (code == IS_ICE_NOTHING)
+        code = is_ice_set_remote_credentials(agent, (const uint8_t *)ufrag, strlen(ufrag), (const uint8_t *)pass, strlen(pass));
     while (code >= 0 && (line = word(&text, ",")) != NULL) code = signal_take_candidate(agent, line);
     return code;
 }

@@ -15,7 +15,7 @@ static unsigned word(const uint8_t *at)
     return (unsigned)at[0] << 8 | at[1];
 }
 
-bool stun_begin(struct stun *stun, const struct net *net, const is_address *servers, size_t count, uint64_t now)
+bool stun_begin(struct stun *stun, const struct net *net, const is_ice_address *servers, size_t count, uint64_t now)
 {
     memset(stun, 0, sizeof *stun);
     for (size_t i = 0; i < net->count; i++) {
@@ -62,7 +62,7 @@ uint64_t stun_due(const struct stun *stun)
 }
 
 /* Reads a mapped address, or one that is XORed with the cookie and the id (RFC 8489, section 14.2). */
-static bool read_address(const uint8_t *value, size_t length, const uint8_t mask[16], is_address *address)
+static bool read_address(const uint8_t *value, size_t length, const uint8_t mask[16], is_ice_address *address)
 {
     if (length < 4) return false;
     size_t size = value[1] == 1 ? 4 : value[1] == 2 ? 16 : 0;
@@ -75,7 +75,7 @@ static bool read_address(const uint8_t *value, size_t length, const uint8_t mask
 }
 
 /* Goes through the attributes: the XORed address counts, and before it the plain one of older servers. */
-static bool read_reply(const uint8_t *bytes, size_t length, is_address *mapped)
+static bool read_reply(const uint8_t *bytes, size_t length, is_ice_address *mapped)
 {
     static const uint8_t plain[16] = {0};
     uint8_t mask[16];
@@ -93,7 +93,7 @@ static bool read_reply(const uint8_t *bytes, size_t length, is_address *mapped)
     return found;
 }
 
-bool stun_take(struct stun *stun, size_t index, const is_address *from, const uint8_t *bytes, size_t length, is_address *mapped)
+bool stun_take(struct stun *stun, size_t index, const is_ice_address *from, const uint8_t *bytes, size_t length, is_ice_address *mapped)
 {
     struct stun_question *q = &stun->questions[index];
     if (!q->is_open || !net_equal(from, &q->server)) return false;

@@ -1,6 +1,6 @@
 /* The shortest program: an agent takes the 100 bytes of a signed Binding request and prints its reply, and meets a refusal
  * of each kind on the way. Exits with 0, or tells of the first call that answered something else than is said here. */
-#include "is.h"
+#include "is_ice.h"
 #include <stdio.h>
 #include <stdlib.h>
 #include <string.h>
@@ -12,7 +12,7 @@ static const char reply[] =
     "0101002c2112a4426a756331357578556e67476300200008000126c22b12a440000800144465f0405413b525dd2d5730e3e8c803daecef75"
     "802800044a6e4696";
 
-static const is_address own = {4, {10, 0, 0, 1}, 1000, 0, 0}, peer = {4, {10, 0, 0, 2}, 2000, 0, 0};
+static const is_ice_address own = {4, {10, 0, 0, 1}, 1000, 0, 0}, peer = {4, {10, 0, 0, 2}, 2000, 0, 0};
 
 static const uint8_t *text(const char *chars)
 {
@@ -30,7 +30,7 @@ static void unhex(const char *digits, uint8_t *out, size_t length)
 static void want(const char *what, int32_t code, int32_t wanted)
 {
     if (code == wanted) return;
-    fprintf(stderr, "%s: %s, and not %s\n", what, is_code_text(code), is_code_text(wanted));
+    fprintf(stderr, "%s: %s, and not %s\n", what, is_ice_code_text(code), is_ice_code_text(wanted));
     exit(1);
 }
 
@@ -42,86 +42,87 @@ static void hold(const char *what, bool holds)
 }
 
 /* Makes the agent that the request is for. */
-static void make(is_agent *agent)
+static void make(is_ice_agent *agent)
 {
     uint64_t at = 7;
-    want("wake-up of no agent", is_agent_poll_timeout(agent, &at), IS_NO_AGENT);
-    want("a password of no text", is_agent_new(agent, text("p9KA"), 4, text("\xff"), 1, 1), IS_NOT_UTF8);
-    want("new", is_agent_new(agent, text("p9KA"), 4, text("xJcE9AQAR7kczUDVOXRUCl"), 22, 1), IS_OK);
-    want("new again", is_agent_new(agent, text("p9KA"), 4, text("x"), 1, 1), IS_HAS_AGENT);
-    want("remote credentials", is_agent_set_remote_credentials(agent, text("SQAt"), 4, text("x"), 1), IS_OK);
-    want("no retransmits", is_agent_set_max_retransmits(agent, 0), IS_BAD_LIMIT);
-    want("a short MTU", is_agent_set_mtu(agent, 587, 1280), IS_MTU_TOO_SMALL);
-    want("too few random bytes", is_agent_handle_timeout(agent, 0, text("x"), 1), IS_TOO_FEW_RANDOM_BYTES);
-    want("wake-up", is_agent_poll_timeout(agent, &at), IS_NOTHING);
+    want("wake-up of no agent", is_ice_poll_timeout(agent, &at), IS_ICE_NO_AGENT);
+    want("a password of no text", is_ice_agent_new(agent, text("p9KA"), 4, text("\xff"), 1, 1), IS_ICE_NOT_UTF8);
+    want("new", is_ice_agent_new(agent, text("p9KA"), 4, text("xJcE9AQAR7kczUDVOXRUCl"), 22, 1), IS_ICE_OK);
+    want("new again", is_ice_agent_new(agent, text("p9KA"), 4, text("x"), 1, 1), IS_ICE_HAS_AGENT);
+    want("remote credentials", is_ice_set_remote_credentials(agent, text("SQAt"), 4, text("x"), 1), IS_ICE_OK);
+    want("no retransmits", is_ice_set_max_retransmits(agent, 0), IS_ICE_BAD_LIMIT);
+    want("a short MTU", is_ice_set_mtu(agent, 587, 1280), IS_ICE_MTU_TOO_SMALL);
+    want("too few random bytes", is_ice_handle_timeout(agent, 0, text("x"), 1), IS_ICE_TOO_FEW_RANDOM_BYTES);
+    want("wake-up", is_ice_poll_timeout(agent, &at), IS_ICE_NOTHING);
     hold("the moment is as it was", at == 7);
 }
 
 /* Adds its candidate, and asks why others are refused. */
-static void add(is_agent *agent)
+static void add(is_ice_agent *agent)
 {
     uint8_t why[128];
     size_t length = 0;
-    is_candidate host = {own, own, IS_HOST, IS_UDP}, wrong = {own, own, IS_HOST, 9}, zero = {{4, {0}, 1, 0, 0}, own, IS_HOST, IS_UDP};
-    want("protocol 9", is_agent_add_local(agent, &wrong), IS_BAD_ADDRESS);
-    want("host", is_agent_add_local(agent, &host), IS_OK);
-    want("host again", is_agent_add_local(agent, &host), IS_NOTHING);
-    want("host 0.0.0.0", is_agent_add_local(agent, &zero), IS_BAD_CANDIDATE);
-    want("why", is_candidate_refusal(&zero, why, sizeof why, &length), IS_OK);
+    is_ice_candidate host = {own, own, IS_ICE_HOST, IS_ICE_UDP}, wrong = {own, own, IS_ICE_HOST, 9};
+    is_ice_candidate zero = {{4, {0}, 1, 0, 0}, own, IS_ICE_HOST, IS_ICE_UDP};
+    want("protocol 9", is_ice_add_local(agent, &wrong), IS_ICE_BAD_ADDRESS);
+    want("host", is_ice_add_local(agent, &host), IS_ICE_OK);
+    want("host again", is_ice_add_local(agent, &host), IS_ICE_NOTHING);
+    want("host 0.0.0.0", is_ice_add_local(agent, &zero), IS_ICE_BAD_CANDIDATE);
+    want("why", is_ice_candidate_refusal(&zero, why, sizeof why, &length), IS_ICE_OK);
     hold("there is a text", length > 0 && length <= sizeof why);
-    want("half a line", is_agent_add_remote(agent, text("candidate:1 1"), 13), IS_BAD_CANDIDATE);
-    want("why, briefly", is_line_refusal(text("candidate:1 1"), 13, why, 1, &length), IS_BUFFER_TOO_SHORT);
-    want("why", is_line_refusal(text("candidate:1 1"), 13, why, sizeof why, &length), IS_OK);
+    want("half a line", is_ice_add_remote(agent, text("candidate:1 1"), 13), IS_ICE_BAD_CANDIDATE);
+    want("why, briefly", is_ice_line_refusal(text("candidate:1 1"), 13, why, 1, &length), IS_ICE_BUFFER_TOO_SHORT);
+    want("why", is_ice_line_refusal(text("candidate:1 1"), 13, why, sizeof why, &length), IS_ICE_OK);
     hold("the text begins with the line", length > 13 && memcmp(why, "candidate:1 1", 13) == 0);
 }
 
 /* Hands the request in: cut, forged and right. */
-static void take(is_agent *agent)
+static void take(is_ice_agent *agent)
 {
     uint8_t bytes[100], buffer[64];
-    is_packet packet;
+    is_ice_packet packet;
     unhex(request, bytes, sizeof bytes);
-    want("99 bytes", is_agent_handle_packet(agent, 0, IS_UDP, &peer, &own, bytes, 99), IS_UNPARSED);
+    want("99 bytes", is_ice_handle_packet(agent, 0, IS_ICE_UDP, &peer, &own, bytes, 99), IS_ICE_UNPARSED);
     bytes[67] ^= 1;
-    want("a forged request", is_agent_handle_packet(agent, 0, IS_UDP, &peer, &own, bytes, 100), IS_NOTHING);
-    want("is it accepted", is_agent_accepts_packet(agent, IS_UDP, &peer, &own, bytes, 100), IS_NOTHING);
+    want("a forged request", is_ice_handle_packet(agent, 0, IS_ICE_UDP, &peer, &own, bytes, 100), IS_ICE_NOTHING);
+    want("is it accepted", is_ice_accepts_packet(agent, IS_ICE_UDP, &peer, &own, bytes, 100), IS_ICE_NOTHING);
     bytes[67] ^= 1;
-    want("is it accepted", is_agent_accepts_packet(agent, IS_UDP, &peer, &own, bytes, 100), IS_OK);
-    want("transmit before", is_agent_poll_transmit(agent, buffer, sizeof buffer, &packet), IS_NOTHING);
-    want("the request", is_agent_handle_packet(agent, 0, IS_UDP, &peer, &own, bytes, 100), IS_OK);
+    want("is it accepted", is_ice_accepts_packet(agent, IS_ICE_UDP, &peer, &own, bytes, 100), IS_ICE_OK);
+    want("transmit before", is_ice_poll_transmit(agent, buffer, sizeof buffer, &packet), IS_ICE_NOTHING);
+    want("the request", is_ice_handle_packet(agent, 0, IS_ICE_UDP, &peer, &own, bytes, 100), IS_ICE_OK);
 }
 
 /* Takes the reply and the event out. */
-static void answer(is_agent *agent)
+static void answer(is_ice_agent *agent)
 {
     uint8_t wanted[64], buffer[64];
-    is_packet packet;
-    is_event event;
+    is_ice_packet packet;
+    is_ice_event event;
     unhex(reply, wanted, sizeof wanted);
-    want("a short buffer", is_agent_poll_transmit(agent, buffer, 63, &packet), IS_BUFFER_TOO_SHORT);
+    want("a short buffer", is_ice_poll_transmit(agent, buffer, 63, &packet), IS_ICE_BUFFER_TOO_SHORT);
     hold("the length is told", packet.length == 64);
-    want("transmit", is_agent_poll_transmit(agent, buffer, sizeof buffer, &packet), IS_OK);
-    hold("it goes back", packet.protocol == IS_UDP && packet.source.port == own.port && packet.destination.port == peer.port &&
+    want("transmit", is_ice_poll_transmit(agent, buffer, sizeof buffer, &packet), IS_ICE_OK);
+    hold("it goes back", packet.protocol == IS_ICE_UDP && packet.source.port == own.port && packet.destination.port == peer.port &&
                              memcmp(packet.destination.bytes, peer.bytes, 4) == 0);
     hold("the reply is the known one", packet.length == 64 && memcmp(buffer, wanted, 64) == 0);
     for (size_t i = 0; i < packet.length; i++) printf("%02x", buffer[i]);
     printf("\n");
-    want("transmit again", is_agent_poll_transmit(agent, buffer, sizeof buffer, &packet), IS_NOTHING);
-    want("event", is_agent_poll_event(agent, &event), IS_OK);
-    hold("the source is told", event.kind == IS_DISCOVERED_RECV && event.source.port == peer.port);
-    want("event again", is_agent_poll_event(agent, &event), IS_NOTHING);
+    want("transmit again", is_ice_poll_transmit(agent, buffer, sizeof buffer, &packet), IS_ICE_NOTHING);
+    want("event", is_ice_poll_event(agent, &event), IS_ICE_OK);
+    hold("the source is told", event.kind == IS_ICE_DISCOVERED_RECV && event.source.port == peer.port);
+    want("event again", is_ice_poll_event(agent, &event), IS_ICE_NOTHING);
 }
 
 int main(void)
 {
-    is_agent agent = {false, NULL};
-    hold("header and library agree", is_version() == IS_VERSION);
+    is_ice_agent agent = {false, NULL};
+    hold("header and library agree", is_ice_version() == IS_ICE_VERSION);
     make(&agent);
     add(&agent);
     take(&agent);
     answer(&agent);
-    is_agent_free(&agent);
+    is_ice_agent_free(&agent);
     hold("nothing is held", !agent.is_held);
-    is_agent_free(&agent);
+    is_ice_agent_free(&agent);
     return 0;
 }

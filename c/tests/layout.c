@@ -1,6 +1,6 @@
 /* Each field of each struct crosses: what one side writes is what the other one reads. And the structs have the offsets that
  * the library's own have, where C's rules of layout give another one no room. */
-#include "is.h"
+#include "is_ice.h"
 #include <stdio.h>
 #include <stdlib.h>
 #include <string.h>
@@ -9,10 +9,10 @@
 #define HOLD(fact) hold(__LINE__, #fact, fact)
 #define AT(type, field, offset) HOLD(sizeof(void *) != 8 || offsetof(type, field) == (offset))
 
-static const is_address v4 = {4, {10, 0, 0, 1}, 1000, 0, 0}, seen4 = {4, {192, 0, 2, 1}, 2000, 0, 0};
-static const is_address v6 = {6, {0x20, 1, 0xd, 0xb8, 0, 0, 0, 0, 0, 0, 0, 0, 0, 0, 0, 1}, 3000, 0, 0};
-static const is_address seen6 = {6, {0x20, 1, 0xd, 0xb8, 0, 0, 0, 0, 0, 0, 0, 0, 0, 0, 0, 2}, 4000, 0, 0};
-static const is_address scoped = {6, {0xfe, 0x80, 0, 0, 0, 0, 0, 0, 0, 0, 0, 0, 0, 0, 0, 2}, 2000, 0x12345, 3};
+static const is_ice_address v4 = {4, {10, 0, 0, 1}, 1000, 0, 0}, seen4 = {4, {192, 0, 2, 1}, 2000, 0, 0};
+static const is_ice_address v6 = {6, {0x20, 1, 0xd, 0xb8, 0, 0, 0, 0, 0, 0, 0, 0, 0, 0, 0, 1}, 3000, 0, 0};
+static const is_ice_address seen6 = {6, {0x20, 1, 0xd, 0xb8, 0, 0, 0, 0, 0, 0, 0, 0, 0, 0, 0, 2}, 4000, 0, 0};
+static const is_ice_address scoped = {6, {0xfe, 0x80, 0, 0, 0, 0, 0, 0, 0, 0, 0, 0, 0, 0, 0, 2}, 2000, 0x12345, 3};
 
 static void hold(int line, const char *fact, bool holds)
 {
@@ -23,53 +23,58 @@ static void hold(int line, const char *fact, bool holds)
 
 static void offsets(void)
 {
-    AT(is_agent, is_held, 0), AT(is_agent, at, 8);
-    AT(is_address, family, 0), AT(is_address, bytes, 1), AT(is_address, port, 18), AT(is_address, flow, 20), AT(is_address, scope, 24);
-    AT(is_candidate, address, 0), AT(is_candidate, base, 28), AT(is_candidate, kind, 56), AT(is_candidate, protocol, 57);
-    AT(is_packet, source, 0), AT(is_packet, destination, 28), AT(is_packet, length, 56), AT(is_packet, protocol, 64);
-    AT(is_event, source, 0), AT(is_event, destination, 28), AT(is_event, kind, 56), AT(is_event, state, 60), AT(is_event, protocol, 64);
-    AT(is_status, state, 0), AT(is_status, controlling, 4), AT(is_status, lite, 5);
-    AT(is_status, mtu, 8), AT(is_status, mtu_warn, 16), AT(is_status, ice_timeout, 24);
-    AT(is_stats, bind_request_sent, 0), AT(is_stats, bind_success_recv, 8), AT(is_stats, bind_request_recv, 16);
-    AT(is_stats, discovered_recv_count, 24), AT(is_stats, nomination_send_count, 32);
-    AT(is_nominated, total_rtt, 0), AT(is_nominated, responses, 8), AT(is_nominated, rtt, 16), AT(is_nominated, has_rtt, 24);
-    AT(is_kind_preferences, host, 0), AT(is_kind_preferences, peer_reflexive, 2);
-    AT(is_kind_preferences, server_reflexive, 4), AT(is_kind_preferences, relayed, 6);
-    AT(is_preference_table, v4, 0), AT(is_preference_table, v6, 8);
+    AT(is_ice_agent, is_held, 0), AT(is_ice_agent, at, 8);
+    AT(is_ice_address, family, 0), AT(is_ice_address, bytes, 1), AT(is_ice_address, port, 18);
+    AT(is_ice_address, flow, 20), AT(is_ice_address, scope, 24);
+    AT(is_ice_candidate, address, 0), AT(is_ice_candidate, base, 28), AT(is_ice_candidate, kind, 56), AT(is_ice_candidate, protocol, 57);
+    AT(is_ice_packet, source, 0), AT(is_ice_packet, destination, 28), AT(is_ice_packet, length, 56), AT(is_ice_packet, protocol, 64);
+    AT(is_ice_event, source, 0), AT(is_ice_event, destination, 28), AT(is_ice_event, kind, 56);
+    AT(is_ice_event, state, 60), AT(is_ice_event, protocol, 64);
+    AT(is_ice_agent_status, state, 0), AT(is_ice_agent_status, controlling, 4), AT(is_ice_agent_status, lite, 5);
+    AT(is_ice_agent_status, mtu, 8), AT(is_ice_agent_status, mtu_warn, 16), AT(is_ice_agent_status, ice_timeout, 24);
+    AT(is_ice_agent_stats, bind_request_sent, 0), AT(is_ice_agent_stats, bind_success_recv, 8);
+    AT(is_ice_agent_stats, bind_request_recv, 16), AT(is_ice_agent_stats, discovered_recv_count, 24);
+    AT(is_ice_agent_stats, nomination_send_count, 32);
+    AT(is_ice_nominated_pair, total_rtt, 0), AT(is_ice_nominated_pair, responses, 8);
+    AT(is_ice_nominated_pair, rtt, 16), AT(is_ice_nominated_pair, has_rtt, 24);
+    AT(is_ice_kind_preferences, host, 0), AT(is_ice_kind_preferences, peer_reflexive, 2);
+    AT(is_ice_kind_preferences, server_reflexive, 4), AT(is_ice_kind_preferences, relayed, 6);
+    AT(is_ice_preference_table, v4, 0), AT(is_ice_preference_table, v6, 8);
 }
 
-static is_agent made(void)
+static is_ice_agent made(void)
 {
-    is_agent agent = {false, NULL};
-    HOLD(is_agent_new(&agent, TEXT("near"), TEXT("nearpass"), 7) == IS_OK);
-    HOLD(is_agent_set_remote_credentials(&agent, TEXT("farr"), TEXT("farpass")) == IS_OK);
+    is_ice_agent agent = {false, NULL};
+    HOLD(is_ice_agent_new(&agent, TEXT("near"), TEXT("nearpass"), 7) == IS_ICE_OK);
+    HOLD(is_ice_set_remote_credentials(&agent, TEXT("farr"), TEXT("farpass")) == IS_ICE_OK);
     return agent;
 }
 
-/* is_status, from settings. */
+/* is_ice_agent_status, from settings. */
 static void settings(void)
 {
-    is_agent agent = made();
-    is_status s;
+    is_ice_agent agent = made();
+    is_ice_agent_status s;
     memset(&s, 0xaa, sizeof s);
-    HOLD(is_agent_status(&agent, &s) == IS_OK);
-    HOLD(s.state == IS_NEW && !s.controlling && !s.lite && s.mtu == 1150 && s.mtu_warn == 1280 && s.ice_timeout == UINT64_C(21500000000));
-    HOLD(is_agent_set_controlling(&agent, true) == IS_OK && is_agent_set_mtu(&agent, 600, 700) == IS_OK);
-    HOLD(is_agent_set_max_retransmits(&agent, 2) == IS_OK && is_agent_set_max_rto(&agent, 400000000) == IS_OK);
-    HOLD(is_agent_status(&agent, &s) == IS_OK);
+    HOLD(is_ice_status(&agent, &s) == IS_ICE_OK);
+    HOLD(s.state == IS_ICE_NEW && !s.controlling && !s.lite);
+    HOLD(s.mtu == 1150 && s.mtu_warn == 1280 && s.ice_timeout == UINT64_C(21500000000));
+    HOLD(is_ice_set_controlling(&agent, true) == IS_ICE_OK && is_ice_set_mtu(&agent, 600, 700) == IS_ICE_OK);
+    HOLD(is_ice_set_max_retransmits(&agent, 2) == IS_ICE_OK && is_ice_set_max_rto(&agent, 400000000) == IS_ICE_OK);
+    HOLD(is_ice_status(&agent, &s) == IS_ICE_OK);
     HOLD(s.controlling && !s.lite && s.mtu == 600 && s.mtu_warn == 700 && s.ice_timeout == 800000000);
-    HOLD(is_agent_set_controlling(&agent, false) == IS_OK && is_agent_set_lite(&agent, true) == IS_OK);
-    HOLD(is_agent_status(&agent, &s) == IS_OK && !s.controlling && s.lite);
-    is_agent_free(&agent);
+    HOLD(is_ice_set_controlling(&agent, false) == IS_ICE_OK && is_ice_set_lite(&agent, true) == IS_ICE_OK);
+    HOLD(is_ice_status(&agent, &s) == IS_ICE_OK && !s.controlling && s.lite);
+    is_ice_agent_free(&agent);
 }
 
 /* The candidate is added, and its line begins with a foundation and has this behind it. */
-static void has_line(is_agent *agent, size_t index, const is_candidate *candidate, const char *behind)
+static void has_line(is_ice_agent *agent, size_t index, const is_ice_candidate *candidate, const char *behind)
 {
     uint8_t line[256];
     size_t length = 0;
-    HOLD(is_agent_add_local(agent, candidate) == IS_OK);
-    HOLD(is_agent_local_candidate(agent, index, line, sizeof line - 1, &length) == IS_OK);
+    HOLD(is_ice_add_local(agent, candidate) == IS_ICE_OK);
+    HOLD(is_ice_local_candidate(agent, index, line, sizeof line - 1, &length) == IS_ICE_OK);
     line[length] = '\0';
     const char *blank = strchr((const char *)line, ' ');
     if (blank && strncmp(blank, behind, strlen(behind)) == 0) return;
@@ -77,100 +82,107 @@ static void has_line(is_agent *agent, size_t index, const is_candidate *candidat
     exit(1);
 }
 
-/* is_candidate, of each kind and family, and is_preference_table, whose number is the third byte of the priority. */
+/* is_ice_candidate, of each kind and family, and is_ice_preference_table, whose number is the third byte of the priority. */
 static void candidates(void)
 {
-    static const is_preference_table table = {{1, 2, 3, 4}, {5, 6, 7, 8}};
-    const is_candidate all[] = {{v4, v4, IS_HOST, IS_UDP},     {seen4, v4, IS_SERVER_REFLEXIVE, IS_UDP}, {seen4, v4, IS_RELAYED, IS_TCP},
-                                {v6, v6, IS_HOST, IS_SSL_TCP}, {seen6, v6, IS_SERVER_REFLEXIVE, IS_TLS}, {seen6, v6, IS_RELAYED, IS_UDP}};
-    is_agent agent = made();
-    HOLD(is_agent_set_preference_table(&agent, &table) == IS_OK);
+    static const is_ice_preference_table table = {{1, 2, 3, 4}, {5, 6, 7, 8}};
+    const is_ice_candidate all[] = {
+        {v4, v4, IS_ICE_HOST, IS_ICE_UDP},
+        {seen4, v4, IS_ICE_SERVER_REFLEXIVE, IS_ICE_UDP},
+        {seen4, v4, IS_ICE_RELAYED, IS_ICE_TCP},
+        {v6, v6, IS_ICE_HOST, IS_ICE_SSL_TCP},
+        {seen6, v6, IS_ICE_SERVER_REFLEXIVE, IS_ICE_TLS},
+        {seen6, v6, IS_ICE_RELAYED, IS_ICE_UDP},
+    };
+    is_ice_agent agent = made();
+    HOLD(is_ice_set_preference_table(&agent, &table) == IS_ICE_OK);
     has_line(&agent, 0, &all[0], " 1 udp 2113929727 10.0.0.1 1000 typ host");
     has_line(&agent, 1, &all[1], " 1 udp 1677722623 192.0.2.1 2000 typ srflx raddr 0.0.0.0 rport 0");
     has_line(&agent, 2, &all[2], " 1 tcp 16778495 192.0.2.1 2000 typ relay raddr 0.0.0.0 rport 0");
     has_line(&agent, 3, &all[3], " 1 ssltcp 1509950975 2001:db8::1 3000 typ host");
     has_line(&agent, 4, &all[4], " 1 tls 1677723647 2001:db8::2 4000 typ srflx raddr :: rport 0");
     has_line(&agent, 5, &all[5], " 1 udp 33556735 2001:db8::2 4000 typ relay raddr :: rport 0");
-    HOLD(is_agent_invalidate_local(&agent, &all[1]) == IS_OK && is_agent_invalidate_local(&agent, &all[1]) == IS_NOTHING);
-    is_agent_free(&agent);
+    HOLD(is_ice_invalidate_local(&agent, &all[1]) == IS_ICE_OK && is_ice_invalidate_local(&agent, &all[1]) == IS_ICE_NOTHING);
+    is_ice_agent_free(&agent);
 }
 
-static is_agent side(const char *near, const char *far, bool controlling, const is_address *own, const is_address *other)
+static is_ice_agent side(const char *near, const char *far, bool controlling, const is_ice_address *own, const is_ice_address *other)
 {
-    is_agent agent = {false, NULL};
+    is_ice_agent agent = {false, NULL};
     char line[128];
-    const is_candidate host = {*own, *own, IS_HOST, IS_UDP};
+    const is_ice_candidate host = {*own, *own, IS_ICE_HOST, IS_ICE_UDP};
     int length = snprintf(line, sizeof line, "candidate:1 1 udp 7 2001:db8::%u %u typ host", other->bytes[15], other->port);
-    HOLD(is_agent_new(&agent, (const uint8_t *)near, 4, (const uint8_t *)near, 4, controlling) == IS_OK);
-    HOLD(is_agent_set_remote_credentials(&agent, (const uint8_t *)far, 4, (const uint8_t *)far, 4) == IS_OK);
-    HOLD(is_agent_set_controlling(&agent, controlling) == IS_OK && is_agent_add_local(&agent, &host) == IS_OK);
-    HOLD(is_agent_add_remote(&agent, (const uint8_t *)line, (size_t)length) == IS_OK);
+    HOLD(is_ice_agent_new(&agent, (const uint8_t *)near, 4, (const uint8_t *)near, 4, controlling) == IS_ICE_OK);
+    HOLD(is_ice_set_remote_credentials(&agent, (const uint8_t *)far, 4, (const uint8_t *)far, 4) == IS_ICE_OK);
+    HOLD(is_ice_set_controlling(&agent, controlling) == IS_ICE_OK && is_ice_add_local(&agent, &host) == IS_ICE_OK);
+    HOLD(is_ice_add_remote(&agent, (const uint8_t *)line, (size_t)length) == IS_ICE_OK);
     return agent;
 }
 
-static bool same(const is_address *a, const is_address *b)
+static bool same(const is_ice_address *a, const is_ice_address *b)
 {
     return a->family == b->family && memcmp(a->bytes, b->bytes, 16) == 0 && a->port == b->port && a->flow == b->flow && a->scope == b->scope;
 }
 
 /* Carries a packet: from there to there, of so many bytes. */
-static void carry(is_agent *from, is_agent *to, const is_address *source, const is_address *destination, size_t length, uint64_t now)
+static void carry(
+    is_ice_agent *from, is_ice_agent *to, const is_ice_address *source, const is_ice_address *destination, size_t length, uint64_t now)
 {
     uint8_t bytes[1500];
-    is_packet packet;
+    is_ice_packet packet;
     memset(&packet, 0xaa, sizeof packet);
-    HOLD(is_agent_poll_transmit(from, bytes, sizeof bytes, &packet) == IS_OK);
+    HOLD(is_ice_poll_transmit(from, bytes, sizeof bytes, &packet) == IS_ICE_OK);
     HOLD(same(&packet.source, source) && same(&packet.destination, destination));
-    HOLD(packet.length == length && packet.protocol == IS_UDP);
-    HOLD(is_agent_handle_packet(to, now, packet.protocol, &packet.source, &packet.destination, bytes, packet.length) == IS_OK);
+    HOLD(packet.length == length && packet.protocol == IS_ICE_UDP);
+    HOLD(is_ice_handle_packet(to, now, packet.protocol, &packet.source, &packet.destination, bytes, packet.length) == IS_ICE_OK);
 }
 
-/* is_packet, is_event, is_stats and is_nominated, from a session over IPv6. */
+/* is_ice_packet, is_ice_event, is_ice_agent_stats and is_ice_nominated_pair, from a session over IPv6. */
 static void session(void)
 {
-    const is_address at_a = v6, at_b = seen6;
-    is_agent a = side("aaaa", "bbbb", true, &at_a, &at_b), b = side("bbbb", "aaaa", false, &at_b, &at_a);
-    is_event e;
-    is_stats stats;
-    is_nominated path;
+    const is_ice_address at_a = v6, at_b = seen6;
+    is_ice_agent a = side("aaaa", "bbbb", true, &at_a, &at_b), b = side("bbbb", "aaaa", false, &at_b, &at_a);
+    is_ice_event e;
+    is_ice_agent_stats stats;
+    is_ice_nominated_pair path;
     memset(&e, 0xaa, sizeof e);
-    HOLD(is_agent_nominated(&a, &path) == IS_NOTHING && is_agent_has_viable_remote(&a, &at_b) == IS_NOTHING);
-    HOLD(is_agent_handle_timeout(&a, UINT64_C(60000000000), TEXT("twelve bytes")) == IS_OK);
+    HOLD(is_ice_nominated(&a, &path) == IS_ICE_NOTHING && is_ice_has_viable_remote(&a, &at_b) == IS_ICE_NOTHING);
+    HOLD(is_ice_handle_timeout(&a, UINT64_C(60000000000), TEXT("twelve bytes")) == IS_ICE_OK);
     carry(&a, &b, &at_a, &at_b, 88, UINT64_C(60010000000));
     carry(&b, &a, &at_b, &at_a, 76, UINT64_C(60030000000));
-    HOLD(is_agent_poll_event(&a, &e) == IS_OK && e.kind == IS_RESTARTED);
-    HOLD(is_agent_poll_event(&a, &e) == IS_OK && e.kind == IS_STATE_CHANGED && e.state == IS_CHECKING);
-    HOLD(is_agent_poll_event(&a, &e) == IS_OK && e.kind == IS_NOMINATED_SEND && e.protocol == IS_UDP);
+    HOLD(is_ice_poll_event(&a, &e) == IS_ICE_OK && e.kind == IS_ICE_RESTARTED);
+    HOLD(is_ice_poll_event(&a, &e) == IS_ICE_OK && e.kind == IS_ICE_STATE_CHANGED && e.state == IS_ICE_CHECKING);
+    HOLD(is_ice_poll_event(&a, &e) == IS_ICE_OK && e.kind == IS_ICE_NOMINATED_SEND && e.protocol == IS_ICE_UDP);
     HOLD(same(&e.source, &at_a) && same(&e.destination, &at_b));
-    HOLD(is_agent_poll_event(&a, &e) == IS_OK && e.kind == IS_STATE_CHANGED && e.state == IS_COMPLETED);
-    HOLD(is_agent_poll_event(&a, &e) == IS_OK && e.kind == IS_DISCOVERED_RECV && same(&e.source, &at_b));
-    HOLD(is_agent_poll_event(&a, &e) == IS_NOTHING && is_agent_has_viable_remote(&a, &at_b) == IS_OK);
-    HOLD(is_agent_stats(&a, &stats) == IS_OK && stats.bind_request_sent == 1 && stats.bind_success_recv == 1);
+    HOLD(is_ice_poll_event(&a, &e) == IS_ICE_OK && e.kind == IS_ICE_STATE_CHANGED && e.state == IS_ICE_COMPLETED);
+    HOLD(is_ice_poll_event(&a, &e) == IS_ICE_OK && e.kind == IS_ICE_DISCOVERED_RECV && same(&e.source, &at_b));
+    HOLD(is_ice_poll_event(&a, &e) == IS_ICE_NOTHING && is_ice_has_viable_remote(&a, &at_b) == IS_ICE_OK);
+    HOLD(is_ice_stats(&a, &stats) == IS_ICE_OK && stats.bind_request_sent == 1 && stats.bind_success_recv == 1);
     HOLD(stats.bind_request_recv == 0 && stats.discovered_recv_count == 1 && stats.nomination_send_count == 1);
-    HOLD(is_agent_stats(&b, &stats) == IS_OK && stats.bind_request_sent == 0 && stats.bind_request_recv == 1);
+    HOLD(is_ice_stats(&b, &stats) == IS_ICE_OK && stats.bind_request_sent == 0 && stats.bind_request_recv == 1);
     memset(&path, 0xaa, sizeof path);
-    HOLD(is_agent_nominated(&a, &path) == IS_OK && path.responses == 1);
+    HOLD(is_ice_nominated(&a, &path) == IS_ICE_OK && path.responses == 1);
     HOLD(path.total_rtt == 30000000 && path.rtt == 30000000 && path.has_rtt);
-    is_agent_free(&a);
-    is_agent_free(&b);
+    is_ice_agent_free(&a);
+    is_ice_agent_free(&b);
 }
 
-/* Flow and scope of is_address: the reply goes back to the address that the request came from, with both. */
+/* Flow and scope of is_ice_address: the reply goes back to the address that the request came from, with both. */
 static void flow_and_scope(void)
 {
-    const is_address at_b = scoped, at_a = v6;
-    is_agent a = side("aaaa", "bbbb", true, &at_a, &at_b), b = side("bbbb", "aaaa", false, &at_b, &at_a);
-    is_packet packet;
-    is_event e;
+    const is_ice_address at_b = scoped, at_a = v6;
+    is_ice_agent a = side("aaaa", "bbbb", true, &at_a, &at_b), b = side("bbbb", "aaaa", false, &at_b, &at_a);
+    is_ice_packet packet;
+    is_ice_event e;
     uint8_t bytes[1500];
-    HOLD(is_agent_handle_timeout(&b, UINT64_C(60000000000), TEXT("twelve bytes")) == IS_OK);
-    HOLD(is_agent_poll_transmit(&b, bytes, sizeof bytes, &packet) == IS_OK && same(&packet.source, &at_b));
-    HOLD(is_agent_handle_packet(&a, UINT64_C(60000000000), IS_UDP, &at_b, &at_a, bytes, packet.length) == IS_OK);
-    HOLD(is_agent_poll_transmit(&a, bytes, sizeof bytes, &packet) == IS_OK);
+    HOLD(is_ice_handle_timeout(&b, UINT64_C(60000000000), TEXT("twelve bytes")) == IS_ICE_OK);
+    HOLD(is_ice_poll_transmit(&b, bytes, sizeof bytes, &packet) == IS_ICE_OK && same(&packet.source, &at_b));
+    HOLD(is_ice_handle_packet(&a, UINT64_C(60000000000), IS_ICE_UDP, &at_b, &at_a, bytes, packet.length) == IS_ICE_OK);
+    HOLD(is_ice_poll_transmit(&a, bytes, sizeof bytes, &packet) == IS_ICE_OK);
     HOLD(same(&packet.source, &at_a) && same(&packet.destination, &at_b));
-    HOLD(is_agent_poll_event(&a, &e) == IS_OK && e.kind == IS_DISCOVERED_RECV && same(&e.source, &at_b));
-    is_agent_free(&a);
-    is_agent_free(&b);
+    HOLD(is_ice_poll_event(&a, &e) == IS_ICE_OK && e.kind == IS_ICE_DISCOVERED_RECV && same(&e.source, &at_b));
+    is_ice_agent_free(&a);
+    is_ice_agent_free(&b);
 }
 
 int main(void)

@@ -3,7 +3,7 @@
  * ample memory, and nothing is lost.
  *
  * To be linked with -Wl,--wrap=malloc,--wrap=realloc,--wrap=free. */
-#include "is.h"
+#include "is_ice.h"
 #include <stdio.h>
 #include <stdlib.h>
 #include <string.h>
@@ -51,14 +51,14 @@ void __wrap_free(void *at)
 #define TEXT(text) (const uint8_t *)text, sizeof text - 1
 
 struct story {
-    is_agent a, b;
+    is_ice_agent a, b;
     uint64_t sum; /* what came of it all */
     int refused;
-    uint8_t random[IS_CREDENTIALS_RANDOM];
+    uint8_t random[IS_ICE_CREDENTIALS_RANDOM];
 };
 
-static const is_candidate host_a = {{4, {10, 0, 0, 1}, 1000, 0, 0}, {4, {10, 0, 0, 1}, 1000, 0, 0}, IS_HOST, IS_UDP};
-static const is_candidate host_b = {{4, {10, 0, 0, 2}, 2000, 0, 0}, {4, {10, 0, 0, 2}, 2000, 0, 0}, IS_HOST, IS_UDP};
+static const is_ice_candidate host_a = {{4, {10, 0, 0, 1}, 1000, 0, 0}, {4, {10, 0, 0, 1}, 1000, 0, 0}, IS_ICE_HOST, IS_ICE_UDP};
+static const is_ice_candidate host_b = {{4, {10, 0, 0, 2}, 2000, 0, 0}, {4, {10, 0, 0, 2}, 2000, 0, 0}, IS_ICE_HOST, IS_ICE_UDP};
 
 static void add(struct story *s, const void *bytes, size_t length)
 {
@@ -75,7 +75,7 @@ static void fail(int line, const char *what, long number)
 #define CALL(s, wanted, call)                                                           \
     do {                                                                                \
         int32_t code_ = (call);                                                         \
-        if (code_ == IS_OUT_OF_MEMORY) {                                                \
+        if (code_ == IS_ICE_OUT_OF_MEMORY) {                                                \
             (s)->refused++;                                                             \
             code_ = (call);                                                             \
         }                                                                               \
@@ -93,62 +93,63 @@ static void fail(int line, const char *what, long number)
 
 static void make(struct story *s)
 {
-    uint8_t ufrag[IS_UFRAG_LENGTH], pass[IS_PASS_LENGTH];
+    uint8_t ufrag[IS_ICE_UFRAG_LENGTH], pass[IS_ICE_PASS_LENGTH];
     for (size_t i = 0; i < sizeof s->random; i++) s->random[i] = (uint8_t)(i * 37 + 11);
-    CALL(s, IS_OK, is_make_credentials(s->random, sizeof s->random, ufrag, sizeof ufrag, pass, sizeof pass));
-    CALL(s, IS_OK, is_agent_new(&s->a, ufrag, sizeof ufrag, pass, sizeof pass, 10));
-    CALL(s, IS_OK, is_agent_new(&s->b, TEXT("BBBB"), TEXT("QQQQ"), 5));
-    QUIET(IS_OK, is_agent_set_controlling(&s->a, true));
-    CALL(s, IS_OK, is_agent_set_remote_credentials(&s->a, TEXT("BBBB"), TEXT("QQQQ")));
-    CALL(s, IS_OK, is_agent_set_remote_credentials(&s->b, ufrag, sizeof ufrag, pass, sizeof pass));
-    CALL(s, IS_OK, is_agent_set_local_credentials(&s->b, TEXT("BBBB"), TEXT("QQQQ")));
+    CALL(s, IS_ICE_OK, is_ice_make_credentials(s->random, sizeof s->random, ufrag, sizeof ufrag, pass, sizeof pass));
+    CALL(s, IS_ICE_OK, is_ice_agent_new(&s->a, ufrag, sizeof ufrag, pass, sizeof pass, 10));
+    CALL(s, IS_ICE_OK, is_ice_agent_new(&s->b, TEXT("BBBB"), TEXT("QQQQ"), 5));
+    QUIET(IS_ICE_OK, is_ice_set_controlling(&s->a, true));
+    CALL(s, IS_ICE_OK, is_ice_set_remote_credentials(&s->a, TEXT("BBBB"), TEXT("QQQQ")));
+    CALL(s, IS_ICE_OK, is_ice_set_remote_credentials(&s->b, ufrag, sizeof ufrag, pass, sizeof pass));
+    CALL(s, IS_ICE_OK, is_ice_set_local_credentials(&s->b, TEXT("BBBB"), TEXT("QQQQ")));
 }
 
 static void introduce(struct story *s)
 {
-    static const is_preference_table table = {{65000, 40000, 30000, 10}, {65001, 40001, 30001, 11}};
+    static const is_ice_preference_table table = {{65000, 40000, 30000, 10}, {65001, 40001, 30001, 11}};
     uint8_t line[256];
     size_t length;
-    QUIET(IS_OK, is_agent_set_preference_table(&s->b, &table));
-    CALL(s, IS_OK, is_agent_add_local(&s->a, &host_a));
-    CALL(s, IS_OK, is_agent_add_local(&s->b, &host_b));
-    CALL(s, IS_OK, is_agent_local_candidate(&s->b, 0, line, sizeof line, &length));
+    QUIET(IS_ICE_OK, is_ice_set_preference_table(&s->b, &table));
+    CALL(s, IS_ICE_OK, is_ice_add_local(&s->a, &host_a));
+    CALL(s, IS_ICE_OK, is_ice_add_local(&s->b, &host_b));
+    CALL(s, IS_ICE_OK, is_ice_local_candidate(&s->b, 0, line, sizeof line, &length));
     add(s, line, length);
-    CALL(s, IS_OK, is_agent_add_remote(&s->a, line, length));
-    CALL(s, IS_BAD_CANDIDATE, is_agent_add_remote(&s->a, TEXT("candidate:1 1 udp")));
-    CALL(s, IS_OK, is_line_refusal(TEXT("candidate:1 1 udp"), line, sizeof line, &length));
+    CALL(s, IS_ICE_OK, is_ice_add_remote(&s->a, line, length));
+    CALL(s, IS_ICE_BAD_CANDIDATE, is_ice_add_remote(&s->a, TEXT("candidate:1 1 udp")));
+    CALL(s, IS_ICE_OK, is_ice_line_refusal(TEXT("candidate:1 1 udp"), line, sizeof line, &length));
     add(s, line, length);
-    CALL(s, IS_NOTHING, is_candidate_refusal(&host_a, line, sizeof line, &length));
-    CALL(s, IS_OK, is_agent_local_candidate(&s->a, 0, line, sizeof line, &length));
-    CALL(s, IS_OK, is_agent_add_remote(&s->b, line, length));
+    CALL(s, IS_ICE_NOTHING, is_ice_candidate_refusal(&host_a, line, sizeof line, &length));
+    CALL(s, IS_ICE_OK, is_ice_local_candidate(&s->a, 0, line, sizeof line, &length));
+    CALL(s, IS_ICE_OK, is_ice_add_remote(&s->b, line, length));
 }
 
-static void deliver(struct story *s, is_agent *from, is_agent *to, uint64_t now)
+static void deliver(struct story *s, is_ice_agent *from, is_ice_agent *to, uint64_t now)
 {
     uint8_t bytes[1500];
-    is_packet packet;
+    is_ice_packet packet;
     int32_t code;
-    while ((code = is_agent_poll_transmit(from, bytes, sizeof bytes, &packet)) == IS_OK) {
+    while ((code = is_ice_poll_transmit(from, bytes, sizeof bytes, &packet)) == IS_ICE_OK) {
         add(s, bytes, packet.length);
-        QUIET(IS_OK, is_agent_accepts_packet(to, packet.protocol, &packet.source, &packet.destination, bytes, packet.length));
-        QUIET(IS_OK, is_agent_accepts_message(to, bytes, packet.length));
-        QUIET(IS_UNPARSED, is_agent_handle_packet(to, now, packet.protocol, &packet.source, &packet.destination, bytes, packet.length - 1));
-        CALL(s, IS_OK, is_agent_handle_packet(to, now, packet.protocol, &packet.source, &packet.destination, bytes, packet.length));
+        QUIET(IS_ICE_OK, is_ice_accepts_packet(to, packet.protocol, &packet.source, &packet.destination, bytes, packet.length));
+        QUIET(IS_ICE_OK, is_ice_accepts_message(to, bytes, packet.length));
+        QUIET(IS_ICE_UNPARSED,
+              is_ice_handle_packet(to, now, packet.protocol, &packet.source, &packet.destination, bytes, packet.length - 1));
+        CALL(s, IS_ICE_OK, is_ice_handle_packet(to, now, packet.protocol, &packet.source, &packet.destination, bytes, packet.length));
     }
-    if (code != IS_NOTHING) fail(__LINE__, "code", code);
+    if (code != IS_ICE_NOTHING) fail(__LINE__, "code", code);
 }
 
-static void note(struct story *s, is_agent *agent)
+static void note(struct story *s, is_ice_agent *agent)
 {
     int32_t code;
-    is_event event;
+    is_ice_event event;
     memset(&event, 0, sizeof event);
-    while ((code = is_agent_poll_event(agent, &event)) == IS_OK) {
+    while ((code = is_ice_poll_event(agent, &event)) == IS_ICE_OK) {
         add(s, &event.kind, sizeof event.kind);
         add(s, &event.state, sizeof event.state);
         add(s, &event.source.port, sizeof event.source.port);
     }
-    if (code != IS_NOTHING) fail(__LINE__, "code", code);
+    if (code != IS_ICE_NOTHING) fail(__LINE__, "code", code);
 }
 
 static void connect(struct story *s)
@@ -156,36 +157,36 @@ static void connect(struct story *s)
     for (uint64_t round = 0; round < 6; round++) {
         uint64_t now = UINT64_C(60000000000) + round * 300000000, at;
         s->random[0]++;
-        CALL(s, IS_OK, is_agent_handle_timeout(&s->a, now, s->random, IS_TIMEOUT_RANDOM));
+        CALL(s, IS_ICE_OK, is_ice_handle_timeout(&s->a, now, s->random, IS_ICE_TIMEOUT_RANDOM));
         s->random[0]++;
-        CALL(s, IS_OK, is_agent_handle_timeout(&s->b, now, s->random, IS_TIMEOUT_RANDOM));
+        CALL(s, IS_ICE_OK, is_ice_handle_timeout(&s->b, now, s->random, IS_ICE_TIMEOUT_RANDOM));
         for (uint64_t ms = 1; ms < 5; ms += 2) {
             deliver(s, &s->a, &s->b, now + ms * 1000000);
             deliver(s, &s->b, &s->a, now + (ms + 1) * 1000000);
         }
         note(s, &s->a);
         note(s, &s->b);
-        QUIET(IS_OK, is_agent_poll_timeout(&s->a, &at));
+        QUIET(IS_ICE_OK, is_ice_poll_timeout(&s->a, &at));
         add(s, &at, sizeof at);
     }
 }
 
 static void end(struct story *s)
 {
-    is_stats stats;
-    is_nominated nominated;
-    QUIET(IS_OK, is_agent_stats(&s->a, &stats));
-    QUIET(IS_OK, is_agent_nominated(&s->a, &nominated));
-    QUIET(IS_OK, is_agent_has_viable_remote(&s->a, &host_b.address));
+    is_ice_agent_stats stats;
+    is_ice_nominated_pair nominated;
+    QUIET(IS_ICE_OK, is_ice_stats(&s->a, &stats));
+    QUIET(IS_ICE_OK, is_ice_nominated(&s->a, &nominated));
+    QUIET(IS_ICE_OK, is_ice_has_viable_remote(&s->a, &host_b.address));
     add(s, &stats, sizeof stats);
     add(s, &nominated.responses, sizeof nominated.responses);
-    CALL(s, IS_OK, is_agent_recreate_pairs(&s->a));
-    CALL(s, IS_OK, is_agent_invalidate_local(&s->b, &host_b));
-    CALL(s, IS_NOTHING, is_agent_invalidate(&s->b, TEXT("candidate:1 1 udp 7 10.0.0.9 9 typ host")));
-    CALL(s, IS_OK, is_agent_restart(&s->a, TEXT("CCCC"), TEXT("RRRR"), true));
+    CALL(s, IS_ICE_OK, is_ice_recreate_pairs(&s->a));
+    CALL(s, IS_ICE_OK, is_ice_invalidate_local(&s->b, &host_b));
+    CALL(s, IS_ICE_NOTHING, is_ice_invalidate(&s->b, TEXT("candidate:1 1 udp 7 10.0.0.9 9 typ host")));
+    CALL(s, IS_ICE_OK, is_ice_restart(&s->a, TEXT("CCCC"), TEXT("RRRR"), true));
     note(s, &s->a);
-    is_agent_free(&s->a);
-    is_agent_free(&s->b);
+    is_ice_agent_free(&s->a);
+    is_ice_agent_free(&s->b);
 }
 
 static struct story played(long refused)

@@ -1,4 +1,4 @@
-"""The C interface (c/is.h) as ctypes sees it: structs, prototypes, and the shared library that has them."""
+"""The C interface (c/is_ice.h) as ctypes sees it: structs, prototypes, and the shared library that has them."""
 
 from __future__ import annotations
 
@@ -69,7 +69,7 @@ class PreferenceTable(ctypes.Structure):
     _fields_ = [("v4", KindPreferences), ("v6", KindPreferences)]
 
 
-# What c/is.h says that the structs take.
+# What c/is_ice.h says that the structs take.
 SIZES = {Agent: 16, Address: 28, Candidate: 60, Packet: 72, Event: 68, Status: 32, Stats: 40, Nominated: 32, KindPreferences: 8,
          PreferenceTable: 16}
 
@@ -80,67 +80,67 @@ _TOLD = [c_void_p, c_size_t, POINTER(c_size_t)]
 
 # Behind each name the arguments; all answer a code but the two below.
 PROTOTYPES: dict[str, list[object]] = {
-    "is_make_credentials": [*_BYTES, c_void_p, c_size_t, c_void_p, c_size_t],
-    "is_line_refusal": [*_BYTES, *_TOLD],
-    "is_candidate_refusal": [POINTER(Candidate), *_TOLD],
-    "is_agent_new": [_AGENT, *_BYTES, *_BYTES, c_uint64],
-    "is_agent_set_controlling": [_AGENT, c_bool],
-    "is_agent_set_lite": [_AGENT, c_bool],
-    "is_agent_set_tie_breaker": [_AGENT, c_uint64],
-    "is_agent_set_max_pairs": [_AGENT, c_size_t],
-    "is_agent_set_timing_advance": [_AGENT, c_uint64],
-    "is_agent_set_initial_rto": [_AGENT, c_uint64],
-    "is_agent_set_max_rto": [_AGENT, c_uint64],
-    "is_agent_set_max_retransmits": [_AGENT, c_size_t],
-    "is_agent_set_mtu": [_AGENT, c_size_t, c_size_t],
-    "is_agent_skip_pair_ids": [_AGENT, c_uint64],
-    "is_agent_set_local_preference": [_AGENT, c_uint16],
-    "is_agent_set_preference_table": [_AGENT, POINTER(PreferenceTable)],
-    "is_agent_reset_local_preference": [_AGENT],
-    "is_agent_set_local_credentials": [_AGENT, *_BYTES, *_BYTES],
-    "is_agent_set_remote_credentials": [_AGENT, *_BYTES, *_BYTES],
-    "is_agent_add_local": [_AGENT, POINTER(Candidate)],
-    "is_agent_add_remote": [_AGENT, *_BYTES],
-    "is_agent_invalidate_local": [_AGENT, POINTER(Candidate)],
-    "is_agent_invalidate": [_AGENT, *_BYTES],
-    "is_agent_local_candidate": [_AGENT, c_size_t, *_TOLD],
-    "is_agent_remote_candidate": [_AGENT, c_size_t, *_TOLD],
-    "is_agent_handle_packet": [_AGENT, c_uint64, *_WAY, *_BYTES],
-    "is_agent_handle_timeout": [_AGENT, c_uint64, *_BYTES],
-    "is_agent_accepts_packet": [_AGENT, *_WAY, *_BYTES],
-    "is_agent_accepts_message": [_AGENT, *_BYTES],
-    "is_agent_poll_transmit": [_AGENT, c_void_p, c_size_t, POINTER(Packet)],
-    "is_agent_poll_event": [_AGENT, POINTER(Event)],
-    "is_agent_poll_timeout": [_AGENT, POINTER(c_uint64)],
-    "is_agent_restart": [_AGENT, *_BYTES, *_BYTES, c_bool],
-    "is_agent_recreate_pairs": [_AGENT],
-    "is_agent_status": [_AGENT, POINTER(Status)],
-    "is_agent_stats": [_AGENT, POINTER(Stats)],
-    "is_agent_nominated": [_AGENT, POINTER(Nominated)],
-    "is_agent_has_viable_remote": [_AGENT, POINTER(Address)],
-    "is_agent_local_ufrag": [_AGENT, *_TOLD],
-    "is_agent_local_pass": [_AGENT, *_TOLD],
-    "is_agent_remote_ufrag": [_AGENT, *_TOLD],
-    "is_agent_remote_pass": [_AGENT, *_TOLD],
+    "is_ice_make_credentials": [*_BYTES, c_void_p, c_size_t, c_void_p, c_size_t],
+    "is_ice_line_refusal": [*_BYTES, *_TOLD],
+    "is_ice_candidate_refusal": [POINTER(Candidate), *_TOLD],
+    "is_ice_agent_new": [_AGENT, *_BYTES, *_BYTES, c_uint64],
+    "is_ice_set_controlling": [_AGENT, c_bool],
+    "is_ice_set_lite": [_AGENT, c_bool],
+    "is_ice_set_tie_breaker": [_AGENT, c_uint64],
+    "is_ice_set_max_pairs": [_AGENT, c_size_t],
+    "is_ice_set_timing_advance": [_AGENT, c_uint64],
+    "is_ice_set_initial_rto": [_AGENT, c_uint64],
+    "is_ice_set_max_rto": [_AGENT, c_uint64],
+    "is_ice_set_max_retransmits": [_AGENT, c_size_t],
+    "is_ice_set_mtu": [_AGENT, c_size_t, c_size_t],
+    "is_ice_skip_pair_ids": [_AGENT, c_uint64],
+    "is_ice_set_local_preference": [_AGENT, c_uint16],
+    "is_ice_set_preference_table": [_AGENT, POINTER(PreferenceTable)],
+    "is_ice_reset_local_preference": [_AGENT],
+    "is_ice_set_local_credentials": [_AGENT, *_BYTES, *_BYTES],
+    "is_ice_set_remote_credentials": [_AGENT, *_BYTES, *_BYTES],
+    "is_ice_add_local": [_AGENT, POINTER(Candidate)],
+    "is_ice_add_remote": [_AGENT, *_BYTES],
+    "is_ice_invalidate_local": [_AGENT, POINTER(Candidate)],
+    "is_ice_invalidate": [_AGENT, *_BYTES],
+    "is_ice_local_candidate": [_AGENT, c_size_t, *_TOLD],
+    "is_ice_remote_candidate": [_AGENT, c_size_t, *_TOLD],
+    "is_ice_handle_packet": [_AGENT, c_uint64, *_WAY, *_BYTES],
+    "is_ice_handle_timeout": [_AGENT, c_uint64, *_BYTES],
+    "is_ice_accepts_packet": [_AGENT, *_WAY, *_BYTES],
+    "is_ice_accepts_message": [_AGENT, *_BYTES],
+    "is_ice_poll_transmit": [_AGENT, c_void_p, c_size_t, POINTER(Packet)],
+    "is_ice_poll_event": [_AGENT, POINTER(Event)],
+    "is_ice_poll_timeout": [_AGENT, POINTER(c_uint64)],
+    "is_ice_restart": [_AGENT, *_BYTES, *_BYTES, c_bool],
+    "is_ice_recreate_pairs": [_AGENT],
+    "is_ice_status": [_AGENT, POINTER(Status)],
+    "is_ice_stats": [_AGENT, POINTER(Stats)],
+    "is_ice_nominated": [_AGENT, POINTER(Nominated)],
+    "is_ice_has_viable_remote": [_AGENT, POINTER(Address)],
+    "is_ice_local_ufrag": [_AGENT, *_TOLD],
+    "is_ice_local_pass": [_AGENT, *_TOLD],
+    "is_ice_remote_ufrag": [_AGENT, *_TOLD],
+    "is_ice_remote_pass": [_AGENT, *_TOLD],
 }
 
 
 def library_path() -> Path:
-    """The shared library: what IS_LIBRARY names, else what python/build makes."""
-    told = os.environ.get("IS_LIBRARY")
-    return Path(told) if told else Path(__file__).resolve().parent.parent / "out" / "libis.so"
+    """The shared library: what IS_ICE_LIBRARY names, else what python/build makes."""
+    told = os.environ.get("IS_ICE_LIBRARY")
+    return Path(told) if told else Path(__file__).resolve().parent.parent / "out" / "libis_ice.so"
 
 
 def load(path: Path | None = None) -> ctypes.CDLL:
     """The library with its prototypes set. OSError where there is none, or where it is of another version."""
     path = path or library_path()
     if not path.exists():
-        raise OSError(f"{path} is not there: run python/build, or name another one by IS_LIBRARY")
+        raise OSError(f"{path} is not there: run python/build, or name another one by IS_ICE_LIBRARY")
     library = ctypes.CDLL(str(path))
-    library.is_version.restype, library.is_version.argtypes = c_uint32, []
-    if library.is_version() != VERSION:
-        raise OSError(f"{path} has version {library.is_version()} of the interface, and {VERSION} is wanted")
-    library.is_agent_free.restype, library.is_agent_free.argtypes = None, [_AGENT]
+    library.is_ice_version.restype, library.is_ice_version.argtypes = c_uint32, []
+    if library.is_ice_version() != VERSION:
+        raise OSError(f"{path} has version {library.is_ice_version()} of the interface, and {VERSION} is wanted")
+    library.is_ice_agent_free.restype, library.is_ice_agent_free.argtypes = None, [_AGENT]
     for name, arguments in PROTOTYPES.items():
         function = getattr(library, name)
         function.restype, function.argtypes = c_int32, arguments

@@ -43,7 +43,7 @@ def new_creds(random: bytes | None = None) -> IceCreds:
     """Credentials made of 38 random bytes, those of the system where none are given: who foresees them knows the password."""
     random = os.urandom(_abi.CREDENTIALS_RANDOM) if random is None else random
     ufrag, pass_ = create_string_buffer(_abi.UFRAG_LENGTH), create_string_buffer(_abi.PASS_LENGTH)
-    done(_library.calls.is_make_credentials(random, len(random), ufrag, _abi.UFRAG_LENGTH, pass_, _abi.PASS_LENGTH))
+    done(_library.calls.is_ice_make_credentials(random, len(random), ufrag, _abi.UFRAG_LENGTH, pass_, _abi.PASS_LENGTH))
     return IceCreds(ufrag.raw.decode(), pass_.raw.decode())
 
 
@@ -62,7 +62,7 @@ def _told(call: Callable[..., int]) -> str | None:
 def line_refusal(line: str) -> str | None:
     """Why a candidate line is refused; None where it reads as a candidate."""
     text = line.encode()
-    return _told(lambda *into: _library.calls.is_line_refusal(text, len(text), *into))
+    return _told(lambda *into: _library.calls.is_ice_line_refusal(text, len(text), *into))
 
 
 class IceAgent:
@@ -82,11 +82,11 @@ class IceAgent:
         creds = creds or new_creds()
         tie = int.from_bytes(os.urandom(8), "little") if tie_breaker is None else in_range(tie_breaker, 64, "a tie-breaker")
         ufrag, pass_ = creds.ufrag.encode(), creds.pass_.encode()
-        done(self._c.is_agent_new(self._at, ufrag, len(ufrag), pass_, len(pass_), tie))
+        done(self._c.is_ice_agent_new(self._at, ufrag, len(ufrag), pass_, len(pass_), tie))
 
     def close(self) -> None:
         """Frees the agent; any later call raises NoAgent."""
-        self._c.is_agent_free(self._at)
+        self._c.is_ice_agent_free(self._at)
 
     def __enter__(self) -> IceAgent:
         return self
@@ -103,56 +103,56 @@ class IceAgent:
 
     def set_controlling(self, controlling: bool) -> None:
         """On the side that made the offer."""
-        done(self._c.is_agent_set_controlling(self._at, controlling))
+        done(self._c.is_ice_set_controlling(self._at, controlling))
 
     def set_ice_lite(self, enabled: bool) -> None:
         """A lite agent takes host candidates, answers checks and sends none (RFC 8445, 2.5)."""
-        done(self._c.is_agent_set_lite(self._at, enabled))
+        done(self._c.is_ice_set_lite(self._at, enabled))
 
     def set_control_tie_breaker(self, tie_breaker: int) -> None:
-        done(self._c.is_agent_set_tie_breaker(self._at, in_range(tie_breaker, 64, "a tie-breaker")))
+        done(self._c.is_ice_set_tie_breaker(self._at, in_range(tie_breaker, 64, "a tie-breaker")))
 
     def set_max_candidate_pairs(self, limit: int) -> None:
         """100 at the beginning. Acts where pairs are next formed."""
-        done(self._c.is_agent_set_max_pairs(self._at, in_range(limit, 64, "a limit")))
+        done(self._c.is_ice_set_max_pairs(self._at, in_range(limit, 64, "a limit")))
 
     def set_timing_advance(self, nanoseconds: int) -> None:
         """How far wake-ups lie apart at least: 50 ms at the beginning."""
-        done(self._c.is_agent_set_timing_advance(self._at, in_range(nanoseconds, 64, "a time")))
+        done(self._c.is_ice_set_timing_advance(self._at, in_range(nanoseconds, 64, "a time")))
 
     def set_initial_stun_rto(self, nanoseconds: int) -> None:
         """How long the first answer is waited for: 250 ms at the beginning."""
-        done(self._c.is_agent_set_initial_rto(self._at, in_range(nanoseconds, 64, "a time")))
+        done(self._c.is_ice_set_initial_rto(self._at, in_range(nanoseconds, 64, "a time")))
 
     def set_max_stun_rto(self, nanoseconds: int) -> None:
         """How far the checks of a pair lie apart at most: 3 s at the beginning."""
-        done(self._c.is_agent_set_max_rto(self._at, in_range(nanoseconds, 64, "a time")))
+        done(self._c.is_ice_set_max_rto(self._at, in_range(nanoseconds, 64, "a time")))
 
     def set_max_stun_retransmits(self, limit: int) -> None:
         """How many checks in a row go unanswered before a pair is given up: 9 at the beginning. BadLimit for 0."""
-        done(self._c.is_agent_set_max_retransmits(self._at, in_range(limit, 64, "a limit")))
+        done(self._c.is_ice_set_max_retransmits(self._at, in_range(limit, 64, "a limit")))
 
     def set_mtu(self, mtu: int, warn: int) -> None:
         """MtuTooSmall below 588 bytes, the length of the longest check."""
-        done(self._c.is_agent_set_mtu(self._at, in_range(mtu, 64, "an MTU"), in_range(warn, 64, "an MTU")))
+        done(self._c.is_ice_set_mtu(self._at, in_range(mtu, 64, "an MTU"), in_range(warn, 64, "an MTU")))
 
     def set_local_preference(self, preference: int | None) -> None:
         """The local preference of local candidates that are added from now on; None: the default one again."""
         if preference is None:
-            done(self._c.is_agent_reset_local_preference(self._at))
+            done(self._c.is_ice_reset_local_preference(self._at))
         else:
-            done(self._c.is_agent_set_local_preference(self._at, in_range(preference, 16, "a preference")))
+            done(self._c.is_ice_set_local_preference(self._at, in_range(preference, 16, "a preference")))
 
     def set_preference_table(self, v4: KindPreferences, v6: KindPreferences) -> None:
         """Local candidates that are added from now on are preferred by kind and IP version, less one for each that came before."""
-        done(self._c.is_agent_set_preference_table(self._at, byref(table_of(v4, v6))))
+        done(self._c.is_ice_set_preference_table(self._at, byref(table_of(v4, v6))))
 
     def set_local_credentials(self, creds: IceCreds) -> None:
-        self._with_creds(self._c.is_agent_set_local_credentials, creds)
+        self._with_creds(self._c.is_ice_set_local_credentials, creds)
 
     def set_remote_credentials(self, creds: IceCreds) -> None:
         """What signalling told of the peer."""
-        self._with_creds(self._c.is_agent_set_remote_credentials, creds)
+        self._with_creds(self._c.is_ice_set_remote_credentials, creds)
 
     def _with_creds(self, call: Callable[..., int], creds: IceCreds, *more: bool) -> None:
         ufrag, pass_ = creds.ufrag.encode(), creds.pass_.encode()
@@ -164,9 +164,9 @@ class IceAgent:
         """Adds a candidate that was gathered, and returns its line for signalling; None where it is redundant."""
         before = self.local_candidates()
         struct = struct_of(candidate)
-        code = self._c.is_agent_add_local(self._at, byref(struct))
+        code = self._c.is_ice_add_local(self._at, byref(struct))
         if code == BadCandidate.code:
-            raise error_of(code, _told(lambda *into: self._c.is_candidate_refusal(byref(struct), *into)) or "")
+            raise error_of(code, _told(lambda *into: self._c.is_ice_candidate_refusal(byref(struct), *into)) or "")
         if not done(code):
             return None
         after = self.local_candidates()
@@ -175,7 +175,7 @@ class IceAgent:
     def add_remote_candidate(self, line: str) -> None:
         """Adds a candidate of the peer's, by its line ("candidate:.."). BadCandidate says what is wrong with it."""
         text = line.encode()
-        code = self._c.is_agent_add_remote(self._at, text, len(text))
+        code = self._c.is_ice_add_remote(self._at, text, len(text))
         if code == BadCandidate.code:
             raise error_of(code, line_refusal(line) or "")
         done(code)
@@ -183,17 +183,17 @@ class IceAgent:
     def invalidate_candidate(self, candidate: Candidate | str) -> bool:
         """Takes a candidate away with its pairs, as of an interface that went; False where there is none."""
         if isinstance(candidate, Candidate):
-            return done(self._c.is_agent_invalidate_local(self._at, byref(struct_of(candidate))))
+            return done(self._c.is_ice_invalidate_local(self._at, byref(struct_of(candidate))))
         text = candidate.encode()
-        return done(self._c.is_agent_invalidate(self._at, text, len(text)))
+        return done(self._c.is_ice_invalidate(self._at, text, len(text)))
 
     def local_candidates(self) -> list[str]:
         """The lines of the local candidates, those that were learnt from answers too."""
-        return self._lines(self._c.is_agent_local_candidate)
+        return self._lines(self._c.is_ice_local_candidate)
 
     def remote_candidates(self) -> list[str]:
         """The lines of the remote candidates, those that were learnt from requests too."""
-        return self._lines(self._c.is_agent_remote_candidate)
+        return self._lines(self._c.is_ice_remote_candidate)
 
     def _lines(self, call: Callable[..., int]) -> list[str]:
         lines: list[str] = []
@@ -207,33 +207,33 @@ class IceAgent:
                       protocol: Protocol = Protocol.UDP) -> bool:
         """Takes a datagram that came to the local address `destination`. False: it was not for this agent, and nothing
         changed. Unparsed: it is no STUN message."""
-        return done(self._c.is_agent_handle_packet(
+        return done(self._c.is_ice_handle_packet(
             self._at, in_range(now, 64, "a moment"), protocol, address_of(source), address_of(destination), contents,
             len(contents)))
 
     def accepts_packet(self, source: SocketAddress, destination: SocketAddress, contents: bytes,
                        protocol: Protocol = Protocol.UDP) -> bool:
         """Whether `handle_packet` would take it."""
-        return done(self._c.is_agent_accepts_packet(self._at, protocol, address_of(source), address_of(destination), contents,
+        return done(self._c.is_ice_accepts_packet(self._at, protocol, address_of(source), address_of(destination), contents,
                                                     len(contents)))
 
     def accepts_message(self, contents: bytes) -> bool:
         """Whether it is a message for this agent, wherever it came from."""
-        return done(self._c.is_agent_accepts_message(self._at, contents, len(contents)))
+        return done(self._c.is_ice_accepts_message(self._at, contents, len(contents)))
 
     def handle_timeout(self, now: int, random: bytes | None = None) -> None:
         """Tells of a moment. `random`: 12 fresh random bytes, those of the system where none are given."""
         random = os.urandom(_abi.TIMEOUT_RANDOM) if random is None else random
-        done(self._c.is_agent_handle_timeout(self._at, in_range(now, 64, "a moment"), random, len(random)))
+        done(self._c.is_ice_handle_timeout(self._at, in_range(now, 64, "a moment"), random, len(random)))
 
     def poll_timeout(self) -> int | None:
         """The moment at which to call `handle_timeout` next: to be asked before packets are polled."""
-        return self._moment.value if done(self._c.is_agent_poll_timeout(self._at, byref(self._moment))) else None
+        return self._moment.value if done(self._c.is_ice_poll_timeout(self._at, byref(self._moment))) else None
 
     def poll_transmit(self) -> Transmit | None:
         """The next packet to send."""
         packet = self._packet
-        code = self._c.is_agent_poll_transmit(self._at, self._buffer, len(self._buffer), byref(packet))
+        code = self._c.is_ice_poll_transmit(self._at, self._buffer, len(self._buffer), byref(packet))
         if code == BUFFER_TOO_SHORT:
             self._buffer = create_string_buffer(packet.length)
             return self.poll_transmit()
@@ -245,7 +245,7 @@ class IceAgent:
     def poll_event(self) -> IceAgentEvent | None:
         """The next event."""
         event = self._event
-        if not done(self._c.is_agent_poll_event(self._at, byref(event))):
+        if not done(self._c.is_ice_poll_event(self._at, byref(event))):
             return None
         if event.kind == 1:
             return IceRestart(self.local_credentials)
@@ -257,18 +257,18 @@ class IceAgent:
 
     def ice_restart(self, creds: IceCreds, keep_local_candidates: bool) -> None:
         """Begins the session anew under other credentials; what signalling tells of the peer then is set again."""
-        self._with_creds(self._c.is_agent_restart, creds, keep_local_candidates)
+        self._with_creds(self._c.is_ice_restart, creds, keep_local_candidates)
 
     def recreate_candidate_pairs(self) -> None:
         """Forms the pairs anew."""
-        done(self._c.is_agent_recreate_pairs(self._at))
+        done(self._c.is_ice_recreate_pairs(self._at))
 
     # ---- asking: the agent stays as it was
 
     @property
     def _status(self) -> _abi.Status:
         status = _abi.Status()
-        done(self._c.is_agent_status(self._at, byref(status)))
+        done(self._c.is_ice_status(self._at, byref(status)))
         return status
 
     @property
@@ -299,24 +299,24 @@ class IceAgent:
     @property
     def stats(self) -> IceAgentStats:
         stats = _abi.Stats()
-        done(self._c.is_agent_stats(self._at, byref(stats)))
+        done(self._c.is_ice_stats(self._at, byref(stats)))
         return IceAgentStats(*(getattr(stats, name) for name, _ in _abi.Stats._fields_))
 
     @property
     def nominated_pair(self) -> NominatedPair | None:
         """Figures of the pair that was announced last, while it stands."""
         told = _abi.Nominated()
-        if not done(self._c.is_agent_nominated(self._at, byref(told))):
+        if not done(self._c.is_ice_nominated(self._at, byref(told))):
             return None
         return NominatedPair(told.total_rtt, told.responses, told.rtt if told.has_rtt else None)
 
     def has_viable_remote_candidate(self, address: SocketAddress) -> bool:
         """Whether a check succeeded on a pair whose remote candidate has this address."""
-        return done(self._c.is_agent_has_viable_remote(self._at, address_of(address)))
+        return done(self._c.is_ice_has_viable_remote(self._at, address_of(address)))
 
     @property
     def local_credentials(self) -> IceCreds:
-        creds = self._creds(self._c.is_agent_local_ufrag, self._c.is_agent_local_pass)
+        creds = self._creds(self._c.is_ice_local_ufrag, self._c.is_ice_local_pass)
         if creds is None:
             raise NoAgent
         return creds
@@ -324,7 +324,7 @@ class IceAgent:
     @property
     def remote_credentials(self) -> IceCreds | None:
         """None while they are unknown."""
-        return self._creds(self._c.is_agent_remote_ufrag, self._c.is_agent_remote_pass)
+        return self._creds(self._c.is_ice_remote_ufrag, self._c.is_ice_remote_pass)
 
     def _creds(self, ufrag_of: Callable[..., int], pass_of: Callable[..., int]) -> IceCreds | None:
         ufrag = _told(lambda *into: ufrag_of(self._at, *into))

@@ -9,7 +9,7 @@ BUFFER_TOO_SHORT = -6
 
 
 class IceError(Exception):
-    """A call was refused. `code` is that of c/is.h."""
+    """A call was refused. `code` is that of c/is_ice.h."""
 
     code = 0
     text = "unknown code"

@@ -188,12 +188,12 @@ class Values(unittest.TestCase):
             self.assertEqual(ctypes.sizeof(struct), size, struct)
 
     def test_the_header_declares_what_is_called(self) -> None:
-        header = Path(__file__).resolve().parents[2] / "c" / "is.h"
+        header = Path(__file__).resolve().parents[2] / "c" / "is_ice.h"
         if not header.exists():
-            self.skipTest("c/is.h is not there")
+            self.skipTest("c/is_ice.h is not there")
         text = re.sub(r"/\*.*?\*/", "", header.read_text(), flags=re.S)
-        declared = set(re.findall(r"^(?:IS_CALL|IS_QUIET_CALL|uint32_t)\s[^;(]*?\b(is_\w+)\([^)]*\);", text, re.M))
-        self.assertEqual(declared, {*_abi.PROTOTYPES, "is_version", "is_agent_free"})
+        declared = set(re.findall(r"^(?:IS_ICE_CALL|IS_ICE_QUIET_CALL|uint32_t)\s[^;(]*?\b(is_ice_\w+)\([^)]*\);", text, re.M))
+        self.assertEqual(declared, {*_abi.PROTOTYPES, "is_ice_version", "is_ice_agent_free"})
 
     def test_an_agent_that_is_dropped_elsewhere_is_left_alone(self) -> None:
         kept = [IceAgent()]

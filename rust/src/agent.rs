@@ -120,7 +120,7 @@ impl IceAgent {
     pub fn add_local_candidate(&mut self, c: Candidate) -> Option<&Candidate> {
         let gathered = c.gathered()?;
         let before: Vec<_> = self.local_candidates().collect();
-        if !self.tell("candidate", |agent| ffi::is_agent_add_local(agent, &gathered.raw())) {
+        if !self.tell("candidate", |agent| ffi::is_ice_add_local(agent, &gathered.raw())) {
             return None;
         }
         // it is the one that was not there; one that came again is as it was
@@ -146,14 +146,14 @@ impl IceAgent {
     /// For want of memory.
     pub fn invalidate_candidate(&mut self, c: &Candidate) -> bool {
         match c.gathered() {
-            Some(gathered) => self.tell("candidate", |agent| ffi::is_agent_invalidate_local(agent, &gathered.raw())),
+            Some(gathered) => self.tell("candidate", |agent| ffi::is_ice_invalidate_local(agent, &gathered.raw())),
             None => self.tell("candidate", |agent| agent.invalidate(&c.to_sdp_string())),
         }
     }
 
     /// Whether a path to a remote candidate of this address works.
     pub fn has_viable_remote_candidate(&self, addr: SocketAddr) -> bool {
-        yes("address", self.ask(|agent| ffi::is_agent_has_viable_remote(agent, &address_of(addr))))
+        yes("address", self.ask(|agent| ffi::is_ice_has_viable_remote(agent, &address_of(addr))))
     }
 }
 
@@ -190,7 +190,7 @@ impl IceAgent {
 
     /// Forms the pairs anew.
     pub fn recreate_candidate_pairs(&mut self) {
-        self.tell("pairs", |agent| ffi::is_agent_recreate_pairs(agent));
+        self.tell("pairs", |agent| ffi::is_ice_recreate_pairs(agent));
     }
 
     /// Whether the message is one for this agent, wherever it came from.
@@ -239,14 +239,14 @@ impl IceAgent {
     /// When the agent wants to be told of a moment next. Ask before packets are polled.
     pub fn poll_timeout(&mut self) -> Option<Instant> {
         let mut at = 0;
-        let is_told = self.tell("wake-up", |agent| ffi::is_agent_poll_timeout(agent, &mut at));
+        let is_told = self.tell("wake-up", |agent| ffi::is_ice_poll_timeout(agent, &mut at));
         is_told.then(|| self.instant(at)).flatten()
     }
 
     /// The next event.
     pub fn poll_event(&mut self) -> Option<IceAgentEvent> {
         let mut event = ffi::Event::default();
-        let is_told = self.tell("event", |agent| ffi::is_agent_poll_event(agent, &mut event));
+        let is_told = self.tell("event", |agent| ffi::is_ice_poll_event(agent, &mut event));
         is_told.then(|| IceAgentEvent::of(&event, &self.local))
     }
 
@@ -274,7 +274,7 @@ impl IceAgent {
 impl IceAgent {
     pub(crate) fn status(&self) -> ffi::Status {
         let mut status = ffi::Status::default();
-        yes("status", self.ask(|agent| ffi::is_agent_status(agent, &mut status)));
+        yes("status", self.ask(|agent| ffi::is_ice_status(agent, &mut status)));
         status
     }
 
@@ -286,13 +286,13 @@ impl IceAgent {
     /// How often things happened since the last restart.
     pub fn stats(&self) -> IceAgentStats {
         let mut stats = ffi::Stats::default();
-        yes("stats", self.ask(|agent| ffi::is_agent_stats(agent, &mut stats)));
+        yes("stats", self.ask(|agent| ffi::is_ice_stats(agent, &mut stats)));
         IceAgentStats::of(stats)
     }
 
     fn nominated(&self) -> Option<ffi::Nominated> {
         let mut nominated = ffi::Nominated::default();
-        yes("figures", self.ask(|agent| ffi::is_agent_nominated(agent, &mut nominated))).then_some(nominated)
+        yes("figures", self.ask(|agent| ffi::is_ice_nominated(agent, &mut nominated))).then_some(nominated)
     }
 
     /// How long the last answered check took, on the path that was announced last.

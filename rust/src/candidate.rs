@@ -102,7 +102,7 @@ impl Candidate {
 /// The line of a gathered candidate, as an agent of its own prints it, less that agent's user fragment.
 fn printed(raw: &ffi::Gathered) -> String {
     let mut agent = ffi::Agent::new("-", "-", 0).unwrap_or_else(|code| panic!("an agent: {}", ffi::text_of(code)));
-    let code = ffi::is_agent_add_local(&mut agent, raw);
+    let code = ffi::is_ice_add_local(&mut agent, raw);
     assert_eq!(code, ffi::OK, "a candidate: {}", ffi::text_of(code));
     let line = ffi::told(|buffer, length| agent.local_candidate(0, buffer, length));
     unnamed(&line.expect("the candidate was added")).to_owned()

@@ -1,4 +1,4 @@
-//! The library's C interface, `c/is.h`, behind functions that are safe to call: the one module with `unsafe`.
+//! The library's C interface, `c/is_ice.h`, behind functions that are safe to call: the one module with `unsafe`.
 //!
 //! What makes the calls safe, beside what is said at each block:
 //! - An `Agent` is made zeroed, in a box that it never leaves, and its fields are private to this module: so it is never copied
@@ -16,7 +16,7 @@ pub(crate) const NOTHING: i32 = 1;
 pub(crate) const UNPARSED: i32 = -5;
 pub(crate) const BUFFER_TOO_SHORT: i32 = -6;
 
-/// A word for each refusal, as `is_code_text` of the header has it.
+/// A word for each refusal, as `is_ice_code_text` of the header has it.
 pub(crate) fn text_of(code: i32) -> &'static str {
     match code {
         -1 => "no agent",
@@ -145,33 +145,33 @@ const _: () = {
 // ---- calls: `safe` where all arguments are numbers and references
 
 #[allow(unsafe_code)]
-// SAFETY: names, arguments and results are those of is.h; `c/run names` compares that header with the library.
+// SAFETY: names, arguments and results are those of is_ice.h; `c/run names` compares that header with the library.
 unsafe extern "C" {
-    pub(crate) safe fn is_version() -> u32;
-    pub(crate) safe fn is_agent_free(agent: &mut Agent);
-    pub(crate) safe fn is_agent_set_controlling(agent: &mut Agent, controlling: bool) -> i32;
-    pub(crate) safe fn is_agent_set_lite(agent: &mut Agent, lite: bool) -> i32;
-    pub(crate) safe fn is_agent_set_tie_breaker(agent: &mut Agent, tie_breaker: u64) -> i32;
-    pub(crate) safe fn is_agent_set_max_pairs(agent: &mut Agent, limit: usize) -> i32;
-    pub(crate) safe fn is_agent_set_timing_advance(agent: &mut Agent, nanoseconds: u64) -> i32;
-    pub(crate) safe fn is_agent_set_initial_rto(agent: &mut Agent, nanoseconds: u64) -> i32;
-    pub(crate) safe fn is_agent_set_max_rto(agent: &mut Agent, nanoseconds: u64) -> i32;
-    pub(crate) safe fn is_agent_set_max_retransmits(agent: &mut Agent, limit: usize) -> i32;
-    pub(crate) safe fn is_agent_set_mtu(agent: &mut Agent, mtu: usize, warn: usize) -> i32;
-    pub(crate) safe fn is_agent_set_local_preference(agent: &mut Agent, preference: u16) -> i32;
-    pub(crate) safe fn is_agent_set_preference_table(agent: &mut Agent, table: &PreferenceTable) -> i32;
-    pub(crate) safe fn is_agent_reset_local_preference(agent: &mut Agent) -> i32;
-    pub(crate) safe fn is_agent_add_local(agent: &mut Agent, candidate: &Gathered) -> i32;
-    pub(crate) safe fn is_agent_invalidate_local(agent: &mut Agent, candidate: &Gathered) -> i32;
-    pub(crate) safe fn is_agent_poll_timeout(agent: &mut Agent, at: &mut u64) -> i32;
-    pub(crate) safe fn is_agent_poll_event(agent: &mut Agent, event: &mut Event) -> i32;
-    pub(crate) safe fn is_agent_recreate_pairs(agent: &mut Agent) -> i32;
-    pub(crate) safe fn is_agent_status(agent: &mut Agent, status: &mut Status) -> i32;
-    pub(crate) safe fn is_agent_stats(agent: &mut Agent, stats: &mut Stats) -> i32;
-    pub(crate) safe fn is_agent_nominated(agent: &mut Agent, nominated: &mut Nominated) -> i32;
-    pub(crate) safe fn is_agent_has_viable_remote(agent: &mut Agent, address: &Address) -> i32;
+    pub(crate) safe fn is_ice_version() -> u32;
+    pub(crate) safe fn is_ice_agent_free(agent: &mut Agent);
+    pub(crate) safe fn is_ice_set_controlling(agent: &mut Agent, controlling: bool) -> i32;
+    pub(crate) safe fn is_ice_set_lite(agent: &mut Agent, lite: bool) -> i32;
+    pub(crate) safe fn is_ice_set_tie_breaker(agent: &mut Agent, tie_breaker: u64) -> i32;
+    pub(crate) safe fn is_ice_set_max_pairs(agent: &mut Agent, limit: usize) -> i32;
+    pub(crate) safe fn is_ice_set_timing_advance(agent: &mut Agent, nanoseconds: u64) -> i32;
+    pub(crate) safe fn is_ice_set_initial_rto(agent: &mut Agent, nanoseconds: u64) -> i32;
+    pub(crate) safe fn is_ice_set_max_rto(agent: &mut Agent, nanoseconds: u64) -> i32;
+    pub(crate) safe fn is_ice_set_max_retransmits(agent: &mut Agent, limit: usize) -> i32;
+    pub(crate) safe fn is_ice_set_mtu(agent: &mut Agent, mtu: usize, warn: usize) -> i32;
+    pub(crate) safe fn is_ice_set_local_preference(agent: &mut Agent, preference: u16) -> i32;
+    pub(crate) safe fn is_ice_set_preference_table(agent: &mut Agent, table: &PreferenceTable) -> i32;
+    pub(crate) safe fn is_ice_reset_local_preference(agent: &mut Agent) -> i32;
+    pub(crate) safe fn is_ice_add_local(agent: &mut Agent, candidate: &Gathered) -> i32;
+    pub(crate) safe fn is_ice_invalidate_local(agent: &mut Agent, candidate: &Gathered) -> i32;
+    pub(crate) safe fn is_ice_poll_timeout(agent: &mut Agent, at: &mut u64) -> i32;
+    pub(crate) safe fn is_ice_poll_event(agent: &mut Agent, event: &mut Event) -> i32;
+    pub(crate) safe fn is_ice_recreate_pairs(agent: &mut Agent) -> i32;
+    pub(crate) safe fn is_ice_status(agent: &mut Agent, status: &mut Status) -> i32;
+    pub(crate) safe fn is_ice_stats(agent: &mut Agent, stats: &mut Stats) -> i32;
+    pub(crate) safe fn is_ice_nominated(agent: &mut Agent, nominated: &mut Nominated) -> i32;
+    pub(crate) safe fn is_ice_has_viable_remote(agent: &mut Agent, address: &Address) -> i32;
 
-    fn is_make_credentials(
+    fn is_ice_make_credentials(
         random: *const u8,
         random_length: usize,
         ufrag: *mut u8,
@@ -179,18 +179,17 @@ unsafe extern "C" {
         pass: *mut u8,
         pass_length: usize,
     ) -> i32;
-    fn is_agent_new(agent: &mut Agent, ufrag: *const u8, ufrag_length: usize, pass: *const u8, pass_length: usize, tie_breaker: u64)
-    -> i32;
-    fn is_agent_set_local_credentials(agent: &mut Agent, ufrag: *const u8, ufrag_length: usize, pass: *const u8, pass_length: usize)
-    -> i32;
-    fn is_agent_set_remote_credentials(
+    fn is_ice_agent_new(
         agent: &mut Agent,
         ufrag: *const u8,
         ufrag_length: usize,
         pass: *const u8,
         pass_length: usize,
+        tie_breaker: u64,
     ) -> i32;
-    fn is_agent_restart(
+    fn is_ice_set_local_credentials(agent: &mut Agent, ufrag: *const u8, ufrag_length: usize, pass: *const u8, pass_length: usize) -> i32;
+    fn is_ice_set_remote_credentials(agent: &mut Agent, ufrag: *const u8, ufrag_length: usize, pass: *const u8, pass_length: usize) -> i32;
+    fn is_ice_restart(
         agent: &mut Agent,
         ufrag: *const u8,
         ufrag_length: usize,
@@ -198,14 +197,14 @@ unsafe extern "C" {
         pass_length: usize,
         keep_local_candidates: bool,
     ) -> i32;
-    fn is_agent_add_remote(agent: &mut Agent, line: *const u8, length: usize) -> i32;
-    fn is_agent_invalidate(agent: &mut Agent, line: *const u8, length: usize) -> i32;
-    fn is_agent_local_candidate(agent: &mut Agent, index: usize, buffer: *mut u8, size: usize, length: &mut usize) -> i32;
-    fn is_agent_remote_candidate(agent: &mut Agent, index: usize, buffer: *mut u8, size: usize, length: &mut usize) -> i32;
-    fn is_line_refusal(line: *const u8, line_length: usize, buffer: *mut u8, size: usize, length: &mut usize) -> i32;
-    fn is_candidate_refusal(candidate: &Gathered, buffer: *mut u8, size: usize, length: &mut usize) -> i32;
-    fn is_agent_handle_timeout(agent: &mut Agent, now: u64, random: *const u8, random_length: usize) -> i32;
-    fn is_agent_handle_packet(
+    fn is_ice_add_remote(agent: &mut Agent, line: *const u8, length: usize) -> i32;
+    fn is_ice_invalidate(agent: &mut Agent, line: *const u8, length: usize) -> i32;
+    fn is_ice_local_candidate(agent: &mut Agent, index: usize, buffer: *mut u8, size: usize, length: &mut usize) -> i32;
+    fn is_ice_remote_candidate(agent: &mut Agent, index: usize, buffer: *mut u8, size: usize, length: &mut usize) -> i32;
+    fn is_ice_line_refusal(line: *const u8, line_length: usize, buffer: *mut u8, size: usize, length: &mut usize) -> i32;
+    fn is_ice_candidate_refusal(candidate: &Gathered, buffer: *mut u8, size: usize, length: &mut usize) -> i32;
+    fn is_ice_handle_timeout(agent: &mut Agent, now: u64, random: *const u8, random_length: usize) -> i32;
+    fn is_ice_handle_packet(
         agent: &mut Agent,
         now: u64,
         protocol: u8,
@@ -214,8 +213,8 @@ unsafe extern "C" {
         bytes: *const u8,
         length: usize,
     ) -> i32;
-    fn is_agent_accepts_message(agent: &mut Agent, bytes: *const u8, length: usize) -> i32;
-    fn is_agent_poll_transmit(agent: &mut Agent, buffer: *mut u8, size: usize, packet: &mut Packet) -> i32;
+    fn is_ice_accepts_message(agent: &mut Agent, bytes: *const u8, length: usize) -> i32;
+    fn is_ice_poll_transmit(agent: &mut Agent, buffer: *mut u8, size: usize, packet: &mut Packet) -> i32;
 }
 
 // ---- calls with texts, datagrams and buffers
@@ -226,11 +225,11 @@ unsafe extern "C" {
 impl Agent {
     /// An agent under these credentials.
     pub(crate) fn new(ufrag: &str, pass: &str, tie_breaker: u64) -> Result<Box<Agent>, i32> {
-        assert_eq!(is_version(), 1, "is.h belongs to another library");
+        assert_eq!(is_ice_version(), 1, "is_ice.h belongs to another library");
         let mut agent = Box::new(Agent { is_held: false, at: ptr::null_mut() });
         #[allow(unsafe_code)]
         // SAFETY: both texts are slices that are read; the agent is zeroed, and stays in its box.
-        let code = unsafe { is_agent_new(&mut agent, ufrag.as_ptr(), ufrag.len(), pass.as_ptr(), pass.len(), tie_breaker) };
+        let code = unsafe { is_ice_agent_new(&mut agent, ufrag.as_ptr(), ufrag.len(), pass.as_ptr(), pass.len(), tie_breaker) };
         if code == OK { Ok(agent) } else { Err(code) }
     }
 
@@ -238,7 +237,7 @@ impl Agent {
         #[allow(unsafe_code)]
         // SAFETY: both texts are slices that are read.
         unsafe {
-            is_agent_set_local_credentials(self, ufrag.as_ptr(), ufrag.len(), pass.as_ptr(), pass.len())
+            is_ice_set_local_credentials(self, ufrag.as_ptr(), ufrag.len(), pass.as_ptr(), pass.len())
         }
     }
 
@@ -246,7 +245,7 @@ impl Agent {
         #[allow(unsafe_code)]
         // SAFETY: both texts are slices that are read.
         unsafe {
-            is_agent_set_remote_credentials(self, ufrag.as_ptr(), ufrag.len(), pass.as_ptr(), pass.len())
+            is_ice_set_remote_credentials(self, ufrag.as_ptr(), ufrag.len(), pass.as_ptr(), pass.len())
         }
     }
 
@@ -254,7 +253,7 @@ impl Agent {
         #[allow(unsafe_code)]
         // SAFETY: both texts are slices that are read.
         unsafe {
-            is_agent_restart(self, ufrag.as_ptr(), ufrag.len(), pass.as_ptr(), pass.len(), keep_local_candidates)
+            is_ice_restart(self, ufrag.as_ptr(), ufrag.len(), pass.as_ptr(), pass.len(), keep_local_candidates)
         }
     }
 
@@ -262,7 +261,7 @@ impl Agent {
         #[allow(unsafe_code)]
         // SAFETY: the line is a slice that is read.
         unsafe {
-            is_agent_add_remote(self, line.as_ptr(), line.len())
+            is_ice_add_remote(self, line.as_ptr(), line.len())
         }
     }
 
@@ -270,7 +269,7 @@ impl Agent {
         #[allow(unsafe_code)]
         // SAFETY: the line is a slice that is read.
         unsafe {
-            is_agent_invalidate(self, line.as_ptr(), line.len())
+            is_ice_invalidate(self, line.as_ptr(), line.len())
         }
     }
 
@@ -278,7 +277,7 @@ impl Agent {
         #[allow(unsafe_code)]
         // SAFETY: the buffer is a slice that is lent mutably.
         unsafe {
-            is_agent_local_candidate(self, index, buffer.as_mut_ptr(), buffer.len(), length)
+            is_ice_local_candidate(self, index, buffer.as_mut_ptr(), buffer.len(), length)
         }
     }
 
@@ -286,7 +285,7 @@ impl Agent {
         #[allow(unsafe_code)]
         // SAFETY: the buffer is a slice that is lent mutably.
         unsafe {
-            is_agent_remote_candidate(self, index, buffer.as_mut_ptr(), buffer.len(), length)
+            is_ice_remote_candidate(self, index, buffer.as_mut_ptr(), buffer.len(), length)
         }
     }
 
@@ -294,7 +293,7 @@ impl Agent {
         #[allow(unsafe_code)]
         // SAFETY: the bytes are an array that is read.
         unsafe {
-            is_agent_handle_timeout(self, now, random.as_ptr(), random.len())
+            is_ice_handle_timeout(self, now, random.as_ptr(), random.len())
         }
     }
 
@@ -302,7 +301,7 @@ impl Agent {
         #[allow(unsafe_code)]
         // SAFETY: the datagram is a slice that is read.
         unsafe {
-            is_agent_handle_packet(self, now, protocol, source, destination, bytes.as_ptr(), bytes.len())
+            is_ice_handle_packet(self, now, protocol, source, destination, bytes.as_ptr(), bytes.len())
         }
     }
 
@@ -310,7 +309,7 @@ impl Agent {
         #[allow(unsafe_code)]
         // SAFETY: the message is a slice that is read.
         unsafe {
-            is_agent_accepts_message(self, bytes.as_ptr(), bytes.len())
+            is_ice_accepts_message(self, bytes.as_ptr(), bytes.len())
         }
     }
 
@@ -318,14 +317,14 @@ impl Agent {
         #[allow(unsafe_code)]
         // SAFETY: the buffer is a slice that is lent mutably.
         unsafe {
-            is_agent_poll_transmit(self, buffer.as_mut_ptr(), buffer.len(), packet)
+            is_ice_poll_transmit(self, buffer.as_mut_ptr(), buffer.len(), packet)
         }
     }
 }
 
 impl Drop for Agent {
     fn drop(&mut self) {
-        is_agent_free(self);
+        is_ice_agent_free(self);
     }
 }
 
@@ -333,7 +332,7 @@ pub(crate) fn make_credentials(random: &[u8; 38], ufrag: &mut [u8; 16], pass: &m
     #[allow(unsafe_code)]
     // SAFETY: three arrays, of which the last two are lent mutably.
     unsafe {
-        is_make_credentials(random.as_ptr(), random.len(), ufrag.as_mut_ptr(), ufrag.len(), pass.as_mut_ptr(), pass.len())
+        is_ice_make_credentials(random.as_ptr(), random.len(), ufrag.as_mut_ptr(), ufrag.len(), pass.as_mut_ptr(), pass.len())
     }
 }
 
@@ -341,7 +340,7 @@ pub(crate) fn line_refusal(line: &str, buffer: &mut [u8], length: &mut usize) ->
     #[allow(unsafe_code)]
     // SAFETY: the line is a slice that is read, the buffer one that is lent mutably.
     unsafe {
-        is_line_refusal(line.as_ptr(), line.len(), buffer.as_mut_ptr(), buffer.len(), length)
+        is_ice_line_refusal(line.as_ptr(), line.len(), buffer.as_mut_ptr(), buffer.len(), length)
     }
 }
 
@@ -349,7 +348,7 @@ pub(crate) fn candidate_refusal(candidate: &Gathered, buffer: &mut [u8], length:
     #[allow(unsafe_code)]
     // SAFETY: the buffer is a slice that is lent mutably.
     unsafe {
-        is_candidate_refusal(candidate, buffer.as_mut_ptr(), buffer.len(), length)
+        is_ice_candidate_refusal(candidate, buffer.as_mut_ptr(), buffer.len(), length)
     }
 }
 

@@ -1,7 +1,7 @@
 //! An ICE agent (RFC 8445) that is proved, under the names of the crate `is` 0.12.0.
 //!
 //! Names, arguments and results are those of that crate, so a program that uses it takes this one by a line of its Cargo.toml.
-//! The agent behind them is this repository's: written in Rattle, proved, and called over its C interface, `c/is.h`.
+//! The agent behind them is this repository's: written in Rattle, proved, and called over its C interface, `c/is_ice.h`.
 //!
 //! ```
 //! use is::{Candidate, IceAgent, IceCreds};

@@ -50,11 +50,11 @@ impl KindPreferences {
 impl LocalPreference {
     pub(crate) fn set(&self, agent: &mut ffi::Agent) -> i32 {
         match self {
-            LocalPreference::ByDefault => ffi::is_agent_reset_local_preference(agent),
-            LocalPreference::Fixed(number) => ffi::is_agent_set_local_preference(agent, *number),
+            LocalPreference::ByDefault => ffi::is_ice_reset_local_preference(agent),
+            LocalPreference::Fixed(number) => ffi::is_ice_set_local_preference(agent, *number),
             LocalPreference::ByKind(table) => {
                 let table = ffi::PreferenceTable { v4: table.v4.raw(), v6: table.v6.raw() };
-                ffi::is_agent_set_preference_table(agent, &table)
+                ffi::is_ice_set_preference_table(agent, &table)
             }
         }
     }

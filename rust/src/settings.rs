@@ -14,7 +14,7 @@ impl IceAgent {
     ///
     /// Where the first is below 588 bytes, the length of the longest check.
     pub fn set_mtu(&mut self, mtu: RangeInclusive<usize>) {
-        self.tell("mtu", |agent| ffi::is_agent_set_mtu(agent, *mtu.start(), *mtu.end()));
+        self.tell("mtu", |agent| ffi::is_ice_set_mtu(agent, *mtu.start(), *mtu.end()));
     }
 
     /// How long packets may be.
@@ -29,12 +29,12 @@ impl IceAgent {
 
     /// Sets the number that settles who yields where both sides claim one role.
     pub fn set_control_tie_breaker(&mut self, tie_breaker: u64) {
-        self.tell("tie-breaker", |agent| ffi::is_agent_set_tie_breaker(agent, tie_breaker));
+        self.tell("tie-breaker", |agent| ffi::is_ice_set_tie_breaker(agent, tie_breaker));
     }
 
     /// How many pairs are kept, where pairs are formed.
     pub fn set_max_candidate_pairs(&mut self, max: usize) {
-        self.tell("limit", |agent| ffi::is_agent_set_max_pairs(agent, max));
+        self.tell("limit", |agent| ffi::is_ice_set_max_pairs(agent, max));
     }
 
     /// Whether the agent is ice-lite.
@@ -44,22 +44,22 @@ impl IceAgent {
 
     /// Makes the agent ice-lite, or a full one.
     pub fn set_ice_lite(&mut self, enabled: bool) {
-        self.tell("lite", |agent| ffi::is_agent_set_lite(agent, enabled));
+        self.tell("lite", |agent| ffi::is_ice_set_lite(agent, enabled));
     }
 
     /// The time between two checks.
     pub fn set_timing_advance(&mut self, duration: Duration) {
-        self.tell("advance", |agent| ffi::is_agent_set_timing_advance(agent, nanoseconds(duration)));
+        self.tell("advance", |agent| ffi::is_ice_set_timing_advance(agent, nanoseconds(duration)));
     }
 
     /// How long a pair's first check is waited for.
     pub fn set_initial_stun_rto(&mut self, timeout: Duration) {
-        self.tell("delay", |agent| ffi::is_agent_set_initial_rto(agent, nanoseconds(timeout)));
+        self.tell("delay", |agent| ffi::is_ice_set_initial_rto(agent, nanoseconds(timeout)));
     }
 
     /// The longest such wait.
     pub fn set_max_stun_rto(&mut self, timeout: Duration) {
-        self.tell("delay", |agent| ffi::is_agent_set_max_rto(agent, nanoseconds(timeout)));
+        self.tell("delay", |agent| ffi::is_ice_set_max_rto(agent, nanoseconds(timeout)));
     }
 
     /// How many checks in a row a pair sends in vain.
@@ -68,7 +68,7 @@ impl IceAgent {
     ///
     /// For 0.
     pub fn set_max_stun_retransmits(&mut self, num: usize) {
-        self.tell("retransmits", |agent| ffi::is_agent_set_max_retransmits(agent, num));
+        self.tell("retransmits", |agent| ffi::is_ice_set_max_retransmits(agent, num));
     }
 
     /// How local candidates that are added from now on are preferred.
@@ -88,7 +88,7 @@ impl IceAgent {
 
     /// Makes the agent the controlling one, or the controlled one.
     pub fn set_controlling(&mut self, controlling: bool) {
-        self.tell("role", |agent| ffi::is_agent_set_controlling(agent, controlling));
+        self.tell("role", |agent| ffi::is_ice_set_controlling(agent, controlling));
     }
 
     /// The agent's own credentials.

@@ -19,10 +19,10 @@ abbrev pub AsksOn : Mac → Held → Option Path → List ℕ → ℤ → Type 0
 AsksOn mac a None bytes code = code ≡ BAD_ADDRESS
 AsksOn mac a (Some path) bytes code = AnswersWhether (IsAcceptedOn mac a path) bytes code
 
--- `is_agent_accepts_packet`
+-- `is_ice_accepts_packet`
 abbrev pub AsksWay : Mac → Option Path → List ℕ → HomeRecord → ℤ → HomeRecord → Type 0
 AsksWay mac path bytes old code new = AsksOn mac old.agent path bytes code × (new ≡ old)
 
--- `is_agent_accepts_message`
+-- `is_ice_accepts_message`
 abbrev pub AsksMessage : Mac → List ℕ → HomeRecord → ℤ → HomeRecord → Type 0
 AsksMessage mac bytes old code new = AnswersWhether (IsAccepted mac old.agent) bytes code × (new ≡ old)

@@ -28,7 +28,7 @@ drawn random = record { ufrag = ice_text (given 16 random).0; pass = ice_text (g
 abbrev pub IsInFront : List ℕ → List ℕ → Type 0
 IsInFront text buffer = take (length text) buffer ≡ text
 
--- `is_make_credentials`
+-- `is_ice_make_credentials`
 abbrev pub Draws : List ℕ → ℤ → List ℕ → List ℕ → Type 0
 Draws random code ufrag pass =
     MatchBool (nat_lt (length random) 38) (code ≡ TOO_FEW_RANDOM_BYTES)
@@ -38,7 +38,7 @@ Draws random code ufrag pass =
 abbrev pub Tells : (Held → List ℕ) → List ℕ → List ℕ → ℕ → HomeRecord → ℤ → HomeRecord → Type 0
 Tells text before after count old code new = Puts (text old.agent) before code after count × (new ≡ old)
 
--- `is_agent_new`: OK is answered for a fresh agent in a slot that held none, and any other answer leaves the slot as it was
+-- `is_ice_agent_new`: OK is answered for a fresh agent in a slot that held none, and any other answer leaves the slot as it was
 abbrev pub MakesAt : List ℕ → List ℕ → ℕ → Option HomeRecord → ℤ → Option HomeRecord → Type 0
 MakesAt ufrag pass tie_breaker old code new =
     (code ≡ OK → (old ≡ None) × (new ≡ Some record { agent = fresh (record {}) record { ufrag = ufrag; pass = pass } tie_breaker; waiting = None }))

@@ -31,7 +31,7 @@ abbrev pub TellsOf : Option IceAgentEvent → Event → Event → ℤ → Type 0
 TellsOf None before after code = (code ≡ NOTHING) × (after ≡ before)
 TellsOf (Some e) before after code = (code ≡ OK) × IsEvent e after
 
--- `is_agent_poll_event`
+-- `is_ice_poll_event`
 abbrev pub TellsEvent : Event → Event → HomeRecord → ℤ → HomeRecord → Type 0
 TellsEvent before after old code new =
     (given : Option IceAgentEvent) × PollsEvent old.agent given new.agent × TellsOf given before after code × (new.waiting ≡ old.waiting)

@@ -49,7 +49,7 @@ TakesBytes mac now path bytes old code new =
     ⊎ ((m : Message) × Reads bytes m × ((r : Result Bool IceError) × ((emitted : Emitted)
     × HandlesPacket mac now old.agent path m r emitted new.agent × (code ≡ flag_code r) × (new.waiting ≡ old.waiting))))
 
--- `is_agent_handle_packet`
+-- `is_ice_handle_packet`
 abbrev pub Receives : Mac → ℕ → Option Path → List ℕ → HomeRecord → ℤ → HomeRecord → Type 0
 Receives mac now None bytes old code new = Refuses BAD_ADDRESS old code new
 Receives mac now (Some path) bytes old code new = TakesBytes mac now path bytes old code new
@@ -65,7 +65,7 @@ IsSettled mac path bytes old code new = (code ≡ OK → AcceptsOn mac old.agent
 
 -- ---- moments
 
--- `is_agent_handle_timeout`: what is drawn are the random bytes, in order
+-- `is_ice_handle_timeout`: what is drawn are the random bytes, in order
 abbrev pub TimesOutBy : Mac → ℕ → List ℕ → HomeRecord → ℤ → HomeRecord → Type 0
 TimesOutBy mac now random old code new =
     MatchBool (nat_lt (length random) 12)
@@ -73,7 +73,7 @@ TimesOutBy mac now random old code new =
     ((r : Result (Unit {0}) IceError) × ((emitted : Emitted) × ((left : Stream)
     × TimesOut mac now old.agent (stream_of given_steps random) r emitted new.agent left × (code ≡ done_code r) × (new.waiting ≡ old.waiting))))
 
--- `is_agent_poll_timeout`
+-- `is_ice_poll_timeout`
 abbrev pub WakesAt : ℕ → ℕ → HomeRecord → ℤ → HomeRecord → Type 0
 WakesAt before after old code new =
     (wake : Option ℕ) × PollsTimeout old.agent wake new.agent × (new.waiting ≡ old.waiting)
@@ -106,7 +106,7 @@ abbrev pub GivesOf : Option packets.Packet → List packets.Packet → List ℕ 
 GivesOf None rest before after packet code new = (code ≡ NOTHING) × (new ≡ rest)
 GivesOf (Some p) rest before after packet code new = IsTold p packet × GivesFirst before after p rest code new
 
--- `is_agent_poll_transmit`: nothing of the agent changes but what is to be sent
+-- `is_ice_poll_transmit`: nothing of the agent changes but what is to be sent
 abbrev pub Gives : List ℕ → List ℕ → Packet → HomeRecord → ℤ → HomeRecord → Type 0
 Gives before after packet old code new =
     ((first : Option packets.Packet) × ((rest : List packets.Packet) × IsPolled (queue_of old) first rest
@@ -122,7 +122,7 @@ unless_done (Err e) kept = kept
 abbrev pub Restarted : Bool → IceCreds → HomeRecord → Result (Unit {0}) IceError → HomeRecord → Type 0
 Restarted keep creds old r new = Restarts old.agent creds keep r new.agent × (new.waiting ≡ unless_done r old.waiting)
 
--- `is_agent_restart`: a packet of the old session that waits goes too
+-- `is_ice_restart`: a packet of the old session that waits goes too
 abbrev pub RestartsWith : Bool → List ℕ → List ℕ → HomeRecord → ℤ → HomeRecord → Type 0
 RestartsWith keep ufrag pass old code new =
     (made : Result IceCreds ℤ) × MakesCreds ufrag pass made

@@ -15,7 +15,7 @@ use Rattle.is_c.specs.Events.{state_number}
 use Rattle.is_c.specs.Held.{Held, HomeRecord}
 use Rattle.is_c.specs.Texts.{Puts}
 
--- `is_agent_status`
+-- `is_ice_status`
 abbrev pub IsStatus : Held → Status → Type 0
 IsStatus a s =
     (s.state ≡ state_number a.state) × (s.controlling ≡ a.controlling) × (s.lite ≡ a.lite)
@@ -24,7 +24,7 @@ IsStatus a s =
 abbrev pub TellsStatus : Status → HomeRecord → ℤ → HomeRecord → Type 0
 TellsStatus status old code new = (code ≡ OK) × IsStatus old.agent status × (new ≡ old)
 
--- `is_agent_stats`
+-- `is_ice_stats`
 abbrev pub stats_of : Stats → IceAgentStats
 stats_of s = record {
   bind_request_sent = s.bind_request_sent;
@@ -37,7 +37,7 @@ stats_of s = record {
 abbrev pub TellsStats : Stats → HomeRecord → ℤ → HomeRecord → Type 0
 TellsStats stats old code new = (code ≡ OK) × (stats_of stats ≡ old.agent.stats) × (new ≡ old)
 
--- `is_agent_nominated`: what is known of the pair that was announced last, while it stands
+-- `is_ice_nominated`: what is known of the pair that was announced last, while it stands
 abbrev pub IsRtt : Option ℕ → Nominated → Type 0
 IsRtt None n = n.has_rtt ≡ false
 IsRtt (Some time) n = (n.has_rtt ≡ true) × (n.rtt ≡ time)
@@ -55,12 +55,12 @@ abbrev pub PutsLine : Option CandidateRecord → List ℕ → ℤ → List ℕ �
 PutsLine None before code after count = (code ≡ NOTHING) × (after ≡ before)
 PutsLine (Some c) before code after count = ((code ≡ OUT_OF_MEMORY) × (after ≡ before)) ⊎ Puts (sdp_text c) before code after count
 
--- `is_agent_local_candidate` and `is_agent_remote_candidate`: candidates are counted from 0 in the order in which they came, discarded ones left out
+-- `is_ice_local_candidate` and `is_ice_remote_candidate`: candidates are counted from 0 in the order in which they came, discarded ones left out
 abbrev pub TellsLine : (Held → List CandidateRecord) → ℕ → List ℕ → List ℕ → ℕ → HomeRecord → ℤ → HomeRecord → Type 0
 TellsLine candidates index before after count old code new =
     PutsLine (slice_get (live (candidates old.agent)) index) before code after count × (new ≡ old)
 
--- `is_agent_has_viable_remote`
+-- `is_ice_has_viable_remote`
 abbrev pub AnswersViable : Address → Held → ℤ → Type 0
 AnswersViable address a code =
     MatchOption (socket_of address) (code ≡ BAD_ADDRESS) (λ at. code ≡ found_code (has_viable_remote a at))

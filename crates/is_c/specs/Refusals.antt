@@ -30,12 +30,12 @@ abbrev pub TellsWhy : ℤ → Made → List ℕ → ℤ → List ℕ → ℕ →
 TellsWhy why made before code after count =
     MatchOption made ((code ≡ why) × (after ≡ before)) (λ outcome. PutsRefusal outcome before code after count)
 
--- `is_line_refusal`
+-- `is_ice_line_refusal`
 abbrev pub TellsOfLine : List ℕ → List ℕ → ℤ → List ℕ → ℕ → Type 0
 TellsOfLine line before code after count =
     (made : Made) × ReadsBytes line made × TellsWhy NOT_UTF8 made before code after count
 
--- `is_candidate_refusal`
+-- `is_ice_candidate_refusal`
 abbrev pub TellsOfCandidate : LocalCandidate → List ℕ → ℤ → List ℕ → ℕ → Type 0
 TellsOfCandidate c before code after count =
     (made : Made) × MakesCandidate c made × TellsWhy BAD_ADDRESS made before code after count

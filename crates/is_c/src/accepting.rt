@@ -41,9 +41,9 @@ fn accepts_via(home: &Home, path: Option<Path>, bytes: &[u8]) -> i32
     }
 }
 
-/// Whether `is_agent_handle_packet` would accept the datagram. The agent stays as it was.
+/// Whether `is_ice_handle_packet` would accept the datagram. The agent stays as it was.
 #[unsafe(no_mangle)]
-pub extern "C" fn is_agent_accepts_packet(
+pub extern "C" fn is_ice_accepts_packet(
     alloc: Global,
     slot: &mut Slot,
     protocol: u8,
@@ -73,7 +73,7 @@ fn accepts_message(home: &Home, bytes: &[u8]) -> i32
 
 /// Whether the message is one for this agent, wherever it came from. The agent stays as it was.
 #[unsafe(no_mangle)]
-pub extern "C" fn is_agent_accepts_message(alloc: Global, slot: &mut Slot, bytes: &[u8]) -> i32
+pub extern "C" fn is_ice_accepts_message(alloc: Global, slot: &mut Slot, bytes: &[u8]) -> i32
     ensures { At (AsksMessage ⟦<DefaultSha1HmacProvider as Sha1HmacProvider>⟧.mac bytes.now) (held_by slot.old) result (held_by slot.new) }
 {
     let Some(home) = slot.take(alloc) else {

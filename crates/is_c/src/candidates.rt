@@ -27,7 +27,7 @@ fn add(alloc: Global, home: &mut Home, candidate: &LocalCandidate) -> i32
 
 /// Adds a local candidate.
 #[unsafe(no_mangle)]
-pub extern "C" fn is_agent_add_local(
+pub extern "C" fn is_ice_add_local(
     alloc: Global,
     slot: &mut Slot,
     candidate: &LocalCandidate,
@@ -54,7 +54,7 @@ fn add_line(alloc: Global, home: &mut Home, line: &[u8]) -> i32
 
 /// Adds a candidate of the other agent's, by its line.
 #[unsafe(no_mangle)]
-pub extern "C" fn is_agent_add_remote(alloc: Global, slot: &mut Slot, line: &[u8]) -> i32
+pub extern "C" fn is_ice_add_remote(alloc: Global, slot: &mut Slot, line: &[u8]) -> i32
     ensures { At (CallsRead AddsRemote done_code line.now) (held_by slot.old) result (held_by slot.new) }
 {
     let Some(mut home) = slot.take(alloc) else {
@@ -77,7 +77,7 @@ fn invalidate(alloc: Global, home: &mut Home, candidate: &LocalCandidate) -> i32
 
 /// Takes away a candidate that equals this one.
 #[unsafe(no_mangle)]
-pub extern "C" fn is_agent_invalidate_local(
+pub extern "C" fn is_ice_invalidate_local(
     alloc: Global,
     slot: &mut Slot,
     candidate: &LocalCandidate,
@@ -104,7 +104,7 @@ fn invalidate_line(alloc: Global, home: &mut Home, line: &[u8]) -> i32
 
 /// Takes away a candidate that equals that of the line.
 #[unsafe(no_mangle)]
-pub extern "C" fn is_agent_invalidate(alloc: Global, slot: &mut Slot, line: &[u8]) -> i32
+pub extern "C" fn is_ice_invalidate(alloc: Global, slot: &mut Slot, line: &[u8]) -> i32
     ensures { At (CallsRead Invalidates found_code line.now) (held_by slot.old) result (held_by slot.new) }
 {
     let Some(mut home) = slot.take(alloc) else {

@@ -38,7 +38,7 @@ fn set_local(alloc: Global, home: &mut Home, ufrag: &[u8], pass: &[u8]) -> i32
 
 /// Sets the agent's own credentials.
 #[unsafe(no_mangle)]
-pub extern "C" fn is_agent_set_local_credentials(
+pub extern "C" fn is_ice_set_local_credentials(
     alloc: Global,
     slot: &mut Slot,
     ufrag: &[u8],
@@ -65,7 +65,7 @@ fn set_remote(alloc: Global, home: &mut Home, ufrag: &[u8], pass: &[u8]) -> i32
 
 /// Sets the credentials of the other agent.
 #[unsafe(no_mangle)]
-pub extern "C" fn is_agent_set_remote_credentials(
+pub extern "C" fn is_ice_set_remote_credentials(
     alloc: Global,
     slot: &mut Slot,
     ufrag: &[u8],
@@ -96,7 +96,7 @@ fn drawn(alloc: Global, random: &[u8]) -> Result<IceCreds, IceError>
 
 /// Makes credentials of 38 random bytes: a user fragment of 16 characters, and a password of 22.
 #[unsafe(no_mangle)]
-pub extern "C" fn is_make_credentials(
+pub extern "C" fn is_ice_make_credentials(
     alloc: Global,
     random: &[u8],
     ufrag: &mut [u8],
@@ -121,7 +121,7 @@ pub extern "C" fn is_make_credentials(
 
 /// Tells the agent's own user fragment.
 #[unsafe(no_mangle)]
-pub extern "C" fn is_agent_local_ufrag(
+pub extern "C" fn is_ice_local_ufrag(
     alloc: Global,
     slot: &mut Slot,
     buffer: &mut [u8],
@@ -140,7 +140,7 @@ pub extern "C" fn is_agent_local_ufrag(
 
 /// Tells the agent's own password.
 #[unsafe(no_mangle)]
-pub extern "C" fn is_agent_local_pass(
+pub extern "C" fn is_ice_local_pass(
     alloc: Global,
     slot: &mut Slot,
     buffer: &mut [u8],

@@ -30,7 +30,7 @@ fn boxed_agent(alloc: Global, creds: IceCreds, tie_breaker: u64) -> Result<Box<H
 
 /// Makes a controlled agent in a slot that holds none.
 #[unsafe(no_mangle)]
-pub extern "C" fn is_agent_new(
+pub extern "C" fn is_ice_agent_new(
     alloc: Global,
     slot: &mut Slot,
     ufrag: &[u8],
@@ -58,7 +58,7 @@ pub extern "C" fn is_agent_new(
 
 /// Frees the agent of a slot, if it holds one.
 #[unsafe(no_mangle)]
-pub extern "C" fn is_agent_free(alloc: Global, slot: &mut Slot)
+pub extern "C" fn is_ice_agent_free(alloc: Global, slot: &mut Slot)
     ensures { held_by slot.new ≡ None }
 {
     drop(slot.take(alloc));
@@ -66,7 +66,7 @@ pub extern "C" fn is_agent_free(alloc: Global, slot: &mut Slot)
 
 /// The version of this interface, which its header names too.
 #[unsafe(no_mangle)]
-pub extern "C" fn is_version() -> u32
+pub extern "C" fn is_ice_version() -> u32
     ensures { result ≡ 1 }
 {
     1

@@ -79,7 +79,7 @@ fn receive(
 
 /// Takes a datagram that came at this moment.
 #[unsafe(no_mangle)]
-pub extern "C" fn is_agent_handle_packet(
+pub extern "C" fn is_ice_handle_packet(
     alloc: Global,
     slot: &mut Slot,
     now: u64,
@@ -118,7 +118,7 @@ fn time_out(home: &mut Home, now: u64, random: &[u8]) -> i32
 
 /// Tells the agent of a moment, with 12 random bytes for the check that it may send.
 #[unsafe(no_mangle)]
-pub extern "C" fn is_agent_handle_timeout(
+pub extern "C" fn is_ice_handle_timeout(
     alloc: Global,
     slot: &mut Slot,
     now: u64,
@@ -148,7 +148,7 @@ fn wake(home: &mut Home, at: &mut u64) -> i32
 
 /// The moment at which the agent wants to be called next.
 #[unsafe(no_mangle)]
-pub extern "C" fn is_agent_poll_timeout(alloc: Global, slot: &mut Slot, at: &mut u64) -> i32
+pub extern "C" fn is_ice_poll_timeout(alloc: Global, slot: &mut Slot, at: &mut u64) -> i32
     ensures { At (WakesAt at.old at.new) (held_by slot.old) result (held_by slot.new) }
 {
     let Some(mut home) = slot.take(alloc) else {
@@ -211,7 +211,7 @@ fn transmit(home: &mut Home, buffer: &mut [u8], packet: &mut Packet) -> i32
 
 /// The next packet to send: its bytes go to the front of the buffer. One that is longer than the buffer stays.
 #[unsafe(no_mangle)]
-pub extern "C" fn is_agent_poll_transmit(
+pub extern "C" fn is_ice_poll_transmit(
     alloc: Global,
     slot: &mut Slot,
     buffer: &mut [u8],

@@ -70,7 +70,7 @@ fn told_status(home: &Home) -> Status
 
 /// Tells how the agent is set, and how far it has come.
 #[unsafe(no_mangle)]
-pub extern "C" fn is_agent_status(alloc: Global, slot: &mut Slot, figures: &mut Status) -> i32
+pub extern "C" fn is_ice_status(alloc: Global, slot: &mut Slot, figures: &mut Status) -> i32
     ensures { At (TellsStatus figures.new) (held_by slot.old) result (held_by slot.new) }
 {
     let Some(home) = slot.take(alloc) else {
@@ -96,7 +96,7 @@ fn told_stats(home: &Home) -> Stats
 
 /// Tells how often things happened since the last restart.
 #[unsafe(no_mangle)]
-pub extern "C" fn is_agent_stats(alloc: Global, slot: &mut Slot, figures: &mut Stats) -> i32
+pub extern "C" fn is_ice_stats(alloc: Global, slot: &mut Slot, figures: &mut Stats) -> i32
     ensures { At (TellsStats figures.new) (held_by slot.old) result (held_by slot.new) }
 {
     let Some(home) = slot.take(alloc) else {
@@ -128,7 +128,7 @@ fn tell_nominated(home: &mut Home, figures: &mut Nominated) -> i32
 
 /// Tells what is known of the pair that was announced last.
 #[unsafe(no_mangle)]
-pub extern "C" fn is_agent_nominated(alloc: Global, slot: &mut Slot, figures: &mut Nominated) -> i32
+pub extern "C" fn is_ice_nominated(alloc: Global, slot: &mut Slot, figures: &mut Nominated) -> i32
     ensures { At (TellsNominated figures.old figures.new) (held_by slot.old) result (held_by slot.new) }
 {
     let Some(mut home) = slot.take(alloc) else {
@@ -173,7 +173,7 @@ fn remote_at(home: &Home, index: usize) -> Option<&Candidate>
 
 /// Tells the line of a local candidate, for signalling: counted from 0, discarded ones left out.
 #[unsafe(no_mangle)]
-pub extern "C" fn is_agent_local_candidate(
+pub extern "C" fn is_ice_local_candidate(
     alloc: Global,
     slot: &mut Slot,
     index: usize,
@@ -192,7 +192,7 @@ pub extern "C" fn is_agent_local_candidate(
 
 /// Tells the line of a remote candidate: counted from 0, discarded ones left out.
 #[unsafe(no_mangle)]
-pub extern "C" fn is_agent_remote_candidate(
+pub extern "C" fn is_ice_remote_candidate(
     alloc: Global,
     slot: &mut Slot,
     index: usize,
@@ -220,11 +220,7 @@ fn has_viable(home: &Home, address: &Address) -> i32
 
 /// Whether a check succeeded on a pair whose remote candidate has this address.
 #[unsafe(no_mangle)]
-pub extern "C" fn is_agent_has_viable_remote(
-    alloc: Global,
-    slot: &mut Slot,
-    address: &Address,
-) -> i32
+pub extern "C" fn is_ice_has_viable_remote(alloc: Global, slot: &mut Slot, address: &Address) -> i32
     ensures { At (TellsViable address.now) (held_by slot.old) result (held_by slot.new) }
 {
     let Some(home) = slot.take(alloc) else {
@@ -248,7 +244,7 @@ fn put_remote_ufrag(home: &Home, buffer: &mut [u8], length: &mut usize) -> i32
 
 /// Tells the user fragment of the other agent.
 #[unsafe(no_mangle)]
-pub extern "C" fn is_agent_remote_ufrag(
+pub extern "C" fn is_ice_remote_ufrag(
     alloc: Global,
     slot: &mut Slot,
     buffer: &mut [u8],
@@ -275,7 +271,7 @@ fn put_remote_pass(home: &Home, buffer: &mut [u8], length: &mut usize) -> i32
 
 /// Tells the password of the other agent.
 #[unsafe(no_mangle)]
-pub extern "C" fn is_agent_remote_pass(
+pub extern "C" fn is_ice_remote_pass(
     alloc: Global,
     slot: &mut Slot,
     buffer: &mut [u8],

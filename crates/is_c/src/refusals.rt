@@ -28,7 +28,7 @@ fn put_refusal(outcome: &Result<Candidate, IceError>, buffer: &mut [u8], length:
 
 /// Tells why a line is refused: the line, a colon and its first fault. NOTHING: it reads as a candidate.
 #[unsafe(no_mangle)]
-pub extern "C" fn is_line_refusal(
+pub extern "C" fn is_ice_line_refusal(
     alloc: Global,
     line: &[u8],
     buffer: &mut [u8],
@@ -44,7 +44,7 @@ pub extern "C" fn is_line_refusal(
 
 /// Tells why a candidate is refused. NOTHING: it can be added.
 #[unsafe(no_mangle)]
-pub extern "C" fn is_candidate_refusal(
+pub extern "C" fn is_ice_candidate_refusal(
     alloc: Global,
     candidate: &LocalCandidate,
     buffer: &mut [u8],

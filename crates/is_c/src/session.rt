@@ -32,7 +32,7 @@ fn restart(alloc: Global, home: &mut Home, ufrag: &[u8], pass: &[u8], keep: bool
 
 /// Restarts the session under new credentials; local candidates stay or go.
 #[unsafe(no_mangle)]
-pub extern "C" fn is_agent_restart(
+pub extern "C" fn is_ice_restart(
     alloc: Global,
     slot: &mut Slot,
     ufrag: &[u8],
@@ -51,7 +51,7 @@ pub extern "C" fn is_agent_restart(
 
 /// Forms pairs anew, of all candidates that are not discarded.
 #[unsafe(no_mangle)]
-pub extern "C" fn is_agent_recreate_pairs(alloc: Global, slot: &mut Slot) -> i32
+pub extern "C" fn is_ice_recreate_pairs(alloc: Global, slot: &mut Slot) -> i32
     ensures { At (Calls (λ a r b. Recreates a r b) done_code) (held_by slot.old) result (held_by slot.new) }
 {
     let Some(mut home) = slot.take(alloc) else {

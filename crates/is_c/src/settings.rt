@@ -15,7 +15,7 @@ use std::alloc::Global;
 
 /// Gives the agent the controlling or the controlled role.
 #[unsafe(no_mangle)]
-pub extern "C" fn is_agent_set_controlling(alloc: Global, slot: &mut Slot, controlling: bool) -> i32
+pub extern "C" fn is_ice_set_controlling(alloc: Global, slot: &mut Slot, controlling: bool) -> i32
     ensures { At (Becomes (λ a. record a { controlling = controlling })) (held_by slot.old) result (held_by slot.new) }
 {
     let Some(mut home) = slot.take(alloc) else {
@@ -28,7 +28,7 @@ pub extern "C" fn is_agent_set_controlling(alloc: Global, slot: &mut Slot, contr
 
 /// Makes the agent a lite one, or a full one.
 #[unsafe(no_mangle)]
-pub extern "C" fn is_agent_set_lite(alloc: Global, slot: &mut Slot, lite: bool) -> i32
+pub extern "C" fn is_ice_set_lite(alloc: Global, slot: &mut Slot, lite: bool) -> i32
     ensures { At (Becomes (λ a. record a { lite = lite })) (held_by slot.old) result (held_by slot.new) }
 {
     let Some(mut home) = slot.take(alloc) else {
@@ -41,7 +41,7 @@ pub extern "C" fn is_agent_set_lite(alloc: Global, slot: &mut Slot, lite: bool) 
 
 /// Sets the number that settles role conflicts.
 #[unsafe(no_mangle)]
-pub extern "C" fn is_agent_set_tie_breaker(alloc: Global, slot: &mut Slot, tie_breaker: u64) -> i32
+pub extern "C" fn is_ice_set_tie_breaker(alloc: Global, slot: &mut Slot, tie_breaker: u64) -> i32
     ensures { At (Becomes (λ a. record a { tie_breaker = tie_breaker })) (held_by slot.old) result (held_by slot.new) }
 {
     let Some(mut home) = slot.take(alloc) else {
@@ -54,7 +54,7 @@ pub extern "C" fn is_agent_set_tie_breaker(alloc: Global, slot: &mut Slot, tie_b
 
 /// Sets how many pairs forming leaves at most.
 #[unsafe(no_mangle)]
-pub extern "C" fn is_agent_set_max_pairs(alloc: Global, slot: &mut Slot, limit: usize) -> i32
+pub extern "C" fn is_ice_set_max_pairs(alloc: Global, slot: &mut Slot, limit: usize) -> i32
     ensures { At (Becomes (λ a. record a { max_pairs = limit })) (held_by slot.old) result (held_by slot.new) }
 {
     let Some(mut home) = slot.take(alloc) else {
@@ -67,11 +67,7 @@ pub extern "C" fn is_agent_set_max_pairs(alloc: Global, slot: &mut Slot, limit: 
 
 /// Sets the pace of what the agent sends.
 #[unsafe(no_mangle)]
-pub extern "C" fn is_agent_set_timing_advance(
-    alloc: Global,
-    slot: &mut Slot,
-    nanoseconds: u64,
-) -> i32
+pub extern "C" fn is_ice_set_timing_advance(alloc: Global, slot: &mut Slot, nanoseconds: u64) -> i32
     ensures { At (Becomes (λ a. record a { timing_advance = nanoseconds })) (held_by slot.old) result (held_by slot.new) }
 {
     let Some(mut home) = slot.take(alloc) else {
@@ -84,7 +80,7 @@ pub extern "C" fn is_agent_set_timing_advance(
 
 /// Sets the delay behind a pair's first check.
 #[unsafe(no_mangle)]
-pub extern "C" fn is_agent_set_initial_rto(alloc: Global, slot: &mut Slot, nanoseconds: u64) -> i32
+pub extern "C" fn is_ice_set_initial_rto(alloc: Global, slot: &mut Slot, nanoseconds: u64) -> i32
     ensures { At (Becomes (λ a. with_rtos nanoseconds a.timing.max_rto.0 a)) (held_by slot.old) result (held_by slot.new) }
 {
     let Some(mut home) = slot.take(alloc) else {
@@ -97,7 +93,7 @@ pub extern "C" fn is_agent_set_initial_rto(alloc: Global, slot: &mut Slot, nanos
 
 /// Sets the greatest delay behind a check.
 #[unsafe(no_mangle)]
-pub extern "C" fn is_agent_set_max_rto(alloc: Global, slot: &mut Slot, nanoseconds: u64) -> i32
+pub extern "C" fn is_ice_set_max_rto(alloc: Global, slot: &mut Slot, nanoseconds: u64) -> i32
     ensures { At (Becomes (λ a. with_rtos a.timing.initial_rto.0 nanoseconds a)) (held_by slot.old) result (held_by slot.new) }
 {
     let Some(mut home) = slot.take(alloc) else {
@@ -110,7 +106,7 @@ pub extern "C" fn is_agent_set_max_rto(alloc: Global, slot: &mut Slot, nanosecon
 
 /// Has the next pair take this number at least.
 #[unsafe(no_mangle)]
-pub extern "C" fn is_agent_skip_pair_ids(alloc: Global, slot: &mut Slot, number: u64) -> i32
+pub extern "C" fn is_ice_skip_pair_ids(alloc: Global, slot: &mut Slot, number: u64) -> i32
     ensures { At (Becomes (numbers_skipped number)) (held_by slot.old) result (held_by slot.new) }
 {
     let Some(mut home) = slot.take(alloc) else {
@@ -123,7 +119,7 @@ pub extern "C" fn is_agent_skip_pair_ids(alloc: Global, slot: &mut Slot, number:
 
 /// Sets how long packets may be, and from which length on they are warned of.
 #[unsafe(no_mangle)]
-pub extern "C" fn is_agent_set_mtu(alloc: Global, slot: &mut Slot, mtu: usize, warn: usize) -> i32
+pub extern "C" fn is_ice_set_mtu(alloc: Global, slot: &mut Slot, mtu: usize, warn: usize) -> i32
     ensures { At (Calls (λ a r b. SetsMtu a mtu warn r b) done_code) (held_by slot.old) result (held_by slot.new) }
 {
     let Some(mut home) = slot.take(alloc) else {
@@ -136,7 +132,7 @@ pub extern "C" fn is_agent_set_mtu(alloc: Global, slot: &mut Slot, mtu: usize, w
 
 /// Has local candidates that are added from now on preferred by this number.
 #[unsafe(no_mangle)]
-pub extern "C" fn is_agent_set_local_preference(
+pub extern "C" fn is_ice_set_local_preference(
     alloc: Global,
     slot: &mut Slot,
     preference: u16,
@@ -154,7 +150,7 @@ pub extern "C" fn is_agent_set_local_preference(
 
 /// Has local candidates that are added from now on preferred by this table.
 #[unsafe(no_mangle)]
-pub extern "C" fn is_agent_set_preference_table(
+pub extern "C" fn is_ice_set_preference_table(
     alloc: Global,
     slot: &mut Slot,
     table: &PreferenceTable,
@@ -171,7 +167,7 @@ pub extern "C" fn is_agent_set_preference_table(
 
 /// Has local candidates that are added from now on preferred as by default.
 #[unsafe(no_mangle)]
-pub extern "C" fn is_agent_reset_local_preference(alloc: Global, slot: &mut Slot) -> i32
+pub extern "C" fn is_ice_reset_local_preference(alloc: Global, slot: &mut Slot) -> i32
     ensures { At (Becomes (λ a. record a { preference = Some ByDefault })) (held_by slot.old) result (held_by slot.new) }
 {
     let Some(mut home) = slot.take(alloc) else {
@@ -196,7 +192,7 @@ fn limit_retransmits(home: &mut Home, limit: usize) -> i32
 
 /// Sets how many checks a pair sends that go unanswered, before it is given up: one at least.
 #[unsafe(no_mangle)]
-pub extern "C" fn is_agent_set_max_retransmits(alloc: Global, slot: &mut Slot, limit: usize) -> i32
+pub extern "C" fn is_ice_set_max_retransmits(alloc: Global, slot: &mut Slot, limit: usize) -> i32
     ensures { At (λ old code new. MatchBool (limit == 0) (Refuses BAD_LIMIT old code new) (Becomes (with_retransmits limit) old code new))
         (held_by slot.old) result (held_by slot.new) }
 {

@@ -1,28 +1,24 @@
 //! The exports as C calls them, on stories that the library's own tests tell too.
 
-use crate::accepting::{is_agent_accepts_message, is_agent_accepts_packet};
+use crate::accepting::{is_ice_accepts_message, is_ice_accepts_packet};
 use crate::address::Address;
 use crate::candidate::LocalCandidate;
-use crate::candidates::{is_agent_add_local, is_agent_add_remote, is_agent_invalidate};
+use crate::candidates::{is_ice_add_local, is_ice_add_remote, is_ice_invalidate};
 use crate::codes;
 use crate::credentials::{
-    is_agent_local_pass, is_agent_local_ufrag, is_agent_set_remote_credentials, is_make_credentials,
+    is_ice_local_pass, is_ice_local_ufrag, is_ice_make_credentials, is_ice_set_remote_credentials,
 };
-use crate::events::{Event, is_agent_poll_event};
-use crate::making::{is_agent_free, is_agent_new};
+use crate::events::{Event, is_ice_poll_event};
+use crate::making::{is_ice_agent_free, is_ice_agent_new};
 use crate::packets::{
-    Packet, is_agent_handle_packet, is_agent_handle_timeout, is_agent_poll_timeout,
-    is_agent_poll_transmit,
+    Packet, is_ice_handle_packet, is_ice_handle_timeout, is_ice_poll_timeout, is_ice_poll_transmit,
 };
 use crate::preference::{KindPreferences, PreferenceTable};
-use crate::questions::{
-    Status, is_agent_has_viable_remote, is_agent_local_candidate, is_agent_status,
-};
-use crate::refusals::{is_candidate_refusal, is_line_refusal};
-use crate::session::is_agent_restart;
+use crate::questions::{Status, is_ice_has_viable_remote, is_ice_local_candidate, is_ice_status};
+use crate::refusals::{is_ice_candidate_refusal, is_ice_line_refusal};
+use crate::session::is_ice_restart;
 use crate::settings::{
-    is_agent_set_controlling, is_agent_set_max_retransmits, is_agent_set_mtu,
-    is_agent_set_preference_table,
+    is_ice_set_controlling, is_ice_set_max_retransmits, is_ice_set_mtu, is_ice_set_preference_table,
 };
 use crate::slot::Slot;
 
@@ -91,41 +87,41 @@ fn a_request_is_replied_to(rt: HostRuntime) {
     let mut event = no_event();
     let mut at = 7;
     let mut buffer = [0; 64];
-    let made = is_agent_new(alloc, &mut slot, b"p9KA", b"xJcE9AQAR7kczUDVOXRUCl", 1);
+    let made = is_ice_agent_new(alloc, &mut slot, b"p9KA", b"xJcE9AQAR7kczUDVOXRUCl", 1);
     assert!(rt; made == codes::OK);
-    let again = is_agent_new(alloc, &mut slot, b"p9KA", b"x", 1);
+    let again = is_ice_agent_new(alloc, &mut slot, b"p9KA", b"x", 1);
     assert!(rt; again == codes::HAS_AGENT);
-    let told = is_agent_set_remote_credentials(alloc, &mut slot, b"SQAt", b"x");
+    let told = is_ice_set_remote_credentials(alloc, &mut slot, b"SQAt", b"x");
     assert!(rt; told == codes::OK);
-    let added = is_agent_add_local(alloc, &mut slot, &host(own));
+    let added = is_ice_add_local(alloc, &mut slot, &host(own));
     assert!(rt; added == codes::OK);
-    let known = is_agent_add_local(alloc, &mut slot, &host(own));
+    let known = is_ice_add_local(alloc, &mut slot, &host(own));
     assert!(rt; known == codes::NOTHING);
-    let cut = is_agent_handle_packet(alloc, &mut slot, 0, 0, &peer, &own, &REQUEST[..99]);
+    let cut = is_ice_handle_packet(alloc, &mut slot, 0, 0, &peer, &own, &REQUEST[..99]);
     assert!(rt; cut == codes::UNPARSED);
-    let mine = is_agent_accepts_packet(alloc, &mut slot, 0, &peer, &own, &REQUEST);
+    let mine = is_ice_accepts_packet(alloc, &mut slot, 0, &peer, &own, &REQUEST);
     assert!(rt; mine == codes::OK);
-    let answer = is_agent_accepts_message(alloc, &mut slot, &REPLY);
+    let answer = is_ice_accepts_message(alloc, &mut slot, &REPLY);
     assert!(rt; answer == codes::NOTHING);
-    let taken = is_agent_handle_packet(alloc, &mut slot, 0, 0, &peer, &own, &REQUEST);
+    let taken = is_ice_handle_packet(alloc, &mut slot, 0, 0, &peer, &own, &REQUEST);
     assert!(rt; taken == codes::OK);
-    let short = is_agent_poll_transmit(alloc, &mut slot, &mut buffer[..63], &mut packet);
+    let short = is_ice_poll_transmit(alloc, &mut slot, &mut buffer[..63], &mut packet);
     assert!(rt; short == codes::BUFFER_TOO_SHORT);
     assert!(rt; packet.length == 64);
-    let given = is_agent_poll_transmit(alloc, &mut slot, &mut buffer, &mut packet);
+    let given = is_ice_poll_transmit(alloc, &mut slot, &mut buffer, &mut packet);
     assert!(rt; given == codes::OK);
     assert!(rt; packet.destination.port == 2000);
     assert!(rt; buffer[..] == REPLY[..]);
-    let heard = is_agent_poll_event(alloc, &mut slot, &mut event);
+    let heard = is_ice_poll_event(alloc, &mut slot, &mut event);
     assert!(rt; heard == codes::OK);
     assert!(rt; event.kind == 3);
     assert!(rt; event.source.port == 2000);
-    let viable = is_agent_has_viable_remote(alloc, &mut slot, &peer);
+    let viable = is_ice_has_viable_remote(alloc, &mut slot, &peer);
     assert!(rt; viable == codes::NOTHING);
-    let wake = is_agent_poll_timeout(alloc, &mut slot, &mut at);
+    let wake = is_ice_poll_timeout(alloc, &mut slot, &mut at);
     assert!(rt; wake == codes::NOTHING);
-    is_agent_free(alloc, &mut slot);
-    let gone = is_agent_poll_timeout(alloc, &mut slot, &mut at);
+    is_ice_agent_free(alloc, &mut slot);
+    let gone = is_ice_poll_timeout(alloc, &mut slot, &mut at);
     assert!(rt; gone == codes::NO_AGENT);
 }
 
@@ -136,27 +132,27 @@ fn a_check_has_the_random_bytes_as_its_id(rt: HostRuntime) {
     let mut packet = no_packet();
     let mut buffer = [0; 200];
     let id = *b"twelve bytes";
-    let made = is_agent_new(alloc, &mut slot, b"AAAA", b"PPPP", 10);
+    let made = is_ice_agent_new(alloc, &mut slot, b"AAAA", b"PPPP", 10);
     assert!(rt; made == codes::OK);
-    let leads = is_agent_set_controlling(alloc, &mut slot, true);
+    let leads = is_ice_set_controlling(alloc, &mut slot, true);
     assert!(rt; leads == codes::OK);
-    let told = is_agent_set_remote_credentials(alloc, &mut slot, b"BBBB", b"QQQQ");
+    let told = is_ice_set_remote_credentials(alloc, &mut slot, b"BBBB", b"QQQQ");
     assert!(rt; told == codes::OK);
-    let added = is_agent_add_local(alloc, &mut slot, &host(address(1, 1000)));
+    let added = is_ice_add_local(alloc, &mut slot, &host(address(1, 1000)));
     assert!(rt; added == codes::OK);
     let line = b"candidate:1 1 udp 2130706175 10.0.0.2 2000 typ host";
-    let known = is_agent_add_remote(alloc, &mut slot, line);
+    let known = is_ice_add_remote(alloc, &mut slot, line);
     assert!(rt; known == codes::OK);
-    let few = is_agent_handle_timeout(alloc, &mut slot, 60_000_000_000, &id[..11]);
+    let few = is_ice_handle_timeout(alloc, &mut slot, 60_000_000_000, &id[..11]);
     assert!(rt; few == codes::TOO_FEW_RANDOM_BYTES);
-    let begun = is_agent_handle_timeout(alloc, &mut slot, 60_000_000_000, &id);
+    let begun = is_ice_handle_timeout(alloc, &mut slot, 60_000_000_000, &id);
     assert!(rt; begun == codes::OK);
-    let given = is_agent_poll_transmit(alloc, &mut slot, &mut buffer, &mut packet);
+    let given = is_ice_poll_transmit(alloc, &mut slot, &mut buffer, &mut packet);
     assert!(rt; given == codes::OK);
     assert!(rt; buffer[8..20] == id[..]);
-    let gone = is_agent_invalidate(alloc, &mut slot, line);
+    let gone = is_ice_invalidate(alloc, &mut slot, line);
     assert!(rt; gone == codes::OK);
-    is_agent_free(alloc, &mut slot);
+    is_ice_agent_free(alloc, &mut slot);
 }
 
 #[test]
@@ -166,28 +162,28 @@ fn credentials_are_made_and_told(rt: HostRuntime) {
     let mut ufrag = [0; 16];
     let mut pass = [0; 22];
     let mut length = 0;
-    let few = is_make_credentials(alloc, &[0; 37], &mut ufrag, &mut pass);
+    let few = is_ice_make_credentials(alloc, &[0; 37], &mut ufrag, &mut pass);
     assert!(rt; few == codes::TOO_FEW_RANDOM_BYTES);
-    let drawn = is_make_credentials(alloc, &[26; 38], &mut ufrag, &mut pass);
+    let drawn = is_ice_make_credentials(alloc, &[26; 38], &mut ufrag, &mut pass);
     assert!(rt; drawn == codes::OK);
     assert!(rt; ufrag[..] == b"aaaaaaaaaaaaaaaa"[..]);
-    let made = is_agent_new(alloc, &mut slot, &ufrag, b"\xff", 1);
+    let made = is_ice_agent_new(alloc, &mut slot, &ufrag, b"\xff", 1);
     assert!(rt; made == codes::NOT_UTF8);
-    let made = is_agent_new(alloc, &mut slot, &ufrag, &pass, 1);
+    let made = is_ice_agent_new(alloc, &mut slot, &ufrag, &pass, 1);
     assert!(rt; made == codes::OK);
     let mut text = [0; 22];
-    let told = is_agent_local_ufrag(alloc, &mut slot, &mut text, &mut length);
+    let told = is_ice_local_ufrag(alloc, &mut slot, &mut text, &mut length);
     assert!(rt; told == codes::OK);
     assert!(rt; length == 16);
-    let told = is_agent_local_pass(alloc, &mut slot, &mut text, &mut length);
+    let told = is_ice_local_pass(alloc, &mut slot, &mut text, &mut length);
     assert!(rt; told == codes::OK);
     assert!(rt; text[..] == pass[..]);
-    let again = is_agent_restart(alloc, &mut slot, b"CCCC", b"RRRR", true);
+    let again = is_ice_restart(alloc, &mut slot, b"CCCC", b"RRRR", true);
     assert!(rt; again == codes::OK);
-    let told = is_agent_local_ufrag(alloc, &mut slot, &mut text[..3], &mut length);
+    let told = is_ice_local_ufrag(alloc, &mut slot, &mut text[..3], &mut length);
     assert!(rt; told == codes::BUFFER_TOO_SHORT);
     assert!(rt; length == 4);
-    is_agent_free(alloc, &mut slot);
+    is_ice_agent_free(alloc, &mut slot);
 }
 
 #[test]
@@ -204,25 +200,25 @@ fn settings_and_lines_are_told(rt: HostRuntime) {
         mtu_warn: 0,
         ice_timeout: 0,
     };
-    let made = is_agent_new(alloc, &mut slot, b"AAAA", b"PPPP", 1);
+    let made = is_ice_agent_new(alloc, &mut slot, b"AAAA", b"PPPP", 1);
     assert!(rt; made == codes::OK);
-    let none = is_agent_set_max_retransmits(alloc, &mut slot, 0);
+    let none = is_ice_set_max_retransmits(alloc, &mut slot, 0);
     assert!(rt; none == codes::BAD_LIMIT);
-    let small = is_agent_set_mtu(alloc, &mut slot, 587, 1280);
+    let small = is_ice_set_mtu(alloc, &mut slot, 587, 1280);
     assert!(rt; small == codes::MTU_TOO_SMALL);
-    let asked = is_agent_status(alloc, &mut slot, &mut status);
+    let asked = is_ice_status(alloc, &mut slot, &mut status);
     assert!(rt; asked == codes::OK);
     assert!(rt; status.state == 0);
     assert!(rt; status.mtu == 1150);
-    let added = is_agent_add_local(alloc, &mut slot, &host(address(1, 1000)));
+    let added = is_ice_add_local(alloc, &mut slot, &host(address(1, 1000)));
     assert!(rt; added == codes::OK);
-    let told = is_agent_local_candidate(alloc, &mut slot, 0, &mut line, &mut length);
+    let told = is_ice_local_candidate(alloc, &mut slot, 0, &mut line, &mut length);
     assert!(rt; told == codes::OK);
     assert!(rt; length == 85);
     assert!(rt; line[51..85] == b" 10.0.0.1 1000 typ host ufrag AAAA"[..]);
-    let after = is_agent_local_candidate(alloc, &mut slot, 1, &mut line, &mut length);
+    let after = is_ice_local_candidate(alloc, &mut slot, 1, &mut line, &mut length);
     assert!(rt; after == codes::NOTHING);
-    is_agent_free(alloc, &mut slot);
+    is_ice_agent_free(alloc, &mut slot);
 }
 
 #[test]
@@ -230,7 +226,7 @@ fn a_refused_line_tells_its_fault(rt: HostRuntime) {
     let alloc = rt.alloc();
     let mut text = [0; 40];
     let mut length = 0;
-    let told = is_line_refusal(alloc, b"candidate:1 x", &mut text, &mut length);
+    let told = is_ice_line_refusal(alloc, b"candidate:1 x", &mut text, &mut length);
     assert!(rt; told == codes::OK);
     assert!(rt; text[..length] == b"candidate:1 x: bad component-id"[..]);
 }
@@ -240,15 +236,15 @@ fn a_refusal_wants_a_message_and_room(rt: HostRuntime) {
     let alloc = rt.alloc();
     let mut text = [0; 30];
     let mut length = 0;
-    let short = is_line_refusal(alloc, b"candidate:1 x", &mut text, &mut length);
+    let short = is_ice_line_refusal(alloc, b"candidate:1 x", &mut text, &mut length);
     assert!(rt; short == codes::BUFFER_TOO_SHORT);
     assert!(rt; length == 31);
-    let unread = is_line_refusal(alloc, b"\xff", &mut text, &mut length);
+    let unread = is_ice_line_refusal(alloc, b"\xff", &mut text, &mut length);
     assert!(rt; unread == codes::NOT_UTF8);
     let line = b"candidate:1 1 udp 2130706175 10.0.0.2 2000 typ host";
-    let read = is_line_refusal(alloc, line, &mut text, &mut length);
+    let read = is_ice_line_refusal(alloc, line, &mut text, &mut length);
     assert!(rt; read == codes::NOTHING);
-    let none = is_candidate_refusal(alloc, &host(address(1, 1000)), &mut text, &mut length);
+    let none = is_ice_candidate_refusal(alloc, &host(address(1, 1000)), &mut text, &mut length);
     assert!(rt; none == codes::NOTHING);
 }
 
@@ -268,19 +264,19 @@ fn a_table_gives_the_preference(rt: HostRuntime) {
         v4: kinds,
         v6: kinds,
     };
-    let made = is_agent_new(alloc, &mut slot, b"AAAA", b"PPPP", 1);
+    let made = is_ice_agent_new(alloc, &mut slot, b"AAAA", b"PPPP", 1);
     assert!(rt; made == codes::OK);
-    let set = is_agent_set_preference_table(alloc, &mut slot, &table);
+    let set = is_ice_set_preference_table(alloc, &mut slot, &table);
     assert!(rt; set == codes::OK);
-    let first = is_agent_add_local(alloc, &mut slot, &host(address(1, 1000)));
+    let first = is_ice_add_local(alloc, &mut slot, &host(address(1, 1000)));
     assert!(rt; first == codes::OK);
-    let told = is_agent_local_candidate(alloc, &mut slot, 0, &mut line, &mut length);
+    let told = is_ice_local_candidate(alloc, &mut slot, 0, &mut line, &mut length);
     assert!(rt; told == codes::OK);
     assert!(rt; line[41..51] == b"2113995007"[..]);
-    let second = is_agent_add_local(alloc, &mut slot, &host(address(3, 1000)));
+    let second = is_ice_add_local(alloc, &mut slot, &host(address(3, 1000)));
     assert!(rt; second == codes::OK);
-    let told = is_agent_local_candidate(alloc, &mut slot, 1, &mut line, &mut length);
+    let told = is_ice_local_candidate(alloc, &mut slot, 1, &mut line, &mut length);
     assert!(rt; told == codes::OK);
     assert!(rt; line[41..51] == b"2113994751"[..]);
-    is_agent_free(alloc, &mut slot);
+    is_ice_agent_free(alloc, &mut slot);
 }

@@ -3,7 +3,7 @@ use Rattle.is_proto.specs.contracts.hmac_provider.DefaultSha1HmacProviderSha1Hma
 use Rattle.is_c.specs.declared.home.Home.{Home}
 use Rattle.is_c.specs.Held.{HomeRecord, home_of, held_by, At}
 use Rattle.is_c.specs.Packets.{packet_path, IsSettled}
-use Rattle.is_c.proofs.packets.is_agent_handle_packet.Goals as goal
+use Rattle.is_c.proofs.packets.is_ice_handle_packet.Goals as goal
 
 -- what was taken is what was held, and what is kept is what is held
 pub returns-clause-settled : goal.returns-clause-settled
