@@ -100,15 +100,17 @@ fn an_agent_is_made_under_507_letters(player: &mut Player) -> Emitted {
     Story("an_agent_is_made_under_507_letters").holds(&[is_made_under_none(player, 508)])
 }
 
-/// A controlling agent under the longest user fragments, which has got one candidate of the peer's.
-fn is_longest(player: &mut Player) -> bool {
-    player.is_paired() && takes(player, Setting::Local, 254) && takes(player, Setting::Remote, 253)
+/// Sets up a controlling agent with the longest username fragments and one candidate of the peer.
+fn set_up_longest(player: &mut Player) -> bool {
+    player.set_up_pair()
+        && takes(player, Setting::Local, 254)
+        && takes(player, Setting::Remote, 253)
 }
 
 fn the_longest_check_reads_again(player: &mut Player) -> Emitted {
     Story("the_longest_check_reads_again").holds(&[
-        is_longest(player),
-        player.is_answered(at(1, 1000)) && player.checks(50),
+        set_up_longest(player),
+        player.complete_check(at(1, 1000)) && player.checks(50),
         // it reads as a check of this length with USE-CANDIDATE
         player.has_checked(588, true) && player.has_signed("farpass"),
     ])
@@ -126,8 +128,8 @@ fn goes_by(player: &Player, ufrag: &str) -> bool {
 
 fn candidates_keep_their_fragment_until_a_restart(player: &mut Player) -> Emitted {
     Story("candidates_keep_their_fragment_until_a_restart").holds(&[
-        player.is_paired(),
-        goes_by(player, "near") && player.is_renamed("new1", "pass"),
+        player.set_up_pair(),
+        goes_by(player, "near") && player.rename("new1", "pass"),
         player.agent.local_credentials().ufrag.as_str() == "new1",
         goes_by(player, "near"),
         player.restarts("new2", "pass", true) && goes_by(player, "new2"),
@@ -136,9 +138,9 @@ fn candidates_keep_their_fragment_until_a_restart(player: &mut Player) -> Emitte
 
 fn requests_are_taken_under_the_present_credentials(player: &mut Player) -> Emitted {
     Story("requests_are_taken_under_the_present_credentials").holds(&[
-        player.is_alone(),
-        player.knows("SQAt", "x") && !player.is_asked(0, at(1, 1000)),
-        player.is_renamed("p9KA", PASSWORD) && player.is_asked(0, at(1, 1000)),
+        player.set_up_alone(),
+        player.knows("SQAt", "x") && !player.receive_request(0, at(1, 1000)),
+        player.rename("p9KA", PASSWORD) && player.receive_request(0, at(1, 1000)),
         player.sends() && player.has_replied(PASSWORD),
     ])
 }

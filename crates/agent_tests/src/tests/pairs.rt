@@ -30,17 +30,17 @@ fn pairs_stand_or_go(rt: HostRuntime) -> Result<(), Fail> {
     tell(rt.alloc(), &Pairs)
 }
 
-/// The agent has an announced path to the reflexive candidate.
-fn is_connected(player: &mut Player) -> bool {
-    player.is_alone()
+/// Sets up an agent that announced a path to the reflexive candidate.
+fn set_up_connected(player: &mut Player) -> bool {
+    player.set_up_alone()
         && player.hears(REFLEXIVE)
-        && player.is_answered(at(1, 1000))
+        && player.complete_check(at(1, 1000))
         && player.tells(b"RcNCD")
 }
 
 fn a_pair_of_greater_priority_replaces(player: &mut Player) -> Emitted {
     Story("a_pair_of_greater_priority_replaces").holds(&[
-        is_connected(player),
+        set_up_connected(player),
         player.prio_with(REFLEXIVE) == Some(433758141951),
         player.has_figures(50, 50, 1) && player.hears(PEER),
         player.pair_with(REFLEXIVE).is_none() && player.has_no_figures(),
@@ -59,7 +59,7 @@ fn has_unanswered_figures(player: &Player) -> bool {
 
 fn what_replaced_is_announced_again(player: &mut Player) -> Emitted {
     Story("what_replaced_is_announced_again").holds(&[
-        is_connected(player),
+        set_up_connected(player),
         player.hears(PEER) && player.checks(100) && player.has_checked(92, true),
         player.tells(b"N") && has_unanswered_figures(player),
         // the first check went with its pair
@@ -69,7 +69,7 @@ fn what_replaced_is_announced_again(player: &mut Player) -> Emitted {
 
 fn what_is_redundant_takes_no_number(player: &mut Player) -> Emitted {
     Story("what_is_redundant_takes_no_number").holds(&[
-        player.is_paired(),
+        player.set_up_pair(),
         player.hears(REFLEXIVE) && player.pair_with(REFLEXIVE).is_none(),
         player.number_with(PEER) == Some(0),
         player.has_heard_of(&[at(2, 2000), at(2, 2000)]),
@@ -84,8 +84,8 @@ const SENDER: &str = "candidate:1 1 udp 1853824767 10.0.0.2 2000 typ prflx";
 
 fn the_sender_of_a_request_is_overwritten(player: &mut Player) -> Emitted {
     Story("the_sender_of_a_request_is_overwritten").holds(&[
-        player.is_addressed(),
-        player.is_asked(0, at(1, 1000)) && player.nominates(SENDER),
+        player.set_up_credentials(),
+        player.receive_request(0, at(1, 1000)) && player.nominates(SENDER),
         player.prio_with(SENDER) == Some(7962116751041232382),
         player.hears(PEER) && player.has_heard_of(&[at(2, 2000)]),
         player.pair_with(SENDER).is_none() && player.number_with(PEER) == Some(1),
@@ -96,26 +96,26 @@ fn the_sender_of_a_request_is_overwritten(player: &mut Player) -> Emitted {
 
 fn the_pair_of_a_sender_stays_where_a_lesser_candidate_overwrites(player: &mut Player) -> Emitted {
     Story("the_pair_of_a_sender_stays_where_a_lesser_candidate_overwrites").holds(&[
-        player.is_addressed(),
-        player.is_asked(0, at(1, 1000)) && player.hears(REFLEXIVE),
+        player.set_up_credentials(),
+        player.receive_request(0, at(1, 1000)) && player.hears(REFLEXIVE),
         player.has_heard_of(&[at(2, 2000)]) && player.pair_with(SENDER).is_none(),
         // the pair is that of the reflexive candidate now, under the priority that it was made with
         player.number_with(REFLEXIVE) == Some(0) && player.nominates(REFLEXIVE),
         player.prio_with(REFLEXIVE) == Some(7962116751041232382),
         // so it is known when it comes again, and when its peer asks again
-        player.hears(REFLEXIVE) && player.is_asked(1, at(1, 1000)),
+        player.hears(REFLEXIVE) && player.receive_request(1, at(1, 1000)),
         player.has_heard_of(&[at(2, 2000)]) && player.number_with(REFLEXIVE) == Some(0),
     ])
 }
 
 fn the_protocol_is_not_compared_where_one_is_overwritten(player: &mut Player) -> Emitted {
     Story("the_protocol_is_not_compared_where_one_is_overwritten").holds(&[
-        player.is_addressed(),
-        player.is_asked(0, at(1, 1000)),
+        player.set_up_credentials(),
+        player.receive_request(0, at(1, 1000)),
         player.hears("candidate:1 1 tcp 7 10.0.0.2 2000 typ host"),
         player.has_heard_of(&[at(2, 2000)]),
         // the sender over UDP is unknown again
-        player.is_asked(1, at(1, 1000)) && player.pair_with(SENDER).is_some(),
+        player.receive_request(1, at(1, 1000)) && player.pair_with(SENDER).is_some(),
         player.has_heard_of(&[at(2, 2000), at(2, 2000)]),
     ])
 }
@@ -124,10 +124,10 @@ fn the_protocol_is_not_compared_where_one_is_overwritten(player: &mut Player) ->
 
 fn the_limit_acts_where_pairs_are_formed(player: &mut Player) -> Emitted {
     Story("the_limit_acts_where_pairs_are_formed").holds(&[
-        player.is_addressed() && player.is_limited(0),
+        player.set_up_credentials() && player.limit_pairs(0),
         player.hears(PEER) && player.pair_with(PEER).is_none(),
         // not where a request asks for one
-        player.is_asked(0, at(1, 1000)) && player.pair_with(PEER).is_some(),
+        player.receive_request(0, at(1, 1000)) && player.pair_with(PEER).is_some(),
         // also where there is nothing to form
         player.hears("candidate:1 1 tcp 7 10.0.0.9 9000 typ host"),
         player.pair_with(PEER).is_none(),
@@ -136,7 +136,7 @@ fn the_limit_acts_where_pairs_are_formed(player: &mut Player) -> Emitted {
 
 fn pairs_of_least_priority_go(player: &mut Player) -> Emitted {
     Story("pairs_of_least_priority_go").holds(&[
-        player.is_alone() && player.hears(REFLEXIVE) && player.is_limited(1),
+        player.set_up_alone() && player.hears(REFLEXIVE) && player.limit_pairs(1),
         // nothing is formed: what stands stays
         player.pair_with(REFLEXIVE).is_some(),
         player.hears(OTHER) && player.pair_with(REFLEXIVE).is_none(),
@@ -153,7 +153,7 @@ const ZERO: &str = "candidate:1 1 udp 0 10.0.0.2 2000 typ host";
 
 fn a_role_set_by_hand_leaves_priorities(player: &mut Player) -> Emitted {
     Story("a_role_set_by_hand_leaves_priorities").holds(&[
-        player.is_alone(),
+        player.set_up_alone(),
         player.hears(ZERO) && player.prio_with(ZERO) == Some(4261412351),
         player.takes_role(false) && player.prio_with(ZERO) == Some(4261412351),
         player.agent.recreate_candidate_pairs().is_ok(),

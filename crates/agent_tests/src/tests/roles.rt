@@ -38,8 +38,8 @@ fn play_both(one: &mut Player, two: &mut Player) -> Emitted {
     a_487_off_its_path_does_nothing(two)
 }
 
-/// Is the agent at 10.0.0.1:1000, in that role, which has sent a check at 0.
-fn is_first(player: &mut Player, tie_breaker: u64, controlling: bool) -> bool {
+/// Sets up the agent at 10.0.0.1:1000, in that role, which has sent a check at 0.
+fn set_up_first(player: &mut Player, tie_breaker: u64, controlling: bool) -> bool {
     player.begins("AAAA", "passA", tie_breaker)
         && player.takes_role(controlling)
         && player.knows("BBBB", "passB")
@@ -49,8 +49,8 @@ fn is_first(player: &mut Player, tie_breaker: u64, controlling: bool) -> bool {
         && player.tells(b"Rc")
 }
 
-/// Is the agent at 10.0.0.2:2000, likewise.
-fn is_second(player: &mut Player, tie_breaker: u64, controlling: bool) -> bool {
+/// Sets up the agent at 10.0.0.2:2000, likewise.
+fn set_up_second(player: &mut Player, tie_breaker: u64, controlling: bool) -> bool {
     player.begins("BBBB", "passB", tie_breaker)
         && player.takes_role(controlling)
         && player.knows("AAAA", "passA")
@@ -60,9 +60,9 @@ fn is_second(player: &mut Player, tie_breaker: u64, controlling: bool) -> bool {
         && player.tells(b"Rc")
 }
 
-/// Are agents of these tie-breakers that claim one role, each with a check on its way.
+/// Sets up agents of these tie-breakers that claim one role, each with a check on its way.
 fn claim(one: &mut Player, two: &mut Player, ties: (u64, u64), controlling: bool) -> bool {
-    is_first(one, ties.0, controlling) && is_second(two, ties.1, controlling)
+    set_up_first(one, ties.0, controlling) && set_up_second(two, ties.1, controlling)
 }
 
 /// Each gets the check of the other, and answers it.
@@ -71,7 +71,7 @@ fn meet(one: &mut Player, two: &mut Player) -> bool {
 }
 
 /// The first gets the check of the second, and answers by a 487, the way back.
-fn is_told(one: &mut Player, two: &Player) -> bool {
+fn answer_by_487(one: &mut Player, two: &Player) -> bool {
     one.gets(10, two)
         && one.sends()
         && one.has_sent(Class::Failure, 76)
@@ -107,7 +107,7 @@ fn the_lesser_tie_breaker_yields(one: &mut Player, two: &mut Player) -> Emitted 
 
 /// The second switches when the 487 comes, and does nothing when it comes again.
 fn switches_once(one: &mut Player, two: &mut Player, controlling: bool) -> bool {
-    is_told(one, two)
+    answer_by_487(one, two)
         && roles_of(one, two) == (controlling, controlling)
         && two.gets(20, one)
         && roles_of(one, two) == (controlling, !controlling)
@@ -142,7 +142,7 @@ fn is_unanswered(player: &Player, prio: u64) -> bool {
 fn a_switch_computes_priorities_anew(one: &mut Player, two: &mut Player) -> Emitted {
     Story("a_switch_computes_priorities_anew").holds(&[
         claim(one, two, (10, 5), true),
-        is_told(one, two) && is_unanswered(two, 433758141951),
+        answer_by_487(one, two) && is_unanswered(two, 433758141951),
         two.gets(20, one) && is_unanswered(two, 433758141950),
         // no answer counts, and the next check is due as before
         two.agent.stats().bind_success_recv == 0,
@@ -160,10 +160,10 @@ fn expects_487(player: &mut Player) -> bool {
 
 fn a_487_off_its_path_does_nothing(player: &mut Player) -> Emitted {
     Story("a_487_off_its_path_does_nothing").holds(&[
-        is_second(player, 5, true),
+        set_up_second(player, 5, true),
         expects_487(player) && player.accepts(),
         !player.accepts_from(at(3, 1000), at(2, 2000)),
-        !player.takes(20, at(3, 1000), at(2, 2000)) && player.is_still(),
+        !player.takes(20, at(3, 1000), at(2, 2000)) && player.emits_nothing(),
         player.agent.controlling() && player.takes(20, at(1, 1000), at(2, 2000)),
         !player.agent.controlling(),
     ])

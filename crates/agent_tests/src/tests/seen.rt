@@ -25,8 +25,8 @@ impl Player {
         self.sent.is_some()
     }
 
-    /// It has no packet left to send.
-    pub(super) fn is_silent(&mut self) -> bool {
+    /// Polls for a packet, and there is none.
+    pub(super) fn sends_nothing(&mut self) -> bool {
         self.agent.poll_transmit().is_none()
     }
 
@@ -122,8 +122,8 @@ impl Player {
         self.agent.poll_event().is_none()
     }
 
-    /// It has no packet and no event.
-    pub(super) fn is_still(&mut self) -> bool {
+    /// Polls for a packet and an event, and there is neither.
+    pub(super) fn emits_nothing(&mut self) -> bool {
         self.agent.poll_transmit().is_none() && self.agent.poll_event().is_none()
     }
 

@@ -21,8 +21,8 @@ fn settings_are_kept(rt: HostRuntime) -> Result<(), Fail> {
     tell(rt.alloc(), &Settings)
 }
 
-/// The lengths are refused.
-fn are_too_small(agent: &mut Agent) -> bool {
+/// Lengths that are too small are refused.
+fn refuses_lengths(agent: &mut Agent) -> bool {
     matches!(agent.set_mtu(587..=9000), Err(IceError::MtuTooSmall))
 }
 
@@ -33,17 +33,17 @@ fn has_lengths(agent: &Agent, mtu: usize, mtu_warn: usize) -> bool {
 
 fn a_packet_may_be_as_long_as_the_longest_check(player: &mut Player) -> Emitted {
     Story("a_packet_may_be_as_long_as_the_longest_check").holds(&[
-        player.is_alone(),
+        player.set_up_alone(),
         has_lengths(&player.agent, 1150, 1280),
-        are_too_small(&mut player.agent),
+        refuses_lengths(&mut player.agent),
         has_lengths(&player.agent, 1150, 1280),
         player.agent.set_mtu(588..=600).is_ok(),
         has_lengths(&player.agent, 588, 600),
     ])
 }
 
-/// Is an agent whose digests are made by a provider that is handed in.
-fn is_provided(player: &mut Player) -> bool {
+/// Sets up an agent whose digests are computed by a provider that is passed in.
+fn set_up_provider(player: &mut Player) -> bool {
     let Ok(creds) = creds(player.alloc, "aaaa", "p") else {
         return false;
     };
@@ -58,7 +58,7 @@ fn is_provided(player: &mut Player) -> bool {
 
 fn what_is_not_set_has_a_default(player: &mut Player) -> Emitted {
     Story("what_is_not_set_has_a_default").holds(&[
-        is_provided(player),
+        set_up_provider(player),
         !player.agent.controlling() && !player.agent.ice_lite(),
         player.agent.state() == IceConnectionState::New,
         player.agent.ice_timeout() == Duration::from_millis(21500),
@@ -78,7 +78,7 @@ fn breaks_ties_by(player: &mut Player, tie_breaker: u64) -> bool {
 
 fn a_check_claims_the_role_by_the_tie_breaker(player: &mut Player) -> Emitted {
     Story("a_check_claims_the_role_by_the_tie_breaker").holds(&[
-        player.is_paired() && breaks_ties_by(player, TIE_BREAKER),
+        player.set_up_pair() && breaks_ties_by(player, TIE_BREAKER),
         player.checks(0) && player.has_claimed(TIE_BREAKER, "farr:near"),
     ])
 }
@@ -111,7 +111,7 @@ fn checks_twice(player: &mut Player) -> bool {
 
 fn how_long_a_pair_is_checked_follows_the_delays(player: &mut Player) -> Emitted {
     Story("how_long_a_pair_is_checked_follows_the_delays").holds(&[
-        player.is_alone(),
+        player.set_up_alone(),
         // 500, and 500 behind the last check
         checks_twice(player) && gives_up_behind(player, 1000),
         player.waits_at_most(400) && gives_up_behind(player, 800),

@@ -48,9 +48,9 @@ fn draws(player: &mut Player) -> bool {
 
 fn a_check_draws_its_id_and_nothing_else_draws(player: &mut Player) -> Emitted {
     Story("a_check_draws_its_id_and_nothing_else_draws").holds(&[
-        player.is_paired() && draws(player),
+        player.set_up_pair() && draws(player),
         player.checks(0) && player.sent_id() == Some(ID),
-        player.timeout(249) && player.is_silent(),
+        player.timeout(249) && player.sends_nothing(),
         player.rng.next_u32() == 0x83d2f293,
     ])
 }

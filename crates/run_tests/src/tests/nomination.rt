@@ -36,8 +36,8 @@ fn stories(rt: HostRuntime) -> Result<(), Fail> {
     tell(rt.alloc(), &Nomination)
 }
 
-/// A, which is controlling, checks both candidates of B, the greater first; both answer.
-fn has_two_answers(stage: &mut Stage, first: Step, second: Step) -> bool {
+/// Plays: A, which is controlling, checks both candidates of B, the greater first; both answer.
+fn play_two_answers(stage: &mut Stage, first: Step, second: Step) -> bool {
     stage.plays(&[&[
         Step::Controlling(true),
         Step::Remote,
@@ -62,7 +62,7 @@ fn the_greater_of_two_eligible_pairs_is_announced(stage: &mut Stage) -> Emitted 
         (9, check(2, at(2, 2000))),
     ];
     Story("the_greater_of_two_eligible_pairs_is_announced").holds(&[
-        has_two_answers(stage, lesser, greater),
+        play_two_answers(stage, lesser, greater),
         announces(&stage.log, &paths),
         issues(&stage.log, &checks),
     ])
@@ -72,7 +72,7 @@ fn a_lesser_pair_is_not_announced_behind_it(stage: &mut Stage) -> Emitted {
     let greater = says(60, at(2, 2000), Said::Success(0));
     let lesser = says(70, at(3, 3000), Said::Success(1));
     Story("a_lesser_pair_is_not_announced_behind_it").holds(&[
-        has_two_answers(stage, greater, lesser),
+        play_two_answers(stage, greater, lesser),
         takes(&stage.log, 7, true),
         takes(&stage.log, 8, true),
         announces(&stage.log, &[(7, path_to(at(2, 2000)))]),
@@ -104,8 +104,8 @@ fn a_replaced_pair_is_announced_at_the_next_moment(stage: &mut Stage) -> Emitted
     ])
 }
 
-/// A, which is controlled, has sent a check in entry 3. Behind what comes then, a moment passes in entry 6.
-fn is_controlled(stage: &mut Stage, first: Step, second: Step) -> bool {
+/// Plays: A, which is controlled, has sent a check in entry 3. After what comes then, there is a timeout in entry 6.
+fn play_controlled(stage: &mut Stage, first: Step, second: Step) -> bool {
     stage.plays(&[&[
         Step::Remote,
         Step::Host(at(1, 1000)),
@@ -132,7 +132,7 @@ fn a_controlled_agent_announces_what_was_asked_for(stage: &mut Stage) -> Emitted
         (6, check(1, at(2, 2000))),
     ];
     Story("a_controlled_agent_announces_what_was_asked_for").holds(&[
-        is_controlled(stage, success(), nominating()),
+        play_controlled(stage, success(), nominating()),
         takes(&stage.log, 4, true),
         takes(&stage.log, 5, true),
         issues(&stage.log, &packets),
@@ -148,7 +148,7 @@ fn a_pair_that_was_asked_for_is_announced_once_it_is_valid(stage: &mut Stage) ->
         (6, check(1, at(2, 2000))),
     ];
     Story("a_pair_that_was_asked_for_is_announced_once_it_is_valid").holds(&[
-        is_controlled(stage, nominating(), success()),
+        play_controlled(stage, nominating(), success()),
         takes(&stage.log, 4, true),
         takes(&stage.log, 5, true),
         issues(&stage.log, &packets),
@@ -163,7 +163,7 @@ fn a_controlled_agent_announces_nothing_unasked(stage: &mut Stage) -> Emitted {
     };
     let packets = [(3, check(0, at(2, 2000))), (5, reply(1, Class::Success))];
     Story("a_controlled_agent_announces_nothing_unasked").holds(&[
-        is_controlled(stage, success(), says(60, at(2, 2000), unasked)),
+        play_controlled(stage, success(), says(60, at(2, 2000), unasked)),
         takes(&stage.log, 4, true),
         takes(&stage.log, 5, true),
         issues(&stage.log, &packets),

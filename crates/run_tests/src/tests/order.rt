@@ -19,8 +19,8 @@ fn stories(rt: HostRuntime) -> Result<(), Fail> {
     tell(rt.alloc(), &Order)
 }
 
-/// A check in entry 3, a reply in entry 4, and these steps behind them.
-fn has_two_packets(stage: &mut Stage, last: &[Step]) -> bool {
+/// Plays: a check in entry 3, a reply in entry 4, and these steps after them.
+fn play_two_packets(stage: &mut Stage, last: &[Step]) -> bool {
     let request = Step::Packet {
         ms: 10,
         from: at(2, 2000),
@@ -62,7 +62,7 @@ fn polls(log: &RunLog, number: usize, class: Class, id: TransId) -> bool {
 fn packets_are_polled_in_order(stage: &mut Stage) -> Emitted {
     let packets = [(3, check(0, at(2, 2000))), (4, reply(1, Class::Success))];
     Story("packets_are_polled_in_order").holds(&[
-        has_two_packets(stage, &[Step::PollPacket; 3]),
+        play_two_packets(stage, &[Step::PollPacket; 3]),
         issues(&stage.log, &packets),
         polls(&stage.log, 5, Class::Request, check_id(0)),
         polls(&stage.log, 6, Class::Success, request_id(1)),
@@ -99,7 +99,7 @@ fn tells(log: &RunLog, first: usize, all_in_flight: &[u8]) -> bool {
 
 fn events_are_polled_in_order(stage: &mut Stage) -> Emitted {
     Story("events_are_polled_in_order").holds(&[
-        has_two_packets(stage, &[Step::PollEvent; 4]),
+        play_two_packets(stage, &[Step::PollEvent; 4]),
         tells(&stage.log, 5, b"RcD-"),
     ])
 }
@@ -112,7 +112,7 @@ fn a_restart_empties_both_queues(stage: &mut Stage) -> Emitted {
         Step::PollEvent,
     ];
     Story("a_restart_empties_both_queues").holds(&[
-        has_two_packets(stage, &steps),
+        play_two_packets(stage, &steps),
         answers(&stage.log, 5, &Answer::Done),
         answers(&stage.log, 6, &Answer::Transmit(None)),
         tells(&stage.log, 7, b"R-"),

@@ -156,6 +156,9 @@ fn where_all_premises_hold_both_announce(stage: &mut Stage) -> Emitted {
         world_issues(&stage.world, &issued),
         takes_all(&stage.world, 14, 1, Side::B, true),
         takes_all(&stage.world, 15, 1, Side::A, true),
-        world_announces(&stage.world, &[(15, path_of(Side::A)), (23, path_of(Side::B))]),
+        world_announces(
+            &stage.world,
+            &[(15, path_of(Side::A)), (23, path_of(Side::B))],
+        ),
     ])
 }

@@ -86,8 +86,8 @@ fn of_one_tie_breaker_both_turn_again_and_again(stage: &mut Stage) -> Emitted {
     ])
 }
 
-/// Nothing comes of the events.
-fn is_silent(stage: &mut Stage, parts: &[&[Event]]) -> bool {
+/// Plays the events; no packet is issued and no path announced.
+fn play_without_effect(stage: &mut Stage, parts: &[&[Event]]) -> bool {
     stage.happens(A_CONTROLS, parts)
         && world_issues(&stage.world, &[])
         && world_announces(&stage.world, &[])
@@ -110,11 +110,11 @@ fn where_neither_checks_nothing_is_sent(stage: &mut Stage) -> Emitted {
     ];
     Story("where_neither_checks_nothing_is_sent").holds(&[
         // both are ice-lite
-        is_silent(stage, &[&lite, &opening(), &moments(300)]),
+        play_without_effect(stage, &[&lite, &opening(), &moments(300)]),
         // neither may form a pair
-        is_silent(stage, &[&limited, &opening(), &moments(300)]),
+        play_without_effect(stage, &[&limited, &opening(), &moments(300)]),
         // neither knows a candidate of the other
-        is_silent(stage, &[&apart, &moments(0), &moments(300)]),
+        play_without_effect(stage, &[&apart, &moments(0), &moments(300)]),
     ])
 }
 
@@ -203,8 +203,8 @@ fn a_path_whose_pair_was_cleared_is_not_announced(stage: &mut Stage) -> Emitted 
     ])
 }
 
-/// B's own check is lost. Its answer to A's comes to A behind the moment at 250.
-fn is_answered_late(stage: &mut Stage, calls: &[Event]) -> bool {
+/// Plays the calls; then B's own check is lost, and its answer to A's reaches A after the timeout at 250 ms.
+fn play_late_answer(stage: &mut Stage, calls: &[Event]) -> bool {
     let late = [
         Event::Poll(Side::A),
         Event::Poll(Side::B),
@@ -219,9 +219,9 @@ fn is_answered_late(stage: &mut Stage, calls: &[Event]) -> bool {
 fn an_answer_behind_the_last_timeout_is_not_taken(stage: &mut Stage) -> Emitted {
     let path = [(13, path_of(Side::A))];
     Story("an_answer_behind_the_last_timeout_is_not_taken").holds(&[
-        is_answered_late(stage, &[]) && world_announces(&stage.world, &path),
+        play_late_answer(stage, &[]) && world_announces(&stage.world, &path),
         // A may check once, and gives its pair up
-        is_answered_late(stage, &[Event::Do(Side::A, Step::Checks(1))]),
+        play_late_answer(stage, &[Event::Do(Side::A, Step::Checks(1))]),
         takes_all(&stage.world, 14, 1, Side::A, false),
         world_announces(&stage.world, &[]),
     ])
