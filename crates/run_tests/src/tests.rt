@@ -23,7 +23,7 @@ use stage::Stage;
 use std::alloc::{AllocError, Global};
 use std::net::{Ipv4Addr, SocketAddr, SocketAddrV4};
 use std::test::Fail;
-use story::{Story, Subject, Emitted, tell};
+use story::{Emitted, Story, Subject, tell};
 
 type Agent = IceAgent<DefaultSha1HmacProvider>;
 

@@ -131,7 +131,9 @@ fn the_least_of_four_pairs_is_announced_in_the_fourth_round(player: &mut Player)
     ])
 }
 
-fn the_least_of_a_hundred_pairs_is_announced_in_the_hundredth_round(player: &mut Player) -> Emitted {
+fn the_least_of_a_hundred_pairs_is_announced_in_the_hundredth_round(
+    player: &mut Player,
+) -> Emitted {
     Story("the_least_of_a_hundred_pairs_is_announced_in_the_hundredth_round").holds(&[
         set_up_pairs(player, 100),
         announced(player, peer(100), 200) == Some((100, 4950)),
