@@ -23,7 +23,7 @@ use stage::Stage;
 use std::alloc::{AllocError, Global};
 use std::net::{Ipv4Addr, SocketAddr, SocketAddrV4};
 use std::test::Fail;
-use story::{Emitted, Story, Subject, tell};
+use story::{Story, Subject, Told, tell};
 
 type Agent = IceAgent<DefaultSha1HmacProvider>;
 

@@ -6,7 +6,7 @@ use super::*;
 struct Numbers;
 
 impl Subject for Numbers {
-    fn play(&self, player: &mut Player) -> Emitted {
+    fn play(&self, player: &mut Player) -> Told {
         numbers_end(player)?;
         without_a_number_no_candidate_is_stored(player)?;
         the_last_number_forms_one_pair(player)?;
@@ -37,7 +37,7 @@ fn fails_to_recreate(player: &mut Player) -> bool {
     )
 }
 
-fn numbers_end(player: &mut Player) -> Emitted {
+fn numbers_end(player: &mut Player) -> Told {
     Story("numbers_end").holds(&[
         player.set_up_pair(),
         player.number_with(PEER) == Some(0),
@@ -49,7 +49,7 @@ fn numbers_end(player: &mut Player) -> Emitted {
     ])
 }
 
-fn without_a_number_no_candidate_is_stored(player: &mut Player) -> Emitted {
+fn without_a_number_no_candidate_is_stored(player: &mut Player) -> Told {
     Story("without_a_number_no_candidate_is_stored").holds(&[
         player.set_up_alone() && player.skips_to(NONE_LEFT),
         !player.hears(PEER) && player.has_heard_of(&[]),
@@ -59,7 +59,7 @@ fn without_a_number_no_candidate_is_stored(player: &mut Player) -> Emitted {
     ])
 }
 
-fn the_last_number_forms_one_pair(player: &mut Player) -> Emitted {
+fn the_last_number_forms_one_pair(player: &mut Player) -> Told {
     Story("the_last_number_forms_one_pair").holds(&[
         player.set_up_alone() && player.skips_to(LAST),
         // a smaller number changes nothing
@@ -69,7 +69,7 @@ fn the_last_number_forms_one_pair(player: &mut Player) -> Emitted {
     ])
 }
 
-fn without_a_number_no_request_is_served(player: &mut Player) -> Emitted {
+fn without_a_number_no_request_is_served(player: &mut Player) -> Told {
     Story("without_a_number_no_request_is_served").holds(&[
         player.set_up_credentials() && player.takes_role(true) && player.skips_to(NONE_LEFT),
         // neither the role, nor the sender, nor its source is changed

@@ -12,7 +12,7 @@ const OTHER: &str = "candidate:1 1 udp 2130706175 10.0.0.3 3000 typ host";
 struct Pairs;
 
 impl Subject for Pairs {
-    fn play(&self, player: &mut Player) -> Emitted {
+    fn play(&self, player: &mut Player) -> Told {
         a_pair_of_greater_priority_replaces(player)?;
         what_replaced_is_announced_again(player)?;
         what_is_redundant_takes_no_number(player)?;
@@ -38,7 +38,7 @@ fn set_up_connected(player: &mut Player) -> bool {
         && player.tells(b"RcNCD")
 }
 
-fn a_pair_of_greater_priority_replaces(player: &mut Player) -> Emitted {
+fn a_pair_of_greater_priority_replaces(player: &mut Player) -> Told {
     Story("a_pair_of_greater_priority_replaces").holds(&[
         set_up_connected(player),
         player.prio_with(REFLEXIVE) == Some(433758141951),
@@ -57,7 +57,7 @@ fn has_unanswered_figures(player: &Player) -> bool {
         && player.agent.nominated_pair_responses_received() == Some(0)
 }
 
-fn what_replaced_is_announced_again(player: &mut Player) -> Emitted {
+fn what_replaced_is_announced_again(player: &mut Player) -> Told {
     Story("what_replaced_is_announced_again").holds(&[
         set_up_connected(player),
         player.hears(PEER) && player.checks(100) && player.has_checked(92, true),
@@ -67,7 +67,7 @@ fn what_replaced_is_announced_again(player: &mut Player) -> Emitted {
     ])
 }
 
-fn what_is_redundant_takes_no_number(player: &mut Player) -> Emitted {
+fn what_is_redundant_takes_no_number(player: &mut Player) -> Told {
     Story("what_is_redundant_takes_no_number").holds(&[
         player.set_up_pair(),
         player.hears(REFLEXIVE) && player.pair_with(REFLEXIVE).is_none(),
@@ -82,7 +82,7 @@ fn what_is_redundant_takes_no_number(player: &mut Player) -> Emitted {
 /// The candidate that the sender of the request becomes.
 const SENDER: &str = "candidate:1 1 udp 1853824767 10.0.0.2 2000 typ prflx";
 
-fn the_sender_of_a_request_is_overwritten(player: &mut Player) -> Emitted {
+fn the_sender_of_a_request_is_overwritten(player: &mut Player) -> Told {
     Story("the_sender_of_a_request_is_overwritten").holds(&[
         player.set_up_credentials(),
         player.receive_request(0, at(1, 1000)) && player.nominates(SENDER),
@@ -94,7 +94,7 @@ fn the_sender_of_a_request_is_overwritten(player: &mut Player) -> Emitted {
     ])
 }
 
-fn the_pair_of_a_sender_stays_where_a_lesser_candidate_overwrites(player: &mut Player) -> Emitted {
+fn the_pair_of_a_sender_stays_where_a_lesser_candidate_overwrites(player: &mut Player) -> Told {
     Story("the_pair_of_a_sender_stays_where_a_lesser_candidate_overwrites").holds(&[
         player.set_up_credentials(),
         player.receive_request(0, at(1, 1000)) && player.hears(REFLEXIVE),
@@ -108,7 +108,7 @@ fn the_pair_of_a_sender_stays_where_a_lesser_candidate_overwrites(player: &mut P
     ])
 }
 
-fn the_protocol_is_not_compared_where_one_is_overwritten(player: &mut Player) -> Emitted {
+fn the_protocol_is_not_compared_where_one_is_overwritten(player: &mut Player) -> Told {
     Story("the_protocol_is_not_compared_where_one_is_overwritten").holds(&[
         player.set_up_credentials(),
         player.receive_request(0, at(1, 1000)),
@@ -122,7 +122,7 @@ fn the_protocol_is_not_compared_where_one_is_overwritten(player: &mut Player) ->
 
 // ---- the limit
 
-fn the_limit_acts_where_pairs_are_formed(player: &mut Player) -> Emitted {
+fn the_limit_acts_where_pairs_are_formed(player: &mut Player) -> Told {
     Story("the_limit_acts_where_pairs_are_formed").holds(&[
         player.set_up_credentials() && player.limit_pairs(0),
         player.hears(PEER) && player.pair_with(PEER).is_none(),
@@ -134,7 +134,7 @@ fn the_limit_acts_where_pairs_are_formed(player: &mut Player) -> Emitted {
     ])
 }
 
-fn pairs_of_least_priority_go(player: &mut Player) -> Emitted {
+fn pairs_of_least_priority_go(player: &mut Player) -> Told {
     Story("pairs_of_least_priority_go").holds(&[
         player.set_up_alone() && player.hears(REFLEXIVE) && player.limit_pairs(1),
         // nothing is formed: what stands stays
@@ -151,7 +151,7 @@ fn pairs_of_least_priority_go(player: &mut Player) -> Emitted {
 /// A candidate of no priority.
 const ZERO: &str = "candidate:1 1 udp 0 10.0.0.2 2000 typ host";
 
-fn a_role_set_by_hand_leaves_priorities(player: &mut Player) -> Emitted {
+fn a_role_set_by_hand_leaves_priorities(player: &mut Player) -> Told {
     Story("a_role_set_by_hand_leaves_priorities").holds(&[
         player.set_up_alone(),
         player.hears(ZERO) && player.prio_with(ZERO) == Some(4261412351),

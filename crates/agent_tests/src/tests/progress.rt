@@ -10,7 +10,7 @@ use is::Duration;
 struct Progress;
 
 impl Subject for Progress {
-    fn play(&self, player: &mut Player) -> Emitted {
+    fn play(&self, player: &mut Player) -> Told {
         the_least_of_four_pairs_is_announced_in_the_fourth_round(player)?;
         the_least_of_a_hundred_pairs_is_announced_in_the_hundredth_round(player)?;
         without_an_advance_the_wake_up_is_the_last_moment(player)?;
@@ -123,7 +123,7 @@ fn checks_nothing(player: &mut Player, rounds: u64) -> bool {
 
 // ---- of n pairs the last is checked in round n, (n - 1) * 50 ms behind the first
 
-fn the_least_of_four_pairs_is_announced_in_the_fourth_round(player: &mut Player) -> Emitted {
+fn the_least_of_four_pairs_is_announced_in_the_fourth_round(player: &mut Player) -> Told {
     Story("the_least_of_four_pairs_is_announced_in_the_fourth_round").holds(&[
         set_up_pairs(player, 4),
         announced(player, peer(4), 100) == Some((4, 150)),
@@ -131,9 +131,7 @@ fn the_least_of_four_pairs_is_announced_in_the_fourth_round(player: &mut Player)
     ])
 }
 
-fn the_least_of_a_hundred_pairs_is_announced_in_the_hundredth_round(
-    player: &mut Player,
-) -> Emitted {
+fn the_least_of_a_hundred_pairs_is_announced_in_the_hundredth_round(player: &mut Player) -> Told {
     Story("the_least_of_a_hundred_pairs_is_announced_in_the_hundredth_round").holds(&[
         set_up_pairs(player, 100),
         announced(player, peer(100), 200) == Some((100, 4950)),
@@ -143,7 +141,7 @@ fn the_least_of_a_hundred_pairs_is_announced_in_the_hundredth_round(
 
 // ---- runs that hold it up
 
-fn without_an_advance_the_wake_up_is_the_last_moment(player: &mut Player) -> Emitted {
+fn without_an_advance_the_wake_up_is_the_last_moment(player: &mut Player) -> Told {
     Story("without_an_advance_the_wake_up_is_the_last_moment").holds(&[
         set_up_pairs(player, 2) && player.set_pacing(0),
         player.checks(100) && player.wakes_at(100),
@@ -160,7 +158,7 @@ fn set_up_initial_rto(player: &mut Player, nanos: u64) -> bool {
     true
 }
 
-fn below_a_millisecond_a_pair_goes_twice_before_another(player: &mut Player) -> Emitted {
+fn below_a_millisecond_a_pair_goes_twice_before_another(player: &mut Player) -> Told {
     Story("below_a_millisecond_a_pair_goes_twice_before_another").holds(&[
         // due again at 1 ms, behind the other
         set_up_initial_rto(player, 1_000_000) && announced(player, peer(2), 9) == Some((2, 50)),
@@ -169,7 +167,7 @@ fn below_a_millisecond_a_pair_goes_twice_before_another(player: &mut Player) -> 
     ])
 }
 
-fn a_lite_agent_checks_nothing(player: &mut Player) -> Emitted {
+fn a_lite_agent_checks_nothing(player: &mut Player) -> Told {
     Story("a_lite_agent_checks_nothing").holds(&[
         player.set_up_alone() && player.becomes_lite(),
         hears_of_all(player, 1) && checks_nothing(player, 10),
@@ -178,7 +176,7 @@ fn a_lite_agent_checks_nothing(player: &mut Player) -> Emitted {
     ])
 }
 
-fn without_the_credentials_of_the_peer_nothing_is_checked(player: &mut Player) -> Emitted {
+fn without_the_credentials_of_the_peer_nothing_is_checked(player: &mut Player) -> Told {
     Story("without_the_credentials_of_the_peer_nothing_is_checked").holds(&[
         player.begins("near", "nearpass", 7) && player.takes_role(true),
         player.host(at(1, 1000)) && hears_of_all(player, 1),
@@ -212,7 +210,7 @@ fn set_up_one_checked(player: &mut Player) -> bool {
     set_up_pairs(player, 2) && player.checks(60_000) && player.has_sent_from(at(1, 1000), peer(1))
 }
 
-fn a_role_that_turns_twice_within_a_round_puts_a_pair_ahead(player: &mut Player) -> Emitted {
+fn a_role_that_turns_twice_within_a_round_puts_a_pair_ahead(player: &mut Player) -> Told {
     Story("a_role_that_turns_twice_within_a_round_puts_a_pair_ahead").holds(&[
         set_up_one_checked(player),
         announced(player, peer(2), 9) == Some((1, 60_050)),
@@ -228,7 +226,7 @@ fn check_and_wait(player: &mut Player) -> bool {
     player.checks(0) && player.expects_answer(at(1, 1000)) && player.wakes_at(250)
 }
 
-fn a_pair_of_one_check_is_given_up_before_a_late_answer(player: &mut Player) -> Emitted {
+fn a_pair_of_one_check_is_given_up_before_a_late_answer(player: &mut Player) -> Told {
     Story("a_pair_of_one_check_is_given_up_before_a_late_answer").holds(&[
         set_up_pairs(player, 1) && check_and_wait(player) && player.checks(250),
         // the answer to the first check counts behind the second one too

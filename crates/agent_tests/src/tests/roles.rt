@@ -12,7 +12,7 @@ const TWO: &str = "candidate:1 1 udp 100 10.0.0.2 2000 typ host";
 struct Roles;
 
 impl Subject for Roles {
-    fn play(&self, player: &mut Player) -> Emitted {
+    fn play(&self, player: &mut Player) -> Told {
         match other(player.alloc) {
             Some(mut two) => play_both(player, &mut two),
             None => Story("another agent is made").holds(&[false]),
@@ -30,7 +30,7 @@ fn other(alloc: Global) -> Option<Box<Player>> {
     Box::new(alloc, Player::new(alloc, "BBBB", "passB", 5).ok()?).ok()
 }
 
-fn play_both(one: &mut Player, two: &mut Player) -> Emitted {
+fn play_both(one: &mut Player, two: &mut Player) -> Told {
     the_lesser_tie_breaker_yields(one, two)?;
     a_487_switches_the_role_of_its_check_once(one, two)?;
     equal_tie_breakers_both_switch(one, two)?;
@@ -96,7 +96,7 @@ fn lesser_yields(one: &mut Player, two: &mut Player, controlling: bool) -> bool 
         && roles_of(one, two) == (controlling, !controlling)
 }
 
-fn the_lesser_tie_breaker_yields(one: &mut Player, two: &mut Player) -> Emitted {
+fn the_lesser_tie_breaker_yields(one: &mut Player, two: &mut Player) -> Told {
     Story("the_lesser_tie_breaker_yields").holds(&[
         claim(one, two, (10, 5), true),
         lesser_yields(one, two, true),
@@ -115,7 +115,7 @@ fn switches_once(one: &mut Player, two: &mut Player, controlling: bool) -> bool 
         && roles_of(one, two) == (controlling, !controlling)
 }
 
-fn a_487_switches_the_role_of_its_check_once(one: &mut Player, two: &mut Player) -> Emitted {
+fn a_487_switches_the_role_of_its_check_once(one: &mut Player, two: &mut Player) -> Told {
     Story("a_487_switches_the_role_of_its_check_once").holds(&[
         claim(one, two, (10, 5), true),
         switches_once(one, two, true),
@@ -124,7 +124,7 @@ fn a_487_switches_the_role_of_its_check_once(one: &mut Player, two: &mut Player)
     ])
 }
 
-fn equal_tie_breakers_both_switch(one: &mut Player, two: &mut Player) -> Emitted {
+fn equal_tie_breakers_both_switch(one: &mut Player, two: &mut Player) -> Told {
     Story("equal_tie_breakers_both_switch").holds(&[
         claim(one, two, (7, 7), true),
         meet(one, two) && roles_of(one, two) == (true, true),
@@ -139,7 +139,7 @@ fn is_unanswered(player: &Player, prio: u64) -> bool {
     player.prio_with(ONE) == Some(prio) && player.state_with(ONE) == Some(CheckState::InProgress)
 }
 
-fn a_switch_computes_priorities_anew(one: &mut Player, two: &mut Player) -> Emitted {
+fn a_switch_computes_priorities_anew(one: &mut Player, two: &mut Player) -> Told {
     Story("a_switch_computes_priorities_anew").holds(&[
         claim(one, two, (10, 5), true),
         answer_by_487(one, two) && is_unanswered(two, 433758141951),
@@ -158,7 +158,7 @@ fn expects_487(player: &mut Player) -> bool {
     }
 }
 
-fn a_487_off_its_path_does_nothing(player: &mut Player) -> Emitted {
+fn a_487_off_its_path_does_nothing(player: &mut Player) -> Told {
     Story("a_487_off_its_path_does_nothing").holds(&[
         set_up_second(player, 5, true),
         expects_487(player) && player.accepts(),

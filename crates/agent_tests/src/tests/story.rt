@@ -11,7 +11,7 @@ pub(super) struct Missed {
 }
 
 /// Whether what was told came so.
-pub(super) type Emitted = Result<(), Missed>;
+pub(super) type Told = Result<(), Missed>;
 
 /// A story by its name.
 #[derive(Clone, Copy)]
@@ -19,7 +19,7 @@ pub(super) struct Story(pub(super) &'static str);
 
 impl Story {
     /// Whether it came so: each of its sentences holds.
-    pub(super) fn holds(self, sentences: &[bool]) -> Emitted {
+    pub(super) fn holds(self, sentences: &[bool]) -> Told {
         let mut sentence: usize = 0;
         for came in sentences {
             sentence = sentence.saturating_add(1);
@@ -37,11 +37,11 @@ impl Story {
 /// The stories of one subject.
 pub(super) trait Subject {
     /// Has the player play each of them.
-    fn play(&self, player: &mut Player) -> Emitted;
+    fn play(&self, player: &mut Player) -> Told;
 }
 
 /// What comes of the stories, played by an agent in a box.
-fn played<S: Subject>(alloc: Global, subject: &S) -> Result<Emitted, Fail> {
+fn played<S: Subject>(alloc: Global, subject: &S) -> Result<Told, Fail> {
     let mut player = Box::new(alloc, Player::new(alloc, "near", "nearpass", 7)?)?;
     Ok(subject.play(&mut player))
 }

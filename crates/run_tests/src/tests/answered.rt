@@ -30,7 +30,7 @@ fn says(said: Said) -> Step {
 struct Answered;
 
 impl Subject for Answered {
-    fn play(&self, stage: &mut Stage) -> Emitted {
+    fn play(&self, stage: &mut Stage) -> Told {
         an_announced_path_was_answered(stage)?;
         an_answer_that_comes_twice_announces_once(stage)?;
         packets_that_are_not_accepted_change_nothing(stage)
@@ -54,7 +54,7 @@ fn plays_behind_check(stage: &mut Stage, last: &[Step]) -> bool {
     stage.plays(&[&first, last])
 }
 
-fn an_announced_path_was_answered(stage: &mut Stage) -> Emitted {
+fn an_announced_path_was_answered(stage: &mut Stage) -> Told {
     let answers = [
         answer(50, at(3, 2000), at(1, 1000)),
         answer(50, at(2, 2000), at(1, 1001)),
@@ -77,7 +77,7 @@ fn has_figures(agent: &Agent, last: u64, total: u64, count: u64) -> bool {
         && agent.nominated_pair_responses_received() == Some(count)
 }
 
-fn an_answer_that_comes_twice_announces_once(stage: &mut Stage) -> Emitted {
+fn an_answer_that_comes_twice_announces_once(stage: &mut Stage) -> Told {
     let answers = [
         answer(50, at(2, 2000), at(1, 1000)),
         answer(60, at(2, 2000), at(1, 1000)),
@@ -101,7 +101,7 @@ fn are_refused(log: &RunLog) -> bool {
     refused
 }
 
-fn packets_that_are_not_accepted_change_nothing(stage: &mut Stage) -> Emitted {
+fn packets_that_are_not_accepted_change_nothing(stage: &mut Stage) -> Told {
     let packets = [
         says(Said::Nothing),
         says(Said::ForgedRequest(1)),

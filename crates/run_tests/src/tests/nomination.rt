@@ -21,7 +21,7 @@ fn says(ms: u64, from: SocketAddr, said: Said) -> Step {
 struct Nomination;
 
 impl Subject for Nomination {
-    fn play(&self, stage: &mut Stage) -> Emitted {
+    fn play(&self, stage: &mut Stage) -> Told {
         the_greater_of_two_eligible_pairs_is_announced(stage)?;
         a_lesser_pair_is_not_announced_behind_it(stage)?;
         a_replaced_pair_is_announced_at_the_next_moment(stage)?;
@@ -52,7 +52,7 @@ fn play_two_answers(stage: &mut Stage, first: Step, second: Step) -> bool {
     ]])
 }
 
-fn the_greater_of_two_eligible_pairs_is_announced(stage: &mut Stage) -> Emitted {
+fn the_greater_of_two_eligible_pairs_is_announced(stage: &mut Stage) -> Told {
     let lesser = says(60, at(3, 3000), Said::Success(1));
     let greater = says(70, at(2, 2000), Said::Success(0));
     let paths = [(7, path_to(at(3, 3000))), (8, path_to(at(2, 2000)))];
@@ -68,7 +68,7 @@ fn the_greater_of_two_eligible_pairs_is_announced(stage: &mut Stage) -> Emitted 
     ])
 }
 
-fn a_lesser_pair_is_not_announced_behind_it(stage: &mut Stage) -> Emitted {
+fn a_lesser_pair_is_not_announced_behind_it(stage: &mut Stage) -> Told {
     let greater = says(60, at(2, 2000), Said::Success(0));
     let lesser = says(70, at(3, 3000), Said::Success(1));
     Story("a_lesser_pair_is_not_announced_behind_it").holds(&[
@@ -81,7 +81,7 @@ fn a_lesser_pair_is_not_announced_behind_it(stage: &mut Stage) -> Emitted {
     ])
 }
 
-fn a_replaced_pair_is_announced_at_the_next_moment(stage: &mut Stage) -> Emitted {
+fn a_replaced_pair_is_announced_at_the_next_moment(stage: &mut Stage) -> Told {
     let steps = [
         Step::Controlling(true),
         Step::Remote,
@@ -125,7 +125,7 @@ fn nominating() -> Step {
     says(50, at(2, 2000), Said::Nominating { number: 1 })
 }
 
-fn a_controlled_agent_announces_what_was_asked_for(stage: &mut Stage) -> Emitted {
+fn a_controlled_agent_announces_what_was_asked_for(stage: &mut Stage) -> Told {
     let packets = [
         (3, check(0, at(2, 2000))),
         (5, reply(1, Class::Success)),
@@ -141,7 +141,7 @@ fn a_controlled_agent_announces_what_was_asked_for(stage: &mut Stage) -> Emitted
     ])
 }
 
-fn a_pair_that_was_asked_for_is_announced_once_it_is_valid(stage: &mut Stage) -> Emitted {
+fn a_pair_that_was_asked_for_is_announced_once_it_is_valid(stage: &mut Stage) -> Told {
     let packets = [
         (3, check(0, at(2, 2000))),
         (4, reply(1, Class::Success)),
@@ -156,7 +156,7 @@ fn a_pair_that_was_asked_for_is_announced_once_it_is_valid(stage: &mut Stage) ->
     ])
 }
 
-fn a_controlled_agent_announces_nothing_unasked(stage: &mut Stage) -> Emitted {
+fn a_controlled_agent_announces_nothing_unasked(stage: &mut Stage) -> Told {
     let unasked = Said::Request {
         number: 1,
         controlling: true,

@@ -7,7 +7,7 @@ use is::{IceAgentEvent, IceConnectionState};
 struct Order;
 
 impl Subject for Order {
-    fn play(&self, stage: &mut Stage) -> Emitted {
+    fn play(&self, stage: &mut Stage) -> Told {
         packets_are_polled_in_order(stage)?;
         events_are_polled_in_order(stage)?;
         a_restart_empties_both_queues(stage)
@@ -59,7 +59,7 @@ fn polls(log: &RunLog, number: usize, class: Class, id: TransId) -> bool {
     }
 }
 
-fn packets_are_polled_in_order(stage: &mut Stage) -> Emitted {
+fn packets_are_polled_in_order(stage: &mut Stage) -> Told {
     let packets = [(3, check(0, at(2, 2000))), (4, reply(1, Class::Success))];
     Story("packets_are_polled_in_order").holds(&[
         play_two_packets(stage, &[Step::PollPacket; 3]),
@@ -97,14 +97,14 @@ fn tells(log: &RunLog, first: usize, all_in_flight: &[u8]) -> bool {
     true
 }
 
-fn events_are_polled_in_order(stage: &mut Stage) -> Emitted {
+fn events_are_polled_in_order(stage: &mut Stage) -> Told {
     Story("events_are_polled_in_order").holds(&[
         play_two_packets(stage, &[Step::PollEvent; 4]),
         tells(&stage.log, 5, b"RcD-"),
     ])
 }
 
-fn a_restart_empties_both_queues(stage: &mut Stage) -> Emitted {
+fn a_restart_empties_both_queues(stage: &mut Stage) -> Told {
     let steps = [
         Step::Restart,
         Step::PollPacket,

@@ -20,7 +20,7 @@ fn asks(ms: u64, number: u8, to: SocketAddr) -> Step {
 struct Replies;
 
 impl Subject for Replies {
-    fn play(&self, stage: &mut Stage) -> Emitted {
+    fn play(&self, stage: &mut Stage) -> Told {
         each_request_has_its_reply(stage)?;
         a_waiting_request_is_answered_once(stage)?;
         the_greater_tie_breaker_answers_a_conflict(stage)
@@ -32,7 +32,7 @@ fn stories(rt: HostRuntime) -> Result<(), Fail> {
     tell(rt.alloc(), &Replies)
 }
 
-fn each_request_has_its_reply(stage: &mut Stage) -> Emitted {
+fn each_request_has_its_reply(stage: &mut Stage) -> Told {
     let steps = [
         Step::Remote,
         Step::Host(at(1, 1000)),
@@ -59,7 +59,7 @@ fn each_request_has_its_reply(stage: &mut Stage) -> Emitted {
 /// Requests that came before the credentials, and three moments behind them.
 const LATE: usize = 4;
 
-fn a_waiting_request_is_answered_once(stage: &mut Stage) -> Emitted {
+fn a_waiting_request_is_answered_once(stage: &mut Stage) -> Told {
     let steps = [
         Step::Host(at(1, 1000)),
         asks(0, 1, at(1, 1000)),
@@ -107,7 +107,7 @@ fn sends(log: &RunLog, number: usize, len: usize) -> bool {
     }
 }
 
-fn the_greater_tie_breaker_answers_a_conflict(stage: &mut Stage) -> Emitted {
+fn the_greater_tie_breaker_answers_a_conflict(stage: &mut Stage) -> Told {
     let steps = [
         Step::Controlling(true),
         Step::Remote,

@@ -11,7 +11,7 @@ pub(super) struct Missed {
 }
 
 /// Whether what was told came so.
-pub(super) type Emitted = Result<(), Missed>;
+pub(super) type Told = Result<(), Missed>;
 
 /// A story by its name.
 #[derive(Clone, Copy)]
@@ -19,7 +19,7 @@ pub(super) struct Story(pub(super) &'static str);
 
 impl Story {
     /// Whether it came so: each of its sentences holds.
-    pub(super) fn holds(self, sentences: &[bool]) -> Emitted {
+    pub(super) fn holds(self, sentences: &[bool]) -> Told {
         let mut sentence: usize = 0;
         for came in sentences {
             sentence = sentence.saturating_add(1);
@@ -37,11 +37,11 @@ impl Story {
 /// The stories of one subject.
 pub(super) trait Subject {
     /// Plays each of them.
-    fn play(&self, stage: &mut Stage) -> Emitted;
+    fn play(&self, stage: &mut Stage) -> Told;
 }
 
 /// What comes of the stories, on a stage in a box.
-fn played<S: Subject>(alloc: Global, subject: &S) -> Result<Emitted, Fail> {
+fn played<S: Subject>(alloc: Global, subject: &S) -> Result<Told, Fail> {
     let mut stage = Box::new(alloc, Stage::new(alloc)?)?;
     Ok(subject.play(&mut stage))
 }

@@ -253,7 +253,7 @@ const BOTH_CONTROLLED: Start = Start {
 struct Strangers;
 
 impl Subject for Strangers {
-    fn play(&self, stage: &mut Stage) -> Emitted {
+    fn play(&self, stage: &mut Stage) -> Told {
         some_calls_are_no_events_of_a_world(stage)
     }
 }
@@ -263,7 +263,7 @@ fn stories(rt: HostRuntime) -> Result<(), Fail> {
     tell(rt.alloc(), &Strangers)
 }
 
-fn some_calls_are_no_events_of_a_world(stage: &mut Stage) -> Emitted {
+fn some_calls_are_no_events_of_a_world(stage: &mut Stage) -> Told {
     let request = Step::Packet {
         ms: 0,
         from: home(Side::B),

@@ -9,7 +9,7 @@ use super::*;
 struct Connect;
 
 impl Subject for Connect {
-    fn play(&self, stage: &mut Stage) -> Emitted {
+    fn play(&self, stage: &mut Stage) -> Told {
         both_announce_the_path_of_the_lesser_of_two_pairs(stage)?;
         where_the_nominating_check_is_lost_the_next_one_serves(stage)?;
         where_all_premises_hold_both_announce(stage)
@@ -53,7 +53,7 @@ fn lost() -> [Event; 2] {
 }
 
 /// The second round's checks are answered, and A announces. Its check in the third round, packet 6, nominates.
-fn both_announce_the_path_of_the_lesser_of_two_pairs(stage: &mut Stage) -> Emitted {
+fn both_announce_the_path_of_the_lesser_of_two_pairs(stage: &mut Stage) -> Told {
     let third = [
         Event::Poll(Side::A),
         deliver(6, 110, Side::B),
@@ -83,7 +83,7 @@ fn both_announce_the_path_of_the_lesser_of_two_pairs(stage: &mut Stage) -> Emitt
 
 /// Packet 6 is lost. The pairs of nobody are due again at 250, those of the path by 600. Then A's check nominates, and B announces at the
 /// answer to its own.
-fn where_the_nominating_check_is_lost_the_next_one_serves(stage: &mut Stage) -> Emitted {
+fn where_the_nominating_check_is_lost_the_next_one_serves(stage: &mut Stage) -> Told {
     let parts: [&[Event]; 13] = [
         &hear_of_two(),
         &moments(0),
@@ -112,7 +112,7 @@ fn where_the_nominating_check_is_lost_the_next_one_serves(stage: &mut Stage) -> 
 /// Each has one pair. Both first checks are answered at 20, and A announces; asked for its wake-up, its nominated pair is due 60 s before, and
 /// B's is due at 250. A's round is the moment at 50, whose check nominates; B's is the one at 251, behind the due moment, whose check is
 /// answered. So by the moment at 300 B announced: it did at 251, since its first check was answered before it was asked.
-fn where_all_premises_hold_both_announce(stage: &mut Stage) -> Emitted {
+fn where_all_premises_hold_both_announce(stage: &mut Stage) -> Told {
     let asked = [
         Event::Do(Side::A, Step::PollWake),
         Event::Do(Side::B, Step::PollWake),

@@ -6,7 +6,7 @@ use super::*;
 struct Granted;
 
 impl Subject for Granted {
-    fn play(&self, stage: &mut Stage) -> Emitted {
+    fn play(&self, stage: &mut Stage) -> Told {
         what_was_answered_is_announced_once_it_is_asked_for(stage)?;
         what_was_asked_for_is_announced_once_it_is_answered(stage)?;
         what_is_answered_alone_is_not_announced(stage)
@@ -47,7 +47,7 @@ fn a_asks(packet: usize) -> [Event; 3] {
     ]
 }
 
-fn what_was_answered_is_announced_once_it_is_asked_for(stage: &mut Stage) -> Emitted {
+fn what_was_answered_is_announced_once_it_is_asked_for(stage: &mut Stage) -> Told {
     let moment = [Event::Do(Side::B, Step::Moment(320))];
     let (a, b) = (a_is_answered(), b_is_answered());
     Story("what_was_answered_is_announced_once_it_is_asked_for").holds(&[
@@ -72,7 +72,7 @@ fn b_is_answered_later() -> [Event; 5] {
 }
 
 /// It is announced with the answer, and the moment behind that finds it so.
-fn what_was_asked_for_is_announced_once_it_is_answered(stage: &mut Stage) -> Emitted {
+fn what_was_asked_for_is_announced_once_it_is_answered(stage: &mut Stage) -> Told {
     let last = [
         deliver(6, 340, Side::B),
         Event::Do(Side::B, Step::Moment(350)),
@@ -89,7 +89,7 @@ fn what_was_asked_for_is_announced_once_it_is_answered(stage: &mut Stage) -> Emi
 }
 
 /// A's check on its nominated path is lost.
-fn what_is_answered_alone_is_not_announced(stage: &mut Stage) -> Emitted {
+fn what_is_answered_alone_is_not_announced(stage: &mut Stage) -> Told {
     let last = [
         Event::Do(Side::A, Step::Moment(300)),
         Event::Do(Side::B, Step::Moment(320)),

@@ -8,7 +8,7 @@ use super::*;
 struct Meet;
 
 impl Subject for Meet {
-    fn play(&self, stage: &mut Stage) -> Emitted {
+    fn play(&self, stage: &mut Stage) -> Told {
         the_check_of_the_greater_turns_the_lesser(stage)?;
         the_check_of_the_lesser_turns_it_by_its_refusal(stage)?;
         without_the_refusal_roles_stay_alike(stage)?;
@@ -22,7 +22,7 @@ fn stories(rt: HostRuntime) -> Result<(), Fail> {
 }
 
 /// A's check alone is delivered, and B answers it.
-fn the_check_of_the_greater_turns_the_lesser(stage: &mut Stage) -> Emitted {
+fn the_check_of_the_greater_turns_the_lesser(stage: &mut Stage) -> Told {
     let last = [Event::Poll(Side::A), deliver(0, 10, Side::B)];
     let packets = [
         (3, sent(Side::A, Class::Request, 0)),
@@ -49,7 +49,7 @@ fn refused() -> [Event; 4] {
     ]
 }
 
-fn the_check_of_the_lesser_turns_it_by_its_refusal(stage: &mut Stage) -> Emitted {
+fn the_check_of_the_lesser_turns_it_by_its_refusal(stage: &mut Stage) -> Told {
     let last = [deliver(2, 20, Side::B)];
     let packets = [
         (3, sent(Side::A, Class::Request, 0)),
@@ -67,7 +67,7 @@ fn the_check_of_the_lesser_turns_it_by_its_refusal(stage: &mut Stage) -> Emitted
 }
 
 /// A's refusal is lost. B's next check is refused too, and that comes back.
-fn without_the_refusal_roles_stay_alike(stage: &mut Stage) -> Emitted {
+fn without_the_refusal_roles_stay_alike(stage: &mut Stage) -> Told {
     let last = [
         Event::Do(Side::B, Step::Moment(250)),
         Event::Poll(Side::B),
@@ -90,7 +90,7 @@ fn without_the_refusal_roles_stay_alike(stage: &mut Stage) -> Emitted {
 }
 
 /// B knows A, and has no candidate.
-fn a_check_that_reaches_no_candidate_turns_nobody(stage: &mut Stage) -> Emitted {
+fn a_check_that_reaches_no_candidate_turns_nobody(stage: &mut Stage) -> Told {
     let events = [
         Event::Do(Side::A, Step::Remote),
         Event::Do(Side::A, Step::Host(home(Side::A))),

@@ -53,7 +53,7 @@ fn settled(served: usize) -> [(usize, Issued); 4] {
 struct Roles;
 
 impl Subject for Roles {
-    fn play(&self, stage: &mut Stage) -> Emitted {
+    fn play(&self, stage: &mut Stage) -> Told {
         the_lesser_yields_to_a_check(stage)?;
         the_lesser_yields_to_a_refusal(stage)?;
         of_two_controlled_agents_the_lesser_takes_control(stage)?;
@@ -66,7 +66,7 @@ fn stories(rt: HostRuntime) -> Result<(), Fail> {
     tell(rt.alloc(), &Roles)
 }
 
-fn the_lesser_yields_to_a_check(stage: &mut Stage) -> Emitted {
+fn the_lesser_yields_to_a_check(stage: &mut Stage) -> Told {
     Story("the_lesser_yields_to_a_check").holds(&[
         stage.happens_behind(BOTH_CONTROLLING, &check_first()),
         world_issues(&stage.world, &settled(12)),
@@ -76,7 +76,7 @@ fn the_lesser_yields_to_a_check(stage: &mut Stage) -> Emitted {
     ])
 }
 
-fn the_lesser_yields_to_a_refusal(stage: &mut Stage) -> Emitted {
+fn the_lesser_yields_to_a_refusal(stage: &mut Stage) -> Told {
     Story("the_lesser_yields_to_a_refusal").holds(&[
         stage.happens_behind(BOTH_CONTROLLING, &answer_first()),
         world_issues(&stage.world, &settled(15)),
@@ -86,7 +86,7 @@ fn the_lesser_yields_to_a_refusal(stage: &mut Stage) -> Emitted {
     ])
 }
 
-fn of_two_controlled_agents_the_lesser_takes_control(stage: &mut Stage) -> Emitted {
+fn of_two_controlled_agents_the_lesser_takes_control(stage: &mut Stage) -> Told {
     Story("of_two_controlled_agents_the_lesser_takes_control").holds(&[
         stage.happens_behind(BOTH_CONTROLLED, &check_first()),
         world_issues(&stage.world, &settled(12)),
@@ -102,7 +102,7 @@ pub(super) const EQUALS: Start = Start {
     controlling: [true, true],
 };
 
-fn agents_of_one_tie_breaker_both_switch(stage: &mut Stage) -> Emitted {
+fn agents_of_one_tie_breaker_both_switch(stage: &mut Stage) -> Told {
     let last = [
         deliver(0, 10, Side::B),
         Event::Poll(Side::B),

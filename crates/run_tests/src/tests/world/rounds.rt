@@ -7,7 +7,7 @@ use super::*;
 struct Rounds;
 
 impl Subject for Rounds {
-    fn play(&self, stage: &mut Stage) -> Emitted {
+    fn play(&self, stage: &mut Stage) -> Told {
         the_least_of_four_pairs_is_announced_in_round_four(stage)?;
         a_check_that_reaches_no_candidate_is_not_answered(stage)
     }
@@ -60,7 +60,7 @@ fn four_rounds() -> [Event; 11] {
     ]
 }
 
-fn the_least_of_four_pairs_is_announced_in_round_four(stage: &mut Stage) -> Emitted {
+fn the_least_of_four_pairs_is_announced_in_round_four(stage: &mut Stage) -> Told {
     let candidate = [Event::Do(Side::B, Step::Host(home(Side::B)))];
     let issued = [
         (8, check(0, at(3, 2000))),
@@ -78,7 +78,7 @@ fn the_least_of_four_pairs_is_announced_in_round_four(stage: &mut Stage) -> Emit
 }
 
 /// B accepts the check, and drops it: it has no candidate there.
-fn a_check_that_reaches_no_candidate_is_not_answered(stage: &mut Stage) -> Emitted {
+fn a_check_that_reaches_no_candidate_is_not_answered(stage: &mut Stage) -> Told {
     let none = [Event::Do(Side::B, Step::Recreate)];
     let issued = [
         (8, check(0, at(3, 2000))),

@@ -7,7 +7,7 @@ use is::Trace;
 struct Traces;
 
 impl Subject for Traces {
-    fn play(&self, stage: &mut Stage) -> Emitted {
+    fn play(&self, stage: &mut Stage) -> Told {
         an_announced_path_is_traced(stage)?;
         a_lost_check_is_not_traced(stage)?;
         a_trace_begins_behind_the_last_clear(stage)?;
@@ -50,7 +50,7 @@ fn moved(log: &WorldLog, number: usize, side: Side, class: Class) -> bool {
     }
 }
 
-fn an_announced_path_is_traced(stage: &mut Stage) -> Emitted {
+fn an_announced_path_is_traced(stage: &mut Stage) -> Told {
     Story("an_announced_path_is_traced").holds(&[
         stage.happens_behind(A_CONTROLS, &answered()),
         world_announces(&stage.world, &[(12, path_of(Side::A))]),
@@ -65,7 +65,7 @@ fn an_announced_path_is_traced(stage: &mut Stage) -> Emitted {
     ])
 }
 
-fn a_lost_check_is_not_traced(stage: &mut Stage) -> Emitted {
+fn a_lost_check_is_not_traced(stage: &mut Stage) -> Told {
     let events = [
         Event::Poll(Side::A),
         Event::Do(Side::A, Step::Moment(250)),
@@ -101,7 +101,7 @@ fn is_clear(log: &WorldLog, number: usize) -> bool {
     }
 }
 
-fn a_trace_begins_behind_the_last_clear(stage: &mut Stage) -> Emitted {
+fn a_trace_begins_behind_the_last_clear(stage: &mut Stage) -> Told {
     let path = path_of(Side::A);
     Story("a_trace_begins_behind_the_last_clear").holds(&[
         stage.happens(A_CONTROLS, &[&opening(), &answered(), &cleared()]),
@@ -131,7 +131,7 @@ const B_CONTROLS: Start = Start {
     controlling: [false, true],
 };
 
-fn a_lite_agent_has_no_trace(stage: &mut Stage) -> Emitted {
+fn a_lite_agent_has_no_trace(stage: &mut Stage) -> Told {
     let lite_a = [Event::Do(Side::A, Step::Lite)];
     let paths = [(12, path_of(Side::B)), (16, path_of(Side::A))];
     Story("a_lite_agent_has_no_trace").holds(&[
