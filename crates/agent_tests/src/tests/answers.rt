@@ -85,7 +85,7 @@ fn figures_are_those_of_the_announced_pair(player: &mut Player) -> Told {
         player.has_figures(50, 50, 1),
         // an answer that comes again counts again
         player.hears_peer(70) && player.has_figures(70, 120, 2),
-        player.agent.stats().bind_success_recv == 2,
+        same(player.agent.stats().bind_success_recv, 2, player),
     ])
 }
 
@@ -170,7 +170,7 @@ fn checks_under_zeros(player: &mut Player, ms: u64, destination: SocketAddr) -> 
     player.agent.handle_timeout(later(ms), &mut Zeros).is_ok()
         && player.sends()
         && player.has_sent_from(at(1, 1000), destination)
-        && player.sent_id() == Some(TransId([0; 12]))
+        && same(player.sent_id(), Some(TransId([0; 12])), player)
 }
 
 /// Sets up an agent that has checked both addresses of the peer under one id; an answer of that id is to come.
@@ -229,15 +229,15 @@ fn answered_from(player: &mut Player, source: SocketAddr) -> (bool, bool) {
 fn of_two_checks_of_one_id_each_goes_with_its_pair(player: &mut Player) -> Told {
     let (first, second) = (at(2, 2000), at(3, 2000));
     Story("of_two_checks_of_one_id_each_goes_with_its_pair").holds(&[
-        set_up_two_checks(player) && answered_from(player, second) == (true, true),
-        player.loses(PEER) && answered_from(player, second) == (true, true),
-        answered_from(player, first) == (false, true),
-        player.loses(SECOND) && answered_from(player, second) == (false, false),
+        set_up_two_checks(player) && same(answered_from(player, second), (true, true), player),
+        player.loses(PEER) && same(answered_from(player, second), (true, true), player),
+        same(answered_from(player, first), (false, true), player),
+        player.loses(SECOND) && same(answered_from(player, second), (false, false), player),
         // the other way round
-        set_up_two_checks(player) && answered_from(player, second) == (true, true),
-        player.loses(SECOND) && answered_from(player, second) == (false, true),
-        answered_from(player, first) == (true, true),
-        player.loses(PEER) && answered_from(player, first) == (false, false),
+        set_up_two_checks(player) && same(answered_from(player, second), (true, true), player),
+        player.loses(SECOND) && same(answered_from(player, second), (false, true), player),
+        same(answered_from(player, first), (true, true), player),
+        player.loses(PEER) && same(answered_from(player, first), (false, false), player),
     ])
 }
 
@@ -279,6 +279,6 @@ fn a_learnt_candidate_pairs_with_later_ones(player: &mut Player) -> Told {
         player.complete_check(at(9, 9000)),
         // it alone is left
         player.loses("candidate:1 1 udp 1 10.0.0.1 1000 typ host"),
-        player.hears(OTHER) && player.places_with(OTHER) == Some((1, 1)),
+        player.hears(OTHER) && same(player.places_with(OTHER), Some((1, 1)), player),
     ])
 }

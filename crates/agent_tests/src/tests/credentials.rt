@@ -50,12 +50,12 @@ fn fits(player: &mut Player, call: Setting, len: usize) -> Option<bool> {
 
 /// They are taken.
 fn takes(player: &mut Player, call: Setting, len: usize) -> bool {
-    fits(player, call, len) == Some(true)
+    same(fits(player, call, len), Some(true), player)
 }
 
 /// They are refused, since they leave no room.
 fn refuses(player: &mut Player, call: Setting, len: usize) -> bool {
-    fits(player, call, len) == Some(false)
+    same(fits(player, call, len), Some(false), player)
 }
 
 /// A call that takes credentials.
@@ -80,7 +80,11 @@ fn user_fragments_leave_room_for_a_check(player: &mut Player) -> Told {
         refuses(player, Setting::Restart, 508),
         // a restart forgets the other fragment
         takes(player, Setting::Restart, 507),
-        player.agent.local_credentials().ufrag.as_str().len() == 507,
+        same(
+            player.agent.local_credentials().ufrag.as_str().len(),
+            507,
+            player,
+        ),
         player.agent.remote_credentials().is_none() && player.tells(b"Rc"),
     ])
 }

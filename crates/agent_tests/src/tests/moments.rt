@@ -33,7 +33,7 @@ fn a_path_is_announced_and_nominated(player: &mut Player) -> Told {
         player.checks(50) && player.has_checked(92, true),
         // the announced pair stands at the greatest priority: it is not announced again
         player.emits_nothing(),
-        player.agent.stats().nomination_send_count == 1,
+        same(player.agent.stats().nomination_send_count, 1, player),
     ])
 }
 
@@ -57,7 +57,7 @@ fn a_pair_without_answers_is_given_up(player: &mut Player) -> Told {
         player.timeout(18750) && player.tells(b"x") && player.sends_nothing(),
         player.pair_with(PEER).is_none() && player.wakes_at(21750),
         player.agent.state().is_disconnected(),
-        player.agent.stats().bind_request_sent == 9,
+        same(player.agent.stats().bind_request_sent, 9, player),
     ])
 }
 

@@ -118,7 +118,8 @@ fn announced(player: &mut Player, address: SocketAddr, rounds: u64) -> Option<(u
 
 /// So many rounds pass in which it checks nothing, and announces nothing.
 fn checks_nothing(player: &mut Player, rounds: u64) -> bool {
-    announced(player, peer(1), rounds).is_none() && player.agent.stats().bind_request_sent == 0
+    announced(player, peer(1), rounds).is_none()
+        && same(player.agent.stats().bind_request_sent, 0, player)
 }
 
 // ---- of n pairs the last is checked in round n, (n - 1) * 50 ms behind the first
@@ -126,16 +127,16 @@ fn checks_nothing(player: &mut Player, rounds: u64) -> bool {
 fn the_least_of_four_pairs_is_announced_in_the_fourth_round(player: &mut Player) -> Told {
     Story("the_least_of_four_pairs_is_announced_in_the_fourth_round").holds(&[
         set_up_pairs(player, 4),
-        announced(player, peer(4), 100) == Some((4, 150)),
-        player.agent.stats().bind_request_sent == 4,
+        same(announced(player, peer(4), 100), Some((4, 150)), player),
+        same(player.agent.stats().bind_request_sent, 4, player),
     ])
 }
 
 fn the_least_of_a_hundred_pairs_is_announced_in_the_hundredth_round(player: &mut Player) -> Told {
     Story("the_least_of_a_hundred_pairs_is_announced_in_the_hundredth_round").holds(&[
         set_up_pairs(player, 100),
-        announced(player, peer(100), 200) == Some((100, 4950)),
-        player.agent.stats().bind_request_sent == 100,
+        same(announced(player, peer(100), 200), Some((100, 4950)), player),
+        same(player.agent.stats().bind_request_sent, 100, player),
     ])
 }
 
@@ -161,9 +162,11 @@ fn set_up_initial_rto(player: &mut Player, nanos: u64) -> bool {
 fn below_a_millisecond_a_pair_goes_twice_before_another(player: &mut Player) -> Told {
     Story("below_a_millisecond_a_pair_goes_twice_before_another").holds(&[
         // due again at 1 ms, behind the other
-        set_up_initial_rto(player, 1_000_000) && announced(player, peer(2), 9) == Some((2, 50)),
+        set_up_initial_rto(player, 1_000_000)
+            && same(announced(player, peer(2), 9), Some((2, 50)), player),
         // due again at once, before the other of less priority
-        set_up_initial_rto(player, 999_999) && announced(player, peer(2), 9) == Some((3, 100)),
+        set_up_initial_rto(player, 999_999)
+            && same(announced(player, peer(2), 9), Some((3, 100)), player),
     ])
 }
 
@@ -183,7 +186,7 @@ fn without_the_credentials_of_the_peer_nothing_is_checked(player: &mut Player) -
         // its pair is due all the time
         checks_nothing(player, 10) && player.wakes_at(500),
         player.knows("farr", "farpass"),
-        announced(player, peer(1), 9) == Some((1, 500)),
+        same(announced(player, peer(1), 9), Some((1, 500)), player),
     ])
 }
 
@@ -213,11 +216,11 @@ fn set_up_one_checked(player: &mut Player) -> bool {
 fn a_role_that_turns_twice_within_a_round_puts_a_pair_ahead(player: &mut Player) -> Told {
     Story("a_role_that_turns_twice_within_a_round_puts_a_pair_ahead").holds(&[
         set_up_one_checked(player),
-        announced(player, peer(2), 9) == Some((1, 60_050)),
+        same(announced(player, peer(2), 9), Some((1, 60_050)), player),
         set_up_one_checked(player),
         turn_role(player, 60_010, true) && turn_role(player, 60_020, false),
         // the pair that was nominated meanwhile is checked once more
-        announced(player, peer(2), 9) == Some((2, 60_100)),
+        same(announced(player, peer(2), 9), Some((2, 60_100)), player),
     ])
 }
 

@@ -55,7 +55,10 @@ fn takes_many(player: &mut Player) -> bool {
 fn replies_in_order(player: &mut Player) -> bool {
     for before in 0..100u8 {
         let is_served = player.checks(0) && player.has_sent(Class::Success, 64);
-        if !is_served || player.sent_id() != Some(numbered(before + 1)) || !player.sends_nothing() {
+        if !is_served
+            || !same(player.sent_id(), Some(numbered(before + 1)), player)
+            || !player.sends_nothing()
+        {
             return false;
         }
     }
@@ -67,7 +70,7 @@ fn the_last_100_requests_wait(player: &mut Player) -> Told {
         set_up_without_peer(player),
         takes_many(player) && player.tells(b"D") && player.sends_nothing(),
         player.knows("SQAt", "x") && replies_in_order(player),
-        player.agent.stats().bind_request_recv == 100,
+        same(player.agent.stats().bind_request_recv, 100, player),
         // a moment that served a request is no last moment
         player.agent.poll_timeout().is_none(),
         player.checks(0) && player.has_sent(Class::Request, 88),
@@ -108,7 +111,7 @@ fn a_refused_moment_changes_nothing(player: &mut Player) -> Told {
         // the request wants a pair, and no number is left
         set_up_waiting_request(player) && player.skips_to(18446744073709551615),
         !player.timeout(0) && player.emits_nothing(),
-        player.agent.state() == IceConnectionState::New,
+        same(player.agent.state(), IceConnectionState::New, player),
         // it still waits, until it is too old
         !player.timeout(21499) && player.timeout(21500) && player.tells(b"Rc"),
     ])

@@ -52,8 +52,8 @@ fn has_issued(player: &Player) -> bool {
 }
 
 /// So many requests were served.
-fn has_served(player: &Player, count: u64) -> bool {
-    player.agent.stats().bind_request_recv == count
+fn has_served(player: &mut Player, count: u64) -> bool {
+    same(player.agent.stats().bind_request_recv, count, player)
 }
 
 fn the_request_is_answered(player: &mut Player) -> Told {
@@ -71,7 +71,7 @@ fn its_source_is_told_of_once(player: &mut Player) -> Told {
         player.receive_request(0, at(1, 1000)) && discovers(player),
         player.receive_request(1, at(1, 1000)) && player.tells(b""),
         player.agent.poll_timeout().is_none(),
-        player.agent.stats().discovered_recv_count == 1,
+        same(player.agent.stats().discovered_recv_count, 1, player),
     ])
 }
 
@@ -101,7 +101,7 @@ fn its_source_is_told_of_once_over_each_protocol(player: &mut Player) -> Told {
         discovers_by(player, Protocol::Tcp),
         receive_request_over(player, Protocol::Tcp) && player.tells(b""),
         receive_request_over(player, Protocol::Udp) && player.tells(b""),
-        player.agent.stats().discovered_recv_count == 2,
+        same(player.agent.stats().discovered_recv_count, 2, player),
     ])
 }
 

@@ -69,7 +69,7 @@ fn a_restart_keeps_discard_marks_and_numbers(player: &mut Player) -> Told {
         player.host(at(1, 1001)),
         player.loses("candidate:1 1 udp 1 10.0.0.1 1000 typ host"),
         player.restarts("new1", "pass", true) && player.is_at(&[at(1, 1001)]),
-        player.hears(PEER) && player.number_with(PEER) == Some(2),
+        player.hears(PEER) && same(player.number_with(PEER), Some(2), player),
     ])
 }
 
@@ -91,11 +91,16 @@ fn is_viable(player: &Player) -> bool {
 fn a_check_that_succeeded_is_seen(player: &mut Player) -> Told {
     Story("a_check_that_succeeded_is_seen").holds(&[
         player.set_up_pair(),
-        player.state_with(PEER) == Some(CheckState::Waiting),
-        player.checks(0) && player.state_with(PEER) == Some(CheckState::InProgress),
+        same(player.state_with(PEER), Some(CheckState::Waiting), player),
+        player.checks(0)
+            && same(
+                player.state_with(PEER),
+                Some(CheckState::InProgress),
+                player,
+            ),
         !is_viable(player),
         player.expects_answer(at(1, 1000)) && player.hears_peer(50),
-        player.state_with(PEER) == Some(CheckState::Succeeded),
+        same(player.state_with(PEER), Some(CheckState::Succeeded), player),
         is_viable(player),
     ])
 }
@@ -112,7 +117,7 @@ fn a_lite_agent_has_its_path_at_once(player: &mut Player) -> Told {
         !player.agent.has_viable_remote_candidate(at(2, 2001)),
         player.timeout(0) && player.tells(b"DRcN"),
         player.sends() && player.wakes_at(3000),
-        player.agent.state() == IceConnectionState::Checking,
+        same(player.agent.state(), IceConnectionState::Checking, player),
         player.timeout(50) && player.tells(b"C") && player.sends_nothing(),
         player.agent.state().is_connected(),
     ])
@@ -134,7 +139,7 @@ fn a_lite_pair_that_replaces_lives_on_the_requests_of_the_other(player: &mut Pla
     Story("a_lite_pair_that_replaces_lives_on_the_requests_of_the_other").holds(&[
         set_up_lite(player),
         // of a greater priority than the sender of the request
-        player.hears(PEER) && player.number_with(PEER) == Some(1),
+        player.hears(PEER) && same(player.number_with(PEER), Some(1), player),
         // not as if it had been heard of at the first moment
         player.timeout(10000) && player.timeout(14999),
         is_viable(player),

@@ -14,7 +14,13 @@ struct Roles;
 impl Subject for Roles {
     fn play(&self, player: &mut Player) -> Told {
         match other(player.alloc) {
-            Some(mut two) => play_both(player, &mut two),
+            Some(mut two) => {
+                let told = play_both(player, &mut two);
+                if player.difference.is_none() {
+                    player.difference = two.difference.take();
+                }
+                told
+            }
             None => Story("another agent is made").holds(&[false]),
         }
     }
@@ -89,11 +95,11 @@ fn lesser_yields(one: &mut Player, two: &mut Player, controlling: bool) -> bool 
     meet(one, two)
         && one.has_sent(Class::Failure, 76)
         && two.has_sent(Class::Success, 64)
-        && roles_of(one, two) == (controlling, !controlling)
+        && same(roles_of(one, two), (controlling, !controlling), one)
         // the check was sent under the role of before: the 487 does nothing now, once and again
         && two.gets(20, one)
         && two.gets(30, one)
-        && roles_of(one, two) == (controlling, !controlling)
+        && same(roles_of(one, two), (controlling, !controlling), one)
 }
 
 fn the_lesser_tie_breaker_yields(one: &mut Player, two: &mut Player) -> Told {
@@ -108,11 +114,11 @@ fn the_lesser_tie_breaker_yields(one: &mut Player, two: &mut Player) -> Told {
 /// The second switches when the 487 comes, and does nothing when it comes again.
 fn switches_once(one: &mut Player, two: &mut Player, controlling: bool) -> bool {
     answer_by_487(one, two)
-        && roles_of(one, two) == (controlling, controlling)
+        && same(roles_of(one, two), (controlling, controlling), one)
         && two.gets(20, one)
-        && roles_of(one, two) == (controlling, !controlling)
+        && same(roles_of(one, two), (controlling, !controlling), one)
         && two.gets(30, one)
-        && roles_of(one, two) == (controlling, !controlling)
+        && same(roles_of(one, two), (controlling, !controlling), one)
 }
 
 fn a_487_switches_the_role_of_its_check_once(one: &mut Player, two: &mut Player) -> Told {
@@ -127,16 +133,17 @@ fn a_487_switches_the_role_of_its_check_once(one: &mut Player, two: &mut Player)
 fn equal_tie_breakers_both_switch(one: &mut Player, two: &mut Player) -> Told {
     Story("equal_tie_breakers_both_switch").holds(&[
         claim(one, two, (7, 7), true),
-        meet(one, two) && roles_of(one, two) == (true, true),
+        meet(one, two) && same(roles_of(one, two), (true, true), one),
         one.has_sent(Class::Failure, 76) && two.has_sent(Class::Failure, 76),
         one.gets(20, two) && two.gets(20, one),
-        roles_of(one, two) == (false, false),
+        same(roles_of(one, two), (false, false), one),
     ])
 }
 
 /// What a 487 leaves of the second's pair: an unanswered check, under the priority of the role now.
-fn is_unanswered(player: &Player, prio: u64) -> bool {
-    player.prio_with(ONE) == Some(prio) && player.state_with(ONE) == Some(CheckState::InProgress)
+fn is_unanswered(player: &mut Player, prio: u64) -> bool {
+    same(player.prio_with(ONE), Some(prio), player)
+        && same(player.state_with(ONE), Some(CheckState::InProgress), player)
 }
 
 fn a_switch_computes_priorities_anew(one: &mut Player, two: &mut Player) -> Told {
@@ -145,7 +152,7 @@ fn a_switch_computes_priorities_anew(one: &mut Player, two: &mut Player) -> Told
         answer_by_487(one, two) && is_unanswered(two, 433758141951),
         two.gets(20, one) && is_unanswered(two, 433758141950),
         // no answer counts, and the next check is due as before
-        two.agent.stats().bind_success_recv == 0,
+        same(two.agent.stats().bind_success_recv, 0, two),
         two.tells(b"D") && two.wakes_at(250),
     ])
 }

@@ -60,8 +60,12 @@ fn what_is_not_set_has_a_default(player: &mut Player) -> Told {
     Story("what_is_not_set_has_a_default").holds(&[
         set_up_provider(player),
         !player.agent.controlling() && !player.agent.ice_lite(),
-        player.agent.state() == IceConnectionState::New,
-        player.agent.ice_timeout() == Duration::from_millis(21500),
+        same(player.agent.state(), IceConnectionState::New, player),
+        same(
+            player.agent.ice_timeout(),
+            Duration::from_millis(21500),
+            player,
+        ),
         player.agent.remote_credentials().is_none(),
         player.agent.local_credentials().ufrag.as_str() == "aaaa",
     ])
@@ -99,8 +103,12 @@ fn connected_and_completed_are_connected() -> Told {
 }
 
 /// A pair without answers is given up behind so many milliseconds.
-fn gives_up_behind(player: &Player, ms: u64) -> bool {
-    player.agent.ice_timeout() == Duration::from_millis(ms)
+fn gives_up_behind(player: &mut Player, ms: u64) -> bool {
+    same(
+        player.agent.ice_timeout(),
+        Duration::from_millis(ms),
+        player,
+    )
 }
 
 /// Checks a pair twice from now on.

@@ -2,6 +2,7 @@
 //! player, and each begins with a new agent.
 
 use super::*;
+use std::fmt::Debug;
 
 /// The first sentence of a story that does not hold, counted from 1.
 #[derive(Clone, Copy)]
@@ -40,17 +41,46 @@ pub(super) trait Subject {
     fn play(&self, player: &mut Player) -> Told;
 }
 
-/// What comes of the stories, played by an agent in a box.
-fn played<S: Subject>(alloc: Global, subject: &S) -> Result<Told, Fail> {
-    let mut player = Box::new(alloc, Player::new(alloc, "near", "nearpass", 7)?)?;
-    Ok(subject.play(&mut player))
+/// Whether the value is the expected one. The first that is not is kept, and printed if the story fails.
+pub(super) fn same_in<T: Copy + PartialEq + Debug>(
+    actual: T,
+    expected: T,
+    alloc: Global,
+    difference: &mut Option<String>,
+) -> bool {
+    if actual == expected {
+        return true;
+    }
+    if difference.is_none() {
+        *difference = format!(in alloc; "expected {expected:?}, actual {actual:?}").ok();
+    }
+    false
 }
 
-/// Tells the stories, and fails with the first that does not hold, and its sentence.
+/// The same, kept by the player.
+pub(super) fn same<T: Copy + PartialEq + Debug>(
+    actual: T,
+    expected: T,
+    player: &mut Player,
+) -> bool {
+    same_in(actual, expected, player.alloc, &mut player.difference)
+}
+
+/// What comes of the stories, played by an agent in a box, and the first comparison that failed.
+fn played<S: Subject>(alloc: Global, subject: &S) -> Result<(Told, Option<String>), Fail> {
+    let mut player = Box::new(alloc, Player::new(alloc, "near", "nearpass", 7)?)?;
+    let told = subject.play(&mut player);
+    Ok((told, player.difference.take()))
+}
+
+/// Tells the stories, and fails with the first that does not hold, its sentence, and the first comparison that failed.
 pub(super) fn tell<S: Subject>(alloc: Global, subject: &S) -> Result<(), Fail> {
     match played(alloc, subject)? {
-        Ok(()) => Ok(()),
-        Err(Missed { story, sentence }) => {
+        (Ok(()), _) => Ok(()),
+        (Err(Missed { story, sentence }), Some(text)) => {
+            Err(format!(in alloc; "{story}: sentence {sentence}; {text}")?.into())
+        }
+        (Err(Missed { story, sentence }), None) => {
             Err(format!(in alloc; "{story}: sentence {sentence}")?.into())
         }
     }

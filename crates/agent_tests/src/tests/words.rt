@@ -49,8 +49,8 @@ fn draws(player: &mut Player) -> bool {
 fn a_check_draws_its_id_and_nothing_else_draws(player: &mut Player) -> Told {
     Story("a_check_draws_its_id_and_nothing_else_draws").holds(&[
         player.set_up_pair() && draws(player),
-        player.checks(0) && player.sent_id() == Some(ID),
+        player.checks(0) && same(player.sent_id(), Some(ID), player),
         player.timeout(249) && player.sends_nothing(),
-        player.rng.next_u32() == 0x83d2f293,
+        same(player.rng.next_u32(), 0x83d2f293, player),
     ])
 }

@@ -63,8 +63,8 @@ fn the_greater_of_two_eligible_pairs_is_announced(stage: &mut Stage) -> Told {
     ];
     Story("the_greater_of_two_eligible_pairs_is_announced").holds(&[
         play_two_answers(stage, lesser, greater),
-        announces(&stage.log, &paths),
-        issues(&stage.log, &checks),
+        announces(stage, &paths),
+        issues(stage, &checks),
     ])
 }
 
@@ -73,9 +73,9 @@ fn a_lesser_pair_is_not_announced_behind_it(stage: &mut Stage) -> Told {
     let lesser = says(70, at(3, 3000), Said::Success(1));
     Story("a_lesser_pair_is_not_announced_behind_it").holds(&[
         play_two_answers(stage, greater, lesser),
-        takes(&stage.log, 7, true),
-        takes(&stage.log, 8, true),
-        announces(&stage.log, &[(7, path_to(at(2, 2000)))]),
+        takes(stage, 7, true),
+        takes(stage, 8, true),
+        announces(stage, &[(7, path_to(at(2, 2000)))]),
         // it is valid all the same
         stage.agent.has_viable_remote_candidate(at(3, 3000)),
     ])
@@ -97,10 +97,10 @@ fn a_replaced_pair_is_announced_at_the_next_moment(stage: &mut Stage) -> Told {
     let checks = [(4, check(0, at(2, 2000))), (7, check(1, at(2, 2000)))];
     Story("a_replaced_pair_is_announced_at_the_next_moment").holds(&[
         stage.plays(&[&steps]),
-        announces(&stage.log, &[(5, path), (7, path)]),
-        issues(&stage.log, &checks),
+        announces(stage, &[(5, path), (7, path)]),
+        issues(stage, &checks),
         // the pair of the first check is gone
-        takes(&stage.log, 8, false),
+        takes(stage, 8, false),
     ])
 }
 
@@ -133,11 +133,11 @@ fn a_controlled_agent_announces_what_was_asked_for(stage: &mut Stage) -> Told {
     ];
     Story("a_controlled_agent_announces_what_was_asked_for").holds(&[
         play_controlled(stage, success(), nominating()),
-        takes(&stage.log, 4, true),
-        takes(&stage.log, 5, true),
-        issues(&stage.log, &packets),
+        takes(stage, 4, true),
+        takes(stage, 5, true),
+        issues(stage, &packets),
         // the request nominates, and the next moment announces
-        announces(&stage.log, &[(6, path_to(at(2, 2000)))]),
+        announces(stage, &[(6, path_to(at(2, 2000)))]),
     ])
 }
 
@@ -149,10 +149,10 @@ fn a_pair_that_was_asked_for_is_announced_once_it_is_valid(stage: &mut Stage) ->
     ];
     Story("a_pair_that_was_asked_for_is_announced_once_it_is_valid").holds(&[
         play_controlled(stage, nominating(), success()),
-        takes(&stage.log, 4, true),
-        takes(&stage.log, 5, true),
-        issues(&stage.log, &packets),
-        announces(&stage.log, &[(5, path_to(at(2, 2000)))]),
+        takes(stage, 4, true),
+        takes(stage, 5, true),
+        issues(stage, &packets),
+        announces(stage, &[(5, path_to(at(2, 2000)))]),
     ])
 }
 
@@ -164,9 +164,9 @@ fn a_controlled_agent_announces_nothing_unasked(stage: &mut Stage) -> Told {
     let packets = [(3, check(0, at(2, 2000))), (5, reply(1, Class::Success))];
     Story("a_controlled_agent_announces_nothing_unasked").holds(&[
         play_controlled(stage, success(), says(60, at(2, 2000), unasked)),
-        takes(&stage.log, 4, true),
-        takes(&stage.log, 5, true),
-        issues(&stage.log, &packets),
-        announces(&stage.log, &[]),
+        takes(stage, 4, true),
+        takes(stage, 5, true),
+        issues(stage, &packets),
+        announces(stage, &[]),
     ])
 }

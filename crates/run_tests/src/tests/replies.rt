@@ -48,11 +48,11 @@ fn each_request_has_its_reply(stage: &mut Stage) -> Told {
     ];
     Story("each_request_has_its_reply").holds(&[
         stage.plays(&[&steps]),
-        issues(&stage.log, &replies),
-        takes(&stage.log, 4, true),
+        issues(stage, &replies),
+        takes(stage, 4, true),
         // no candidate has the address, so nobody answers
-        takes(&stage.log, 5, true),
-        announces(&stage.log, &[]),
+        takes(stage, 5, true),
+        announces(stage, &[]),
     ])
 }
 
@@ -76,9 +76,9 @@ fn a_waiting_request_is_answered_once(stage: &mut Stage) -> Told {
     ];
     Story("a_waiting_request_is_answered_once").holds(&[
         stage.plays(&[&steps]),
-        takes(&stage.log, 1, true),
-        takes(&stage.log, 2, true),
-        issues(&stage.log, &packets),
+        takes(stage, 1, true),
+        takes(stage, 2, true),
+        issues(stage, &packets),
     ])
 }
 
@@ -118,9 +118,9 @@ fn the_greater_tie_breaker_answers_a_conflict(stage: &mut Stage) -> Told {
     ];
     Story("the_greater_tie_breaker_answers_a_conflict").holds(&[
         stage.plays(&[&steps]),
-        issues(&stage.log, &[(3, reply(1, Class::Failure))]),
+        issues(stage, &[(3, reply(1, Class::Failure))]),
         stage.agent.controlling(),
         sends(&stage.log, 4, 76),
-        answers(&stage.log, 5, &Answer::Transmit(None)),
+        answers(stage, 5, &Answer::Transmit(None)),
     ])
 }

@@ -95,11 +95,8 @@ fn announces_in_round(stage: &mut Stage, name: &'static str, count: u8) -> Told 
     Story(name).holds(&[
         stage.makes(calls(stage.alloc, count)),
         checks_in_order(&stage.log, count),
-        takes(&stage.log, entry_of(count, count), true),
-        announces(
-            &stage.log,
-            &[(entry_of(count, count), path_to(place(last)))],
-        ),
+        takes(stage, entry_of(count, count), true),
+        announces(stage, &[(entry_of(count, count), path_to(place(last)))]),
     ])
 }
 

@@ -2,6 +2,7 @@
 //! one test, on one stage, and each begins with new agents.
 
 use super::*;
+use std::fmt::Debug;
 
 /// The first sentence of a story that does not hold, counted from 1.
 #[derive(Clone, Copy)]
@@ -40,17 +41,40 @@ pub(super) trait Subject {
     fn play(&self, stage: &mut Stage) -> Told;
 }
 
-/// What comes of the stories, on a stage in a box.
-fn played<S: Subject>(alloc: Global, subject: &S) -> Result<Told, Fail> {
+/// What comes of the stories, on a stage in a box, and the first comparison that failed.
+fn played<S: Subject>(alloc: Global, subject: &S) -> Result<(Told, Option<String>), Fail> {
     let mut stage = Box::new(alloc, Stage::new(alloc)?)?;
-    Ok(subject.play(&mut stage))
+    let told = subject.play(&mut stage);
+    Ok((told, stage.difference.take()))
 }
 
-/// Tells the stories, and fails with the first that does not hold, and its sentence.
+/// Whether the entry has the expected value. The first one that has not is kept, and printed if the story fails.
+pub(super) fn same<T: Copy + PartialEq + Debug>(
+    entry: usize,
+    actual: T,
+    expected: T,
+    alloc: Global,
+    difference: &mut Option<String>,
+) -> bool {
+    if actual == expected {
+        return true;
+    }
+    if difference.is_none() {
+        *difference = format!(in alloc;
+            "entry {entry}: expected {expected:?}, actual {actual:?}"
+        ).ok();
+    }
+    false
+}
+
+/// Tells the stories, and fails with the first that does not hold, its sentence, and the first comparison that failed.
 pub(super) fn tell<S: Subject>(alloc: Global, subject: &S) -> Result<(), Fail> {
     match played(alloc, subject)? {
-        Ok(()) => Ok(()),
-        Err(Missed { story, sentence }) => {
+        (Ok(()), _) => Ok(()),
+        (Err(Missed { story, sentence }), Some(text)) => {
+            Err(format!(in alloc; "{story}: sentence {sentence}; {text}")?.into())
+        }
+        (Err(Missed { story, sentence }), None) => {
             Err(format!(in alloc; "{story}: sentence {sentence}")?.into())
         }
     }

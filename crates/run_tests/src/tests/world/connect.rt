@@ -73,11 +73,8 @@ fn both_announce_the_path_of_the_lesser_of_two_pairs(stage: &mut Stage) -> Told 
     ];
     Story("both_announce_the_path_of_the_lesser_of_two_pairs").holds(&[
         stage.happens(A_CONTROLS, &parts),
-        has_roles(&stage.world, &[(0, [true, false])]),
-        world_announces(
-            &stage.world,
-            &[(21, path_of(Side::A)), (29, path_of(Side::B))],
-        ),
+        has_roles(stage, &[(0, [true, false])]),
+        world_announces(stage, &[(21, path_of(Side::A)), (29, path_of(Side::B))]),
     ])
 }
 
@@ -101,11 +98,8 @@ fn where_the_nominating_check_is_lost_the_next_one_serves(stage: &mut Stage) -> 
     ];
     Story("where_the_nominating_check_is_lost_the_next_one_serves").holds(&[
         stage.happens(A_CONTROLS, &parts),
-        has_roles(&stage.world, &[(0, [true, false])]),
-        world_announces(
-            &stage.world,
-            &[(21, path_of(Side::A)), (37, path_of(Side::B))],
-        ),
+        has_roles(stage, &[(0, [true, false])]),
+        world_announces(stage, &[(21, path_of(Side::A)), (37, path_of(Side::B))]),
     ])
 }
 
@@ -152,13 +146,10 @@ fn where_all_premises_hold_both_announce(stage: &mut Stage) -> Told {
     ];
     Story("where_all_premises_hold_both_announce").holds(&[
         stage.happens(A_CONTROLS, &parts),
-        has_roles(&stage.world, &[(0, [true, false])]),
-        world_issues(&stage.world, &issued),
-        takes_all(&stage.world, 14, 1, Side::B, true),
-        takes_all(&stage.world, 15, 1, Side::A, true),
-        world_announces(
-            &stage.world,
-            &[(15, path_of(Side::A)), (23, path_of(Side::B))],
-        ),
+        has_roles(stage, &[(0, [true, false])]),
+        world_issues(stage, &issued),
+        takes_all(stage, 14, 1, Side::B, true),
+        takes_all(stage, 15, 1, Side::A, true),
+        world_announces(stage, &[(15, path_of(Side::A)), (23, path_of(Side::B))]),
     ])
 }

@@ -52,11 +52,8 @@ fn what_was_answered_is_announced_once_it_is_asked_for(stage: &mut Stage) -> Tol
     let (a, b) = (a_is_answered(), b_is_answered());
     Story("what_was_answered_is_announced_once_it_is_asked_for").holds(&[
         stage.happens(A_CONTROLS, &[&opening(), &a, &b, &a_asks(4), &moment]),
-        has_roles(&stage.world, &[(0, [true, false])]),
-        world_announces(
-            &stage.world,
-            &[(12, path_of(Side::A)), (19, path_of(Side::B))],
-        ),
+        has_roles(stage, &[(0, [true, false])]),
+        world_announces(stage, &[(12, path_of(Side::A)), (19, path_of(Side::B))]),
     ])
 }
 
@@ -80,11 +77,8 @@ fn what_was_asked_for_is_announced_once_it_is_answered(stage: &mut Stage) -> Tol
     let (a, b) = (a_is_answered(), b_is_answered_later());
     Story("what_was_asked_for_is_announced_once_it_is_answered").holds(&[
         stage.happens(A_CONTROLS, &[&opening(), &a, &a_asks(3), &b, &last]),
-        has_roles(&stage.world, &[(0, [true, false])]),
-        world_announces(
-            &stage.world,
-            &[(12, path_of(Side::A)), (21, path_of(Side::B))],
-        ),
+        has_roles(stage, &[(0, [true, false])]),
+        world_announces(stage, &[(12, path_of(Side::A)), (21, path_of(Side::B))]),
     ])
 }
 
@@ -98,6 +92,6 @@ fn what_is_answered_alone_is_not_announced(stage: &mut Stage) -> Told {
     let (a, b) = (a_is_answered(), b_is_answered());
     Story("what_is_answered_alone_is_not_announced").holds(&[
         stage.happens(A_CONTROLS, &[&opening(), &a, &b, &last]),
-        world_announces(&stage.world, &[(12, path_of(Side::A))]),
+        world_announces(stage, &[(12, path_of(Side::A))]),
     ])
 }

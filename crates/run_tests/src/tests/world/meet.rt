@@ -31,11 +31,11 @@ fn the_check_of_the_greater_turns_the_lesser(stage: &mut Stage) -> Told {
     ];
     Story("the_check_of_the_greater_turns_the_lesser").holds(&[
         stage.happens_behind(BOTH_CONTROLLING, &last),
-        world_issues(&stage.world, &packets),
-        has_roles(&stage.world, &[(0, [true, true]), (9, [true, false])]),
+        world_issues(stage, &packets),
+        has_roles(stage, &[(0, [true, true]), (9, [true, false])]),
         stage.happens_behind(BOTH_CONTROLLED, &last),
-        world_issues(&stage.world, &packets),
-        has_roles(&stage.world, &[(9, [false, true])]),
+        world_issues(stage, &packets),
+        has_roles(stage, &[(9, [false, true])]),
     ])
 }
 
@@ -58,11 +58,11 @@ fn the_check_of_the_lesser_turns_it_by_its_refusal(stage: &mut Stage) -> Told {
     ];
     Story("the_check_of_the_lesser_turns_it_by_its_refusal").holds(&[
         stage.happens(BOTH_CONTROLLING, &[&opening(), &refused(), &last]),
-        world_issues(&stage.world, &packets),
-        has_roles(&stage.world, &[(0, [true, true]), (12, [true, false])]),
+        world_issues(stage, &packets),
+        has_roles(stage, &[(0, [true, true]), (12, [true, false])]),
         stage.happens(BOTH_CONTROLLED, &[&opening(), &refused(), &last]),
-        world_issues(&stage.world, &packets),
-        has_roles(&stage.world, &[(12, [false, true])]),
+        world_issues(stage, &packets),
+        has_roles(stage, &[(12, [false, true])]),
     ])
 }
 
@@ -84,8 +84,8 @@ fn without_the_refusal_roles_stay_alike(stage: &mut Stage) -> Told {
     ];
     Story("without_the_refusal_roles_stay_alike").holds(&[
         stage.happens(BOTH_CONTROLLING, &[&opening(), &refused(), &last]),
-        world_issues(&stage.world, &packets),
-        has_roles(&stage.world, &[(0, [true, true]), (16, [true, false])]),
+        world_issues(stage, &packets),
+        has_roles(stage, &[(0, [true, true]), (16, [true, false])]),
     ])
 }
 
@@ -102,8 +102,8 @@ fn a_check_that_reaches_no_candidate_turns_nobody(stage: &mut Stage) -> Told {
     ];
     Story("a_check_that_reaches_no_candidate_turns_nobody").holds(&[
         stage.happens(BOTH_CONTROLLING, &[&events]),
-        takes_all(&stage.world, 6, 1, Side::B, true),
-        world_issues(&stage.world, &[(3, sent(Side::A, Class::Request, 0))]),
-        has_roles(&stage.world, &[(0, [true, true])]),
+        takes_all(stage, 6, 1, Side::B, true),
+        world_issues(stage, &[(3, sent(Side::A, Class::Request, 0))]),
+        has_roles(stage, &[(0, [true, true])]),
     ])
 }

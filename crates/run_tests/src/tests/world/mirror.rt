@@ -116,9 +116,9 @@ fn of_the_same_priorities_both_end_on_one_path(stage: &mut Stage) -> Told {
     let (first, second) = (home(Side::B), second());
     Story("of_the_same_priorities_both_end_on_one_path").holds(&[
         settles(stage, lines, second, first),
-        has_roles(&stage.world, &[(0, [true, false])]),
+        has_roles(stage, &[(0, [true, false])]),
         world_announces(
-            &stage.world,
+            stage,
             &[
                 (24, path_to(second)),
                 (31, path_from(second)),
@@ -138,9 +138,9 @@ fn of_swapped_priorities_each_ends_on_another_path(stage: &mut Stage) -> Told {
     let (first, second) = (home(Side::B), second());
     Story("of_swapped_priorities_each_ends_on_another_path").holds(&[
         settles(stage, lines, first, second),
-        has_roles(&stage.world, &[(0, [true, false])]),
+        has_roles(stage, &[(0, [true, false])]),
         world_announces(
-            &stage.world,
+            stage,
             &[
                 (24, path_to(first)),
                 (31, path_from(first)),

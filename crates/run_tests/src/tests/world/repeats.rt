@@ -125,8 +125,8 @@ fn packets_that_come_three_times_change_no_role_again(stage: &mut Stage) -> Told
         stage.world.entries.len() == 200,
         polled_and_delivered(&stage.world) == (44, 132),
         // A's check comes to B in entry 9
-        has_roles(&stage.world, &[(0, [true, true]), (9, [true, false])]),
-        world_announces(&stage.world, &paths),
+        has_roles(stage, &[(0, [true, true]), (9, [true, false])]),
+        world_announces(stage, &paths),
         are_traced(&stage.world),
     ])
 }
@@ -169,8 +169,8 @@ fn a_late_refusal_changes_no_role_again(stage: &mut Stage) -> Told {
     Story("a_late_refusal_changes_no_role_again").holds(&[
         happens_if(stage, events),
         stage.world.entries.len() == 65,
-        takes_all(&stage.world, 62, 3, Side::B, true),
-        has_roles(&stage.world, &[(0, [true, true]), (12, [true, false])]),
+        takes_all(stage, 62, 3, Side::B, true),
+        has_roles(stage, &[(0, [true, true]), (12, [true, false])]),
     ])
 }
 
@@ -198,7 +198,7 @@ fn a_late_refusal_changes_the_role_once(stage: &mut Stage) -> Told {
     Story("a_late_refusal_changes_the_role_once").holds(&[
         happens_if(stage, events),
         stage.world.entries.len() == 65,
-        takes_all(&stage.world, 62, 3, Side::B, true),
-        has_roles(&stage.world, &[(0, [true, true]), (62, [true, false])]),
+        takes_all(stage, 62, 3, Side::B, true),
+        has_roles(stage, &[(0, [true, true]), (62, [true, false])]),
     ])
 }

@@ -71,9 +71,9 @@ fn the_least_of_four_pairs_is_announced_in_round_four(stage: &mut Stage) -> Told
     ];
     Story("the_least_of_four_pairs_is_announced_in_round_four").holds(&[
         stage.happens(A_CONTROLS, &[&hears_of_four(), &candidate, &four_rounds()]),
-        world_issues(&stage.world, &issued),
-        has_roles(&stage.world, &[(0, [true, false])]),
-        world_announces(&stage.world, &[(18, path_of(Side::A))]),
+        world_issues(stage, &issued),
+        has_roles(stage, &[(0, [true, false])]),
+        world_announces(stage, &[(18, path_of(Side::A))]),
     ])
 }
 
@@ -88,8 +88,8 @@ fn a_check_that_reaches_no_candidate_is_not_answered(stage: &mut Stage) -> Told 
     ];
     Story("a_check_that_reaches_no_candidate_is_not_answered").holds(&[
         stage.happens(A_CONTROLS, &[&hears_of_four(), &none, &four_rounds()]),
-        takes_all(&stage.world, 16, 1, Side::B, true),
-        world_issues(&stage.world, &issued),
-        world_announces(&stage.world, &[]),
+        takes_all(stage, 16, 1, Side::B, true),
+        world_issues(stage, &issued),
+        world_announces(stage, &[]),
     ])
 }
