@@ -1,0 +1,44 @@
+"""What the scripts of this folder share: the crates that a crate stands on, copies of them with what checks kept, and messages."""
+import pathlib
+import re
+import shutil
+
+top = pathlib.Path(__file__).resolve().parent.parent
+
+
+def closure(crate):
+    """The lines of crates.txt for the crate and those below it."""
+    needs = {}
+    for line in (top / "crates.txt").read_text().splitlines():
+        if ":" in line and not line.startswith("#"):
+            needs[line.split(":")[0].split()[0]] = line
+    found, wanted = {}, [crate]
+    while wanted:
+        name = wanted.pop()
+        if name in needs and name not in found:
+            found[name] = needs[name]
+            wanted += needs[name].split(":")[1].split()
+    return found
+
+
+def copy_crate(name, folder, *left_out):
+    """Copies a crate anew, with what checks kept in out/, but for the folders that are left out."""
+    shutil.rmtree(folder / "crates" / name, ignore_errors=True)
+    skip = shutil.ignore_patterns("must-fail", "*.o", *left_out)
+    shutil.copytree(top / "crates" / name, folder / "crates" / name, ignore=skip)
+
+
+def copy_lower(crate, folder):
+    """Copies the crates below this one, with their libraries."""
+    needs = closure(crate)
+    (folder / "crates.txt").write_text("\n".join(needs.values()) + "\n")
+    if (top / "HANDLES").exists():
+        shutil.copy(top / "HANDLES", folder)
+    for name in needs:
+        if name != crate:
+            copy_crate(name, folder, "incremental")
+
+
+def messages(said):
+    """What was said, a message a line: what follows a line with blanks before it belongs to it."""
+    return re.sub(r"\n[ \t]+", " ", said).split("\n")
