@@ -1,4 +1,4 @@
-//! What a moment begins with: the start is told of, the state is evaluated, and outdated requests go.
+//! How `handle_timeout` begins: the event of the start, the state, queued requests; the rules: `is_rules::waking`.
 
 ghost use Rattle.std.specs.Prelude.{◌≡◌, ℕ, ◌<◌, ◌+◌, true, false, IfOk, IfErr, IfSome, OnOk, IsOkUnless, MatchOption, option_map, slice_get};
 ghost use Rattle.is_rules.specs.RequestView.{request_view, waiting_view};

@@ -1,4 +1,4 @@
-//! What the last packet or moment made an agent do: the packet that it issued, and the paths that it announced.
+//! What a call issued and announced: at most one packet, and up to two paths; the agent's part: `is_agent::told`.
 
 ghost use Rattle.std.specs.Prelude.{◌≡◌};
 ghost use Rattle.is_rules.specs.Told.{nothing_told, issued_alone, announced_alone, issued_as, told_by, turned};

@@ -1,4 +1,4 @@
-//! What a moment begins with: the start is told of, the state is evaluated, and outdated requests go.
+//! How `handle_timeout` begins: the event of the start, queued requests; the agent's part: `is_agent::waking`.
 
 ghost use Rattle.std.specs.Prelude.{◌≡◌, ◌<◌, ◌≤◌, ◌+◌, slice_get};
 ghost use Rattle.std.specs.VecDeque.{deque_len, deque_capacity};
