@@ -133,8 +133,8 @@ impl fmt::Display for StunError {
 
 impl Error for StunError {}
 
-/// Why a call of the agent, or of a candidate's constructor, fails. A call that fails changes nothing behind its
-/// references.
+/// Why a call of the agent, or of a candidate's constructor, fails. A call that fails changes none of the values that
+/// it was given by reference.
 #[derive(Debug, PartialEq, Eq, Drop)]
 pub enum IceError {
     /// The candidate can't be made or read; the string gives the reason.

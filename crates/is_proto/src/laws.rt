@@ -68,14 +68,14 @@ pub fn orders_are_total<T: Ord>()
     ensures agrees { (a b : T) → T.eq a b ≡ is_eq (T.cmp a b) }
 {}
 
-/// `==` on protocols is identity, and equal ones hash alike.
+/// Two protocols are equal (`==`) exactly if they are the same, and equal ones hash alike.
 pub fn protocols_are_keys()
     ensures equal { (a b : Protocol) → IsTrue (⟦<Protocol as PartialEq>⟧.eq a b) ↔ (a ≡ b) }
     ensures hashed { (a b : Protocol) → ⟦<Protocol as PartialEq>⟧.eq a b ≡ true
         → ⟦<Protocol as Hash>⟧.hash_input a ≡ ⟦<Protocol as Hash>⟧.hash_input b }
 {}
 
-/// `==` on TCP roles is identity, and equal ones hash alike.
+/// Two TCP roles are equal (`==`) exactly if they are the same, and equal ones hash alike.
 pub fn tcp_types_are_keys()
     ensures equal { (a b : TcpType) → IsTrue (⟦<TcpType as PartialEq>⟧.eq a b) ↔ (a ≡ b) }
     ensures hashed { (a b : TcpType) → ⟦<TcpType as PartialEq>⟧.eq a b ≡ true
@@ -90,12 +90,12 @@ pub fn texts_are_keys()
     ensures copied { (text copy : Text) → ⟦<Text as Clone>⟧.is_clone text copy → copy ≡ text }
 {}
 
-/// `==` on addresses is identity: it compares flow information and scope too.
+/// Two addresses are equal (`==`) exactly if they are the same, including flow information and scope.
 pub fn socket_texts_are_compared()
     ensures { (a b : SocketText) → IsTrue (⟦<SocketText as PartialEq>⟧.eq a b) ↔ (a ≡ b) }
 {}
 
-/// `==` on parse faults is identity, and so is `==` on STUN errors.
+/// Two parse faults are equal (`==`) exactly if they are the same, and so are two STUN errors.
 pub fn faults_are_compared()
     ensures of_bytes { (a b : ParseFault) → IsTrue (⟦<ParseFault as PartialEq>⟧.eq a b) ↔ (a ≡ b) }
     ensures of_messages { (a b : StunError) → IsTrue (⟦<StunError as PartialEq>⟧.eq a b) ↔ (a ≡ b) }

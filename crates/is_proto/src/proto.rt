@@ -16,7 +16,7 @@ use std::net::SocketAddr;
 pub enum Protocol {
     Udp,
     Tcp,
-    /// TCP behind a pseudo TLS handshake.
+    /// TCP, with a pseudo-TLS handshake first.
     SslTcp,
     /// TURN over TLS.
     Tls,
@@ -147,7 +147,7 @@ impl std::ops::Add<Duration> for Instant {
     }
 }
 
-/// A length of time, in whole nanoseconds.
+/// A duration, in whole nanoseconds.
 #[derive(Clone, Copy, Debug, PartialEq, Eq, PartialOrd, Ord)]
 pub struct Duration(pub u64);
 
