@@ -1,4 +1,4 @@
--- The header of a message: type, length, magic cookie, transaction id (RFC 8489, section 5).
+-- The header of a message: type, length, magic cookie, transaction ID (RFC 8489, section 5).
 use Rattle.std.specs.Prelude.{ℕ, ◌+◌, ◌%◌, not, List, [], ◌∷◌, ◌++◌, length, drop, Option, Some, None, slice_index, nat_lt, ◌==◌, bit_and}
 use Rattle.std.specs.Prelude.{if◌then◌else◌}
 use Rattle.std.specs.Int.{w16, w32, from_be_bytes, to_be_bytes}

@@ -19,7 +19,7 @@ use Rattle.is_stun.specs.Spells.{Spells}
 use Rattle.is_stun.specs.Writing.{refusal, written}
 use Rattle.is_proto.specs.Hmac.{hmac_sha1}
 
--- Bytes either spell one message or have one first fault, and never both.
+-- Bytes either encode one message or have one first fault, and never both.
 pub record ReadsOrFails (bytes : List ℕ) : Type 0 where
   pub either : ((m : Message) × Spells bytes m) ⊎ ((f : ParseFault) × Fault bytes f)
   pub not_both : (m : Message) (f : ParseFault) → Spells bytes m → Fault bytes f → ⊥

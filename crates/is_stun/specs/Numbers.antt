@@ -1,4 +1,4 @@
--- The numbers of the format (RFC 8489, sections 5, 14 and 18; RFC 8656, section 18; RFC 8445, section 16.1).
+-- The constants of the message format (RFC 8489, sections 5, 14 and 18; RFC 8656, section 18; RFC 8445, section 16.1).
 use Rattle.std.specs.Prelude.{ℕ}
 
 -- the header: its length, and the magic cookie with its high half

@@ -1,4 +1,4 @@
--- The message that bytes spell, or their first fault (RFC 8489, sections 5, 6.3 and 14).
+-- The message that bytes encode, or their first fault (RFC 8489, sections 5, 6.3 and 14).
 use Rattle.std.specs.Prelude.{◌≡◌, ℕ, Bool, true, false, not, ◌&&◌, List, [], ◌∷◌, length, take, drop, Option, Some, None, is_some, is_none}
 use Rattle.std.specs.Prelude.{Result, nat_lt, ◌==◌, if◌then◌else◌, option_and_then}
 use Rattle.std.specs.Option.{option_or, option_map}

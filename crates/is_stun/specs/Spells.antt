@@ -64,7 +64,7 @@ pub record HasDemanded (m : Message) : Type 0 where
   pub reply : m.method ≡ Binding → m.class ≡ Success → IsSome m.integrity × IsSome m.attributes.xor_mapped_address
   pub request : m.method ≡ Binding → m.class ≡ Request → IsSome m.integrity × IsSome (split_username m.attributes) × IsSome m.attributes.priority
 
--- the bytes spell the message
+-- the bytes encode the message
 pub record Spells (bytes : List ℕ) (m : Message) : Type 0 where
   pub header : HasHeader bytes
   pub before : AllByRecursion (IsSound false) (up_to_integrity (tlvs_of (body_of bytes)))

@@ -17,13 +17,13 @@ use crate::trans_id::TransId;
 use is_proto::laws::{macs_have_twenty_bytes, orders_are_total};
 use std::hash::Hash;
 
-/// All bytes either spell one message or have one first fault. `Spells` says what bytes spell attribute by attribute,
+/// All bytes either encode one message or have one first fault. `Spells` says what bytes encode attribute by attribute,
 /// without faults.
 pub fn one_reading()
     ensures { (bytes : List ℕ) → ReadsOrFails bytes }
 {}
 
-/// Bytes parse as a message exactly if they spell that message.
+/// Bytes parse as a message exactly if they encode that message.
 pub fn reads_what_is_spelled()
     ensures { (bytes : List ℕ) (m : Message) → Reads bytes m ↔ Spells bytes m }
 {}

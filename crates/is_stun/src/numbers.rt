@@ -1,4 +1,4 @@
-//! The numbers of the format (RFC 8489, sections 5, 14 and 18).
+//! The constants of the message format (RFC 8489, sections 5, 14 and 18).
 
 /// Type, length, magic cookie and transaction ID.
 pub(crate) const HEADER_LEN: usize = 20;
