@@ -5,7 +5,7 @@ use Rattle.is_proto.specs.declared.error.IceError.TheVariants.{BadCandidate, Out
 use Rattle.is_proto.specs.declared.error.IceError.TheVariants.{PriorityTooHigh}
 use Rattle.is_candidate.specs.Candidates.{CandidateRecord}
 
--- the error with this message, or for an allocation failure of the message
+-- the error with this message, or `OutOfMemory` if there is no memory for the message
 abbrev pub RefusesWith : List ℕ → IceError → Type 0
 RefusesWith message (BadCandidate s) = string_bytes s ≡ message
 RefusesWith message OutOfMemory = Unit {0}

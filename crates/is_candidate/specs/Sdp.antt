@@ -1,4 +1,4 @@
--- The line of a candidate (RFC 5245, section 15.1).
+-- The candidate attribute, here: the line of a candidate (RFC 5245, section 15.1).
 use Rattle.std.specs.Prelude.{ℕ, List, [], ◌++◌, codes, decimal, Option, Some, None}
 use Rattle.std.specs.declared.net.socket_addr.SocketAddr.{SocketAddr}
 use Rattle.std.specs.Net.Socket.{socket_ip, socket_port}

@@ -1,4 +1,4 @@
-//! Candidates: addresses at which an agent may be reached.
+//! Candidates: addresses at which an agent can be reached.
 ghost use Rattle.std.specs.Prelude.{◌≡◌, Some, OnOk, OnErr, IsOkUnless};
 ghost use Rattle.std.specs.Option.{option_copied};
 ghost use Rattle.is_proto.specs.declared.error.IceError.TheVariants.{OutOfMemory};
@@ -25,7 +25,7 @@ use std::alloc::Global;
 use std::marker::Model;
 use std::net::SocketAddr;
 
-/// An address at which an agent may be reached (RFC 8445, section 5.1). A host or relayed candidate is its own base.
+/// An address at which an agent can be reached (RFC 8445, section 5.1). A host or relayed candidate is its own base.
 #[derive(Debug, PartialEq, Eq, Hash, Drop)]
 pub struct Candidate {
     foundation: Option<Text>,

@@ -58,7 +58,7 @@ fn placed_or_all<'r, 'a>(
     }
 }
 
-/// Returns the error for a text, or for an allocation failure of its message.
+/// Returns the error for a text, or `OutOfMemory` if there is no memory for its message.
 #[cold]
 fn refusal(alloc: Global, text: &str, fault: Fault<'_>) -> IceError
     ensures { RefusesWith (text.now ++ codes ": " ++ fault_text fault.entry) result }

@@ -215,7 +215,7 @@ impl<P> CandidateBuilder<HasProtocol<P>, HasRoute> {
     }
 }
 
-/// Returns the error for an address, or for an allocation failure of its message.
+/// Returns the error for an address, or `OutOfMemory` if there is no memory for its message.
 fn invalid_ip(alloc: Global, ip: IpAddr) -> IceError
     ensures { RefusesWith (codes "Invalid IP: " ++ ip_text ip) result }
 {
@@ -225,7 +225,7 @@ fn invalid_ip(alloc: Global, ip: IpAddr) -> IceError
     }
 }
 
-/// Returns the error for two IP versions, or for an allocation failure of its message.
+/// Returns the error for two IP versions, or `OutOfMemory` if there is no memory for its message.
 fn mixed_versions(alloc: Global, addr: IpAddr, base: IpAddr) -> IceError
     ensures { RefusesWith (mixed_text addr base) result }
 {

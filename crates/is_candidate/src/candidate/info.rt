@@ -103,7 +103,7 @@ fn ufrag_in(value: &Value) -> Result<Option<&str>, &'static str>
     }
 }
 
-/// Returns the error with this message, or for an allocation failure of the message.
+/// Returns the error with this message, or `OutOfMemory` if there is no memory for it.
 pub(super) fn refusal(alloc: Global, message: &str) -> IceError
     ensures { RefusesWith message.now result }
 {

@@ -211,7 +211,7 @@ fn gathered(
     }
 }
 
-/// Returns the error for an address, or for an allocation failure of its message.
+/// Returns the error for an address, or `OutOfMemory` if there is no memory for its message.
 fn invalid_ip(alloc: Global, ip: IpAddr) -> IceError
     ensures { RefusesWith (codes "invalid ip " ++ ip_text ip) result }
 {
@@ -221,7 +221,7 @@ fn invalid_ip(alloc: Global, ip: IpAddr) -> IceError
     }
 }
 
-/// Returns the error for two IP versions, or for an allocation failure of its message.
+/// Returns the error for two IP versions, or `OutOfMemory` if there is no memory for its message.
 fn mixed_versions(alloc: Global) -> IceError
     ensures { RefusesWith (codes "addr and base are different IP versions") result }
 {
