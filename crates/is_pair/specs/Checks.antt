@@ -1,5 +1,5 @@
--- The stored checks of a pair (RFC 8445, section 7.2), oldest first. A stored check is a pending transaction: the pair
--- accepts a response to it, also a repeated one.
+-- The stored checks of a pair (RFC 8445, section 7.2), oldest first. Each is a pending transaction: the pair still
+-- accepts a response to it, even if it already had one.
 use Rattle.std.specs.Prelude.{◌≡◌, ℕ, ◌-◌, Bool, bytes_eq, List, length, drop, find, reverse, position, slice_get, Option, Some, None}
 use Rattle.std.specs.Prelude.{option_map, unwrap_or, is_some}
 use Rattle.std.specs.List.{list_any}
@@ -7,7 +7,7 @@ use Rattle.std.specs.Option.{option_map_or}
 
 -- a check that was sent
 pub record Check : Type 0 where
-  -- its transaction id: 12 bytes
+  -- its transaction ID: 12 bytes
   pub id : List ℕ
   pub sent : ℕ
   -- the time of its last response
@@ -38,7 +38,7 @@ is_kept id checks = list_any (has_id id) checks
 abbrev pub IsCheckAt : List Check → List ℕ → ℕ → Check → Type 0
 IsCheckAt checks id place c = (slice_get checks place ≡ Some c) × (c.id ≡ id)
 
--- the last n
+-- the last n checks
 abbrev pub last_checks : ℕ → List Check → List Check
 last_checks n checks = drop (length checks - n) checks
 
@@ -53,6 +53,6 @@ last_round_trip checks = option_map_or round_trip_of (find is_answered (reverse 
 abbrev pub unanswered_count : List Check → ℕ
 unanswered_count checks = unwrap_or (position is_answered (reverse checks)) (length checks)
 
--- the first of these
+-- the first of the checks after the last one that had a response
 abbrev pub first_unanswered : List Check → Option Check
 first_unanswered checks = slice_get checks (length checks - unanswered_count checks)

@@ -15,7 +15,7 @@ use Rattle.is_pair.specs.Bag.{passes_at, keeps, ranks}
 abbrev pub is_before : List ℕ → List ℕ → Bool
 is_before a b = is_lt (slice_cmp nat_cmp a b)
 
--- sorted by id
+-- sorted by transaction ID
 abbrev pub ids_rise : List Kept → Bool
 ids_rise [] = true
 ids_rise (k ∷ ks) = list_all (λ (q : Kept). not (is_before q.id.0 k.id.0)) ks && ids_rise ks

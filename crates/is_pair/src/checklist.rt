@@ -78,7 +78,7 @@ impl Checklist {
         self.pairs.len()
     }
 
-    /// Whether there are none.
+    /// Whether there are no pairs.
     pub fn is_empty(&self) -> bool
         ensures { IsTrue result ↔ (bag_of self.now ≡ []) }
     {

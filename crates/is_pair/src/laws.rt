@@ -34,7 +34,7 @@ pub fn pairs_are_ordered()
     ensures total { IsTotalOrder ⟦<CandidatePair as Ord>⟧.cmp }
 {}
 
-/// `==` on pair numbers is identity, and so it is on states.
+/// Two pair numbers are equal (`==`) exactly if they are the same, and so are two states.
 pub fn states_are_compared()
     ensures of_numbers { (a b : PairId) → IsTrue (⟦<PairId as PartialEq>⟧.eq a b) ↔ (a ≡ b) }
     ensures of_checks { (a b : CheckState) → IsTrue (⟦<CheckState as PartialEq>⟧.eq a b) ↔ (a ≡ b) }

@@ -5,7 +5,7 @@ use is_stun::stun::TransId;
 /// Which of the stored checks are dropped when one more is sent.
 #[derive(Clone, Copy)]
 pub(crate) enum Cut {
-    /// None.
+    /// No check.
     Nothing,
     /// Only the oldest, with this transaction ID.
     Oldest(TransId),

@@ -36,7 +36,7 @@ impl CandidatePair {
     }
 }
 
-/// Whether a check from the peer that arrived at this time still keeps its pair.
+/// Whether a check from the peer that arrived at `at` is recent enough to keep its pair.
 pub(crate) fn is_recent(now: Instant, at: Instant) -> bool
     ensures { result ≡ is_recent now.0 at.0 }
 {
