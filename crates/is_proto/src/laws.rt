@@ -29,7 +29,7 @@ pub fn tcp_types_read_again()
 {}
 
 /// Addresses round-trip: the printed form of an address parses as that address, if it has no flow information and no
-/// scope. The body only reads the parts, because their types keep them in range.
+/// scope. The body reads the parts whose types keep them in range, and does nothing else.
 pub fn socket_text_reads_again(address: SocketText)
     ensures { IsPlain address.0 → ReadsSocketText (plain_socket_text address.0) (Some address) }
 {
