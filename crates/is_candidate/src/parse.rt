@@ -20,8 +20,9 @@ use std::alloc::Global;
 use words::{MANY_WORDS, place_words, words_of};
 
 /// Parses a candidate attribute: `candidate:`, then words at white space: foundation, component, protocol, priority,
-/// address, port, `typ` and kind, then keys with values. The last `raddr`, `rport`, `tcptype` and `ufrag` counts; other
-/// keys are skipped with their values. There is a related address if both `raddr` and `rport` are present.
+/// address, port, `typ` and kind, then keys with values. If `raddr`, `rport`, `tcptype` or `ufrag` is repeated, the
+/// last one counts; other keys are skipped with their values. There is a related address if both `raddr` and `rport`
+/// are present.
 ///
 /// Fails with `BadCandidate`: the whole text, a colon, and the first fault.
 pub fn parse_candidate(alloc: Global, text: &str) -> Result<Candidate, IceError>

@@ -28,10 +28,10 @@ impl LocalPreference for Box<dyn LocalPreference> {
     }
 }
 
-/// The default preference, if the caller sets none: 65535 for a host, 49151 for a peer-reflexive, 32767 for a
-/// server-reflexive and 16383 for a relayed candidate, less 1 for IPv4, less 2 for each earlier candidate of its kind
-/// and IP version, less 1000 for a relayed candidate whose local address has the other IP version. It is never below
-/// zero.
+/// The default preference, if the caller sets none. It starts from 65535 for a host, 49151 for a peer-reflexive, 32767
+/// for a server-reflexive and 16383 for a relayed candidate. It is less by 1 for IPv4, by 2 for each earlier candidate
+/// of its kind and IP version, and by 1000 for a relayed candidate whose local address has the other IP version. It is
+/// never below zero.
 pub fn default_local_preference(c: &Candidate, same_kind: usize) -> u32
     ensures { result ≡ default_preference c.now same_kind }
 {

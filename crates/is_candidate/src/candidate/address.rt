@@ -49,8 +49,8 @@ pub(crate) fn plain_socket(ip: IpAddr, port: u16) -> SocketAddr
     }
 }
 
-/// Returns the unspecified address of the same IP version, with port 0. Browsers write it as the related address, which
-/// is only for diagnosis, so that local addresses are not revealed.
+/// Returns the unspecified address of the same IP version, with port 0. Browsers write it in place of the related
+/// address, which is only for diagnosis, so that local addresses are not revealed.
 pub(crate) fn unspecified_like(addr: SocketAddr) -> SocketAddr
     ensures { result ≡ unspecified_like addr }
 {

@@ -104,7 +104,7 @@ impl CandidateBuilder<NoProtocol, NoRoute> {
         with_protocol(self, Protocol::Tcp)
     }
 
-    /// Chooses TCP with a pseudo TLS handshake first.
+    /// Chooses TCP, with a pseudo-TLS handshake first.
     pub fn ssl_tcp(self) -> CandidateBuilder<HasProtocol<Tcp>, NoRoute>
         ensures protocol { protocol_of result ≡ Protocol.SslTcp }
         ensures tcptype { tcptype_of result ≡ tcptype_of self }

@@ -27,7 +27,7 @@ pub(crate) enum Plain<'a> {
 }
 
 /// Reads a text that is an object of plain values with a line, and with a ufrag that is absent, null or a string.
-/// Returns nothing for other texts.
+/// Returns `None` for other texts.
 pub(crate) fn read_flat<'a>(
     text: &'a str,
     scratch: &'a mut Scratch,

@@ -7,8 +7,8 @@ use std::net::{IpAddr, SocketAddr};
 
 /// The line that `to_sdp_string` prints round-trips if foundation and ufrag, when given, are not empty and have no
 /// white space: it parses as the candidate that the line describes, and that candidate prints the same line. A line
-/// says nothing about the base, flow information and scope. The body only reads the parts, because their types keep
-/// them in range.
+/// says nothing about the base, flow information and scope. The body reads the parts whose types keep them in range,
+/// and does nothing else.
 pub fn printed_line_reads_again(candidate: &Candidate)
     ensures { HasPlainTexts candidate.now → LineReadsAgain candidate.now }
 {
