@@ -13,7 +13,7 @@ pub record IsPaced (t : StunTiming) : Type 0 where
   pub greatest : MILLISECOND ≤ t.max_rto.0
   pub retransmits : 0 < t.max_retransmits
 
--- computed at now, the due time of the pair is at most by
+-- computed at `now`, the due time of the pair is at most `by`
 abbrev pub is_due_by : ℕ → ℕ → StunTiming → PairRecord → Bool
 is_due_by by now t p = nat_le (due_moment now t p) by
 

@@ -42,7 +42,7 @@ pub struct CandidatePair {
     remote_binding_request_time: Option<Instant>,
     responses_received: u64,
     total_round_trip_time: Duration,
-    /// The due time of the next check, fixed when it is first computed.
+    /// The due time of the next check, if it is fixed.
     cached_next_attempt_time: Option<Instant>,
 }
 
