@@ -1,4 +1,4 @@
--- Tests of protocols and addresses, and the addresses that may be a candidate's own.
+-- Tests of protocols and addresses, and the addresses that a candidate may have.
 use Rattle.std.specs.Prelude.{ℕ, ◌==◌, ◌&&◌, Bool, true, false, not, nat_le, [], ◌∷◌, take, bytes_eq, slice_index, Option, Some, None}
 use Rattle.std.specs.declared.net.ip_addr.IpAddr.{IpAddr}
 use Rattle.std.specs.declared.net.ip_addr.IpAddr.TheVariants as Ip
@@ -9,7 +9,7 @@ use Rattle.std.specs.Net.Socket.{socket_ip, v4_ip, v4_port, v6_ip, v6_port, v6_f
 use Rattle.is_proto.specs.declared.proto.Protocol.{Protocol}
 use Rattle.is_proto.specs.declared.proto.Protocol.TheVariants.{Udp, Tcp, SslTcp, Tls}
 
--- the number by which a foundation knows a protocol
+-- the number of a protocol in a foundation's hash
 abbrev pub protocol_number : Protocol → ℕ
 protocol_number Udp = 0
 protocol_number Tcp = 1
@@ -36,7 +36,7 @@ same_optional same (Some a) None = false
 abbrev pub is_v4 : SocketAddr → Bool
 is_v4 a = is_ipv4 (socket_ip a)
 
--- the addresses have one IP version
+-- the addresses have the same IP version
 abbrev pub same_version : SocketAddr → SocketAddr → Bool
 same_version (V4 a) (V4 b) = true
 same_version (V6 a) (V6 b) = true
@@ -59,7 +59,7 @@ unspecified_like (V6 a) =
       scope_id = 0;
     }
 
--- an address that may be a candidate's own: no link-local IPv4 one, and none that is broadcast, multicast or unspecified
+-- an address that a candidate may have: no link-local IPv4 one, and none that is broadcast, multicast or unspecified
 abbrev pub is_valid_ip : IpAddr → Bool
 is_valid_ip (Ip.V4 a) =
     not (bytes_eq (take 2 (ipv4_octets a)) (169 ∷ 254 ∷ []))

@@ -1,4 +1,4 @@
--- What the builder holds, and what it makes of a protocol and a route.
+-- The state of the builder, and the candidate that it makes from a protocol and a route.
 use Rattle.std.specs.Prelude.{ℕ, List, ◌++◌, codes, Option, Some, None, if◌then◌else◌}
 use Rattle.std.specs.declared.net.ip_addr.IpAddr.{IpAddr}
 use Rattle.std.specs.Net.Socket.{socket_ip}
@@ -27,7 +27,7 @@ tcptype_of b = b.tcptype
 abbrev pub address_fault : IpAddr → Option (List ℕ)
 address_fault ip = if is_valid_ip ip then None else Some (codes "Invalid IP: " ++ ip_text ip)
 
--- what is said of an address and a base of two IP versions
+-- the message for an address and a base of two IP versions
 unfoldable pub mixed_text : IpAddr → IpAddr → List ℕ
 mixed_text addr base = codes "address IP version mismatch: addr=" ++ ip_text addr ++ codes " base=" ++ ip_text base
 

@@ -1,4 +1,4 @@
--- What contracts see of a candidate.
+-- The abstract state of a candidate, as contracts see it.
 use Rattle.std.specs.Prelude.{◌≡◌, ℕ, Bool, true, List, [], ◌∷◌, slice_index_or, Option, None, unwrap_or, IsTrue}
 use Rattle.std.specs.declared.net.socket_addr.SocketAddr.{SocketAddr}
 use Rattle.std.specs.declared.net.socket_addr.SocketAddr.TheVariants.{V4}
@@ -25,7 +25,7 @@ pub record CandidateRecord : Type 0 where
   pub local_preference : Option ℕ
   pub discarded : Bool
 
--- the base, from which packets are sent: a given one, else the address (RFC 8445, section 5.1.1)
+-- the base, from which packets are sent: the given one, if any, otherwise the address (RFC 8445, section 5.1.1)
 abbrev pub base_of : CandidateRecord → SocketAddr
 base_of c = unwrap_or c.given_base c.addr
 
@@ -33,7 +33,7 @@ base_of c = unwrap_or c.given_base c.addr
 abbrev pub IsBased : CandidateRecord → Type 0
 IsBased c = IsTrue (is_direct c.kind) → base_of c ≡ c.addr
 
--- what stands past the end of a list of candidates; it is discarded, so it agrees with nothing live
+-- the value past the end of a list of candidates; it is discarded, so it equals no live candidate
 abbrev pub nowhere : CandidateRecord
 nowhere = record {
   foundation = None;

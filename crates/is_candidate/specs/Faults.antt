@@ -1,4 +1,4 @@
--- The messages of what is wrong with a line.
+-- The messages of the faults of a line.
 use Rattle.std.specs.Prelude.{◌≡◌, ℕ, List, ◌++◌, codes, Result, Ok, Err, string_bytes}
 use Rattle.is_proto.specs.declared.error.IceError.{IceError}
 use Rattle.is_proto.specs.declared.error.IceError.TheVariants.{BadCandidate, OutOfMemory, PairIdsExhausted, MtuTooSmall, CredentialsTooLong}
@@ -36,7 +36,7 @@ fault_text MissingTcptype = codes "missing tcptype value"
 fault_text BadTcptype = codes "bad tcptype"
 fault_text MissingUfrag = codes "missing ufrag value"
 
--- a refusal says the whole text, a colon and the first fault; or there was no memory
+-- an error gives the whole text, a colon and the first fault; or an allocation failed
 abbrev pub RefusesText : List ℕ → IceError → Type 0
 RefusesText text (BadCandidate s) =
     (message : List ℕ) × HasFault text message × (string_bytes s ≡ text ++ codes ": " ++ message)
@@ -46,7 +46,7 @@ RefusesText text MtuTooSmall = ⊥
 RefusesText text CredentialsTooLong = ⊥
 RefusesText text PriorityTooHigh = ⊥
 
--- the candidate of the line, or the refusal
+-- the candidate of the line, or the error
 abbrev pub ReadsLine : List ℕ → Result CandidateRecord IceError → Type 0
 ReadsLine text (Ok c) = IsLineOf text c
 ReadsLine text (Err e) = RefusesText text e

@@ -1,4 +1,4 @@
--- Candidate info whose members hold no others.
+-- Candidate JSON whose members hold no others.
 use Rattle.std.specs.Prelude.{◌≡◌, ℕ, List, Some, Ok}
 use Rattle.std.specs.Option.{option_copied}
 use Rattle.json.specs.Token.{Token}
@@ -10,11 +10,11 @@ use Rattle.is_candidate.specs.declared.candidate.flat.Plain.{Plain}
 use Rattle.is_candidate.specs.declared.candidate.flat.Plain.TheVariants.{Text, Null, Other}
 use Rattle.is_candidate.specs.Infos.{line_in, ufrag_in}
 
--- the tokens begin with those of a value nested no deeper than this, and these are left
+-- the tokens begin with those of a value nested no deeper than depth, and rest follows
 abbrev pub BeginsWith : ℕ → List Token → Data → List Token → Type 0
 BeginsWith depth ts d rest = (j : Json) × (value depth ts ≡ Some (j, rest)) × (of_json j ≡ Some d)
 
--- the value is this text, or null, or another
+-- the value is this text, null, or another plain value
 abbrev pub IsPlain : Data → Plain → Type 0
 IsPlain d (Text s) = d ≡ string s.now
 IsPlain d Null = d ≡ null

@@ -1,5 +1,5 @@
--- The foundation of a candidate: a given one, else one computed of what candidates of one foundation have in common
--- (RFC 8445, section 5.1.1.3), behind the priority with its bytes reversed.
+-- The foundation of a candidate (RFC 8445, section 5.1.1.3): a given one; otherwise the priority with its bytes
+-- reversed, then a hash of what candidates of one foundation have in common.
 use Rattle.std.specs.Prelude.{ℕ, ◌-◌, ◌*◌, ◌%◌, ◌^◌, false, List, [], ◌∷◌, ◌++◌, length, replicate, fold, bit_xor, Option, Some, None, unwrap_or}
 use Rattle.std.specs.Int.{w32, swap_bytes}
 use Rattle.std.specs.Fmt.{digits}
@@ -17,7 +17,7 @@ use Rattle.is_candidate.specs.Priorities.{candidate_priority}
 abbrev pub fnv_step : ℕ → ℕ → ℕ
 fnv_step hash byte = (bit_xor hash byte * 0x100000001B3) % 2 ^ 64
 
--- FNV-1a in 64 bits, from the hash of what came before
+-- FNV-1a in 64 bits, from the hash of the bytes before
 abbrev pub fnv_from : ℕ → List ℕ → ℕ
 fnv_from hash bytes = fold fnv_step hash bytes
 
@@ -30,7 +30,7 @@ abbrev pub ip_bytes : IpAddr → List ℕ
 ip_bytes (Ip.V4 a) = 4 ∷ ipv4_octets a
 ip_bytes (Ip.V6 a) = 6 ∷ ipv6_octets a
 
--- the same of a related address, or a zero where there is none
+-- the same for a related address, or a zero if there is none
 abbrev pub related_bytes : Option SocketAddr → List ℕ
 related_bytes (Some a) = ip_bytes (socket_ip a)
 related_bytes None = 0 ∷ []

@@ -1,4 +1,4 @@
--- Candidate info, the object in which browsers signal a candidate (the W3C's RTCIceCandidateInit).
+-- Candidate JSON: the object in which browsers signal a candidate (the W3C's RTCIceCandidateInit).
 use Rattle.std.specs.Prelude.{◌≡◌, ℕ, ◌⊎◌, List, codes, Option, Some, None, option_and_then, Result, Ok, Err, IsErrAnd, if◌then◌else◌, string_bytes}
 use Rattle.serde_json.specs.Data.{Data, null, boolean, number, string, array, object, unsigned, member, no_members}
 use Rattle.serde_json.specs.Find.{get_member, as_str}
@@ -26,12 +26,12 @@ info_of c =
     (member (codes "sdpMLineIndex") (number (unsigned 0))
     (member (codes "sdpMid") null (member (codes "usernameFragment") (text_or_null c.ufrag) no_members))))
 
--- the line of an object, where there is one
+-- the line of an object, if there is one
 abbrev pub given_line : Option (List ℕ) → Answer (List ℕ)
 given_line (Some line) = Ok line
 given_line None = Err (codes "candidate info lacks candidate")
 
--- the line in a value, or the first fault: a number that 64 bits do not hold as a whole number, anywhere in it, is one
+-- the line in a value, or the first fault; a number anywhere in it that is no whole number of 64 bits is a fault
 abbrev pub line_in : Data → Answer (List ℕ)
 line_in (object ms) =
     if has_float (object ms) then Err (codes "candidate info holds a fraction")
@@ -61,7 +61,7 @@ ufrag_in (number n) = Ok None
 ufrag_in (string s) = Ok None
 ufrag_in (array ds) = Ok None
 
--- a ufrag of its own replaces that of the line
+-- a ufrag in the object replaces that of the line
 abbrev pub with_ufrag : Option (List ℕ) → CandidateRecord → CandidateRecord
 with_ufrag None c = c
 with_ufrag (Some ufrag) c = record c { ufrag = Some ufrag }
@@ -76,12 +76,12 @@ pub record IsInfoOf (d : Data) (c : CandidateRecord) : Type 0 where
   pub has_ufrag : ufrag_in d ≡ Ok ufrag
   pub made : c ≡ with_ufrag ufrag read
 
--- the line reads and the ufrag has this fault
+-- the line parses and the ufrag has this fault
 abbrev pub HasUfragFault : Data → List ℕ → Type 0
 HasUfragFault d message =
     (line : List ℕ) × (read : CandidateRecord) × (line_in d ≡ Ok line) × IsLineOf line read × (ufrag_in d ≡ Err message)
 
--- a refusal tells of the value, else of its line, else of its ufrag; or there was no memory
+-- an error is about the value, otherwise about its line, otherwise about its ufrag; or an allocation failed
 abbrev pub RefusesInfo : Data → IceError → Type 0
 RefusesInfo d (BadCandidate s) =
     (line_in d ≡ Err (string_bytes s))
@@ -93,12 +93,12 @@ RefusesInfo d MtuTooSmall = ⊥
 RefusesInfo d CredentialsTooLong = ⊥
 RefusesInfo d PriorityTooHigh = ⊥
 
--- the candidate of the value, or the refusal
+-- the candidate of the value, or the error
 abbrev pub ReadsInfo : Data → Result CandidateRecord IceError → Type 0
 ReadsInfo d (Ok c) = IsInfoOf d c
 ReadsInfo d (Err e) = RefusesInfo d e
 
--- the candidate of a text's value, or the refusal; a text that has no value is no JSON
+-- the candidate of a text's value, or the error; a text that has no value is no JSON
 abbrev pub ReadsValue : Option Data → Result CandidateRecord IceError → Type 0
 ReadsValue (Some d) r = ReadsInfo d r
 ReadsValue None r = IsErrAnd r (RefusesWith (codes "candidate info is not JSON"))

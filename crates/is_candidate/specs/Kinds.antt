@@ -10,7 +10,7 @@ kind_word PeerReflexive = codes "prflx"
 kind_word ServerReflexive = codes "srflx"
 kind_word Relayed = codes "relay"
 
--- the number by which a foundation knows a kind
+-- the number of a kind in a foundation's hash
 abbrev pub kind_number : CandidateKind → ℕ
 kind_number Host = 0
 kind_number PeerReflexive = 1
@@ -20,7 +20,8 @@ kind_number Relayed = 3
 abbrev pub same_kind : CandidateKind → CandidateKind → Bool
 same_kind a b = kind_number a == kind_number b
 
--- packets of a candidate of this kind go from its own address: no server or NAT stands before its base (RFC 8445, section 4)
+-- packets of a candidate of this kind are sent from its own address: no server or NAT is in front of its base (RFC
+-- 8445, section 4)
 abbrev pub is_direct : CandidateKind → Bool
 is_direct Host = true
 is_direct PeerReflexive = false

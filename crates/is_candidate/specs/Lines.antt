@@ -1,4 +1,5 @@
--- What a candidate line says (RFC 5245, section 15.1), word by word: a candidate, or the first fault.
+-- The meaning of a candidate attribute, here: line (RFC 5245, section 15.1), word by word: a candidate, or the first
+-- fault.
 use Rattle.std.specs.Prelude.{◌≡◌, ℕ, ◌<◌, ◌^◌, ◌⊎◌, List, [], ◌∷◌, ◌++◌, codes, bytes_eq, drop, Option, Some, None, Result, Ok, Err}
 use Rattle.std.specs.Prelude.{MatchBool, MatchOption}
 use Rattle.std.specs.Str.Parse.{IsNumeral, digits_value, without_leading_plus}
@@ -15,20 +16,20 @@ use Rattle.is_candidate.specs.Candidates.{CandidateRecord}
 use Rattle.is_candidate.specs.Making.{signalled_candidate}
 use Rattle.is_candidate.specs.Words.{HasWords}
 
--- an answer, or the message of a fault
+-- a result, or the message of a fault
 abbrev pub Answer : Type 0 → Type 0
 Answer A = Result A (List ℕ)
 
--- decimal digits, leading zeros among them, behind one plus or none, of a number below the bound
+-- decimal digits, with or without leading zeros, after an optional plus, of a number below the bound
 abbrev pub IsNumberBelow : ℕ → List ℕ → ℕ → Type 0
 IsNumberBelow bound word n =
     IsNumeral 10 (without_leading_plus word) × (digits_value 10 (without_leading_plus word) ≡ n) × (n < bound)
 
--- the word reads as a value, from which the rest goes on; or it reads as none, and that is the fault
+-- the word parses as a value, and next continues with it; or it parses as none, and that is the fault
 abbrev pub ReadsAs : {A R : Type 0} → (A → Type 0) → List ℕ → Answer R → (A → Type 0) → Type 0
 ReadsAs {A} Is message r next = ((a : A) × Is a × next a) ⊎ (((a : A) → ¬ Is a) × (r ≡ Err message))
 
--- what follows an answer: the next rule, or the fault
+-- what follows a result: the next rule, or the fault
 abbrev pub Then : {A R : Type 0} → Answer A → Answer R → (A → Type 0) → Type 0
 Then (Ok a) r next = next a
 Then (Err message) r next = r ≡ Err message
@@ -91,7 +92,7 @@ ReadsPlace [] r = r ≡ Err (codes "missing address")
 ReadsPlace (word ∷ words) r =
     ReadsAs (IsIpText word) (codes "bad address") r (λ ip. ReadsPort ip words r)
 
--- ---- the keys behind them: of equal ones the last counts, each value of a known one is checked, others are skipped
+-- ---- the keys after them: the last of equal ones counts, each value of a known one is checked, others are skipped
 
 pub record Keys : Type 0 where
   pub raddr : Option IpAddr
@@ -102,12 +103,12 @@ pub record Keys : Type 0 where
 abbrev pub no_keys : Keys
 no_keys = record { raddr = None; rport = None; tcptype = None; ufrag = None }
 
--- the value is there and reads, and so stands; or it is missing, or reads as nothing
+-- the value is present and parses, and so is stored; or it is missing, or does not parse
 abbrev pub Takes : {A : Type 0} → Option (List ℕ) → (List ℕ → A → Type 0) → List ℕ → List ℕ → Answer Keys → (A → Keys) → Type 0
 Takes value Is missing bad r with_value =
     MatchOption value (r ≡ Err missing) (λ word. ReadsAs (Is word) bad r (λ a. r ≡ Ok (with_value a)))
 
--- the keys with one more, whose value may be missing
+-- one more key, whose value may be missing
 abbrev pub ReadsKey : List ℕ → Option (List ℕ) → Keys → Answer Keys → Type 0
 ReadsKey key value k r =
     MatchBool (bytes_eq key (codes "raddr"))
@@ -121,7 +122,7 @@ ReadsKey key value k r =
     (MatchOption value (r ≡ Err (codes "missing ufrag value")) (λ w. r ≡ Ok (record k { ufrag = Some w })))
     (r ≡ Ok k))))
 
--- all the keys with their values, from those before
+-- all the keys with their values, after those before
 abbrev pub ReadsKeys : Keys → List (List ℕ) → Answer Keys → Type 0
 ReadsKeys k [] r = r ≡ Ok k
 ReadsKeys k (key ∷ []) r = ReadsKey key None k r
@@ -130,7 +131,7 @@ ReadsKeys k (key ∷ value ∷ words) r =
 
 -- ---- the whole line
 
--- the related address, where both of its keys stand
+-- the related address, if both of its keys are present
 abbrev pub related_address : Option IpAddr → Option ℕ → Option SocketAddr
 related_address (Some ip) (Some port) = Some (plain_socket ip port)
 related_address (Some ip) None = None
@@ -148,11 +149,11 @@ ReadsWords words r =
     (keys : Answer Keys) × ReadsKeys no_keys (drop 8 words) keys × Then keys r (λ k.
     r ≡ Ok (line_candidate h p k))))
 
--- the text has this rest behind the prefix
+-- the text is the prefix followed by this rest
 abbrev pub HasRest : List ℕ → List ℕ → Type 0
 HasRest text rest = text ≡ codes "candidate:" ++ rest
 
--- what a text says: it has no prefix, or what the words behind the prefix say
+-- the meaning of a text: an error if it has no prefix, otherwise the meaning of the words after the prefix
 abbrev pub ReadsText : List ℕ → Answer CandidateRecord → Type 0
 ReadsText text r =
     (((rest : List ℕ) → ¬ HasRest text rest) × (r ≡ Err (codes "missing 'candidate:' prefix")))

@@ -1,4 +1,4 @@
--- The candidates that the constructors make, and what they refuse.
+-- The candidates that the constructors make, and their errors.
 use Rattle.std.specs.Prelude.{ℕ, false, List, ◌++◌, codes, Option, Some, None, if◌then◌else◌}
 use Rattle.std.specs.declared.net.ip_addr.IpAddr.{IpAddr}
 use Rattle.std.specs.declared.net.socket_addr.SocketAddr.{SocketAddr}
@@ -16,7 +16,7 @@ use Rattle.is_candidate.specs.Candidates.{CandidateRecord}
 abbrev pub ip_fault : IpAddr → Option (List ℕ)
 ip_fault ip = if is_valid_ip ip then None else Some (codes "invalid ip " ++ ip_text ip)
 
--- or a base of another IP version
+-- the same, or the base has another IP version
 abbrev pub reflexive_fault : SocketAddr → SocketAddr → Option (List ℕ)
 reflexive_fault addr base =
     if is_valid_ip (socket_ip addr)
@@ -45,16 +45,16 @@ gathered kind proto addr base local raddr tcptype = record {
 abbrev pub host_candidate : SocketAddr → Protocol → Option TcpType → CandidateRecord
 host_candidate addr proto tcptype = gathered Host proto addr addr addr None tcptype
 
--- the address of a local socket as a STUN server sees it; the related address is held back
+-- the address of a local socket as a STUN server sees it; the related address is not revealed
 abbrev pub server_reflexive_candidate : SocketAddr → SocketAddr → Protocol → Option TcpType → CandidateRecord
 server_reflexive_candidate addr base proto tcptype =
     gathered ServerReflexive proto addr base base (Some (unspecified_like addr)) tcptype
 
--- an address that a TURN server allocated; the related address is held back
+-- an address that a TURN server allocated; the related address is not revealed
 abbrev pub relayed_candidate : SocketAddr → SocketAddr → Protocol → Option TcpType → CandidateRecord
 relayed_candidate addr local proto tcptype = gathered Relayed proto addr addr local (Some (unspecified_like addr)) tcptype
 
--- an address that a check found (RFC 8445, sections 7.2.5.3.1 and 7.3.1.3)
+-- an address that a check discovered (RFC 8445, sections 7.2.5.3.1 and 7.3.1.3)
 abbrev pub peer_reflexive_candidate : Option (List ℕ) → Protocol → ℕ → SocketAddr → SocketAddr → List ℕ → CandidateRecord
 peer_reflexive_candidate foundation proto priority addr base ufrag = record {
   foundation = foundation;
@@ -72,7 +72,7 @@ peer_reflexive_candidate foundation proto priority addr base ufrag = record {
   discarded = false;
 }
 
--- a candidate that signalling told of: a line says nothing of its base, and only a host's local address is known
+-- a signaled candidate: a line says nothing about its base, and only a host's local address is known
 abbrev pub signalled_candidate : List ℕ → ℕ → Protocol → ℕ → SocketAddr → CandidateKind → Option SocketAddr → Option TcpType
     → Option (List ℕ) → CandidateRecord
 signalled_candidate foundation component proto priority addr kind raddr tcptype ufrag = record {

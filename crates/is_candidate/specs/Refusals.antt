@@ -1,11 +1,11 @@
--- Refused candidates, and the messages of the refusals.
+-- Failed constructors, and the messages of their errors.
 use Rattle.std.specs.Prelude.{◌≡◌, ℕ, List, Option, Some, None, Result, Ok, IsErrAnd, string_bytes}
 use Rattle.is_proto.specs.declared.error.IceError.{IceError}
 use Rattle.is_proto.specs.declared.error.IceError.TheVariants.{BadCandidate, OutOfMemory, PairIdsExhausted, MtuTooSmall, CredentialsTooLong}
 use Rattle.is_proto.specs.declared.error.IceError.TheVariants.{PriorityTooHigh}
 use Rattle.is_candidate.specs.Candidates.{CandidateRecord}
 
--- the refusal with this message, or want of memory for the message
+-- the error with this message, or `OutOfMemory` if there is no memory for the message
 abbrev pub RefusesWith : List ℕ → IceError → Type 0
 RefusesWith message (BadCandidate s) = string_bytes s ≡ message
 RefusesWith message OutOfMemory = Unit {0}
@@ -14,7 +14,7 @@ RefusesWith message MtuTooSmall = ⊥
 RefusesWith message CredentialsTooLong = ⊥
 RefusesWith message PriorityTooHigh = ⊥
 
--- the candidate where nothing is wrong, else the refusal with the message of the fault
+-- the candidate if nothing is wrong, otherwise the error with the message of the fault
 abbrev pub Makes : Option (List ℕ) → CandidateRecord → Result CandidateRecord IceError → Type 0
 Makes None made r = r ≡ Ok made
 Makes (Some message) made r = IsErrAnd r (RefusesWith message)

@@ -1,4 +1,4 @@
--- What is read of a printed line.
+-- The candidate that a printed line parses as.
 use Rattle.std.specs.Prelude.{◌≡◌, ◌<◌, ◌^◌, Option, Some, None, IfSome}
 use Rattle.std.specs.declared.net.socket_addr.SocketAddr.{SocketAddr}
 use Rattle.std.specs.Net.Addr.{IsIpv4Addr, IsIpv6Addr, MatchIp}
@@ -12,7 +12,7 @@ use Rattle.is_candidate.specs.Priorities.{candidate_priority}
 use Rattle.is_candidate.specs.Sdp.{sdp_text}
 use Rattle.is_candidate.specs.Words.{IsWord}
 
--- what a line says of an address: no flow information and no scope
+-- the part of an address that a line carries: no flow information and no scope
 abbrev pub told_address : SocketAddr → SocketAddr
 told_address a = plain_socket (socket_ip a) (socket_port a)
 
@@ -20,7 +20,7 @@ abbrev pub told_related : Option SocketAddr → Option SocketAddr
 told_related (Some a) = Some (told_address a)
 told_related None = None
 
--- the candidate that its line tells of (RFC 5245, section 15.1)
+-- the candidate that its line describes (RFC 5245, section 15.1)
 abbrev pub as_signalled : CandidateRecord → CandidateRecord
 as_signalled c =
     signalled_candidate (foundation_of c) c.component c.proto (candidate_priority c) (told_address c.addr) c.kind
@@ -30,10 +30,10 @@ as_signalled c =
 abbrev pub HasPlainTexts : CandidateRecord → Type 0
 HasPlainTexts c = IfSome c.foundation IsWord × IfSome c.ufrag IsWord
 
--- the printed line reads as what it tells of, which prints the same
+-- the printed line parses as the candidate that it describes, which prints the same
 abbrev pub LineReadsAgain : CandidateRecord → Type 0
 LineReadsAgain c = IsLineOf (sdp_text c) (as_signalled c) × (sdp_text (as_signalled c) ≡ sdp_text c)
 
--- the parts of an address that a line tells are in range
+-- the parts of an address that a line carries are in range
 abbrev pub PartsFit : SocketAddr → Type 0
 PartsFit a = MatchIp (socket_ip a) IsIpv4Addr IsIpv6Addr × (socket_port a < 2 ^ 16)

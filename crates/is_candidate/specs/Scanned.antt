@@ -1,4 +1,4 @@
--- The parts of a line as the code holds them, and as definitions name them.
+-- The parts of a line: the values of the code as values of the definitions.
 use Rattle.std.specs.Prelude.{ℕ, List, map, Result, Ok, Err}
 use Rattle.std.specs.Borrow.{Bor}
 use Rattle.std.specs.Option.{option_copied}

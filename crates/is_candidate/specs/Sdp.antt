@@ -1,4 +1,4 @@
--- The line of a candidate (RFC 5245, section 15.1).
+-- The candidate attribute, here: the line of a candidate (RFC 5245, section 15.1).
 use Rattle.std.specs.Prelude.{ℕ, List, [], ◌++◌, codes, decimal, Option, Some, None}
 use Rattle.std.specs.declared.net.socket_addr.SocketAddr.{SocketAddr}
 use Rattle.std.specs.Net.Socket.{socket_ip, socket_port}
@@ -21,7 +21,7 @@ unfoldable pub place_text : CandidateRecord → List ℕ
 place_text c =
     codes " " ++ ip_text (socket_ip c.addr) ++ codes " " ++ decimal (socket_port c.addr) ++ codes " typ " ++ kind_word c.kind
 
--- what may be there: the related address, the TCP role (RFC 6544, section 4.5), the ufrag
+-- the optional parts: the related address, the TCP role (RFC 6544, section 4.5), the ufrag
 unfoldable pub related_text : Option SocketAddr → List ℕ
 related_text (Some a) = codes " raddr " ++ ip_text (socket_ip a) ++ codes " rport " ++ decimal (socket_port a)
 related_text None = []

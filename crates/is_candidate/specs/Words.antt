@@ -3,7 +3,7 @@ use Rattle.std.specs.Prelude.{◌≡◌, ℕ, ◌<◌, List, [], ◌∷◌, ◌+
 use Rattle.std.specs.Char.{is_whitespace, is_not_whitespace}
 use Rattle.std.specs.Str.{NoCharPasses, EmptyOrStartsWithPassing}
 
--- white space alone, or nothing
+-- only white space, or nothing
 abbrev pub IsGap : List ℕ → Type 0
 IsGap text = NoCharPasses is_not_whitespace text
 

@@ -1,4 +1,4 @@
-//! Candidates: addresses at which an agent may be reached.
+//! Candidates: addresses at which an agent can be reached.
 ghost use Rattle.std.specs.Prelude.{◌≡◌, Some, OnOk, OnErr, IsOkUnless};
 ghost use Rattle.std.specs.Option.{option_copied};
 ghost use Rattle.is_proto.specs.declared.error.IceError.TheVariants.{OutOfMemory};
@@ -25,7 +25,7 @@ use std::alloc::Global;
 use std::marker::Model;
 use std::net::SocketAddr;
 
-/// An address at which an agent may be reached (RFC 8445, section 5.1). A host or relayed candidate is its own base.
+/// An address at which an agent can be reached (RFC 8445, section 5.1). A host or relayed candidate is its own base.
 #[derive(Debug, PartialEq, Eq, Hash, Drop)]
 pub struct Candidate {
     foundation: Option<Text>,
@@ -87,44 +87,44 @@ impl Model for Candidate {
 }
 
 impl Candidate {
-    /// The address at which the candidate is reached.
+    /// Returns the address at which the candidate can be reached.
     pub fn addr(&self) -> SocketAddr
         ensures { result ≡ self.now.addr }
     {
         self.addr
     }
 
-    /// The address of the local interface: the address of a host, the base of a reflexive candidate, and the
-    /// address from which a relayed one was allocated. It is unspecified, with port 0, where a candidate of
-    /// another kind than host was signalled.
+    /// Returns the address of the local interface: the address of a host, the base of a reflexive candidate, and the
+    /// address from which a relayed one was allocated. It is unspecified, with port 0, if the candidate was signaled
+    /// and is no host.
     pub fn local(&self) -> SocketAddr
         ensures { result ≡ self.now.local }
     {
         self.local
     }
 
-    /// The transport protocol.
+    /// Returns the transport protocol.
     pub fn proto(&self) -> Protocol
         ensures { result ≡ self.now.proto }
     {
         self.proto
     }
 
-    /// Which side opens the connection of a TCP candidate (RFC 6544, section 4.5).
+    /// Returns which side opens the connection of a TCP candidate (RFC 6544, section 4.5).
     pub fn tcptype(&self) -> Option<TcpType>
         ensures { result ≡ self.now.tcptype }
     {
         self.tcptype
     }
 
-    /// How the candidate was found.
+    /// Returns how the candidate was found.
     pub fn kind(&self) -> CandidateKind
         ensures { result ≡ self.now.kind }
     {
         self.kind
     }
 
-    /// The user fragment of the session that the candidate belongs to, where one is known.
+    /// Returns the username fragment of the session that the candidate belongs to, if it is known.
     pub fn ufrag(&self) -> Option<&str>
         ensures { option_copied result ≡ self.now.ufrag }
     {
@@ -134,7 +134,7 @@ impl Candidate {
         }
     }
 
-    /// Sets the user fragment. Refused for want of memory alone, and then the candidate is as it was.
+    /// Sets the username fragment. Fails only if an allocation fails, and then leaves the candidate unchanged.
     pub fn set_ufrag(&mut self, alloc: Global, ufrag: &str) -> Result<(), IceError>
         ensures ok { OnOk result (self.new ≡ record self.old { ufrag = Some ufrag.now }) }
         ensures err { OnErr result (self.new ≡ self.old) }

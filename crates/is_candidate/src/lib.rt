@@ -1,4 +1,4 @@
-//! ICE candidates (RFC 8445, section 5.1): what they are, their priorities, and their texts.
+//! ICE candidates (RFC 8445, section 5.1): their parts, their priorities, and their texts.
 #![tactic(auto)]
 
 pub mod candidate;
@@ -10,6 +10,6 @@ pub use candidate::builder::{
     CandidateBuilder, HasProtocol, HasRoute, NoProtocol, NoRoute, Tcp, Udp,
 };
 pub use candidate::kind::CandidateKind;
-/// Room in which `Candidate::from_json_str` reads, for any number of texts one after the other.
+/// Working memory of `Candidate::from_json_str`, for any number of texts one after the other.
 pub use json::Scratch as JsonScratch;
 pub use preference::{FnPreference, LocalPreference, PreferenceFunction, default_local_preference};

@@ -1,4 +1,4 @@
-//! Candidate lines (RFC 5245, section 15.1), read.
+//! Parsing candidate attributes, here also called candidate lines (RFC 5245, section 15.1).
 ghost use Rattle.std.specs.Prelude.{◌≡◌, ◌≤◌, ◌++◌, codes, length, take, IfSome, List, MatchOption, ℕ};
 ghost use Rattle.is_candidate.specs.Candidates.{CandidateRecord};
 ghost use Rattle.is_candidate.specs.Lines.{Answer, ReadsText};
@@ -19,11 +19,12 @@ use line::{candidate_of, read_words};
 use std::alloc::Global;
 use words::{MANY_WORDS, place_words, words_of};
 
-/// The candidate of a line: `candidate:`, then by words at white space foundation, component, protocol, priority,
-/// address, port, `typ` and kind, then keys with values. Of `raddr`, `rport`, `tcptype` and `ufrag` the last counts;
-/// other keys are skipped with their values. A related address stands where both `raddr` and `rport` came.
+/// Parses a candidate attribute: `candidate:`, then words at white space: foundation, component, protocol, priority,
+/// address, port, `typ` and kind, then keys with values. If `raddr`, `rport`, `tcptype` or `ufrag` is repeated, the
+/// last one counts; other keys are skipped with their values. There is a related address if both `raddr` and `rport`
+/// are present.
 ///
-/// Refused with `BadCandidate`: the whole text, a colon, and the first fault.
+/// Fails with `BadCandidate`: the whole text, a colon, and the first fault.
 pub fn parse_candidate(alloc: Global, text: &str) -> Result<Candidate, IceError>
     ensures { ReadsLine text.now result }
 {
@@ -42,7 +43,7 @@ pub fn parse_candidate(alloc: Global, text: &str) -> Result<Candidate, IceError>
     }
 }
 
-/// The words that were placed in the room, or all of them where there are more.
+/// Returns the words that were stored in the array, or all of them if there are more.
 #[inline(always)]
 fn placed_or_all<'r, 'a>(
     room: &'r [&'a str; MANY_WORDS],
@@ -58,7 +59,7 @@ fn placed_or_all<'r, 'a>(
     }
 }
 
-/// The refusal of a text, or want of memory for its message.
+/// Returns the error for a text, or `OutOfMemory` if there is no memory for its message.
 #[cold]
 fn refusal(alloc: Global, text: &str, fault: Fault<'_>) -> IceError
     ensures { RefusesWith (text.now ++ codes ": " ++ fault_text fault.entry) result }
@@ -70,7 +71,7 @@ fn refusal(alloc: Global, text: &str, fault: Fault<'_>) -> IceError
 }
 
 impl Candidate {
-    /// The candidate of a line, as `parse::parse_candidate` reads it.
+    /// Parses a candidate attribute, as `parse::parse_candidate` does.
     pub fn from_sdp_string(alloc: Global, text: &str) -> Result<Candidate, IceError>
         ensures { ReadsLine text.now result }
     {
@@ -78,8 +79,8 @@ impl Candidate {
     }
 }
 
-/// A text tells of one candidate or has one first fault, and never both: so `parse_candidate` answers Ok exactly where
-/// the text is a line of a candidate, but for want of memory.
+/// A text either describes one candidate or has one first fault, and never both: so `parse_candidate` returns Ok
+/// exactly if the text is a line of a candidate, except for an allocation failure.
 pub fn texts_have_one_reading()
     ensures { (text : List ℕ) (r s : Answer CandidateRecord) → ReadsText text r → ReadsText text s → r ≡ s }
 {}

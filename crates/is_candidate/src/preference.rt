@@ -1,4 +1,4 @@
-//! The local preference of a candidate, by an object that the caller makes.
+//! The local preference of a candidate, computed by an object of the caller.
 ghost use Rattle.std.specs.Prelude.{◌≡◌, ◌≤◌, ℕ, min};
 ghost use Rattle.is_candidate.specs.Preferences.{default_preference, first_preference, crossing_of};
 ghost use Rattle.is_candidate.specs.declared.candidate.Candidate.{Candidate};
@@ -7,19 +7,19 @@ use crate::candidate::Candidate;
 use crate::candidate::address::same_version;
 use crate::candidate::kind::CandidateKind;
 
-/// What gives local candidates their local preference (RFC 8445, section 5.1.2.1).
+/// Computes the local preference of local candidates (RFC 8445, section 5.1.2.1).
 pub trait LocalPreference: Drop {
-    /// The stated relation: the answers that the object may give on a candidate and a count.
+    /// The results that the object may return for a candidate and a count, as a relation.
     ghost answers: { Self → Candidate → ℕ → ℕ → Type 0 };
 
-    /// The preference, at most 65535, of a candidate that `same_kind` local candidates of its kind and IP version
-    /// came before.
+    /// Returns the preference, at most 65535, of a candidate that comes after `same_kind` local candidates of its kind
+    /// and IP version.
     fn calculate(&self, c: &Candidate, same_kind: usize) -> u32
         ensures stated { answers self.now c.now same_kind result }
         ensures bounded { result ≤ 65535 };
 }
 
-/// A boxed object is a preference too: that of the object.
+/// A boxed object computes the preference of the object in it.
 impl LocalPreference for Box<dyn LocalPreference> {
     ghost answers = { λ b. (LocalPreference-box b).answers b.value };
 
@@ -28,10 +28,10 @@ impl LocalPreference for Box<dyn LocalPreference> {
     }
 }
 
-/// The preference where the caller sets none: 65535 for a host, 49151 for a peer reflexive, 32767 for a server
-/// reflexive and 16383 for a relayed candidate, less 1 for IPv4, less 2 for each candidate of its kind and IP
-/// version that came before, less 1000 for a relayed candidate whose local address has the other IP version. It
-/// stays at zero.
+/// The default preference, if the caller sets none. It starts from 65535 for a host, 49151 for a peer-reflexive, 32767
+/// for a server-reflexive and 16383 for a relayed candidate. It is less by 1 for IPv4, by 2 for each earlier candidate
+/// of its kind and IP version, and by 1000 for a relayed candidate whose local address has the other IP version. It is
+/// never below zero.
 pub fn default_local_preference(c: &Candidate, same_kind: usize) -> u32
     ensures { result ≡ default_preference c.now same_kind }
 {
@@ -63,23 +63,23 @@ fn crossing(c: &Candidate) -> usize
     }
 }
 
-/// A function of the caller's, as a value that may be asked about every candidate and count.
+/// A function of the caller, as a value that accepts every candidate and count.
 pub trait PreferenceFunction: Drop {
-    /// The stated relation: the answers that the function may give.
+    /// The results that the function may return for a candidate and a count, as a relation.
     ghost gives: { Self → Candidate → ℕ → ℕ → Type 0 };
 
     fn call(&self, c: &Candidate, same_kind: usize) -> u32
         ensures { gives self.now c.now same_kind result };
 }
 
-/// The preference by a function of the caller's, its answers cut to 65535.
+/// A preference computed by a function of the caller; results above 65535 are cut to 65535.
 #[derive(Debug, Drop)]
 pub struct FnPreference<F> {
     function: F,
 }
 
 impl<F: PreferenceFunction> FnPreference<F> {
-    /// The preference by this function.
+    /// Makes a preference of this function.
     pub fn new(function: F) -> FnPreference<F>
         ensures { result.function ≡ function }
     {

@@ -1,4 +1,4 @@
--- What contracts see of a checklist: its bag, and its room.
+-- The abstract state of a checklist, as contracts see it: its bag of pairs, and its capacity.
 use Rattle.std.specs.Prelude.{◌≡◌, ℕ, ◌+◌, ◌<◌, ◌≤◌, true, List, vec_len, vec_capacity}
 use Rattle.std.specs.HashMap.{spare}
 use Rattle.std.specs.VecDeque.{deque_capacity}
@@ -11,11 +11,11 @@ use Rattle.is_pair.specs.Entries.{pairs_of}
 abbrev pub bag_of : code.Checklist → List PairRecord
 bag_of c = pairs_of c.pairs.entries
 
--- n more pairs have room
+-- there is capacity for n more pairs
 abbrev pub HasRoom : ℕ → code.Checklist → Type 0
 HasRoom n c = (n ≤ spare c.pairs) × (vec_len c.ranks + n ≤ vec_capacity c.ranks)
 
--- one more check has room, on whichever pair
+-- there is capacity for one more check, on any pair
 abbrev pub HasCheckRoom : code.Checklist → Type 0
 HasCheckRoom c =
     (vec_len c.index < vec_capacity c.index) × (0 < deque_capacity c.spare) × (keep_fewer (deque_capacity c.spare) (bag_of c) ≡ true)

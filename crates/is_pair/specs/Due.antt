@@ -1,4 +1,4 @@
--- When a pair is due for its next check, and when it is given up.
+-- When a pair is due for its next check, and when it fails.
 use Rattle.std.specs.Prelude.{[], ◌≡◌, ℕ, ◌<◌, ◌≤◌, ◌-◌, ◌*◌, ◌||◌, ◌⊎◌, Bool, true, false, not, nat_lt, nat_le, min, List, length, Option}
 use Rattle.std.specs.Prelude.{Some, None, unwrap_or, if◌then◌else◌}
 use Rattle.std.specs.Option.{option_map_or}
@@ -13,44 +13,44 @@ use Rattle.is_pair.specs.Pairs.{PairRecord, is_recent, is_lite_alive}
 
 -- ---- when it is due
 
--- 60 s before, and now where that would be before the beginning
+-- 60 s before now, or now if that would be before the beginning
 abbrev pub long_before : ℕ → ℕ
 long_before now = if nat_lt now (60 * SECOND) then now else now - 60 * SECOND
 
--- for longer than half the greatest delay no check was answered
+-- for longer than half the longest RTO, no check had a response
 abbrev pub is_silent : ℕ → StunTiming → List Check → Bool
 is_silent now t checks = option_map_or (λ c. nat_lt t.max_rto.0 (2 * (now - c.sent))) (first_unanswered checks) false
 
--- how many checks the delay goes by: so the checks come faster again where the peer fell silent
+-- the number of checks that the RTO depends on: so the checks come faster again when the peer falls silent
 abbrev pub delaying_count : ℕ → StunTiming → List Check → ℕ
 delaying_count now t checks = if is_silent now t checks then unanswered_count checks else length checks
 
--- a delay behind the last check, and now where there was none
+-- one RTO after the last check, or now if there was none
 abbrev pub next_moment : ℕ → StunTiming → List Check → ℕ
 next_moment now t checks =
     option_map_or (λ c. later c.sent (resend_delay t (delaying_count now t checks))) (last_check checks) now
 
--- a pair that was nominated and not checked since goes before all others
+-- a nominated pair without a check since its nomination is due before all others
 abbrev pub wanted_moment : NominationState → ℕ → StunTiming → List Check → ℕ
 wanted_moment Unnominated now t checks = next_moment now t checks
 wanted_moment Nominated now t checks = long_before now
 wanted_moment Attempt now t checks = next_moment now t checks
 wanted_moment Success now t checks = next_moment now t checks
 
--- the moment that stands fixed, else the one that asking now fixes
+-- the due time: the fixed one, if any, otherwise the one that is computed now
 abbrev pub due_moment : ℕ → StunTiming → PairRecord → ℕ
 due_moment now t p = unwrap_or p.due (min (wanted_moment p.nomination now t p.checks) (later now t.max_rto.0))
 
 abbrev pub asked : ℕ → StunTiming → PairRecord → PairRecord
 asked now t p = record p { due = Some (due_moment now t p) }
 
--- ---- when it is given up
+-- ---- when it fails
 
--- a check of the peer's came less than 15 s ago
+-- a check from the peer arrived less than 15 s ago
 abbrev pub is_heard : ℕ → PairRecord → Bool
 is_heard now p = option_map_or (is_recent now) p.last_request false
 
--- the last check may still be answered in time
+-- the response to the last check may still arrive in time
 abbrev pub is_in_time : ℕ → StunTiming → List Check → Bool
 is_in_time now t checks = option_map_or (λ c. nat_lt now (later c.sent (last_resend_delay t))) (last_check checks) false
 
@@ -61,7 +61,7 @@ is_possible now t p =
     || nat_lt (unanswered_count p.checks) t.max_retransmits
     || is_in_time now t p.checks
 
--- consent holds (RFC 7675); under lite the peer was heard of
+-- consent has not expired (RFC 7675); for an ICE-lite agent, the peer's checks have not stopped
 abbrev pub stays : Bool → ℕ → StunTiming → PairRecord → Bool
 stays lite now t p = if lite then is_lite_alive now p else is_possible now t p
 
@@ -73,17 +73,17 @@ is_given_up lite now t p = not (stays lite now t p)
 abbrev pub is_due : ℕ → StunTiming → PairRecord → Bool
 is_due now t p = nat_le (due_moment now t p) now
 
--- due earlier, or at the same moment with no smaller priority
+-- due earlier, or at the same time with no smaller priority
 abbrev pub GoesBefore : ℕ → StunTiming → PairRecord → PairRecord → Type 0
 GoesBefore now t p q =
     (due_moment now t p < due_moment now t q) ⊎ ((due_moment now t p ≡ due_moment now t q) × (q.priority ≤ p.priority))
 
--- the pair that goes before all others, and none where there is none. Ties are free
+-- the pair that is due before all others, or none if there is none; ties may be broken in any way
 abbrev pub IsEarliest : ℕ → StunTiming → List PairRecord → Option PairRecord → Type 0
 IsEarliest now t pairs None = pairs ≡ []
 IsEarliest now t pairs (Some p) = Has pairs p × ((q : PairRecord) → Has pairs q → GoesBefore now t p q)
 
--- that pair, where it is due
+-- that pair, if it is due
 abbrev pub IsNextDue : ℕ → StunTiming → List PairRecord → Option PairRecord → Type 0
 IsNextDue now t pairs None = NonePass (is_due now t) pairs
 IsNextDue now t pairs (Some p) = IsEarliest now t pairs (Some p) × (is_due now t p ≡ true)

@@ -1,4 +1,4 @@
--- What stands in the index and in the ordered set of a checklist, against its bag.
+-- The entries in the index and in the ordered set of a checklist, compared with its bag.
 use Rattle.std.specs.Prelude.{◌≡◌, ℕ, ◌==◌, ◌&&◌, ◌||◌, not, Bool, true, nat_eq, nat_le, bytes_eq, List, [], ◌∷◌, map, if◌then◌else◌}
 use Rattle.std.specs.List.{list_any, list_all}
 use Rattle.std.specs.Cmp.Lexicographic.{slice_cmp}
@@ -11,11 +11,11 @@ use Rattle.is_pair.specs.Checks.{is_kept}
 use Rattle.is_pair.specs.Pairs.{PairRecord}
 use Rattle.is_pair.specs.Bag.{passes_at, keeps, ranks}
 
--- an id stands before another, by their bytes
+-- an ID comes before another in the order of their bytes
 abbrev pub is_before : List ℕ → List ℕ → Bool
 is_before a b = is_lt (slice_cmp nat_cmp a b)
 
--- sorted by id
+-- sorted by transaction ID
 abbrev pub ids_rise : List Kept → Bool
 ids_rise [] = true
 ids_rise (k ∷ ks) = list_all (λ (q : Kept). not (is_before q.id.0 k.id.0)) ks && ids_rise ks
@@ -24,7 +24,7 @@ ids_rise (k ∷ ks) = list_all (λ (q : Kept). not (is_before q.id.0 k.id.0)) ks
 abbrev pub pairs_of : List (ℕ × PairRecord) → List PairRecord
 pairs_of entries = map (λ e. e.1) entries
 
--- each pair stands under its number
+-- each pair is stored under its number
 abbrev pub are_keyed : List (ℕ × PairRecord) → Bool
 are_keyed entries = list_all (λ (e : ℕ × PairRecord). e.1.number == e.0) entries
 
@@ -34,7 +34,7 @@ names id number k = k.number == number && bytes_eq k.id.0 id
 abbrev pub is_named : List ℕ → ℕ → List Kept → Bool
 is_named id number index = list_any (names id number) index
 
--- the index names exactly the pairs that keep each id
+-- the index names, for each ID, exactly the pairs that store a check with it
 abbrev pub IsIndex : List Kept → List PairRecord → Type 0
 IsIndex index pairs = (id : List ℕ) (number : ℕ) → is_named id number index ≡ keeps id number pairs
 
@@ -44,7 +44,7 @@ is_rank priority number r = r.number == number && r.priority == priority
 abbrev pub is_ranked : ℕ → ℕ → List Rank → Bool
 is_ranked priority number rs = list_any (is_rank priority number) rs
 
--- the set holds exactly the pairs with their stored priorities
+-- the set has exactly the pairs with their priorities
 abbrev pub IsRanking : List Rank → List PairRecord → Type 0
 IsRanking rs pairs = (priority : ℕ) (number : ℕ) → is_ranked priority number rs ≡ ranks priority number pairs
 
@@ -53,7 +53,7 @@ abbrev pub are_ordered : List Rank → Bool
 are_ordered [] = true
 are_ordered (r ∷ rs) = list_all (λ q. nat_le r.priority q.priority) rs && are_ordered rs
 
--- it is of the id, and its pair passes
+-- the entry has the ID, and its pair passes
 abbrev pub names_passing : List ℕ → (PairRecord → Bool) → List PairRecord → Kept → Bool
 names_passing id test pairs k = bytes_eq k.id.0 id && list_any (passes_at k.number test) pairs
 
@@ -61,17 +61,17 @@ names_passing id test pairs k = bytes_eq k.id.0 id && list_any (passes_at k.numb
 abbrev pub has_passing : (PairRecord → Bool) → List PairRecord → Rank → Bool
 has_passing test pairs r = list_any (passes_at r.number test) pairs
 
--- with the priority that its pair has now
+-- the entry with the current priority of its pair
 abbrev pub rank_now : List (ℕ × PairRecord) → Rank → Rank
 rank_now entries r = option_map_or (λ (p : PairRecord). record r { priority = p.priority }) (lookup (nat_eq r.number) entries) r
 
--- ---- a check is sent
+-- ---- after a check is sent
 
--- the entry is of another pair, or of an id that this one keeps
+-- the entry names another pair, or an ID that this one stores
 abbrev pub is_current : PairRecord → Kept → Bool
 is_current p k = not (k.number == p.number) || is_kept k.id.0 p.checks
 
--- what is named once the pair, as it is now, has sent a check with the id
+-- whether the index names the number for i, after the pair, as it is now, sent a check with the ID
 abbrev pub named_after : PairRecord → List ℕ → List ℕ → ℕ → List Kept → Bool
 named_after p id i number index =
     if p.number == number then bytes_eq id i || (is_named i number index && is_kept i p.checks) else is_named i number index

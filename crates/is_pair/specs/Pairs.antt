@@ -1,4 +1,5 @@
--- A candidate pair (RFC 8445, section 6.1.2), and what each operation makes of it. Moments and times are in nanoseconds.
+-- A candidate pair (RFC 8445, section 6.1.2), and its state after each operation. Times and durations are in
+-- nanoseconds.
 use Rattle.std.specs.Prelude.{◌≡◌, ℕ, ◌-◌, ◌*◌, Bool, true, false, nat_lt, List, [], ◌∷◌, ◌++◌, slice_set, Option, Some, None, if◌then◌else◌}
 use Rattle.std.specs.Option.{option_map_or}
 use Rattle.is_proto.specs.Moments.{SECOND, counted, later}
@@ -13,24 +14,24 @@ use Rattle.is_pair.specs.Checks.{Check, IsCheckAt, answered_at, last_checks}
 
 pub record PairRecord : Type 0 where
   pub number : ℕ
-  -- the places of its candidates in their lists
+  -- the indices of its candidates in their lists
   pub local : ℕ
   pub remote : ℕ
-  -- as it was when the pair was formed, or set since
+  -- the priority when the pair was formed, or the one that was set since
   pub priority : ℕ
   pub checks : List Check
   pub nomination : NominationState
   pub state : CheckState
-  -- the peer's checks: how many, and when the last one came
+  -- the checks from the peer: how many arrived, and when the last one did
   pub requests : ℕ
   pub last_request : Option ℕ
-  -- answers, repeated ones too, and the time that they took in all
+  -- how many responses arrived, including repeated ones, and the sum of their round-trip times
   pub answers : ℕ
   pub total_round_trip : ℕ
-  -- the next check's moment, once it was asked for
+  -- the due time of the next check, if it is fixed
   pub due : Option ℕ
 
--- number, local place, remote place, priority
+-- arguments: number, local index, remote index, priority
 abbrev pub new_pair : ℕ → ℕ → ℕ → ℕ → PairRecord
 new_pair number local remote priority = record {
   number = number;
@@ -53,20 +54,20 @@ is_valid p = is_valid_state p.state
 abbrev pub is_nominated : PairRecord → Bool
 is_nominated p = is_nominated_state p.nomination
 
--- the peer's check came
+-- after a check from the peer arrived
 abbrev pub with_request : ℕ → PairRecord → PairRecord
 with_request now p = record p { requests = counted p.requests; last_request = Some now }
 
--- nominated (RFC 8445, section 8.1.1), and at once with success where this is forced
+-- after a nomination (RFC 8445, section 8.1.1), which succeeds at once if this is forced
 abbrev pub nominated : Bool → PairRecord → PairRecord
 nominated true p = record p { nomination = Success }
 nominated false p = record p { nomination = Nominated }
 
--- valid with no check of its own, under ice-lite
+-- valid without a check of its own, on an ICE-lite agent
 abbrev pub validated : PairRecord → PairRecord
 validated p = record p { state = Succeeded }
 
--- what a pair takes of the one that it replaces
+-- what a pair copies from the one that it replaces
 abbrev pub with_success_of : PairRecord → PairRecord → PairRecord
 with_success_of other p = record p {
   nomination = nomination_from other.nomination p.nomination;
@@ -76,11 +77,11 @@ with_success_of other p = record p {
 abbrev pub with_requests_of : PairRecord → PairRecord → PairRecord
 with_requests_of other p = record p { requests = other.requests; last_request = other.last_request }
 
--- what a pair that replaces another takes over; under lite the peer's checks too
+-- all that a pair copies from the one that it replaces; on an ICE-lite agent the peer's checks too
 abbrev pub taking_over : Bool → PairRecord → PairRecord → PairRecord
 taking_over lite other p = if lite then with_requests_of other (with_success_of other p) else with_success_of other p
 
--- under lite, where no request came, one is taken to have come now
+-- on an ICE-lite agent: if no request arrived yet, one counts as received now
 abbrev pub heard_at : ℕ → Option ℕ → PairRecord → PairRecord
 heard_at now None p = with_request now p
 heard_at now (Some at) p = p
@@ -88,11 +89,11 @@ heard_at now (Some at) p = p
 abbrev pub heard : ℕ → PairRecord → PairRecord
 heard now p = heard_at now p.last_request p
 
--- the next check's moment is to be asked for anew
+-- the due time of the next check is no longer fixed
 abbrev pub undue : PairRecord → PairRecord
 undue p = record p { due = None }
 
--- a check is sent (RFC 8445, section 7.2.4): only the last ones are kept
+-- after a check is sent (RFC 8445, section 7.2.4): only the last ones are stored
 
 abbrev pub check_of : ℕ → Bool → List ℕ → PairRecord → Check
 check_of now controlling id p = record {
@@ -114,7 +115,7 @@ once_sent kept p = record p {
 abbrev pub checked : ℕ → StunTiming → Bool → List ℕ → PairRecord → PairRecord
 checked now t controlling id p = once_sent t.max_retransmits (record p { checks = p.checks ++ check_of now controlling id p ∷ [] })
 
--- a kept check is answered, also once more (RFC 8445, section 7.2.5.3)
+-- after a response to a stored check, also a repeated one (RFC 8445, section 7.2.5.3)
 
 abbrev pub answered : ℕ → ℕ → Check → PairRecord → PairRecord
 answered now place c p = record p {
@@ -126,15 +127,15 @@ answered now place c p = record p {
   due = None;
 }
 
--- which of several kept checks with the id takes the answer is open
+-- if several stored checks have the transaction ID, the response may go to any of them
 abbrev pub TakesAnswer : PairRecord → ℕ → List ℕ → PairRecord → Type 0
 TakesAnswer old now id new =
     (place : ℕ) × (c : Check) × IsCheckAt old.checks id place c × (new ≡ answered now place c old)
 
--- whether a check of the peer's that came then is less than 15 s old
+-- whether a check from the peer that arrived at `at` is less than 15 s old
 abbrev pub is_recent : ℕ → ℕ → Bool
 is_recent now at = nat_lt (now - at) (15 * SECOND)
 
--- under ice-lite a pair is given up once the peer was heard of, and no more
+-- on an ICE-lite agent, a pair fails if a check from the peer arrived, but none in the last 15 s
 abbrev pub is_lite_alive : ℕ → PairRecord → Bool
 is_lite_alive now p = option_map_or (is_recent now) p.last_request true

@@ -1,4 +1,4 @@
--- The states of a pair and of its nomination, and what an event makes of them (RFC 8445, sections 6.1.2.6, 7.2.5.3 and 8.1.1).
+-- The states of a pair and of its nomination, and their transitions (RFC 8445, sections 6.1.2.6, 7.2.5.3 and 8.1.1).
 use Rattle.std.specs.Prelude.{Bool, true, false}
 use Rattle.is_pair.specs.declared.pair.states.CheckState.{CheckState}
 use Rattle.is_pair.specs.declared.pair.states.CheckState.TheVariants.{Waiting, InProgress, Succeeded}
@@ -17,7 +17,7 @@ is_nominated_state Nominated = true
 is_nominated_state Attempt = true
 is_nominated_state Success = true
 
--- once a check was sent
+-- after a check was sent
 
 abbrev pub state_once_sent : CheckState → CheckState
 state_once_sent Waiting = InProgress
@@ -30,7 +30,7 @@ nomination_once_sent Nominated = Attempt
 nomination_once_sent Attempt = Attempt
 nomination_once_sent Success = Success
 
--- once a check was answered, by whether it was sent nominated
+-- after a response, depending on whether the check was sent nominated
 
 abbrev pub state_once_answered : CheckState → CheckState
 state_once_answered Waiting = Waiting
@@ -44,7 +44,7 @@ nomination_once_answered true Attempt = Success
 nomination_once_answered true Success = Success
 nomination_once_answered false own = own
 
--- what a pair takes from the one that it replaces: the other's, then its own
+-- after a pair copied from the one that it replaces: arguments are the other's state, then its own
 
 abbrev pub state_from : CheckState → CheckState → CheckState
 state_from Waiting own = own

@@ -1,4 +1,4 @@
--- Pairs that are checked in their turn.
+-- Pairs are checked in turn.
 use Rattle.std.specs.Prelude.{◌≡◌, ℕ, ◌<◌, ◌≤◌, min, Bool, true, nat_le, List, filter, length}
 use Rattle.is_proto.specs.Lists.{Has}
 use Rattle.is_proto.specs.Moments.{MAX, MILLISECOND}
@@ -7,21 +7,21 @@ use Rattle.is_pair.specs.Pairs.{PairRecord, checked}
 use Rattle.is_pair.specs.Due.{due_moment}
 use Rattle.is_pair.specs.Bag.{change_pair}
 
--- checks are a millisecond apart at least, and a pair keeps its last one
+-- checks are at least a millisecond apart, and a pair stores its last one
 pub record IsPaced (t : StunTiming) : Type 0 where
   pub initial : MILLISECOND ≤ t.initial_rto.0
   pub greatest : MILLISECOND ≤ t.max_rto.0
   pub retransmits : 0 < t.max_retransmits
 
--- asked at a moment, the pair is due at the given one at the latest
+-- computed at `now`, the due time of the pair is at most `by`
 abbrev pub is_due_by : ℕ → ℕ → StunTiming → PairRecord → Bool
 is_due_by by now t p = nat_le (due_moment now t p) by
 
--- the pairs that are
+-- the pairs that are due by then
 abbrev pub due_by : ℕ → ℕ → StunTiming → List PairRecord → List PairRecord
 due_by by now t pairs = filter (is_due_by by now t) pairs
 
--- asked at any moment from its check on, a pair is due behind the check, and asked before that behind the asking
+-- computed at any time from its check on, a pair's due time is after the check; computed earlier, it is after that time
 abbrev pub CheckedIsLater : Type 0
 CheckedIsLater =
     (now at : ℕ) (t : StunTiming) (controlling : Bool) (id : List ℕ) (p : PairRecord) → IsPaced t → now < MAX

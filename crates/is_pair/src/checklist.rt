@@ -1,5 +1,5 @@
-//! The checklist (RFC 8445, section 6.1.2): the pairs by their numbers, an index of the ids that they keep, and their order
-//! by priority.
+//! The checklist (RFC 8445, section 6.1.2): the pairs by their numbers, an index of the transaction IDs of their stored
+//! checks, and their order by priority.
 
 ghost use Rattle.std.specs.Prelude.{◌≡◌, true};
 ghost use Rattle.is_pair.specs.Entries.{pairs_of, are_keyed, are_ordered, ids_rise, IsIndex, IsRanking};
@@ -31,13 +31,13 @@ use std::collections::VecDeque;
 /// The pairs of an agent.
 #[derive(Drop)]
 pub struct Checklist {
-    /// Each under its number, in the order of the numbers.
+    /// Each pair by its number, in the order of the numbers.
     pairs: IndexMap<u64, CandidatePair>,
-    /// Which pairs keep which ids, sorted by id.
+    /// Which pairs store checks with which transaction IDs, sorted by ID.
     index: Vec<Kept>,
-    /// Which pair has which priority, sorted by priority.
+    /// The priority of each pair, sorted by priority.
     ranks: Vec<Rank>,
-    /// Takes the checks of a pair that has no room for one more.
+    /// Receives the checks of a pair whose queue is full.
     spare: VecDeque<BindingAttempt>,
     ghost keyed: { are_keyed pairs.entries ≡ true },
     ghost rising: { rises (pairs_of pairs.entries) ≡ true },
@@ -53,7 +53,7 @@ impl Checklist {
     ghost use Rattle.is_pair.specs.Bag.{is_numbered, has_number, pair_numbered, are_below, without};
     ghost use Rattle.is_pair.specs.Checklists.{bag_of, HasRoom, HasCheckRoom};
 
-    /// No pairs.
+    /// Makes a checklist without pairs.
     pub fn new(alloc: Global) -> Checklist
         ensures { bag_of result ≡ [] }
     {
@@ -65,27 +65,27 @@ impl Checklist {
         }
     }
 
-    /// No two pairs have the same number, and they stand in the order of their numbers. Does nothing; code whose proof
-    /// needs this calls it.
+    /// No two pairs have the same number, and the pairs are in the order of their numbers. Does nothing; code whose
+    /// proof needs this calls it.
     pub fn numbers_rise(&self)
         ensures { rises (bag_of self.now) ≡ true }
     {}
 
-    /// How many pairs there are.
+    /// Returns how many pairs there are.
     pub fn len(&self) -> usize
         ensures { result ≡ length (bag_of self.now) }
     {
         self.pairs.len()
     }
 
-    /// Whether there are none.
+    /// Whether there are no pairs.
     pub fn is_empty(&self) -> bool
         ensures { IsTrue result ↔ (bag_of self.now ≡ []) }
     {
         self.pairs.is_empty()
     }
 
-    /// The pair of the number, if there is one.
+    /// Returns the pair with the number, if there is one.
     pub fn get(&self, number: u64) -> Option<&CandidatePair>
         ensures found { option_copied result ≡ pair_numbered number (bag_of self.now) }
         ensures has { is_some result ≡ has_number number (bag_of self.now) }
@@ -93,9 +93,9 @@ impl Checklist {
         self.pairs.get(&number)
     }
 
-    /// Makes room for n more pairs.
+    /// Reserves capacity for n more pairs.
     ///
-    /// Refused where there is none: the pairs are as before.
+    /// If the allocation fails, the pairs are unchanged.
     pub fn reserve(&mut self, n: usize) -> Result<(), AllocError>
         ensures bag { bag_of self.new ≡ bag_of self.old }
         ensures reserved { OnOk result (HasRoom n self.new) }
@@ -106,7 +106,7 @@ impl Checklist {
         self.ranks.reserve(n)
     }
 
-    /// Adds a pair that was just made, under a number above all others.
+    /// Adds a newly created pair, whose number is above all others.
     pub fn add(&mut self, pair: CandidatePair)
         requires room { HasRoom 1 self.old }
         requires last { are_below pair.number (bag_of self.old) ≡ true }
@@ -124,7 +124,7 @@ impl Checklist {
         ranks::put(&mut self.ranks, rank);
     }
 
-    /// Removes the pairs that pass.
+    /// Removes the pairs that pass the test.
     pub fn remove_where<T: PairTest>(&mut self, test: &T)
         ensures left { bag_of self.new ≡ without (T.passes test.now) (bag_of self.old) }
         ensures room { (n : ℕ) → HasRoom n self.old → HasRoom n self.new }
@@ -136,7 +136,7 @@ impl Checklist {
         ranks::keep_known(&mut self.ranks, &self.pairs);
     }
 
-    /// Removes the pair of the number, if there is one.
+    /// Removes the pair with the number, if there is one.
     pub fn remove(&mut self, number: u64)
         ensures left { bag_of self.new ≡ without (is_numbered number) (bag_of self.old) }
         ensures room { (n : ℕ) → HasRoom n self.old → HasRoom n self.new }
@@ -148,7 +148,7 @@ impl Checklist {
         ranks::drop_number(&mut self.ranks, number);
     }
 
-    /// Removes all pairs; the room stays.
+    /// Removes all pairs; the capacity stays.
     pub fn clear(&mut self)
         ensures cleared { bag_of self.new ≡ [] }
         ensures room { (n : ℕ) → HasRoom n self.old → HasRoom n self.new }

@@ -1,4 +1,4 @@
-//! Candidate pairs: the connectivity checks of one path, from when it is due to when it is given up (RFC 8445).
+//! Candidate pairs: the connectivity checks of one path, from when it is due until it fails (RFC 8445).
 #![tactic(auto)]
 
 pub mod checklist;

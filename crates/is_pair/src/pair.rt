@@ -23,7 +23,7 @@ use std::alloc::Global;
 use std::collections::VecDeque;
 use std::marker::Model;
 
-/// The number of a pair, from a counter of the agent's: no two pairs of an agent ever have the same.
+/// The number of a pair, from a counter of the agent: no two pairs of an agent ever have the same number.
 #[derive(Clone, Copy, Debug, PartialEq, Eq)]
 pub struct PairId(pub u64);
 
@@ -34,7 +34,7 @@ pub struct CandidatePair {
     local_idx: usize,
     remote_idx: usize,
     prio: u64,
-    /// The last checks, oldest first.
+    /// The stored checks: the last ones that were sent, oldest first.
     binding_attempts: VecDeque<BindingAttempt>,
     nomination_state: NominationState,
     state: CheckState,
@@ -42,7 +42,7 @@ pub struct CandidatePair {
     remote_binding_request_time: Option<Instant>,
     responses_received: u64,
     total_round_trip_time: Duration,
-    /// The next check's moment, fixed when it is first asked for.
+    /// The due time of the next check, if it is fixed.
     cached_next_attempt_time: Option<Instant>,
 }
 
@@ -69,8 +69,8 @@ impl Model for CandidatePair {
 }
 
 impl CandidatePair {
-    /// A pair of the local and the remote candidate that stand at these places of their lists. The kinds of the
-    /// candidates play no part in what a pair does.
+    /// Makes a pair of the local and the remote candidate at these indices of their lists. The kinds of the candidates
+    /// have no effect on the pair.
     pub fn new(
         alloc: Global,
         id: PairId,
@@ -98,28 +98,28 @@ impl CandidatePair {
         }
     }
 
-    /// The number that it was made with.
+    /// Returns the number that the pair was made with.
     pub fn id(&self) -> PairId
         ensures { result.0 ≡ self.now.number }
     {
         self.id
     }
 
-    /// The place of the local candidate.
+    /// Returns the index of the local candidate.
     pub fn local_idx(&self) -> usize
         ensures { result ≡ self.now.local }
     {
         self.local_idx
     }
 
-    /// The place of the remote candidate.
+    /// Returns the index of the remote candidate.
     pub fn remote_idx(&self) -> usize
         ensures { result ≡ self.now.remote }
     {
         self.remote_idx
     }
 
-    /// The local candidate, in the list of local candidates.
+    /// Returns the local candidate from the list of local candidates.
     pub fn local_candidate<'a>(&self, cs: &'a [Candidate]) -> &'a Candidate
         requires { self.now.local < length cs.now }
         ensures { slice_get cs.now self.now.local ≡ Some result.now }
@@ -127,7 +127,7 @@ impl CandidatePair {
         &cs[self.local_idx]
     }
 
-    /// The remote candidate, in the list of remote candidates.
+    /// Returns the remote candidate from the list of remote candidates.
     pub fn remote_candidate<'a>(&self, cs: &'a [Candidate]) -> &'a Candidate
         requires { self.now.remote < length cs.now }
         ensures { slice_get cs.now self.now.remote ≡ Some result.now }
@@ -135,36 +135,36 @@ impl CandidatePair {
         &cs[self.remote_idx]
     }
 
-    /// The priority that it was made with, or that was set since.
+    /// Returns the priority that the pair was made with, or that was set since.
     pub fn prio(&self) -> u64
         ensures { result ≡ self.now.priority }
     {
         self.prio
     }
 
-    /// How far its checks have come.
+    /// Returns the check state.
     pub fn state(&self) -> CheckState
         ensures { result ≡ self.now.state }
     {
         self.state
     }
 
-    /// When the last check of the peer's came.
+    /// Returns the time of the last check from the peer.
     pub fn remote_binding_request_time(&self) -> Option<Instant>
         ensures { option_map (λ at. at.0) result ≡ self.now.last_request }
     {
         self.remote_binding_request_time
     }
 
-    /// Whether it is nominated (RFC 8445, section 8.1.1), however far the nomination has come.
+    /// Whether the pair is nominated (RFC 8445, section 8.1.1), in any nomination state.
     pub fn is_nominated(&self) -> bool
         ensures { result ≡ is_nominated self.now }
     {
         self.nomination_state != NominationState::None
     }
 
-    /// Nominates a pair that is not nominated; at once with success where no check is to follow, as on an
-    /// ice-lite agent.
+    /// Nominates a pair that is not nominated. `force_success` makes the nomination succeed at once, if no check is to
+    /// follow, as on an ICE-lite agent.
     pub fn nominate(&mut self, force_success: bool)
         requires { self.old.nomination ≡ NominationState.None }
         ensures { self.new ≡ nominated force_success self.old }
@@ -176,9 +176,9 @@ impl CandidatePair {
         };
     }
 
-    /// A copy, equal in every part, the fixed moment of the next check too.
+    /// Copies the pair. The copy is equal in every part, including the fixed due time of the next check.
     ///
-    /// Refused with `OutOfMemory` where the kept checks have no room.
+    /// Fails with `OutOfMemory` if there is no memory for the stored checks.
     pub fn try_clone(&self) -> Result<CandidatePair, IceError>
         ensures copy { IfOk result (λ copy. copy ≡ self.now) }
         ensures refusal { IfErr result (λ e. e ≡ IceError.OutOfMemory) }

@@ -1,4 +1,4 @@
--- The texts of faults and refusals.
+-- The texts of parse faults and errors.
 use Rattle.std.specs.Prelude.{ℕ, List, ◌++◌, codes}
 use Rattle.std.specs.String.{string_bytes}
 use Rattle.is_proto.specs.declared.error.ParseFault.{ParseFault}
@@ -42,7 +42,7 @@ parse_fault_text NoIntegrityRequest = codes "No message integrity in incoming ST
 parse_fault_text NoUsername = codes "STUN packet missing username"
 parse_fault_text NoPriority = codes "STUN packet missing priority"
 
--- why a message is not read, or not written
+-- why a message can't be parsed or written
 abbrev pub stun_error_text : StunError → List ℕ
 stun_error_text (Parse fault) = codes "STUN parse error: " ++ parse_fault_text fault
 stun_error_text BufferTooShort = codes "STUN buffer too short"
@@ -51,7 +51,7 @@ stun_error_text MessageTooLong = codes "STUN message too long"
 stun_error_text BadErrorCode = codes "STUN error code outside 300 to 699"
 stun_error_text UnknownMethod = codes "STUN method unknown"
 
--- why a call is refused
+-- why a call fails
 abbrev pub ice_error_text : IceError → List ℕ
 ice_error_text (BadCandidate message) = codes "ICE bad candidate: " ++ string_bytes message
 ice_error_text OutOfMemory = codes "out of memory"

@@ -1,4 +1,4 @@
--- What a message authentication code is computed of.
+-- The text that a message authentication code is computed over.
 use Rattle.std.specs.Prelude.{ℕ, List, map}
 use Rattle.std.specs.List.{concat}
 use Rattle.std.specs.Borrow.{Bor}

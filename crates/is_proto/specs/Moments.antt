@@ -1,7 +1,8 @@
--- Moments and lengths of time, in whole nanoseconds, and counters. A difference below zero is zero, as `-` is.
+-- Times, durations and counters. Times and durations are in whole nanoseconds. A difference below zero is zero, as with
+-- `-`.
 use Rattle.std.specs.Prelude.{ℕ, ◌+◌, min}
 
--- the last moment, and the greatest counter
+-- the last time, the longest duration, and the greatest counter
 abbrev pub MAX : ℕ
 MAX = 0xffff_ffff_ffff_ffff
 
@@ -11,7 +12,7 @@ MILLISECOND = 1_000_000
 abbrev pub SECOND : ℕ
 SECOND = 1_000_000_000
 
--- the moment so much later, and the last one past the end
+-- the time later by so much, or the last time if that overflows
 abbrev pub later : ℕ → ℕ → ℕ
 later moment by = min (moment + by) MAX
 

@@ -1,4 +1,4 @@
--- Packets to be sent, as contracts see them: by the bytes, and not by the room that their vector has.
+-- Packets to send, as contracts see them: their bytes count, but not the capacity of their vector.
 use Rattle.std.specs.Prelude.{ℕ, List}
 use Rattle.std.specs.declared.net.socket_addr.SocketAddr.{SocketAddr}
 use Rattle.is_proto.specs.declared.proto.Protocol.{Protocol}

@@ -1,4 +1,4 @@
-//! Why a message is not read or not written, and why the agent refuses a call.
+//! Errors: why a message can't be parsed or written, and why a call of the agent fails.
 
 ghost use Rattle.std.specs.Prelude.{◌≡◌, Some};
 ghost use Rattle.is_proto.specs.Errors.{parse_fault_text, stun_error_text, ice_error_text};
@@ -11,55 +11,55 @@ use std::fmt;
 /// What is wrong with the bytes of a STUN message: the first fault that applies (RFC 8489, sections 5 and 14).
 #[derive(Clone, Copy, Debug, PartialEq, Eq)]
 pub enum ParseFault {
-    /// Fewer than 4 bytes: no message type and length.
+    /// There are fewer than 4 bytes: the message type and the length are missing.
     TooShort,
-    /// The header's length is no multiple of 4.
+    /// The length in the header is no multiple of 4.
     LengthUneven,
-    /// The header and its length do not come to the number of bytes.
+    /// The number of bytes differs from the header's 20 bytes plus the length in the header.
     LengthMismatch,
-    /// The magic cookie is another.
+    /// The magic cookie is wrong.
     Magic,
-    /// An attribute is longer than what is left of the message.
+    /// An attribute is longer than the rest of the message.
     AttributeLength,
-    /// MESSAGE-INTEGRITY of another length than 20.
+    /// MESSAGE-INTEGRITY is not 20 bytes long.
     IntegrityLength,
-    /// ERROR-CODE of fewer than 4 bytes.
+    /// ERROR-CODE is shorter than 4 bytes.
     ErrorCodeLength,
     /// The reserved bits of ERROR-CODE are not zero.
     ErrorCodeTop,
     /// The class of ERROR-CODE is not 3 to 6.
     ErrorClass,
-    /// CHANNEL-NUMBER of another length than 4.
+    /// CHANNEL-NUMBER is not 4 bytes long.
     ChannelLength,
-    /// A channel number outside 0x4000 to 0x7FFF.
+    /// The channel number is outside 0x4000 to 0x7FFF.
     ChannelRange,
-    /// LIFETIME of another length than 4.
+    /// LIFETIME is not 4 bytes long.
     LifetimeLength,
-    /// PRIORITY of another length than 4.
+    /// PRIORITY is not 4 bytes long.
     PriorityLength,
-    /// USE-CANDIDATE that is not empty.
+    /// USE-CANDIDATE is not empty.
     UseCandidateLength,
-    /// FINGERPRINT of another length than 4.
+    /// FINGERPRINT is not 4 bytes long.
     FingerprintLength,
-    /// ICE-CONTROLLED of another length than 8.
+    /// ICE-CONTROLLED is not 8 bytes long.
     ControlledLength,
-    /// ICE-CONTROLLING of another length than 8.
+    /// ICE-CONTROLLING is not 8 bytes long.
     ControllingLength,
-    /// An XOR address of an unknown family, or too short for its family.
+    /// An XOR address has an unknown family, or is too short for its family.
     XorAddress,
-    /// A text longer than its attribute allows.
+    /// A text is longer than its attribute allows.
     TextTooLong,
-    /// A text that is not UTF-8.
+    /// A text is not UTF-8.
     TextNotUtf8,
-    /// A Binding success without MESSAGE-INTEGRITY.
+    /// A Binding success response has no MESSAGE-INTEGRITY.
     NoIntegrityReply,
-    /// A Binding success without XOR-MAPPED-ADDRESS.
+    /// A Binding success response has no XOR-MAPPED-ADDRESS.
     NoMappedAddress,
-    /// A Binding request without MESSAGE-INTEGRITY.
+    /// A Binding request has no MESSAGE-INTEGRITY.
     NoIntegrityRequest,
-    /// A Binding request without USERNAME, or whose USERNAME has no colon with something behind it.
+    /// A Binding request has no USERNAME, or its USERNAME has no colon, or nothing after its colon.
     NoUsername,
-    /// A Binding request without PRIORITY.
+    /// A Binding request has no PRIORITY.
     NoPriority,
 }
 
@@ -98,21 +98,21 @@ impl fmt::Display for ParseFault {
     }
 }
 
-/// Why a STUN message is not read, or not written. A refused write leaves its buffer as it was; the
-/// refusals of writing are listed in the order in which they come, but for `BufferTooShort`, which comes last.
+/// Why a STUN message can't be parsed or written. A write that fails leaves the buffer unchanged. The errors of writing
+/// are listed in the order in which they are checked, except `BufferTooShort`, which is checked last.
 #[derive(Clone, Copy, Debug, PartialEq, Eq)]
 pub enum StunError {
-    /// The bytes are no message.
+    /// The bytes are no STUN message.
     Parse(ParseFault),
-    /// The buffer does not hold the message.
+    /// The message does not fit the buffer.
     BufferTooShort,
-    /// A user name of more than 508 bytes, another text of more than 128, or data of more than 65535.
+    /// USERNAME is longer than 508 bytes, another text is longer than 128, or the data is longer than 65535.
     ValueTooLong,
-    /// Attributes of more than 65535 bytes in all.
+    /// The attributes take more than 65535 bytes in total.
     MessageTooLong,
-    /// An error code outside 300 to 699.
+    /// The error code is outside 300 to 699.
     BadErrorCode,
-    /// The message has no known method.
+    /// The method of the message is unknown.
     UnknownMethod,
 }
 
@@ -133,20 +133,21 @@ impl fmt::Display for StunError {
 
 impl Error for StunError {}
 
-/// Why the agent, or a candidate's constructor, refuses a call. A refused call changes nothing that it was lent.
+/// Why a call of the agent, or of a candidate's constructor, fails. A call that fails changes none of the values that
+/// it was given by reference.
 #[derive(Debug, PartialEq, Eq, Drop)]
 pub enum IceError {
-    /// A candidate that can't be made or read, and why.
+    /// The candidate can't be made or read; the string gives the reason.
     BadCandidate(String),
-    /// A growth was refused.
+    /// An allocation failed.
     OutOfMemory,
-    /// Fewer pair numbers are left than the call has combinations to try.
+    /// There are fewer unused pair numbers than combinations that the call has to try.
     PairIdsExhausted,
-    /// The target of the MTU is shorter than the longest check.
+    /// The target MTU is smaller than the longest check.
     MtuTooSmall,
-    /// The local ufrag, a colon and the remote ufrag are longer than a user name may be.
+    /// The local username fragment, a colon and the remote username fragment are longer than a USERNAME may be.
     CredentialsTooLong,
-    /// A local candidate of priority 4294967295, for which no pair priority fits 64 bits.
+    /// The local candidate has priority 4294967295, for which no pair priority fits 64 bits.
     PriorityTooHigh,
 }
 

@@ -14,7 +14,7 @@ const OUTER_PAD: u8 = 0x5C;
 
 const INNER_PAD: u8 = 0x36;
 
-/// HMAC-SHA1 over the SHA-1 of the crate `sha1`: the provider of `IceAgent::new`. It takes no memory.
+/// HMAC-SHA1 with the SHA-1 of the crate `sha1`: the provider of `IceAgent::new`. It never allocates.
 #[derive(Clone, Copy, Debug, PartialEq, Eq)]
 pub struct DefaultSha1HmacProvider;
 
@@ -32,8 +32,9 @@ impl Sha1HmacProvider for DefaultSha1HmacProvider {
     }
 }
 
-/// What HMAC-SHA1 computes of a key alone: the key as a block, and SHA-1 behind that block with each pad in it (RFC 2104,
-/// section 4). Where it is kept, a MAC takes two blocks of SHA-1 less. It is as secret as the key.
+/// The part of HMAC-SHA1 that depends only on the key: the key as a block, and the two SHA-1 states after that block is
+/// xored with each pad and hashed (RFC 2104, section 4). Reusing it saves two blocks of SHA-1 per MAC. It is as secret
+/// as the key.
 #[derive(Drop)]
 pub struct HmacKey {
     block: [u8; BLOCK_LEN],
@@ -44,7 +45,7 @@ pub struct HmacKey {
 }
 
 impl HmacKey {
-    /// What is kept of this key.
+    /// Precomputes the state for this key.
     #[tactic(auto, unfolding(sha1::specs::Sha1::Holds))]
     pub fn new(key: &[u8]) -> HmacKey
         ensures { result.block ≡ key_block key.now }
@@ -57,7 +58,7 @@ impl HmacKey {
         }
     }
 
-    /// The digest of the text behind the inner pad.
+    /// Returns the digest of the inner pad followed by the payloads.
     #[tactic(auto, unfolding(sha1::specs::Sha1::Holds))]
     fn inner_digest(&self, payloads: &[&[u8]]) -> [u8; 20]
         ensures { result ≡ sha1 (xor_each 0x36 self.now.block ++ joined payloads.now) }
@@ -65,7 +66,7 @@ impl HmacKey {
         digest_behind(copy_of(&self.inner), payloads)
     }
 
-    /// The digest of a text behind the outer pad.
+    /// Returns the digest of the outer pad followed by the payloads.
     #[tactic(auto, unfolding(sha1::specs::Sha1::Holds))]
     fn outer_digest(&self, payloads: &[&[u8]]) -> [u8; 20]
         ensures { result ≡ sha1 (xor_each 0x5C self.now.block ++ joined payloads.now) }
@@ -73,7 +74,8 @@ impl HmacKey {
         digest_behind(copy_of(&self.outer), payloads)
     }
 
-    /// HMAC-SHA1 under any key. Only under the key that was kept it takes less: what was kept of another one is not used.
+    /// Returns HMAC-SHA1 under any key. It saves work only under the key that was precomputed; for another key it does
+    /// not use the precomputed state.
     pub fn mac(&self, key: &[u8], payloads: &[&[u8]]) -> [u8; 20]
         ensures { result ≡ hmac_sha1 key.now (joined payloads.now) }
     {
@@ -86,7 +88,8 @@ impl HmacKey {
     }
 }
 
-/// A provider with what was kept of a key: a provider of the same function, which need not begin that key anew.
+/// A provider together with a precomputed key. It computes the same function as the provider, but need not process that
+/// key again.
 #[derive(Drop)]
 pub struct KeptProvider<'a, H> {
     pub provider: &'a H,
@@ -124,7 +127,7 @@ fn xor_each_byte(block: &[u8; BLOCK_LEN], pad: u8) -> [u8; BLOCK_LEN]
     bytes
 }
 
-/// SHA-1 behind the block with the pad in it.
+/// Returns the SHA-1 state after the block, xored with the pad.
 fn padded(block: &[u8; BLOCK_LEN], pad: u8) -> Sha1
     ensures { Holds result (xor_each pad block.now) }
 {
@@ -133,7 +136,7 @@ fn padded(block: &[u8; BLOCK_LEN], pad: u8) -> Sha1
     hasher
 }
 
-/// The same state once more.
+/// Returns a copy of the state.
 fn copy_of(hashed: &Sha1) -> Sha1
     ensures { result ≡ hashed.now }
 {
@@ -143,7 +146,7 @@ fn copy_of(hashed: &Sha1) -> Sha1
     }
 }
 
-/// The digest of what was hashed and of the pieces behind it.
+/// Returns the digest of what was hashed so far, followed by the pieces.
 fn digest_behind(mut hasher: Sha1, pieces: &[&[u8]]) -> [u8; 20]
     ensures { (m : List ℕ) → Holds hasher m → result ≡ sha1 (m ++ joined pieces.now) }
 {
@@ -153,7 +156,7 @@ fn digest_behind(mut hasher: Sha1, pieces: &[&[u8]]) -> [u8; 20]
     hasher.finalize()
 }
 
-/// The digest of the block with the pad in it and of the pieces behind it.
+/// Returns the digest of the block, xored with the pad, followed by the pieces.
 fn padded_digest(block: &[u8; BLOCK_LEN], pad: u8, pieces: &[&[u8]]) -> [u8; 20]
     ensures { result ≡ sha1 (xor_each pad block.now ++ joined pieces.now) }
 {

@@ -1,4 +1,5 @@
-//! What every layer of the agent names: protocols, moments, packets, texts, errors, and who computes HMAC-SHA1.
+//! The basic types of every layer of the agent: protocols, times, packets, texts, errors, and the provider of
+//! HMAC-SHA1.
 #![tactic(auto)]
 
 pub mod error;

@@ -1,4 +1,5 @@
-//! What the caller hands in and gets: protocols, address texts, moments, packets, and the provider of HMAC-SHA1.
+//! The types that the caller passes in and gets back: protocols, address texts, times, packets, and the provider of
+//! HMAC-SHA1.
 
 ghost use Rattle.std.specs.Prelude.{◌≡◌, ◌+◌, ◌-◌, ◌*◌, ◌/◌, ◌<◌, ◌≤◌, ℕ, List, min, Some, MatchOption};
 ghost use Rattle.is_proto.specs.Macs.{joined};
@@ -15,15 +16,15 @@ use std::net::SocketAddr;
 pub enum Protocol {
     Udp,
     Tcp,
-    /// TCP behind a pseudo TLS handshake.
+    /// TCP, with a pseudo-TLS handshake first.
     SslTcp,
     /// TURN over TLS.
     Tls,
 }
 
 impl Protocol {
-    /// The protocol whose word the text is, without regard to ASCII case: `udp`, `tcp`, `ssltcp` or `tls`. None for
-    /// every other text, white space around a word included.
+    /// Parses a protocol, without regard to ASCII case: `udp`, `tcp`, `ssltcp` or `tls`. Returns `None` for every other
+    /// text, also for one of these words with white space around it.
     pub fn from_text(text: &str) -> Option<Self>
         ensures { ReadsProtocol text.now result }
     {
@@ -64,8 +65,8 @@ pub enum TcpType {
 }
 
 impl TcpType {
-    /// The role whose word the text is, without regard to ASCII case: `active`, `passive` or `so`. None for every
-    /// other text.
+    /// Parses a TCP role, without regard to ASCII case: `active`, `passive` or `so`. Returns `None` for every other
+    /// text.
     pub fn from_text(text: &str) -> Option<Self>
         ensures { ReadsTcpType text.now result }
     {
@@ -93,26 +94,26 @@ impl fmt::Display for TcpType {
     }
 }
 
-/// A moment, in whole nanoseconds since a beginning that the caller chooses.
+/// A time, in whole nanoseconds since an origin that the caller chooses.
 #[derive(Clone, Copy, Debug, PartialEq, Eq, PartialOrd, Ord)]
 pub struct Instant(pub u64);
 
 impl Instant {
-    /// The time since `earlier`, zero where that is later.
+    /// Returns the time since `earlier`, or zero if `earlier` is later.
     pub fn duration_since(self, earlier: Instant) -> Duration
         ensures { result.0 ≡ self.0 - earlier.0 }
     {
         Duration(self.0.saturating_sub(earlier.0))
     }
 
-    /// The moment `by` later, the last one where that passes the end.
+    /// Returns the time that is later by `by`, or the last `Instant` if that overflows.
     pub fn saturating_add(self, by: Duration) -> Instant
         ensures { result.0 ≡ later self.0 by.0 }
     {
         Instant(self.0.saturating_add(by.0))
     }
 
-    /// The moment `by` earlier, where there is one.
+    /// Returns the time that is earlier by `by`, or `None` if there is none.
     pub fn checked_sub(self, by: Duration) -> Option<Instant>
         ensures { MatchOption result (self.0 < by.0) (λ earlier. earlier.0 + by.0 ≡ self.0) }
     {
@@ -120,7 +121,7 @@ impl Instant {
     }
 }
 
-/// The time since the moment on the right, zero where that is later.
+/// Returns the time since the right operand, or zero if that is later.
 impl std::ops::Sub<Instant> for Instant {
     type Output = Duration;
 
@@ -133,7 +134,7 @@ impl std::ops::Sub<Instant> for Instant {
     }
 }
 
-/// The moment so much later, the last one where that passes the end.
+/// Returns the time that is later by the duration, or the last `Instant` if that overflows.
 impl std::ops::Add<Duration> for Instant {
     type Output = Instant;
 
@@ -146,19 +147,19 @@ impl std::ops::Add<Duration> for Instant {
     }
 }
 
-/// A length of time, in whole nanoseconds.
+/// A duration, in whole nanoseconds.
 #[derive(Clone, Copy, Debug, PartialEq, Eq, PartialOrd, Ord)]
 pub struct Duration(pub u64);
 
 impl Duration {
-    /// So many milliseconds, the greatest length where that passes the end.
+    /// Returns a duration of this many milliseconds, or the longest duration if that overflows.
     pub fn from_millis(milliseconds: u64) -> Duration
         ensures { result.0 ≡ min (milliseconds * MILLISECOND) MAX }
     {
         Duration(milliseconds.saturating_mul(NANOS_IN_MILLI))
     }
 
-    /// The whole milliseconds in it.
+    /// Returns the whole milliseconds of the duration.
     pub fn as_millis(self) -> u64
         ensures whole { result ≡ self.0 / MILLISECOND }
         ensures fits { result ≤ MAX / MILLISECOND }
@@ -166,7 +167,7 @@ impl Duration {
         self.0 / NANOS_IN_MILLI
     }
 
-    /// Both lengths together, the greatest length where that passes the end.
+    /// Returns the sum of both durations, or the longest duration if that overflows.
     pub fn saturating_add(self, more: Duration) -> Duration
         ensures { result.0 ≡ later self.0 more.0 }
     {
@@ -181,9 +182,9 @@ const NANOS_IN_MILLI: u64 = 1_000_000;
 pub struct SocketText(pub SocketAddr);
 
 impl SocketText {
-    /// The address that the text writes, where it names no zone. IPv4 numbers have no leading zeros; an
-    /// IPv6 address stands in brackets, in any form of RFC 4291, section 2.2; the port has decimal digits
-    /// alone, with leading zeros or without, and is at most 65535.
+    /// Parses an address that names no zone; returns `None` for every other text. IPv4 numbers have no leading zeros.
+    /// An IPv6 address is in brackets, in any form of RFC 4291, section 2.2. The port has only decimal digits, with or
+    /// without leading zeros, and is at most 65535.
     pub fn from_text(text: &str) -> Option<Self>
         ensures { ReadsSocketText text.now result }
     {
@@ -197,8 +198,9 @@ impl SocketText {
     }
 }
 
-/// IPv6 addresses are written as RFC 5952, sections 4 to 6, says: in lower case without leading zeros, with `::` for
-/// the first longest run of two zero groups or more, and an IPv4-mapped one as `::ffff:` and its IPv4 address.
+/// IPv6 addresses are written as RFC 5952, sections 4 to 6, requires: in lower case without leading zeros, with `::`
+/// for the first of the longest runs of two zero groups or more, and an IPv4-mapped one as `::ffff:` and its IPv4
+/// address.
 impl fmt::Display for SocketText {
     ghost output = { λ t. Some (plain_socket_text t.0) };
 
@@ -214,30 +216,30 @@ impl fmt::Display for SocketText {
     }
 }
 
-/// A packet to be sent, as `poll_transmit` hands it out.
+/// A packet to send, as `poll_transmit` returns it.
 #[derive(Debug, PartialEq, Eq, Drop)]
 pub struct Transmit {
     /// The protocol of the socket to send it on.
     pub proto: Protocol,
     /// The local address to send it from: the base of a local candidate.
     pub source: SocketAddr,
-    /// Where to send it.
+    /// The address to send it to.
     pub destination: SocketAddr,
     /// The bytes: one STUN message.
     pub contents: Vec<u8>,
 }
 
-/// Computes HMAC-SHA1, or another function of a key and a text that stands for it in a test.
+/// Computes HMAC-SHA1, or, in a test, another function of a key and a text.
 pub trait Sha1HmacProvider {
-    /// The stated function: of the provider, the key and the text.
+    /// The function that the provider computes: its arguments are the provider, the key and the text.
     ghost mac: { Self → List ℕ → List ℕ → List ℕ };
 
-    /// The stated function of the key and of the payloads joined.
+    /// Returns that function of the key and of the payloads, joined.
     fn sha1_hmac(&self, key: &[u8], payloads: &[&[u8]]) -> [u8; 20]
         ensures { result ≡ mac self.now key.now (joined payloads.now) };
 
-    /// The same function, beside what was kept of a key: of this one or of any other. A provider that computes HMAC-SHA1 may
-    /// save that work; one that does not say leaves it aside.
+    /// Computes the same function, with a precomputed key at hand: of this key or of any other. A provider that
+    /// computes HMAC-SHA1 may save that work; the default ignores it.
     fn sha1_hmac_kept(&self, _kept: &HmacKey, key: &[u8], payloads: &[&[u8]]) -> [u8; 20]
         ensures { result ≡ mac self.now key.now (joined payloads.now) }
     {

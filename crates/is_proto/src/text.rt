@@ -1,4 +1,4 @@
-//! A text whose value, as contracts see it, is its bytes.
+//! A text whose abstract value, in contracts, is its bytes.
 ghost use Rattle.std.specs.Prelude.{◌≡◌, IfOk, Some};
 ghost use Rattle.std.specs.Hash as fed;
 ghost use Rattle.std.specs.Cmp.{partial_equiv_from_equiv};
@@ -14,7 +14,7 @@ use std::fmt;
 use std::hash::{Hash, Hasher};
 use std::marker::Model;
 
-/// A text: a `String` whose copies are equal to it and whose room nobody sees.
+/// A text: a `String` whose copies are equal to it, and whose capacity is not visible.
 #[derive(Clone, Debug, Drop)]
 pub struct Text {
     inner: String,
@@ -30,28 +30,28 @@ impl Model for Text {
 }
 
 impl Text {
-    /// The text that the string holds. Takes no memory.
+    /// Makes a text of the string. It never allocates.
     pub fn new(inner: String) -> Text
         ensures { result ≡ string_bytes inner }
     {
         Text { inner }
     }
 
-    /// A copy of the text, or a refusal where no room is to be had.
+    /// Copies the text, or fails if there is no memory for it.
     pub fn from_str(alloc: Global, text: &str) -> Result<Text, AllocError>
         ensures { IfOk result (λ t. t ≡ text.now) }
     {
         Ok(Text::new(String::from_str(alloc, text)?))
     }
 
-    /// The text itself.
+    /// Returns the text as a string slice.
     pub fn as_str(&self) -> &str
         ensures { result.now ≡ self.now }
     {
         self.inner.as_str()
     }
 
-    /// The string that holds it. Takes no memory.
+    /// Returns the string that holds the text. It never allocates.
     pub fn into_string(self) -> String
         ensures { string_bytes result ≡ self }
     {
@@ -84,7 +84,7 @@ impl Hash for Text {
     }
 }
 
-/// The string that holds the text. Takes no memory.
+/// Returns the string that holds the text. It never allocates.
 impl From<Text> for String {
     ghost from_gives = { λ text string. string_bytes string ≡ text };
 

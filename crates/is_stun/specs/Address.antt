@@ -11,17 +11,17 @@ use Rattle.is_proto.specs.declared.error.ParseFault.TheVariants.{XorAddress}
 use Rattle.is_stun.specs.Numbers.{MAGIC, PORT_MASK}
 use Rattle.is_stun.specs.Tlv.{u16_of}
 
--- what an IPv6 address is xored with: the magic cookie and the transaction id
+-- the mask for an IPv6 address: the magic cookie and the transaction ID
 abbrev pub mask_of : List ℕ → ℕ
 mask_of id = from_be_bytes w128 (to_be_bytes w32 MAGIC ++ id)
 
--- ---- written: an unused byte, the family, the port, the address
+-- ---- writing: an unused byte, the family, the port, the address
 
 unfoldable pub xor_address : List ℕ → SocketAddr → List ℕ
 xor_address id (V4 a) = 0 ∷ 1 ∷ to_be_bytes w16 (bit_xor (v4_port a) PORT_MASK) ++ to_be_bytes w32 (bit_xor (ipv4_bits (v4_ip a)) MAGIC)
 xor_address id (V6 a) = 0 ∷ 2 ∷ to_be_bytes w16 (bit_xor (v6_port a) PORT_MASK) ++ to_be_bytes w128 (bit_xor (ipv6_bits (v6_ip a)) (mask_of id))
 
--- ---- read: what follows the address is ignored
+-- ---- reading: the bytes after the address are ignored
 
 abbrev pub is_ipv4_value : List ℕ → Bool
 is_ipv4_value value = not (nat_lt (length value) 8) && slice_index value 1 == 1
@@ -32,7 +32,7 @@ is_ipv6_value value = not (nat_lt (length value) 20) && slice_index value 1 == 2
 abbrev pub port_in : List ℕ → ℕ
 port_in value = bit_xor (u16_of (slice_index value 2) (slice_index value 3)) PORT_MASK
 
--- the address of these bits and the port
+-- the address with these bits and this port
 abbrev pub ipv4_socket : ℕ → ℕ → SocketAddr
 ipv4_socket bits port = V4 (record { ip = record { octets = to_be_bytes w32 bits }; port = port })
 

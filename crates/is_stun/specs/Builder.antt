@@ -1,4 +1,4 @@
--- Messages that are built.
+-- The messages that a builder builds.
 use Rattle.std.specs.Prelude.{ℕ, List, None}
 use Rattle.is_stun.specs.declared.builder.Builder.{Builder}
 use Rattle.is_stun.specs.declared.builder.HasMethod.{HasMethod}
@@ -8,11 +8,11 @@ use Rattle.is_stun.specs.declared.header.Method.{Method}
 use Rattle.is_stun.specs.Message.{AttributesRecord, Message}
 use Rattle.is_stun.specs.MessageView.{attributes_view}
 
--- a message of these attributes, not yet written: it carries no integrity
+-- a message with these attributes, not yet written: it has no MESSAGE-INTEGRITY
 abbrev pub built : Method → Class → List ℕ → AttributesRecord → Message
 built method class id attributes = record { method = method; class = class; id = id; attributes = attributes; integrity = None }
 
--- ---- what a builder was told
+-- ---- what was set on a builder
 
 abbrev pub attributes_so_far : {State : Type 0} → Builder State → AttributesRecord
 attributes_so_far b = attributes_view b.attrs

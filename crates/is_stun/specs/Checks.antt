@@ -17,11 +17,11 @@ binding_request username id is_controlling tie_breaker priority use_candidate =
       use_candidate = use_candidate;
     })
 
--- its success, with the address that the request came from (RFC 8445, section 7.3.1.2)
+-- its success response, with the source address of the request (RFC 8445, section 7.3.1.2)
 abbrev pub binding_reply : List ℕ → SocketAddr → Message
 binding_reply id address = built Binding Success id (record no_attributes { xor_mapped_address = Some address })
 
--- its refusal by an agent of the same role (RFC 8445, section 7.3.1.1)
+-- its error response from an agent in the same role (RFC 8445, section 7.3.1.1)
 abbrev pub ROLE_CONFLICT : ℕ
 ROLE_CONFLICT = 487
 

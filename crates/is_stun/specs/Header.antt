@@ -1,4 +1,4 @@
--- The header of a message: type, length, magic cookie, transaction id (RFC 8489, section 5).
+-- The header of a message: type, length, magic cookie, transaction ID (RFC 8489, section 5).
 use Rattle.std.specs.Prelude.{ℕ, ◌+◌, ◌%◌, not, List, [], ◌∷◌, ◌++◌, length, drop, Option, Some, None, slice_index, nat_lt, ◌==◌, bit_and}
 use Rattle.std.specs.Prelude.{if◌then◌else◌}
 use Rattle.std.specs.Int.{w16, w32, from_be_bytes, to_be_bytes}
@@ -11,19 +11,19 @@ use Rattle.is_stun.specs.declared.header.Method.{Method}
 use Rattle.is_stun.specs.declared.header.Method.TheVariants as methods
 use Rattle.is_stun.specs.Tlv.{u16_of}
 
--- ---- read
+-- ---- reading
 
 abbrev pub type_of : List ℕ → ℕ
 type_of bytes = u16_of (slice_index bytes 0) (slice_index bytes 1)
 
--- how many bytes are said to follow the header
+-- how many bytes follow the header, by its length field
 abbrev pub length_field : List ℕ → ℕ
 length_field bytes = u16_of (slice_index bytes 2) (slice_index bytes 3)
 
 abbrev pub magic_of : List ℕ → ℕ
 magic_of bytes = from_be_bytes w32 (slice_index bytes 4 ∷ slice_index bytes 5 ∷ slice_index bytes 6 ∷ slice_index bytes 7 ∷ [])
 
--- what follows the header
+-- the bytes after the header
 abbrev pub body_of : List ℕ → List ℕ
 body_of bytes = drop HEADER_LEN bytes
 
@@ -47,7 +47,7 @@ method_of typ =
     else if bit_and typ 0x3EEF == 9 then methods.ChannelBind
     else methods.Unknown
 
--- what is wrong with a header: the first that applies
+-- the first fault of a header, if there is one
 unfoldable pub header_fault : List ℕ → Option ParseFault
 header_fault bytes =
     if nat_lt (length bytes) 4 then Some TooShort
@@ -56,7 +56,7 @@ header_fault bytes =
     else if not (magic_of bytes == MAGIC) then Some Magic
     else None
 
--- ---- written
+-- ---- writing
 
 abbrev pub class_bits : Class → ℕ
 class_bits classes.Request = 0x0000

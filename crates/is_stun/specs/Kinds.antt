@@ -1,5 +1,5 @@
--- The kinds of value: how each is read, and what is wrong with one that can't be. A further type of
--- attribute is a row of value_fault and an attribute of Message.AttributesRecord.
+-- The kinds of value: how each is parsed, and the fault of one that can't be. A new attribute type needs a row of
+-- value_fault and a field of Message.AttributesRecord.
 use Rattle.std.specs.Prelude.{ℕ, ◌+◌, ◌*◌, ◌/◌, ◌%◌, not, ◌&&◌, ◌||◌, List, length, drop, slice_index, Option, Some, None, Result, Ok, Err}
 use Rattle.std.specs.Prelude.{nat_lt, ◌==◌, if◌then◌else◌}
 use Rattle.std.specs.Int.{Width, w32, w64, byte_len, from_be_bytes}
@@ -26,7 +26,7 @@ number w fault value = if length value == byte_len w then Ok (from_be_bytes w va
 abbrev pub bytes_of_len : ℕ → ParseFault → List ℕ → Result (List ℕ) ParseFault
 bytes_of_len len fault value = if length value == len then Ok value else Err fault
 
--- the code is 100 for each of its class, and its number (RFC 8489, section 14.8)
+-- the code is 100 times its class plus its number modulo 100 (RFC 8489, section 14.8)
 abbrev pub error_of : ℕ → ℕ → Result (List ℕ) ParseFault → Result (ℕ × List ℕ) ParseFault
 error_of class number (Ok reason) = Ok (100 * class + number % 100, reason)
 error_of class number (Err fault) = Err fault
@@ -46,11 +46,11 @@ channel_number value =
     then Err ChannelRange
     else Ok (u16_of (slice_index value 0) (slice_index value 1))
 
--- an address that can't be read; whether it can does not depend on the transaction id
+-- the fault of an address that can't be parsed; it does not depend on the transaction ID
 unfoldable pub address_fault : List ℕ → Option ParseFault
 address_fault value = if is_ipv4_value value || is_ipv6_value value then None else Some XorAddress
 
--- the network's id and its cost, in four bytes
+-- the network's ID and its cost, in four bytes
 unfoldable pub network_cost : List ℕ → Option (ℕ × ℕ)
 network_cost value =
     if length value == 4 then Some (u16_of (slice_index value 0) (slice_index value 1), u16_of (slice_index value 2) (slice_index value 3))
@@ -62,7 +62,7 @@ abbrev pub fault_in : {A : Type 0} → Result A ParseFault → Option ParseFault
 fault_in (Ok x) = None
 fault_in (Err f) = Some f
 
--- what is wrong with a value of this type; of all other types nothing is
+-- the fault of a value of this type; values of all other types have none
 unfoldable pub value_fault : ℕ → List ℕ → Option ParseFault
 value_fault code value =
     if code == USERNAME then fault_in (text USERNAME_LIMIT value)

@@ -1,4 +1,4 @@
--- What holds of the definitions.
+-- Theorems about the definitions.
 use Rattle.std.specs.Prelude.{◌≡◌, ℕ, ◌^◌, ◌<◌, ◌≤◌, ◌⊎◌, ◌↔◌, ◌+◌, if◌then◌else◌, Bool, List, [], length, Option, slice_index, Some, None, IfSome}
 use Rattle.std.specs.Str.{IsUtf8}
 use Rattle.std.specs.Net.Socket.{IsSocketAddr, socket_flowinfo, socket_scope_id}
@@ -19,21 +19,21 @@ use Rattle.is_stun.specs.Spells.{Spells}
 use Rattle.is_stun.specs.Writing.{refusal, written}
 use Rattle.is_proto.specs.Hmac.{hmac_sha1}
 
--- Bytes spell one message, or have one first fault, and not both.
+-- Bytes either encode one message or have one first fault, and never both.
 pub record ReadsOrFails (bytes : List ℕ) : Type 0 where
   pub either : ((m : Message) × Spells bytes m) ⊎ ((f : ParseFault) × Fault bytes f)
   pub not_both : (m : Message) (f : ParseFault) → Spells bytes m → Fault bytes f → ⊥
   pub one_message : (m n : Message) → Spells bytes m → Spells bytes n → m ≡ n
   pub one_fault : (f g : ParseFault) → Fault bytes f → Fault bytes g → f ≡ g
 
--- A message that was read is signed exactly where its bytes are authentic.
+-- A parsed message is signed exactly if its bytes are authentic.
 abbrev pub SignedIffAuthentic : List ℕ → Message → Type 0
 SignedIffAuthentic bytes m =
     Reads bytes m → (mac : List ℕ → List ℕ → List ℕ) (key : List ℕ) → IsSignedBy mac m key ↔ IsAuthentic mac bytes key
 
--- ---- what was written is read
+-- ---- written messages parse
 
--- an address that is carried whole: without flow and scope
+-- an address that a message carries completely: without flow information and scope
 abbrev pub IsPlainAddress : SocketAddr → Type 0
 IsPlainAddress a = IsSocketAddr a × (socket_flowinfo a ≡ 0) × (socket_scope_id a ≡ 0)
 
@@ -65,57 +65,58 @@ IsClass _ = Unit {0}
 abbrev pub IsId : List ℕ → Type 0
 IsId id = (length id ≡ 12) × ((k : ℕ) → slice_index id k < 2 ^ 8)
 
--- the message with an integrity, whatever its MAC
+-- the message with a MESSAGE-INTEGRITY, whatever its MAC
 abbrev pub sealed : Message → Message
 sealed m = record m { integrity = Some (record { mac = []; text = [] }) }
 
--- the message can be read again once it is written with a key: it carries all else that reading demands
+-- the message parses after it is written with a key: it has everything else that parsing requires
 pub record IsReadable (m : Message) : Type 0 where
   pub class : IsClass m.class
   pub id : IsId m.id
   pub values : HasReadableValues m.attributes
   pub demands : demand_fault (sealed m) ≡ None
 
--- the same message, but for its fingerprint and its integrity
+-- the same message, except its FINGERPRINT and MESSAGE-INTEGRITY
 pub record SameMessage (n m : Message) : Type 0 where
   pub method : n.method ≡ m.method
   pub class : n.class ≡ m.class
   pub id : n.id ≡ m.id
   pub attributes : record n.attributes { fingerprint = None } ≡ record m.attributes { fingerprint = None }
 
--- the message has a class, an id and values that bytes can carry, whether or not it has what a reader demands
+-- the message has a class, a transaction ID and values that bytes can carry, whether or not it has the attributes that
+-- a parser requires
 pub record IsCarried (m : Message) : Type 0 where
   pub class : IsClass m.class
   pub id : IsId m.id
   pub values : HasReadableValues m.attributes
 
--- the bytes are read as the message, and carry the MAC of the key
+-- the bytes parse as the message, and carry the MAC of the key
 pub record ReadsBack (mac : List ℕ → List ℕ → List ℕ) (key bytes : List ℕ) (m : Message) : Type 0 where
   pub read : Message
   pub reads : Reads bytes read
   pub same : SameMessage read m
   pub signed : IsSignedBy mac read key
 
--- what is written with a key, where it is not refused, is read as the same message, and verifies with that key
+-- a message that is written with a key without an error parses as the same message, and verifies with that key
 abbrev pub WrittenIsRead : (List ℕ → List ℕ → List ℕ) → List ℕ → Message → Type 0
 WrittenIsRead mac key m =
     ((k text : List ℕ) → length (mac k text) ≡ 20) → (room : ℕ) → refusal (Some key) room m ≡ None → IsReadable m
     → ReadsBack mac key (written mac (Some key) m) m
 
--- and the same with the default provider
+-- the same with the default provider
 abbrev pub WrittenByDefaultIsRead : List ℕ → Message → Type 0
 WrittenByDefaultIsRead key m =
     (room : ℕ) → refusal (Some key) room m ≡ None → IsReadable m → ReadsBack hmac_sha1 key (written hmac_sha1 (Some key) m) m
 
--- what is written with a key, where it is not refused, is read as no other message
+-- a message that is written with a key without an error parses as no other message
 abbrev pub WrittenIsReadAlike : (List ℕ → List ℕ → List ℕ) → List ℕ → Message → Type 0
 WrittenIsReadAlike mac key m =
     ((k text : List ℕ) → length (mac k text) ≡ 20) → (room : ℕ) → refusal (Some key) room m ≡ None → IsCarried m
     → (n : Message) → Reads (written mac (Some key) m) n → SameMessage n m
 
--- ---- what a message carries of addresses
+-- ---- the part of an address that a message carries
 
--- an address without its flow and scope, which no message carries
+-- an address without its flow information and scope, which no message carries
 abbrev pub plain_address : SocketAddr → SocketAddr
 plain_address (V4 a) = V4 a
 plain_address (V6 a) = V6 (record a { flowinfo = 0; scope_id = 0 })
@@ -127,42 +128,42 @@ plain_attributes a = record a {
   xor_mapped_address = option_map plain_address a.xor_mapped_address;
 }
 
--- the message with addresses as it carries them
+-- the message with its addresses as it carries them
 abbrev pub plain : Message → Message
 plain m = record m { attributes = plain_attributes m.attributes }
 
--- flow and scope are not written
+-- flow information and scope are not written
 abbrev pub IsWrittenPlain : (List ℕ → List ℕ → List ℕ) → Option (List ℕ) → Message → Type 0
 IsWrittenPlain mac key m = written mac key m ≡ written mac key (plain m)
 
 abbrev pub PlainReply : (List ℕ → List ℕ → List ℕ) → List ℕ → List ℕ → SocketAddr → Type 0
 PlainReply mac key id a = written mac (Some key) (binding_reply id a) ≡ written mac (Some key) (binding_reply id (plain_address a))
 
--- ---- how long messages are
+-- ---- the lengths of messages
 
--- with a key, the message takes so many bytes of room
+-- with a key, the message takes so many bytes
 pub record Takes (key : List ℕ) (len : ℕ) (m : Message) : Type 0 where
   pub fits : (room : ℕ) → len ≤ room → refusal (Some key) room m ≡ None
   pub tight : (room : ℕ) → room < len → refusal (Some key) room m ≡ Some BufferTooShort
 
--- with a key, the message is written into so much room
+-- with a key, the message fits so many bytes
 abbrev pub FitsInto : List ℕ → ℕ → Message → Type 0
 FitsInto key len m = (room : ℕ) → len ≤ room → refusal (Some key) room m ≡ None
 
--- a reply to a check, by the IP version of the address that it tells
+-- the length of a response to a check, by the IP version of the address in it
 abbrev pub reply_len : SocketAddr → ℕ
 reply_len (V4 a) = 64
 reply_len (V6 a) = 76
 
--- the room in which each reply to a check fits, of success or role conflict
+-- a size that fits each response to a check, success or role conflict
 abbrev pub LONGEST_REPLY : ℕ
 LONGEST_REPLY = 76
 
--- the length of a check by its user name and whether it nominates
+-- the length of a check, by its USERNAME and whether it nominates
 abbrev pub check_len : List ℕ → Bool → ℕ
 check_len username nominates = 76 + padded_len (length username) + (if nominates then 4 else 0)
 
--- the room in which each check fits
+-- a size that fits each check
 abbrev pub LONGEST_CHECK : ℕ
 LONGEST_CHECK = 76 + WRITTEN_USERNAME_LIMIT + 4
 
@@ -173,18 +174,18 @@ CheckTakes key id username controlling tie_breaker priority nominates =
 
 -- ---- what a caller of the writer gets
 
--- The values are such as their types allow: so what is written of the message reads as it wherever the demands are met.
+-- The values are in the ranges of their types: so the written message parses as it, if the requirements are met.
 pub record HasValues (m : Message) : Type 0 where
   pub id : IsId m.id
   pub values : HasReadableValues m.attributes
 
--- these bytes are put for the message: where they read, they read as it, but for its fingerprint and integrity
+-- the bytes were written for the message: if they parse, they parse as it, except its FINGERPRINT and MESSAGE-INTEGRITY
 pub record IsPut (bytes : List ℕ) (m : Message) : Type 0 where
   pub values : HasValues m
   pub reads : (n : Message) → Reads bytes n → SameMessage n m
 
--- What was written with a key is put for the message as it is carried, and reads back where the demands are met. The
--- message is of a known class, and a channel number that it has is in range.
+-- The bytes that are written with a key are written for the message as it is carried, and round-trip if the
+-- requirements are met. The message has a known class, and its channel number, if any, is in range.
 pub record ReadsAgainAs (mac : List ℕ → List ℕ → List ℕ) (key bytes : List ℕ) (m : Message) : Type 0 where
   pub put : IsPut bytes (plain m)
   pub back : demand_fault (sealed m) ≡ None → ReadsBack mac key bytes (plain m)

@@ -1,11 +1,12 @@
--- A message without where its parts lie in memory (RFC 8489, section 5).
+-- A message, without its memory layout (RFC 8489, section 5).
 use Rattle.std.specs.Prelude.{ℕ, ◌+◌, ◌==◌, Bool, false, List, length, take, drop, position, nat_lt, Option, Some, None, option_and_then}
 use Rattle.std.specs.Prelude.{if◌then◌else◌}
 use Rattle.std.specs.declared.net.socket_addr.SocketAddr.{SocketAddr}
 use Rattle.is_stun.specs.declared.header.Class.{Class}
 use Rattle.is_stun.specs.declared.header.Method.{Method}
 
--- the attributes of a message, but for its integrity (RFC 8489, section 14; RFC 8656, section 18; RFC 8445, section 16.1)
+-- the attributes of a message, except MESSAGE-INTEGRITY (RFC 8489, section 14; RFC 8656, section 18; RFC 8445, section
+-- 16.1)
 pub record AttributesRecord : Type 0 where
   pub username : Option (List ℕ)
   -- the code and its reason
@@ -24,7 +25,7 @@ pub record AttributesRecord : Type 0 where
   pub use_candidate : Bool
   pub ice_controlled : Option ℕ
   pub ice_controlling : Option ℕ
-  -- the network's id and its cost
+  -- the network's ID and its cost
   pub network_cost : Option (ℕ × ℕ)
   pub fingerprint : Option ℕ
 
@@ -49,12 +50,12 @@ no_attributes = record {
   fingerprint = None;
 }
 
--- the MAC that a message carries, and the text that it is of
+-- the MAC that a message carries, and the text that it is computed over
 pub record Integrity : Type 0 where
   pub mac : List ℕ
   pub text : List ℕ
 
--- a message that was built, and is not yet written, carries no integrity
+-- a message; one that was built, and is not yet written, has no MESSAGE-INTEGRITY
 pub record Message : Type 0 where
   pub method : Method
   pub class : Class
@@ -62,9 +63,9 @@ pub record Message : Type 0 where
   pub attributes : AttributesRecord
   pub integrity : Option Integrity
 
--- ---- user names: two fragments with a colon between them (RFC 8445, section 7.2.2)
+-- ---- USERNAME: two username fragments with a colon between them (RFC 8445, section 7.2.2)
 
--- the parts before and behind the first colon, where something stands behind it
+-- the parts before and after the first colon, if something follows it
 abbrev pub split_at_colon : List ℕ → Option (List ℕ × List ℕ)
 split_at_colon name =
     option_and_then (λ i. if nat_lt (i + 1) (length name) then Some (take i name, drop (i + 1) name) else None)

@@ -1,4 +1,4 @@
--- A message as it lies in memory, seen as a message.
+-- A message as stored in memory, and its abstract value.
 use Rattle.std.specs.Option.{option_copied, option_map}
 use Rattle.is_stun.specs.declared.attributes.Attributes.{Attributes}
 use Rattle.is_stun.specs.declared.integrity.Integrity.{Integrity as RawIntegrity}

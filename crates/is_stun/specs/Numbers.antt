@@ -1,4 +1,4 @@
--- The numbers of the format (RFC 8489, sections 5, 14 and 18; RFC 8656, section 18; RFC 8445, section 16.1).
+-- The constants of the message format (RFC 8489, sections 5, 14 and 18; RFC 8656, section 18; RFC 8445, section 16.1).
 use Rattle.std.specs.Prelude.{ℕ}
 
 -- the header: its length, and the magic cookie with its high half
@@ -11,14 +11,14 @@ MAGIC = 0x2112_A442
 abbrev pub PORT_MASK : ℕ
 PORT_MASK = 0x2112
 
--- what the CRC of a fingerprint is xored with, and the polynomial of CRC-32, its bits turned round
+-- the mask for the CRC of FINGERPRINT, and the polynomial of CRC-32 with its bits reversed
 abbrev pub FINGERPRINT_MASK : ℕ
 FINGERPRINT_MASK = 0x5354_554E
 
 abbrev pub CRC_POLYNOMIAL : ℕ
 CRC_POLYNOMIAL = 0xEDB8_8320
 
--- the types of attributes
+-- the attribute types
 abbrev pub USERNAME : ℕ
 USERNAME = 0x0006
 
@@ -52,7 +52,7 @@ XOR_RELAYED_ADDRESS = 0x0016
 abbrev pub XOR_MAPPED_ADDRESS : ℕ
 XOR_MAPPED_ADDRESS = 0x0020
 
--- SOFTWARE is read and written by this type; the one of RFC 8489, 0x8022, is skipped as types are that nobody knows
+-- SOFTWARE is read and written with this type; the type of RFC 8489, 0x8022, is skipped as unknown types are
 abbrev pub SOFTWARE : ℕ
 SOFTWARE = 0x0022
 
@@ -71,18 +71,18 @@ ICE_CONTROLLED = 0x8029
 abbrev pub ICE_CONTROLLING : ℕ
 ICE_CONTROLLING = 0x802A
 
--- the cost of the sender's network, as WebRTC tells it
+-- the cost of the sender's network, as WebRTC sends it
 abbrev pub NETWORK_COST : ℕ
 NETWORK_COST = 0xC057
 
--- the longest user name and the longest other text that are read, in bytes
+-- the longest USERNAME and the longest other text that are read, in bytes
 abbrev pub USERNAME_LIMIT : ℕ
 USERNAME_LIMIT = 513
 
 abbrev pub TEXT_LIMIT : ℕ
 TEXT_LIMIT = 763
 
--- the longest user name (RFC 8489, section 14.3), the longest other text and the longest data that are written, in bytes
+-- the longest USERNAME (RFC 8489, section 14.3), the longest other text and the longest data that are written, in bytes
 abbrev pub WRITTEN_USERNAME_LIMIT : ℕ
 WRITTEN_USERNAME_LIMIT = 508
 

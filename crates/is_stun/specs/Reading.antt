@@ -1,4 +1,4 @@
--- Which message bytes spell, or their first fault (RFC 8489, sections 5, 6.3 and 14).
+-- The message that bytes encode, or their first fault (RFC 8489, sections 5, 6.3 and 14).
 use Rattle.std.specs.Prelude.{◌≡◌, ℕ, Bool, true, false, not, ◌&&◌, List, [], ◌∷◌, length, take, drop, Option, Some, None, is_some, is_none}
 use Rattle.std.specs.Prelude.{Result, nat_lt, ◌==◌, if◌then◌else◌, option_and_then}
 use Rattle.std.specs.Option.{option_or, option_map}
@@ -26,11 +26,11 @@ use Rattle.is_stun.specs.Message.{AttributesRecord, Message, split_username}
 
 -- ---- the attributes
 
--- a network cost that is not four bytes long is none
+-- a network cost that is not four bytes long counts as absent
 abbrev pub is_skipped : Tlv → Bool
 is_skipped c = c.code == NETWORK_COST && not (length c.value == 4)
 
--- the attribute is of this type, and is read
+-- the attribute has this type, and is read
 abbrev pub counts : ℕ → Tlv → Bool
 counts code c = c.code == code && not (is_skipped c)
 
@@ -39,7 +39,8 @@ unfoldable pub last_of : ℕ → List Tlv → Option (List ℕ)
 last_of code [] = None
 last_of code (c ∷ cs) = option_or (last_of code cs) (if counts code c then Some c.value else None)
 
--- What is wrong with an attribute. Behind the integrity only the fingerprint is read, and the length of each is checked.
+-- The fault of an attribute. After MESSAGE-INTEGRITY, only FINGERPRINT is read, but the length of each attribute is
+-- checked.
 abbrev pub fault_at : Bool → Tlv → Option ParseFault
 fault_at is_behind c =
     if nat_lt (length c.value) c.len then Some AttributeLength
@@ -50,7 +51,7 @@ unfoldable pub first_fault : Bool → List Tlv → Option ParseFault
 first_fault is_behind [] = None
 first_fault is_behind (c ∷ cs) = option_or (fault_at is_behind c) (first_fault is_behind cs)
 
--- the first fault by place
+-- the fault of the first attribute that has one
 unfoldable pub attributes_fault : List Tlv → Option ParseFault
 attributes_fault cs = option_or (first_fault false (up_to_integrity cs)) (first_fault true (behind_integrity cs))
 
@@ -58,7 +59,8 @@ abbrev pub value_in : {A : Type 0} → (List ℕ → Result A ParseFault) → Op
 value_in read None = None
 value_in read (Some value) = result_ok (read value)
 
--- Each attribute is the last of its type before the integrity, and the fingerprint the last one anywhere.
+-- Each field comes from the last attribute of its type before MESSAGE-INTEGRITY; FINGERPRINT from the last one
+-- anywhere.
 unfoldable pub attributes_of : List ℕ → List Tlv → AttributesRecord
 attributes_of id cs =
     let first = before_integrity cs in
@@ -97,7 +99,7 @@ message_of bytes =
       integrity = option_map (integrity_of bytes) (first_integrity (tlvs_of (body_of bytes)));
     }
 
--- what a message of this method and class has to carry (RFC 8445, sections 7.1 and 7.2.5)
+-- the attributes that a message of this method and class requires (RFC 8445, sections 7.1 and 7.2.5)
 abbrev pub demand_fault_of : Method → Class → Message → Option ParseFault
 demand_fault_of Binding Success m =
     if is_none m.integrity then Some NoIntegrityReply
@@ -113,7 +115,7 @@ demand_fault_of _ _ m = None
 abbrev pub demand_fault : Message → Option ParseFault
 demand_fault m = demand_fault_of m.method m.class m
 
--- ---- the two statements
+-- ---- the two results
 
 -- the first fault that applies
 unfoldable pub fault_of : List ℕ → Option ParseFault
@@ -128,7 +130,7 @@ pub record Reads (bytes : List ℕ) (m : Message) : Type 0 where
 abbrev pub Fault : List ℕ → ParseFault → Type 0
 Fault bytes f = fault_of bytes ≡ Some f
 
--- an error says which fault it is
+-- the error gives this fault
 abbrev pub FailsBy : List ℕ → StunError → Type 0
 FailsBy bytes (errors.Parse f) = Fault bytes f
 FailsBy bytes _ = ⊥

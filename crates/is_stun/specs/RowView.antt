@@ -1,4 +1,4 @@
--- A row as it lies in memory.
+-- A row as stored in memory, and its abstract value.
 use Rattle.std.specs.Option.{option_copied}
 use Rattle.is_stun.specs.declared.writing.Row.{Row as RawRow}
 use Rattle.is_stun.specs.Writing.{Row}

@@ -1,5 +1,6 @@
--- What bytes spell, part by part: each field is the reading of one attribute, and nothing that is read has a fault. Here no fault is named,
--- nor their order, which is Reading.Fault (RFC 8489, sections 5, 6.3 and 14).
+-- The message that bytes encode, part by part: each field is the parsed value of one attribute, and nothing that is
+-- read has a fault. Faults and their order are not stated here, but in Reading.Fault (RFC 8489, sections 5, 6.3 and
+-- 14).
 use Rattle.std.specs.Prelude.{◌≡◌, ℕ, ◌+◌, ◌%◌, ◌≤◌, Bool, true, false, List, length, Option, Some, None, IsSome, is_some, Result, Ok}
 use Rattle.std.specs.Prelude.{MatchOption, option_and_then}
 use Rattle.std.specs.List.{AllByRecursion}
@@ -27,17 +28,18 @@ pub record HasHeader (bytes : List ℕ) : Type 0 where
   pub whole : length_field bytes + HEADER_LEN ≡ length bytes
   pub magic : magic_of bytes ≡ MAGIC
 
--- The attribute stands whole, and its value, where it is read, is one of its type. Behind the integrity only the fingerprint is read.
+-- The attribute is complete, and its value, if it is read, is one of its type. After MESSAGE-INTEGRITY, only
+-- FINGERPRINT is read.
 pub record IsSound (is_behind : Bool) (c : Tlv) : Type 0 where
   pub whole : c.len ≤ length c.value
   pub value : (is_behind ≡ true → c.code ≡ FINGERPRINT) → value_fault c.code c.value ≡ None
 
--- the field is the reading of the attribute, where there is one
+-- the field is the parsed value of the attribute, if there is one
 abbrev pub IsReading : {A : Type 0} → (List ℕ → Result A ParseFault) → Option (List ℕ) → Option A → Type 0
 IsReading read None field = field ≡ None
 IsReading read (Some value) field = MatchOption field ⊥ (λ x. read value ≡ Ok x)
 
--- each attribute by the last one of its type before the integrity, and the fingerprint by the last one anywhere
+-- each field by the last attribute of its type before MESSAGE-INTEGRITY, and FINGERPRINT by the last one anywhere
 pub record AreSpelled (id : List ℕ) (cs : List Tlv) (a : AttributesRecord) : Type 0 where
   pub username : IsReading (text USERNAME_LIMIT) (last_of USERNAME (before_integrity cs)) a.username
   pub error_code : IsReading error_code (last_of ERROR_CODE (before_integrity cs)) a.error_code
@@ -57,12 +59,12 @@ pub record AreSpelled (id : List ℕ) (cs : List Tlv) (a : AttributesRecord) : T
   pub network_cost : a.network_cost ≡ option_and_then network_cost (last_of NETWORK_COST (before_integrity cs))
   pub fingerprint : IsReading (number w32 FingerprintLength) (last_of FINGERPRINT cs) a.fingerprint
 
--- what a Binding success and a Binding request have to carry (RFC 8445, sections 7.1 and 7.2.5)
+-- the attributes that a Binding success response and a Binding request require (RFC 8445, sections 7.1 and 7.2.5)
 pub record HasDemanded (m : Message) : Type 0 where
   pub reply : m.method ≡ Binding → m.class ≡ Success → IsSome m.integrity × IsSome m.attributes.xor_mapped_address
   pub request : m.method ≡ Binding → m.class ≡ Request → IsSome m.integrity × IsSome (split_username m.attributes) × IsSome m.attributes.priority
 
--- the bytes spell the message
+-- the bytes encode the message
 pub record Spells (bytes : List ℕ) (m : Message) : Type 0 where
   pub header : HasHeader bytes
   pub before : AllByRecursion (IsSound false) (up_to_integrity (tlvs_of (body_of bytes)))

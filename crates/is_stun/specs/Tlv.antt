@@ -1,14 +1,14 @@
--- The attributes that a message's body spells (RFC 8489, section 14): type, length, value, padding.
+-- The attributes that a message's body encodes (RFC 8489, section 14): type, length, value, padding.
 use Rattle.std.specs.Prelude.{ℕ, zero, suc, ◌+◌, ◌*◌, ◌/◌, List, [], ◌∷◌, length, take, nat_lt, if◌then◌else◌}
 use Rattle.std.specs.Int.{w16, from_be_bytes}
 
 pub record Tlv : Type 0 where
   pub code : ℕ
-  -- where it begins, counted from the end of the header
+  -- its offset, counted from the end of the header
   pub place : ℕ
-  -- the length that it states
+  -- the length that it declares
   pub len : ℕ
-  -- that many bytes behind its length, or all that are left
+  -- that many bytes after the length field, or all that are left
   pub value : List ℕ
 
 -- n bytes with their padding to a multiple of four
@@ -25,8 +25,8 @@ u16_of high low = from_be_bytes w16 (high ∷ low ∷ [])
 abbrev pub tlv_at : ℕ → ℕ → ℕ → List ℕ → Tlv
 tlv_at place code len rest = record { code = code; place = place; len = len; value = take len rest }
 
--- The attributes from a place on, behind so many bytes of value and padding. Each next one follows the
--- padding, up to the end or to the first that states more bytes than are left.
+-- The attributes from an offset on, after so many bytes of value and padding. Each next one follows the padding, up to
+-- the end or to the first that declares more bytes than are left.
 unfoldable pub tlvs_behind : ℕ → ℕ → List ℕ → List Tlv
 tlvs_behind (suc skip) place (byte ∷ bytes) = tlvs_behind skip (suc place) bytes
 tlvs_behind zero place (c0 ∷ c1 ∷ l0 ∷ l1 ∷ rest) =

@@ -1,4 +1,4 @@
--- The one way in which a message is written (RFC 8489, sections 5 and 14).
+-- The only way in which a message is written (RFC 8489, sections 5 and 14).
 use Rattle.std.specs.Prelude.{◌≡◌, ℕ, ◌+◌, ◌-◌, ◌<◌, ◌≤◌, Bool, true, false, not, ◌||◌, MatchOption, IfSome, List, [], ◌∷◌, ◌++◌, length}
 use Rattle.std.specs.Prelude.{take, drop, Option, Some, None, Result, Ok, Err, replicate, bit_xor, nat_lt, if◌then◌else◌}
 use Rattle.std.specs.List.{flat_map}
@@ -22,11 +22,11 @@ use Rattle.is_stun.specs.Message.{AttributesRecord, Message}
 
 -- ---- texts in a buffer
 
--- the list with these bytes in place of those from at on
+-- the list with these bytes in place of those from `at` on
 unfoldable pub splice : List ℕ → ℕ → List ℕ → List ℕ
 splice xs at bytes = take at xs ++ (bytes ++ drop (at + length bytes) xs)
 
--- the new list is the old one with the text from at to end
+-- the new list is the old one with the text from `at` to `end`
 pub record Puts (old new : List ℕ) (at end : ℕ) (text : List ℕ) : Type 0 where
   pub bytes : new ≡ splice old at text
   pub ends : end ≡ at + length text
@@ -39,7 +39,7 @@ unfoldable pub attribute : ℕ → List ℕ → List ℕ
 attribute code value =
     to_be_bytes w16 code ++ to_be_bytes w16 (length value) ++ value ++ replicate (padded_len (length value) - length value) 0
 
--- an attribute that is written, or none
+-- an attribute that is written, or an absent one
 pub record Row : Type 0 where
   pub code : ℕ
   pub value : Option (List ℕ)
@@ -57,14 +57,14 @@ row_text r = optional_attribute r.code r.value
 abbrev pub if_set : Bool → Option (List ℕ)
 if_set is_set = if is_set then Some [] else None
 
--- the number, and two bytes that are kept for later use (RFC 8656, section 18.1)
+-- the number, and two reserved bytes (RFC 8656, section 18.1)
 abbrev pub channel_value : ℕ → List ℕ
 channel_value number = to_be_bytes w16 number ++ (0 ∷ 0 ∷ [])
 
 abbrev pub network_cost_value : ℕ × ℕ → List ℕ
 network_cost_value cost = to_be_bytes w16 cost.0 ++ to_be_bytes w16 cost.1
 
--- the attributes of a message in their order
+-- the attributes of a message, in the order of writing
 abbrev pub rows_of : List ℕ → AttributesRecord → List Row
 rows_of id attributes =
     row USERNAME attributes.username
@@ -88,22 +88,22 @@ rows_of id attributes =
 unfoldable pub rows_text : List Row → List ℕ
 rows_text rows = flat_map row_text rows
 
--- the length of a text, where it is within room
+-- the length of a text, if it is at most room
 abbrev pub IsLenWithin : Option ℕ → ℕ → List ℕ → Type 0
 IsLenWithin found room text = MatchOption found (room < length text) (λ n. (n ≡ length text) × (n ≤ room))
 
--- ---- integrity and fingerprint
+-- ---- MESSAGE-INTEGRITY and FINGERPRINT
 
--- the integrity behind a front, where a key is given (RFC 8489, section 14.5)
+-- MESSAGE-INTEGRITY after a front, if there is a key (RFC 8489, section 14.5)
 abbrev pub integrity_text : (List ℕ → List ℕ → List ℕ) → Option (List ℕ) → ℕ → List ℕ → List ℕ
 integrity_text mac None len front = []
 integrity_text mac (Some key) len front = attribute MESSAGE_INTEGRITY (mac key (signed_text front len))
 
--- the MAC of the front, where a key is given, is as long as a MAC is to be
+-- the MAC of the front, if there is a key, has the length of a MAC
 abbrev pub HasMacOf : (List ℕ → List ℕ → List ℕ) → Option (List ℕ) → ℕ → List ℕ → Type 0
 HasMacOf mac key len front = IfSome key (λ k. length (mac k (signed_text front len)) ≡ INTEGRITY_LEN)
 
--- the fingerprint of what stands before it (RFC 8489, section 14.7)
+-- FINGERPRINT of the bytes before it (RFC 8489, section 14.7)
 abbrev pub fingerprint_text : List ℕ → List ℕ
 fingerprint_text bytes = attribute FINGERPRINT (to_be_bytes w32 (bit_xor (crc32 bytes) FINGERPRINT_MASK))
 
@@ -111,7 +111,7 @@ abbrev pub integrity_len : Option (List ℕ) → ℕ
 integrity_len None = 0
 integrity_len (Some key) = 24
 
--- what the header's length counts
+-- the value of the header's length field
 abbrev pub body_len : Option (List ℕ) → List Row → ℕ
 body_len key rows = length (rows_text rows) + integrity_len key + 8
 
@@ -129,18 +129,19 @@ written_rows mac key typ id rows =
     let sealed = sealed_of mac key typ id rows in
     sealed ++ fingerprint_text sealed
 
--- the MAC of the message of these rows is as long as a MAC is to be
+-- the MAC of the message of these rows has the length of a MAC
 abbrev pub HasMacOfRows : (List ℕ → List ℕ → List ℕ) → Option (List ℕ) → ℕ → List ℕ → List Row → Type 0
 HasMacOfRows mac key typ id rows = HasMacOf mac key (length (rows_text rows) + 24) (front_of key typ id rows)
 
--- why rows are not written into so much room
+-- the error if the rows do not fit the room
 abbrev pub rows_refusal : Option (List ℕ) → ℕ → List Row → Option StunError
 rows_refusal key room rows =
     if nat_lt 65535 (body_len key rows) then Some MessageTooLong
     else if nat_lt room (HEADER_LEN + body_len key rows) then Some BufferTooShort
     else None
 
--- Either the bytes stand at the front of the buffer and the rest of it is untouched, or all of it is, and it is told why.
+-- Either the bytes are at the front of the buffer and the rest of it is unchanged, or all of it is unchanged and the
+-- error says why.
 abbrev pub WritesOr : Result ℕ StunError → List ℕ → List ℕ → Option StunError → List ℕ → Type 0
 WritesOr (Ok n) old new refusal written = (refusal ≡ None) × (n ≡ length written) × (new ≡ written ++ drop n old)
 WritesOr (Err e) old new refusal written = (refusal ≡ Some e) × (new ≡ old)
@@ -155,7 +156,7 @@ abbrev pub is_longer : ℕ → Option (List ℕ) → Bool
 is_longer limit None = false
 is_longer limit (Some value) = nat_lt limit (length value)
 
--- a user name of more than 508 bytes, another text of more than 128, or data whose length has no 16 bits
+-- USERNAME is longer than 508 bytes, another text is longer than 128, or the length of the data does not fit 16 bits
 abbrev pub has_long_value : AttributesRecord → Bool
 has_long_value a =
     is_longer WRITTEN_USERNAME_LIMIT a.username
@@ -169,7 +170,7 @@ abbrev pub is_bad_code : Option (ℕ × List ℕ) → Bool
 is_bad_code None = false
 is_bad_code (Some e) = nat_lt e.0 300 || nat_lt 699 e.0
 
--- why a message is not written, whatever the room
+-- the error if a message can't be written into any buffer, however large
 unfoldable pub value_refusal : Message → Option StunError
 value_refusal m =
     if not (is_known m.method) then Some UnknownMethod
@@ -177,7 +178,7 @@ value_refusal m =
     else if is_bad_code m.attributes.error_code then Some BadErrorCode
     else None
 
--- why a message is not written: the first that applies
+-- the first error of writing a message, if there is one
 unfoldable pub refusal : Option (List ℕ) → ℕ → Message → Option StunError
 refusal key room m = option_or (value_refusal m) (rows_refusal key room (rows_of m.id m.attributes))
 

@@ -1,4 +1,4 @@
-//! What a message is and carries.
+//! Accessors: the method, the class and the attributes of a message.
 
 ghost use Rattle.std.specs.Prelude.{◌≡◌, ◌↔◌, IsTrue};
 ghost use Rattle.std.specs.Option.{option_copied, option_map};
@@ -14,14 +14,14 @@ use crate::trans_id::TransId;
 use std::net::SocketAddr;
 
 impl<'a> StunMessage<'a> {
-    /// The method; `Method::Unknown` for all but seven.
+    /// Returns the method; `Method::Unknown` for all except seven methods.
     pub fn method(&self) -> Method
         ensures { result ≡ (message_view self.now).method }
     {
         self.method
     }
 
-    /// The class; of a message that was read never `Class::Unknown`.
+    /// Returns the class. It is never `Class::Unknown` for a message that was parsed.
     pub fn class(&self) -> Class
         ensures { result ≡ (message_view self.now).class }
     {
@@ -34,63 +34,63 @@ impl<'a> StunMessage<'a> {
         method == self.method && class == self.class
     }
 
-    /// A connectivity check, or a STUN client's question for its address.
+    /// Whether this is a Binding request: a connectivity check, or a STUN client that queries its own address.
     pub fn is_binding_request(&self) -> bool
         ensures { IsTrue result ↔ (((message_view self.now).method ≡ methods.Binding) × ((message_view self.now).class ≡ classes.Request)) }
     {
         self.is(Method::Binding, Class::Request)
     }
 
-    /// A success answer to a Binding request.
+    /// Whether this is a success response to a Binding request.
     pub fn is_successful_binding_response(&self) -> bool
         ensures { IsTrue result ↔ (((message_view self.now).method ≡ methods.Binding) × ((message_view self.now).class ≡ classes.Success)) }
     {
         self.is(Method::Binding, Class::Success)
     }
 
-    /// An error answer to a Binding request.
+    /// Whether this is an error response to a Binding request.
     pub fn is_failed_binding_response(&self) -> bool
         ensures { IsTrue result ↔ (((message_view self.now).method ≡ methods.Binding) × ((message_view self.now).class ≡ classes.Failure)) }
     {
         self.is(Method::Binding, Class::Failure)
     }
 
-    /// A TURN client asks for a relayed address (RFC 8656, section 7).
+    /// Whether a TURN client requests a relayed address (RFC 8656, section 7).
     pub fn is_allocate_request(&self) -> bool
         ensures { IsTrue result ↔ (((message_view self.now).method ≡ methods.Allocate) × ((message_view self.now).class ≡ classes.Request)) }
     {
         self.is(Method::Allocate, Class::Request)
     }
 
-    /// A TURN client permits peers (RFC 8656, section 10).
+    /// Whether a TURN client permits peers (RFC 8656, section 10).
     pub fn is_create_permission_request(&self) -> bool
         ensures { IsTrue result ↔ (((message_view self.now).method ≡ methods.CreatePermission) × ((message_view self.now).class ≡ classes.Request)) }
     {
         self.is(Method::CreatePermission, Class::Request)
     }
 
-    /// A TURN client binds a channel to a peer (RFC 8656, section 12).
+    /// Whether a TURN client binds a channel to a peer (RFC 8656, section 12).
     pub fn is_channel_bind_request(&self) -> bool
         ensures { IsTrue result ↔ (((message_view self.now).method ≡ methods.ChannelBind) × ((message_view self.now).class ≡ classes.Request)) }
     {
         self.is(Method::ChannelBind, Class::Request)
     }
 
-    /// A TURN client refreshes its allocation (RFC 8656, section 8).
+    /// Whether a TURN client refreshes its allocation (RFC 8656, section 8).
     pub fn is_refresh_request(&self) -> bool
         ensures { IsTrue result ↔ (((message_view self.now).method ≡ methods.Refresh) × ((message_view self.now).class ≡ classes.Request)) }
     {
         self.is(Method::Refresh, Class::Request)
     }
 
-    /// A TURN client sends data to a peer (RFC 8656, section 11).
+    /// Whether a TURN client sends data to a peer (RFC 8656, section 11).
     pub fn is_send_indication(&self) -> bool
         ensures { IsTrue result ↔ (((message_view self.now).method ≡ methods.Send) × ((message_view self.now).class ≡ classes.Indication)) }
     {
         self.is(Method::Send, Class::Indication)
     }
 
-    /// The transaction id, which an answer has in common with its request.
+    /// Returns the transaction ID. A response has the transaction ID of its request.
     pub fn trans_id(&self) -> TransId
         ensures { result.0 ≡ (message_view self.now).id }
     {
@@ -104,15 +104,15 @@ impl<'a> StunMessage<'a> {
         self.attrs.username
     }
 
-    /// The parts of the user name before and behind its first colon. None where there is no user name, no colon
-    /// in it, or nothing behind the first one (RFC 8445, section 7.2.2).
+    /// Returns the parts of USERNAME before and after its first colon. Returns `None` if there is no USERNAME, if it
+    /// has no colon, or if nothing follows the first colon (RFC 8445, section 7.2.2).
     pub fn split_username(&self) -> Option<(&'a str, &'a str)>
         ensures { option_map (λ parts. (parts.0.now, parts.1.now)) result ≡ split_username (message_view self.now).attributes }
     {
         self.attrs.split_username()
     }
 
-    /// XOR-MAPPED-ADDRESS (RFC 8489, section 14.2). An IPv6 address that was read has no flow and no scope.
+    /// XOR-MAPPED-ADDRESS (RFC 8489, section 14.2). A parsed IPv6 address has no flow information and no scope.
     pub fn mapped_address(&self) -> Option<SocketAddr>
         ensures { result ≡ (message_view self.now).attributes.xor_mapped_address }
     {
@@ -126,7 +126,7 @@ impl<'a> StunMessage<'a> {
         self.attrs.priority
     }
 
-    /// Whether USE-CANDIDATE is there (RFC 8445, section 16.1).
+    /// Whether the message has USE-CANDIDATE (RFC 8445, section 16.1).
     pub fn use_candidate(&self) -> bool
         ensures { result ≡ (message_view self.now).attributes.use_candidate }
     {
@@ -175,14 +175,14 @@ impl<'a> StunMessage<'a> {
         self.attrs.ice_controlling
     }
 
-    /// NETWORK-COST: the id of the sender's network and its cost.
+    /// NETWORK-COST: the ID of the sender's network, and its cost.
     pub fn network_cost(&self) -> Option<(u16, u16)>
         ensures { result ≡ (message_view self.now).attributes.network_cost }
     {
         self.attrs.network_cost
     }
 
-    /// ERROR-CODE (RFC 8489, section 14.8): the code, 300 to 699 where it was read, and the reason.
+    /// ERROR-CODE (RFC 8489, section 14.8): the code and the reason. A parsed code is 300 to 699.
     pub fn error_code(&self) -> Option<(u16, &'a str)>
         ensures { error_view result ≡ (message_view self.now).attributes.error_code }
     {
@@ -210,7 +210,7 @@ impl<'a> StunMessage<'a> {
         self.attrs.nonce
     }
 
-    /// SOFTWARE, of type 0x0022.
+    /// SOFTWARE, as attribute type 0x0022.
     pub fn software(&self) -> Option<&'a str>
         ensures { option_copied result ≡ (message_view self.now).attributes.software }
     {

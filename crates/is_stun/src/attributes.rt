@@ -1,4 +1,4 @@
-//! The attributes that a message carries.
+//! The attributes of a message.
 
 ghost use Rattle.std.specs.Prelude.{◌≡◌, Some, None, OnOk, IfErr, ◌==◌, position};
 ghost use Rattle.std.specs.Option.{option_map};
@@ -20,7 +20,7 @@ use crate::tlv::Tlv;
 use is_proto::ParseFault;
 use std::net::SocketAddr;
 
-/// The attributes that a message carries, but for its integrity.
+/// The attributes of a message, except MESSAGE-INTEGRITY.
 #[derive(Clone, Copy, Debug, PartialEq, Eq, Default)]
 pub struct Attributes<'a> {
     pub(crate) username: Option<&'a str>,
@@ -48,7 +48,7 @@ fn colon_in(name: &str) -> Option<usize>
     name.as_bytes().iter().position(|byte| *byte == b':')
 }
 
-/// The parts before and behind the first colon, where something stands behind it.
+/// Returns the parts before and after the first colon, if something follows it.
 fn split_at_colon(name: &str) -> Option<(&str, &str)>
     ensures { option_map (λ parts. (parts.0.now, parts.1.now)) result ≡ split_at_colon name.now }
 {
@@ -64,7 +64,7 @@ impl<'a> Attributes<'a> {
     ghost use Rattle.is_stun.specs.MessageView.{attributes_view};
     ghost use Rattle.is_stun.specs.Message.{split_username};
 
-    /// Those of a message with none.
+    /// Returns the attributes of a message that has none.
     pub(crate) fn new() -> Attributes<'a>
         ensures { attributes_view result ≡ no_attributes }
     {
@@ -89,7 +89,7 @@ impl<'a> Attributes<'a> {
         }
     }
 
-    /// Reads an attribute before the integrity: it takes the place of an earlier one of its type.
+    /// Reads an attribute before MESSAGE-INTEGRITY. It replaces an earlier one of its type.
     #[tactic(auto, unfolding(crate::specs::Pass::kept, crate::specs::Kinds::value_fault))]
     pub(crate) fn keep(&mut self, id: &[u8; 12], tlv: &Tlv<'a>) -> Result<(), ParseFault>
         requires { tlv.now.code ≡ MESSAGE_INTEGRITY → ⊥ }
@@ -132,7 +132,7 @@ impl<'a> Attributes<'a> {
         Ok(())
     }
 
-    /// Reads an attribute behind the integrity, where only the fingerprint counts.
+    /// Reads an attribute after MESSAGE-INTEGRITY; only FINGERPRINT is read there.
     #[tactic(auto, unfolding(crate::specs::Pass::kept_behind, crate::specs::Kinds::value_fault))]
     pub(crate) fn keep_behind(&mut self, tlv: &Tlv<'a>) -> Result<(), ParseFault>
         ensures kept { OnOk result (attributes_view self.new ≡ kept_behind (tlv_view tlv.now) (attributes_view self.old)) }
@@ -145,7 +145,7 @@ impl<'a> Attributes<'a> {
         Ok(())
     }
 
-    /// The parts of the user name before and behind its first colon, where something stands behind it.
+    /// Returns the parts of USERNAME before and after its first colon, if something follows it.
     pub(crate) fn split_username(&self) -> Option<(&'a str, &'a str)>
         ensures { option_map (λ parts. (parts.0.now, parts.1.now)) result ≡ split_username (attributes_view self.now) }
     {

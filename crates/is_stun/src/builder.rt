@@ -1,5 +1,5 @@
-//! Building messages, step by step: the method, the class, the attributes, the transaction id. The states are
-//! types, so a step out of order does not compile.
+//! Builds messages, step by step: the method, the class, the attributes, the transaction ID. Each state is a type, so a
+//! step out of order does not compile.
 
 ghost use Rattle.std.specs.Prelude.{◌≡◌, Some, true};
 ghost use Rattle.is_stun.specs.declared.header.Class.TheVariants as classes;
@@ -14,24 +14,24 @@ use crate::message::StunMessage;
 use crate::trans_id::TransId;
 use std::net::SocketAddr;
 
-/// A builder that wants a method.
+/// The state of a builder that needs a method.
 #[derive(Clone, Copy, Debug, Default)]
 pub struct NoMethod;
 
-/// A builder that wants a class.
+/// The state of a builder that needs a class.
 #[derive(Clone, Copy, Debug)]
 pub struct HasMethod {
     method: Method,
 }
 
-/// A builder that takes attributes, and builds.
+/// The state of a builder that accepts attributes, and can build.
 #[derive(Clone, Copy, Debug)]
 pub struct HasClass {
     method: Method,
     class: Class,
 }
 
-/// A message in the making. Nothing of it takes memory: texts and data are borrowed until the message is written.
+/// A message that is being built. Building never allocates: texts and data are borrowed until the message is written.
 /// The default builder of the state `NoMethod` is the empty one.
 #[derive(Clone, Copy, Debug, Default)]
 pub struct Builder<'a, State> {
@@ -39,18 +39,18 @@ pub struct Builder<'a, State> {
     state: State,
 }
 
-/// The builder under its longer name.
+/// The builder, under its longer name.
 pub type StunMessageBuilder<'a, State> = Builder<'a, State>;
 
 impl<'a> Builder<'a, NoMethod> {
-    /// The empty builder.
+    /// Returns the empty builder.
     pub fn new() -> Self
         ensures { attributes_so_far result ≡ no_attributes }
     {
         Builder::default()
     }
 
-    /// STUN's one method (RFC 8489, section 18.2).
+    /// Sets STUN's only method, Binding (RFC 8489, section 18.2).
     pub fn binding(self) -> Builder<'a, HasMethod>
         ensures method { method_so_far result ≡ methods.Binding }
         ensures attributes { attributes_so_far result ≡ attributes_so_far self.entry }
@@ -58,7 +58,7 @@ impl<'a> Builder<'a, NoMethod> {
         self.with_method(Method::Binding)
     }
 
-    /// TURN: asks for a relayed address (RFC 8656, section 7).
+    /// TURN: requests a relayed address (RFC 8656, section 7).
     pub fn allocate(self) -> Builder<'a, HasMethod>
         ensures method { method_so_far result ≡ methods.Allocate }
         ensures attributes { attributes_so_far result ≡ attributes_so_far self.entry }
@@ -82,7 +82,7 @@ impl<'a> Builder<'a, NoMethod> {
         self.with_method(Method::Send)
     }
 
-    /// TURN: brings data from a peer (RFC 8656, section 11).
+    /// TURN: carries data from a peer (RFC 8656, section 11).
     pub fn data(self) -> Builder<'a, HasMethod>
         ensures method { method_so_far result ≡ methods.Data }
         ensures attributes { attributes_so_far result ≡ attributes_so_far self.entry }
@@ -118,7 +118,7 @@ impl<'a> Builder<'a, NoMethod> {
 }
 
 impl<'a> Builder<'a, HasMethod> {
-    /// A request.
+    /// Makes it a request.
     pub fn request(self) -> Builder<'a, HasClass>
         ensures kind { kind_so_far result ≡ record { method = method_so_far self.entry; class = classes.Request } }
         ensures attributes { attributes_so_far result ≡ attributes_so_far self.entry }
@@ -126,7 +126,7 @@ impl<'a> Builder<'a, HasMethod> {
         self.with_class(Class::Request)
     }
 
-    /// An indication, which nothing answers.
+    /// Makes it an indication, which has no response.
     pub fn indication(self) -> Builder<'a, HasClass>
         ensures kind { kind_so_far result ≡ record { method = method_so_far self.entry; class = classes.Indication } }
         ensures attributes { attributes_so_far result ≡ attributes_so_far self.entry }
@@ -134,7 +134,7 @@ impl<'a> Builder<'a, HasMethod> {
         self.with_class(Class::Indication)
     }
 
-    /// A success response.
+    /// Makes it a success response.
     pub fn success(self) -> Builder<'a, HasClass>
         ensures kind { kind_so_far result ≡ record { method = method_so_far self.entry; class = classes.Success } }
         ensures attributes { attributes_so_far result ≡ attributes_so_far self.entry }
@@ -142,7 +142,7 @@ impl<'a> Builder<'a, HasMethod> {
         self.with_class(Class::Success)
     }
 
-    /// An error response.
+    /// Makes it an error response.
     pub fn failure(self) -> Builder<'a, HasClass>
         ensures kind { kind_so_far result ≡ record { method = method_so_far self.entry; class = classes.Failure } }
         ensures attributes { attributes_so_far result ≡ attributes_so_far self.entry }
@@ -164,9 +164,9 @@ impl<'a> Builder<'a, HasMethod> {
     }
 }
 
-/// Each setter replaces what was set before.
+/// Each setter replaces an earlier value.
 impl<'a> Builder<'a, HasClass> {
-    /// USERNAME (RFC 8489, section 14.3): at most 508 bytes are written.
+    /// Sets USERNAME (RFC 8489, section 14.3). At most 508 bytes can be written.
     pub fn username(self, username: &'a str) -> Self
         ensures kind { kind_so_far result ≡ kind_so_far self.entry }
         ensures attributes { attributes_so_far result ≡ record (attributes_so_far self.entry) { username = Some username.now } }
@@ -179,7 +179,8 @@ impl<'a> Builder<'a, HasClass> {
         }
     }
 
-    /// ERROR-CODE (RFC 8489, section 14.8): codes of 300 to 699 and reasons of at most 128 bytes are written.
+    /// Sets ERROR-CODE (RFC 8489, section 14.8). The code must be 300 to 699 and the reason at most 128 bytes to be
+    /// written.
     pub fn error_code(self, code: u16, reason: &'a str) -> Self
         ensures kind { kind_so_far result ≡ kind_so_far self.entry }
         ensures attributes { attributes_so_far result ≡ record (attributes_so_far self.entry) { error_code = Some (code, reason.now) } }
@@ -192,7 +193,7 @@ impl<'a> Builder<'a, HasClass> {
         }
     }
 
-    /// CHANNEL-NUMBER (RFC 8656, section 18.1). It is written as it is, and read between 0x4000 and 0x7FFF.
+    /// Sets CHANNEL-NUMBER (RFC 8656, section 18.1). Any number is written, but only 0x4000 to 0x7FFF can be parsed.
     pub fn channel_number(self, number: u16) -> Self
         ensures kind { kind_so_far result ≡ kind_so_far self.entry }
         ensures attributes { attributes_so_far result ≡ record (attributes_so_far self.entry) { channel_number = Some number } }
@@ -205,7 +206,7 @@ impl<'a> Builder<'a, HasClass> {
         }
     }
 
-    /// LIFETIME, in seconds (RFC 8656, section 18.2).
+    /// Sets LIFETIME, in seconds (RFC 8656, section 18.2).
     pub fn lifetime(self, lifetime: u32) -> Self
         ensures kind { kind_so_far result ≡ kind_so_far self.entry }
         ensures attributes { attributes_so_far result ≡ record (attributes_so_far self.entry) { lifetime = Some lifetime } }
@@ -218,7 +219,7 @@ impl<'a> Builder<'a, HasClass> {
         }
     }
 
-    /// XOR-PEER-ADDRESS (RFC 8656, section 18.3). Flow and scope of an IPv6 address are not written.
+    /// Sets XOR-PEER-ADDRESS (RFC 8656, section 18.3). Flow information and scope of an IPv6 address are not written.
     pub fn xor_peer_address(self, address: SocketAddr) -> Self
         ensures kind { kind_so_far result ≡ kind_so_far self.entry }
         ensures attributes { attributes_so_far result ≡ record (attributes_so_far self.entry) { xor_peer_address = Some address } }
@@ -231,7 +232,7 @@ impl<'a> Builder<'a, HasClass> {
         }
     }
 
-    /// DATA (RFC 8656, section 18.4): at most 65535 bytes are written.
+    /// Sets DATA (RFC 8656, section 18.4). At most 65535 bytes can be written.
     pub fn data(self, bytes: &'a [u8]) -> Self
         ensures kind { kind_so_far result ≡ kind_so_far self.entry }
         ensures attributes { attributes_so_far result ≡ record (attributes_so_far self.entry) { «data» = Some bytes.now } }
@@ -244,7 +245,7 @@ impl<'a> Builder<'a, HasClass> {
         }
     }
 
-    /// REALM (RFC 8489, section 14.9): at most 128 bytes are written.
+    /// Sets REALM (RFC 8489, section 14.9). At most 128 bytes can be written.
     pub fn realm(self, realm: &'a str) -> Self
         ensures kind { kind_so_far result ≡ kind_so_far self.entry }
         ensures attributes { attributes_so_far result ≡ record (attributes_so_far self.entry) { realm = Some realm.now } }
@@ -257,7 +258,7 @@ impl<'a> Builder<'a, HasClass> {
         }
     }
 
-    /// NONCE (RFC 8489, section 14.10): at most 128 bytes are written.
+    /// Sets NONCE (RFC 8489, section 14.10). At most 128 bytes can be written.
     pub fn nonce(self, nonce: &'a str) -> Self
         ensures kind { kind_so_far result ≡ kind_so_far self.entry }
         ensures attributes { attributes_so_far result ≡ record (attributes_so_far self.entry) { nonce = Some nonce.now } }
@@ -270,7 +271,8 @@ impl<'a> Builder<'a, HasClass> {
         }
     }
 
-    /// XOR-RELAYED-ADDRESS (RFC 8656, section 18.5). Flow and scope of an IPv6 address are not written.
+    /// Sets XOR-RELAYED-ADDRESS (RFC 8656, section 18.5). Flow information and scope of an IPv6 address are not
+    /// written.
     pub fn xor_relayed_address(self, address: SocketAddr) -> Self
         ensures kind { kind_so_far result ≡ kind_so_far self.entry }
         ensures attributes { attributes_so_far result ≡ record (attributes_so_far self.entry) { xor_relayed_address = Some address } }
@@ -283,7 +285,7 @@ impl<'a> Builder<'a, HasClass> {
         }
     }
 
-    /// XOR-MAPPED-ADDRESS (RFC 8489, section 14.2). Flow and scope of an IPv6 address are not written.
+    /// Sets XOR-MAPPED-ADDRESS (RFC 8489, section 14.2). Flow information and scope of an IPv6 address are not written.
     pub fn xor_mapped_address(self, address: SocketAddr) -> Self
         ensures kind { kind_so_far result ≡ kind_so_far self.entry }
         ensures attributes { attributes_so_far result ≡ record (attributes_so_far self.entry) { xor_mapped_address = Some address } }
@@ -296,7 +298,7 @@ impl<'a> Builder<'a, HasClass> {
         }
     }
 
-    /// SOFTWARE, of type 0x0022: at most 128 bytes are written.
+    /// Sets SOFTWARE, as attribute type 0x0022. At most 128 bytes can be written.
     pub fn software(self, software: &'a str) -> Self
         ensures kind { kind_so_far result ≡ kind_so_far self.entry }
         ensures attributes { attributes_so_far result ≡ record (attributes_so_far self.entry) { software = Some software.now } }
@@ -309,7 +311,7 @@ impl<'a> Builder<'a, HasClass> {
         }
     }
 
-    /// PRIORITY (RFC 8445, section 16.1).
+    /// Sets PRIORITY (RFC 8445, section 16.1).
     pub fn prio(self, prio: u32) -> Self
         ensures kind { kind_so_far result ≡ kind_so_far self.entry }
         ensures attributes { attributes_so_far result ≡ record (attributes_so_far self.entry) { priority = Some prio } }
@@ -322,7 +324,7 @@ impl<'a> Builder<'a, HasClass> {
         }
     }
 
-    /// USE-CANDIDATE (RFC 8445, section 16.1).
+    /// Sets USE-CANDIDATE (RFC 8445, section 16.1).
     pub fn use_candidate(self) -> Self
         ensures kind { kind_so_far result ≡ kind_so_far self.entry }
         ensures attributes { attributes_so_far result ≡ record (attributes_so_far self.entry) { use_candidate = true } }
@@ -335,7 +337,7 @@ impl<'a> Builder<'a, HasClass> {
         }
     }
 
-    /// ICE-CONTROLLED (RFC 8445, section 16.1).
+    /// Sets ICE-CONTROLLED (RFC 8445, section 16.1).
     pub fn ice_controlled(self, tie_breaker: u64) -> Self
         ensures kind { kind_so_far result ≡ kind_so_far self.entry }
         ensures attributes { attributes_so_far result ≡ record (attributes_so_far self.entry) { ice_controlled = Some tie_breaker } }
@@ -348,7 +350,7 @@ impl<'a> Builder<'a, HasClass> {
         }
     }
 
-    /// ICE-CONTROLLING (RFC 8445, section 16.1).
+    /// Sets ICE-CONTROLLING (RFC 8445, section 16.1).
     pub fn ice_controlling(self, tie_breaker: u64) -> Self
         ensures kind { kind_so_far result ≡ kind_so_far self.entry }
         ensures attributes { attributes_so_far result ≡ record (attributes_so_far self.entry) { ice_controlling = Some tie_breaker } }
@@ -361,7 +363,7 @@ impl<'a> Builder<'a, HasClass> {
         }
     }
 
-    /// NETWORK-COST: the id of the sender's network and its cost.
+    /// Sets NETWORK-COST: the ID of the sender's network, and its cost.
     pub fn network_cost(self, network: u16, cost: u16) -> Self
         ensures kind { kind_so_far result ≡ kind_so_far self.entry }
         ensures attributes { attributes_so_far result ≡ record (attributes_so_far self.entry) { network_cost = Some (network, cost) } }
@@ -374,7 +376,7 @@ impl<'a> Builder<'a, HasClass> {
         }
     }
 
-    /// The message. It carries no integrity until it is written with a password.
+    /// Returns the message. It has no MESSAGE-INTEGRITY until it is written with a password.
     pub fn build(self, trans_id: TransId) -> StunMessage<'a>
         ensures { message_view result ≡ built (kind_so_far self.entry).method (kind_so_far self.entry).class trans_id.0
             (attributes_so_far self.entry) }

@@ -28,9 +28,9 @@ fn built<'a>(class: Class, trans_id: TransId, attrs: Attributes<'a>) -> StunMess
 impl<'a> StunMessage<'a> {
     ghost use Rattle.is_stun.specs.Checks.{binding_request, binding_reply, binding_role_conflict_reply};
 
-    /// A Binding request that checks a path (RFC 8445, section 7.2.2): the user name is the peer's fragment, a
-    /// colon and the own one; the tie-breaker goes with the role; the priority is that of a peer reflexive
-    /// candidate; `use_candidate` nominates.
+    /// Returns a connectivity check: a Binding request (RFC 8445, section 7.2.2). USERNAME is the peer's username
+    /// fragment, a colon and the local one. The tie-breaker goes into the attribute of the role. The priority is that
+    /// of a peer-reflexive candidate. `use_candidate` nominates the pair.
     pub fn binding_request(
         username: &'a str,
         trans_id: TransId,
@@ -53,7 +53,7 @@ impl<'a> StunMessage<'a> {
         built(Class::Request, trans_id, attrs)
     }
 
-    /// A Binding success, with the address that the request came from (RFC 8445, section 7.3.1.2).
+    /// Returns a Binding success response with the source address of the request (RFC 8445, section 7.3.1.2).
     pub fn binding_reply(trans_id: TransId, mapped_address: SocketAddr) -> StunMessage<'a>
         ensures { message_view result ≡ binding_reply trans_id.0 mapped_address }
     {
@@ -64,7 +64,7 @@ impl<'a> StunMessage<'a> {
         built(Class::Success, trans_id, attrs)
     }
 
-    /// A Binding failure of code 487, "Role Conflict" (RFC 8445, section 7.3.1.1).
+    /// Returns a Binding error response with code 487, "Role Conflict" (RFC 8445, section 7.3.1.1).
     pub fn binding_role_conflict_reply(trans_id: TransId) -> StunMessage<'a>
         ensures { message_view result ≡ binding_role_conflict_reply trans_id.0 }
     {

@@ -5,7 +5,7 @@ ghost use Rattle.std.specs.Prelude.{◌≡◌, ◌≤◌, ◌<◌, ◌^◌, ◌+
 use crate::numbers::{HEADER_LEN, MAGIC};
 use is_proto::ParseFault;
 
-/// What a message is to its exchange (RFC 8489, section 5).
+/// The class of a message (RFC 8489, section 5).
 #[derive(Clone, Copy, Debug, PartialEq, Eq)]
 pub enum Class {
     Request,
@@ -14,7 +14,7 @@ pub enum Class {
     Success,
     /// An error response.
     Failure,
-    /// No class that `parse` gives. It is written as that of a request.
+    /// A class that `parse` never returns. It is written as a request.
     Unknown,
 }
 
@@ -44,7 +44,7 @@ impl Class {
     }
 }
 
-/// What a message is about: STUN's Binding (RFC 8489, section 18.2), and TURN's methods (RFC 8656, section 17).
+/// The method of a message: STUN's Binding (RFC 8489, section 18.2), and TURN's methods (RFC 8656, section 17).
 #[derive(Clone, Copy, Debug, PartialEq, Eq)]
 pub enum Method {
     Binding,
@@ -54,7 +54,7 @@ pub enum Method {
     Data,
     CreatePermission,
     ChannelBind,
-    /// All other methods. A message of this one is not written.
+    /// All other methods. A message with this one can't be written.
     Unknown,
 }
 
@@ -94,7 +94,7 @@ impl Method {
 
 ghost use Rattle.is_stun.specs.Header.{header_fault, body_of};
 
-/// What is wrong with the header: the first that applies.
+/// Returns the first fault of the header, if there is one.
 #[tactic(auto, unfolding(crate::specs::Header::header_fault))]
 pub(crate) fn header_fault(buf: &[u8]) -> Option<ParseFault>
     ensures fault { result ≡ header_fault buf.now }
@@ -116,7 +116,7 @@ pub(crate) fn header_fault(buf: &[u8]) -> Option<ParseFault>
     None
 }
 
-/// What follows the header.
+/// Returns the bytes after the header.
 pub(crate) fn body_of(buf: &[u8]) -> &[u8]
     requires { 20 ≤ length buf.now }
     ensures bytes { result.now ≡ body_of buf.now }

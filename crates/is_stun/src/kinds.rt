@@ -1,4 +1,4 @@
-//! The kinds of value that attributes have, and what can be wrong with one (RFC 8489, section 14).
+//! The kinds of attribute values, and the faults that they can have (RFC 8489, section 14).
 
 ghost use Rattle.std.specs.Prelude.{◌≡◌, ◌≤◌, length, drop, Some, None, OnOk, IfErr};
 ghost use Rattle.std.specs.Result.{result_ok};
@@ -51,7 +51,7 @@ pub(crate) fn bytes_of_len(len: usize, value: &[u8], fault: ParseFault) -> Resul
     }
 }
 
-/// What follows the four bytes of an error code.
+/// Returns the bytes after the first four of ERROR-CODE.
 fn behind_code(value: &[u8]) -> &[u8]
     requires { 4 ≤ length value.now }
     ensures { result.now ≡ drop 4 value.now }
@@ -59,7 +59,7 @@ fn behind_code(value: &[u8]) -> &[u8]
     &value[4..]
 }
 
-/// Puts a code of 300 to 699 and its reason into their place (RFC 8489, section 14.8).
+/// Stores a code of 300 to 699 and its reason (RFC 8489, section 14.8).
 #[tactic(auto, unfolding(crate::specs::Kinds::error_code))]
 pub(crate) fn keep_error_code<'a>(
     place: &mut Option<(u16, &'a str)>,
@@ -88,7 +88,7 @@ pub(crate) fn keep_error_code<'a>(
     }
 }
 
-/// A channel number, in the first two of four bytes (RFC 8656, section 18.1).
+/// Reads a channel number from the first two of four bytes (RFC 8656, section 18.1).
 #[tactic(auto, unfolding(crate::specs::Kinds::channel_number))]
 pub(crate) fn channel_number(value: &[u8]) -> Result<u16, ParseFault>
     ensures { result ≡ channel_number value.now }
@@ -103,7 +103,7 @@ pub(crate) fn channel_number(value: &[u8]) -> Result<u16, ParseFault>
     Ok(number)
 }
 
-/// The id of a network and its cost, in four bytes.
+/// Reads the ID of a network and its cost from four bytes.
 #[tactic(auto, unfolding(crate::specs::Kinds::network_cost))]
 pub(crate) fn network_cost(value: &[u8]) -> Option<(u16, u16)>
     ensures { result ≡ network_cost value.now }

@@ -1,4 +1,4 @@
-//! STUN as ICE uses it (RFC 8489, RFC 8445): messages, transaction ids, the timing of checks.
+//! STUN as ICE uses it (RFC 8489, RFC 8445): messages, transaction IDs, and the timing of checks.
 #![tactic(auto)]
 
 mod accessors;
@@ -24,7 +24,7 @@ mod trans_id;
 mod values;
 mod writing;
 
-/// What the crate gives out, under the name that users know.
+/// The public items of the crate, under the name that users know.
 pub mod stun {
     pub use crate::attributes::Attributes;
     pub use crate::builder::{Builder, HasClass, HasMethod, NoMethod, StunMessageBuilder};

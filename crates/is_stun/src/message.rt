@@ -1,4 +1,4 @@
-//! Messages: reading and verifying them, and asking what they carry.
+//! Messages: parsing and verifying them, and reading their attributes.
 
 ghost use Rattle.std.specs.Prelude.{◌≡◌, ◌≤◌, ◌<◌, ◌^◌, ◌+◌, ◌↔◌, IsTrue, None, length, Some, IfOk, IfErr, OnOk, MatchResult};
 ghost use Rattle.is_stun.specs.Tlv.{tlvs_of};
@@ -12,19 +12,19 @@ use crate::trans_id::TransId;
 use is_proto::{ParseFault, Protocol, Sha1HmacProvider, StunError};
 use std::net::SocketAddr;
 
-/// A STUN message (RFC 8489, section 5): one that was read, over the bytes that it was read from, or one that
-/// was built and can be written. It takes no memory.
+/// A STUN message (RFC 8489, section 5): either a parsed one, which borrows the bytes that it was parsed from, or a
+/// built one, which can be written. It never allocates.
 #[derive(Clone, Copy, Debug)]
 pub struct StunMessage<'a> {
     pub(crate) method: Method,
     pub(crate) class: Class,
     pub(crate) trans_id: TransId,
     pub(crate) attrs: Attributes<'a>,
-    /// None in a message that was built.
+    /// `None` in a built message.
     pub(crate) integrity: Option<Integrity<'a>>,
 }
 
-/// A message, and how it came: over which protocol, from where, and to which local address.
+/// A message, and how it arrived: its protocol, its source, and the local address that received it.
 #[derive(Clone, Copy, Debug)]
 pub struct StunPacket<'a> {
     pub proto: Protocol,
@@ -49,9 +49,10 @@ impl<'a> StunMessage<'a> {
     ghost use Rattle.is_stun.specs.Spells.{Spells};
     ghost use Rattle.is_stun.specs.Pass.{headed};
 
-    /// Reads a message, or tells the first fault of the bytes, as `StunError::Parse`: first those of the header,
-    /// then those of the attributes by place, then what a Binding request or success lacks (RFC 8489, section 6.3).
-    /// FINGERPRINT is kept and not compared; comprehension-required types that are not known are skipped.
+    /// Parses a message. Fails with `StunError::Parse` and the first fault of the bytes: first the faults of the
+    /// header, then those of the attributes in the order of their position, then an attribute that a Binding request or
+    /// success response lacks (RFC 8489, section 6.3). FINGERPRINT is stored, but not verified; unknown
+    /// comprehension-required attributes are skipped.
     pub fn parse(buf: &'a [u8]) -> Result<StunMessage<'a>, StunError>
         ensures reads { MatchResult result (λ m. Reads buf.now (message_view m)) (λ e. FailsBy buf.now e) }
         ensures spells { IfOk result (λ m. Spells buf.now (message_view m)) }
@@ -69,7 +70,7 @@ impl<'a> StunMessage<'a> {
         Ok(message)
     }
 
-    /// What a header without fault says.
+    /// Returns the message of a header without fault, with no attributes yet.
     fn of_header(buf: &[u8]) -> StunMessage<'a>
         requires { 20 ≤ length buf.now }
         ensures { message_view result ≡ headed buf.now }
@@ -84,7 +85,7 @@ impl<'a> StunMessage<'a> {
         }
     }
 
-    /// Reads what follows the header, in one pass.
+    /// Reads the attributes after the header, in one pass.
     #[tactic(auto, unfolding(crate::specs::Reading::message_of))]
     fn read(&mut self, buf: &'a [u8]) -> Result<(), ParseFault>
         requires whole { 20 ≤ length buf.now }
@@ -101,7 +102,7 @@ impl<'a> StunMessage<'a> {
         Ok(())
     }
 
-    /// What a Binding success or request lacks.
+    /// Returns the fault for an attribute that a Binding success response or request lacks.
     fn demand_fault(&self) -> Option<ParseFault>
         ensures { result ≡ demand_fault (message_view self.now) }
     {
@@ -130,8 +131,8 @@ impl<'a> StunMessage<'a> {
         }
     }
 
-    /// Whether the message was read, and its MESSAGE-INTEGRITY is the MAC under the password (RFC 8489, section
-    /// 14.5). False for one that was built.
+    /// Whether the message was parsed, and its MESSAGE-INTEGRITY is the MAC under the password (RFC 8489, section
+    /// 14.5). False for a built message.
     pub fn verify<H: Sha1HmacProvider>(&self, password: &[u8], provider: &H) -> bool
         ensures { IsTrue result ↔ IsSignedBy (H.mac provider.now) (message_view self.now) password.now }
     {

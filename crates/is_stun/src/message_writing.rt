@@ -1,4 +1,4 @@
-//! How messages are written.
+//! Writing messages.
 
 ghost use Rattle.std.specs.Prelude.{◌≡◌, length, take, IfNone, IfOk, IfSome};
 ghost use Rattle.std.specs.Option.{option_copied, option_map};
@@ -63,7 +63,7 @@ fn has_long_value(attrs: &Attributes<'_>) -> bool
         || is_long_data(attrs.data)
 }
 
-/// Why a message is not written, whatever the room.
+/// Returns the error if the message can't be written into any buffer, however large.
 #[tactic(auto, unfolding(crate::specs::Writing::value_refusal))]
 fn value_refusal(message: &StunMessage<'_>) -> Option<StunError>
     ensures refusal { result ≡ value_refusal (message_view message.now) }
@@ -82,18 +82,21 @@ fn value_refusal(message: &StunMessage<'_>) -> Option<StunError>
 }
 
 impl<'a> StunMessage<'a> {
-    /// Writes the message to the front of the buffer and tells its length: its attributes, then MESSAGE-INTEGRITY
-    /// where there is a password, then FINGERPRINT (RFC 8489, sections 5 and 14). The integrity and the fingerprint
-    /// that a message was read with are left out, and so are flow and scope of addresses; it takes no memory. What was
-    /// written with a password reads as no other message than this one, and reads again, and verifies, where it has
-    /// what a reader demands; a class that is `Unknown` and channel numbers out of range are excepted. A refusal
-    /// leaves the buffer as it was, and is the first of
+    /// Writes the message to the front of the buffer and returns its length: its attributes, then MESSAGE-INTEGRITY if
+    /// there is a password, then FINGERPRINT (RFC 8489, sections 5 and 14). It leaves out the MESSAGE-INTEGRITY and
+    /// FINGERPRINT that the message was parsed with, and flow information and scope of addresses. It never allocates.
+    ///
+    /// The bytes of a message that is written with a password parse as no other message than this one. If the message
+    /// has the attributes that a parser requires, they do parse, and verify. Messages of class `Unknown` or with a
+    /// channel number out of range are excepted.
+    ///
+    /// An error leaves the buffer unchanged, and is the first of
     /// - `UnknownMethod`: the method is `Unknown`;
-    /// - `ValueTooLong`: a user name of more than 508 bytes, a realm, nonce, software or reason of more than 128,
-    ///   or data of more than 65535;
-    /// - `BadErrorCode`: an error code outside 300 to 699;
+    /// - `ValueTooLong`: USERNAME is longer than 508 bytes, the realm, nonce, software or reason is longer than 128,
+    ///   or the data is longer than 65535;
+    /// - `BadErrorCode`: the error code is outside 300 to 699;
     /// - `MessageTooLong`: more than 65535 bytes would follow the header;
-    /// - `BufferTooShort`: the buffer does not hold the message.
+    /// - `BufferTooShort`: the message does not fit the buffer.
     pub fn to_bytes<H: Sha1HmacProvider>(
         self,
         password: Option<&[u8]>,
@@ -105,7 +108,7 @@ impl<'a> StunMessage<'a> {
         ensures read_again { IfOk result (λ len. IfSome (option_copied password.entry)
             (λ key. ReadsAgain (H.mac provider.now) key (take len buf.new) (message_view self.entry))) }
     {
-        // in the ranges of their types, the values are read again as they are
+        // the values are in the ranges of their types, so they parse unchanged
         id_fits(self.trans_id);
         values_fit(&self.attrs);
         if let Some(error) = value_refusal(&self) {

@@ -1,14 +1,14 @@
-//! The numbers of the format (RFC 8489, sections 5, 14 and 18).
+//! The constants of the message format (RFC 8489, sections 5, 14 and 18).
 
-/// Type, length, magic cookie and transaction id.
+/// Type, length, magic cookie and transaction ID.
 pub(crate) const HEADER_LEN: usize = 20;
 
 pub(crate) const MAGIC: u32 = 0x2112_A442;
 
-/// What a port is xored with: the high half of the magic cookie.
+/// The mask for a port: the high half of the magic cookie.
 pub(crate) const PORT_MASK: u16 = 0x2112;
 
-/// What the CRC of a fingerprint is xored with.
+/// The mask for the CRC of FINGERPRINT.
 pub(crate) const FINGERPRINT_MASK: u32 = 0x5354_554E;
 
 // The types of attributes.
@@ -35,7 +35,7 @@ pub(crate) const XOR_RELAYED_ADDRESS: u16 = 0x0016;
 
 pub(crate) const XOR_MAPPED_ADDRESS: u16 = 0x0020;
 
-/// SOFTWARE is read and written by this type; the one of RFC 8489, 0x8022, is skipped as types are that nobody knows.
+/// SOFTWARE is read and written with this type. The type of RFC 8489, 0x8022, is skipped as unknown types are.
 pub(crate) const SOFTWARE: u16 = 0x0022;
 
 pub(crate) const PRIORITY: u16 = 0x0024;
@@ -48,24 +48,24 @@ pub(crate) const ICE_CONTROLLED: u16 = 0x8029;
 
 pub(crate) const ICE_CONTROLLING: u16 = 0x802A;
 
-/// The cost of the sender's network, as WebRTC tells it.
+/// The cost of the sender's network, as WebRTC sends it.
 pub(crate) const NETWORK_COST: u16 = 0xC057;
 
 // The lengths of values, in bytes.
 
-/// The longest user name that is read.
+/// The longest USERNAME that is read.
 pub(crate) const USERNAME_LIMIT: usize = 513;
 
 /// The longest other text that is read.
 pub(crate) const TEXT_LIMIT: usize = 763;
 
-/// The longest user name that is written (RFC 8489, section 14.3).
+/// The longest USERNAME that is written (RFC 8489, section 14.3).
 pub(crate) const WRITTEN_USERNAME_LIMIT: usize = 508;
 
 /// The longest other text that is written.
 pub(crate) const WRITTEN_TEXT_LIMIT: usize = 128;
 
-/// The longest data that are written.
+/// The longest data that is written.
 pub(crate) const DATA_LIMIT: usize = 65535;
 
 pub(crate) const INTEGRITY_LEN: usize = 20;

@@ -21,7 +21,7 @@ use crate::numbers::{
 use crate::writing::Row;
 use std::net::SocketAddr;
 
-/// The values whose bytes do not lie in the message itself.
+/// The values whose bytes are not stored in the message itself.
 #[derive(Drop)]
 pub(crate) struct Values {
     controlled: Option<[u8; 8]>,
@@ -88,7 +88,8 @@ fn cost_bytes(network_cost: Option<(u16, u16)>) -> Option<[u8; 4]>
     }
 }
 
-/// The value of an error code. It is long and rare, so it stands apart from the others, which are then moved cheaply.
+/// Returns the value of ERROR-CODE. It is long and rare; it is separate from the other values, so that they are cheap
+/// to move.
 #[inline(never)]
 pub(crate) fn error_bytes(error: Option<(u16, &str)>) -> Option<ErrorValue>
     requires { WritableError error }
@@ -190,7 +191,7 @@ fn flag_row<'a>(code: u16, is_set: bool) -> Row<'a>
     }
 }
 
-/// The attributes in their order.
+/// Returns the attributes, in the order of writing.
 #[inline(always)]
 pub(crate) fn rows_of<'a>(
     attrs: &Attributes<'a>,

@@ -1,4 +1,5 @@
-//! When a request is sent again, and how long a whole run of requests takes (RFC 8489, section 6.2.1).
+//! The retransmission timing of checks: the delay before each one, and the time that a full series of checks takes (RFC
+//! 8489, section 6.2.1).
 
 ghost use Rattle.std.specs.Prelude.{◌≡◌, ◌*◌, ◌^◌, ◌/◌, ◌-◌, ◌<◌, ◌≤◌, ℕ, min};
 ghost use Rattle.is_proto.specs.Moments.{MILLISECOND};
@@ -6,22 +7,22 @@ ghost use Rattle.is_stun.specs.Timing.{resend_delay, last_resend_delay, timeout_
 
 use is_proto::Duration;
 
-/// How often a check is sent that goes unanswered, as libwebrtc has it.
+/// How many checks are sent without a response, as in libwebrtc.
 pub const DEFAULT_MAX_RETRANSMITS: usize = 9;
 
-/// How long to wait for an answer before a check is sent again, and how many checks go unanswered before a
-/// path is given up. A pair asks for at least one retransmit.
+/// The retransmission timeouts (RTO) of checks, and how many checks may go without a response before a path fails. A
+/// pair requires at least one retransmit.
 #[derive(Debug, Drop)]
 pub struct StunTiming {
-    /// The delay behind the first check; each further one is twice as long. Whole milliseconds count.
+    /// The delay after the first check; it doubles with each further check. Only whole milliseconds count.
     pub initial_rto: Duration,
-    /// How many checks are sent, each behind the delay of the one before.
+    /// How many checks are sent; each waits for the delay after the previous one.
     pub max_retransmits: usize,
-    /// The greatest delay. Whole milliseconds count.
+    /// The longest delay. Only whole milliseconds count.
     pub max_rto: Duration,
 }
 
-/// 250 ms, 9 retransmits, and 3 s at most.
+/// An initial RTO of 250 ms, 9 retransmits, and a longest RTO of 3 s.
 impl Default for StunTiming {
     ghost is_default = { λ t. t ≡ record { initial_rto = record { 0 = 250000000 }; max_retransmits = 9; max_rto = record { 0 = 3000000000 } } };
 
@@ -35,8 +36,8 @@ impl Default for StunTiming {
 }
 
 impl StunTiming {
-    /// How long a whole run of unanswered checks takes, after which a path is given up that was once answered:
-    /// the delays behind the second check to the last, and the last delay once more.
+    /// Returns how long a full series of checks without a response takes: the sum of the delays after the second check
+    /// to the last, plus the last delay once more. A path that once had a response fails after this time.
     pub fn timeout(&self) -> Duration
         ensures { result.0 ≡ timeout_of self.now }
     {
@@ -52,8 +53,8 @@ impl StunTiming {
             .saturating_add(last)
     }
 
-    /// How long to wait behind the last of so many checks before the next one: not at all where there was none,
-    /// else `initial_rto`, doubled with each check behind the first, and at most `max_rto`.
+    /// Returns how long to wait after the last of `send_count` checks before the next one: zero if there was none,
+    /// otherwise `initial_rto`, doubled with each check after the first, and at most `max_rto`.
     pub fn stun_resend_delay(&self, send_count: usize) -> Duration
         ensures delay { result.0 ≡ resend_delay self.now send_count }
         ensures bounded { result.0 ≤ self.now.max_rto.0 / MILLISECOND * MILLISECOND }
@@ -68,14 +69,15 @@ impl StunTiming {
         Duration::from_millis(doubled(first, doublings, greatest))
     }
 
-    /// How long to wait behind the last check before a path is given up.
+    /// Returns how long to wait after the last check before the path fails.
     pub fn stun_last_resend_delay(&self) -> Duration
         ensures { result.0 ≡ last_resend_delay self.now }
     {
         self.stun_resend_delay(self.max_retransmits)
     }
 
-    /// A count from which on no delay is longer than the one before: by then the doublings alone pass `max_rto`.
+    /// Returns a count from which on no delay is longer than the one before: by then the doublings, even from 1 ms,
+    /// exceed `max_rto`.
     fn steady_from(&self) -> usize
         ensures some { 0 < result }
         ensures few { result ≤ 65 }
@@ -84,14 +86,14 @@ impl StunTiming {
         (u64::BITS - self.max_rto.as_millis().leading_zeros()) as usize + 1
     }
 
-    /// How many checks are sent.
+    /// Returns how many checks are sent.
     pub fn max_retransmits(&self) -> usize
         ensures { result ≡ self.now.max_retransmits }
     {
         self.max_retransmits
     }
 
-    /// The greatest delay.
+    /// Returns the longest delay.
     pub fn max_rto(&self) -> Duration
         ensures { result ≡ self.now.max_rto }
     {
@@ -99,8 +101,8 @@ impl StunTiming {
     }
 }
 
-/// A number doubled so many times, and `greatest` where it would pass that. No bits are lost on the way: 64
-/// doublings take any number but zero past any `greatest`, and fit 128 bits.
+/// Returns the number doubled `times` times, or `greatest` if that is less. No bits are lost: 64 doublings take any
+/// number except zero past any `greatest`, and fit 128 bits.
 fn doubled(number: u64, times: usize, greatest: u64) -> u64
     ensures { result ≡ min (number * 2 ^ times) greatest }
 {

@@ -1,22 +1,22 @@
-//! The attributes of a message as they lie in its bytes.
+//! The attributes of a message, as encoded in its bytes.
 
 ghost use Rattle.std.specs.Prelude.{◌≡◌, ◌+◌, ◌<◌, ◌^◌, length};
 
 use std::iter::Iterator;
 
-/// One attribute, whatever its type.
+/// One attribute, of any type.
 #[derive(Clone, Copy)]
 pub struct Tlv<'a> {
     pub code: u16,
-    /// Where it begins behind the header.
+    /// Its offset after the header.
     pub place: usize,
-    /// The length that it states.
+    /// The length that it declares.
     pub len: usize,
-    /// That many bytes, or all that are left.
+    /// As many bytes as its length declares, or all that are left.
     pub value: &'a [u8],
 }
 
-/// The attributes of a body from left to right, up to the first that states more bytes than are left.
+/// The attributes of a body from left to right, up to the first that declares more bytes than are left.
 #[derive(Drop)]
 pub struct Tlvs<'a> {
     place: usize,

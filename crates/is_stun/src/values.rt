@@ -1,4 +1,4 @@
-//! What the types of a message's values say of them. These functions compute nothing.
+//! The ranges that the types of a message's values imply. These functions compute nothing.
 
 ghost use Rattle.std.specs.Prelude.{◌<◌, ◌^◌, ℕ, slice_index, IfSome};
 ghost use Rattle.std.specs.Option.{option_copied, option_map};
@@ -51,14 +51,14 @@ fn cost_fits(cost: Option<(u16, u16)>)
     }
 }
 
-/// Bytes are below 256.
+/// Every byte is below 256.
 fn bytes_fit(bytes: &[u8])
     ensures { (k : ℕ) → slice_index bytes.now k < 2 ^ 8 }
 {
     let _len = bytes.len();
 }
 
-/// Pairs of bytes are below 65536.
+/// Every 16-bit number is below 65536.
 fn pairs_fit(pairs: &[u16])
     ensures { (k : ℕ) → slice_index pairs.now k < 2 ^ 16 }
 {
@@ -94,7 +94,7 @@ fn address_fits(address: Option<SocketAddr>)
     }
 }
 
-/// The values are such as bytes can carry, but for a channel number out of range.
+/// The values are such as an encoded message can carry, except a channel number out of range.
 pub(crate) fn values_fit(attrs: &Attributes<'_>)
     ensures { IfSome (attributes_view attrs.now).channel_number IsChannelNumber → HasReadableValues (plain_attributes (attributes_view attrs.now)) }
 {

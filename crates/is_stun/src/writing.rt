@@ -1,4 +1,4 @@
-//! Writing into a buffer, with no memory taken.
+//! Writing into a buffer, without allocating.
 
 ghost use Rattle.std.specs.Prelude.{◌≡◌, ◌+◌, ◌-◌, ◌≤◌, ◌<◌, ◌^◌, length, map, replicate, take, Some, None, IfOk, OnOk, IfErr};
 ghost use Rattle.std.specs.Option.{option_copied};
@@ -14,7 +14,7 @@ use crate::integrity::mac_of_front;
 use crate::numbers::{FINGERPRINT, FINGERPRINT_MASK, HEADER_LEN, MAGIC, MESSAGE_INTEGRITY};
 use is_proto::{Sha1HmacProvider, StunError};
 
-/// Writes the bytes from a place on, and tells where they end.
+/// Writes the bytes at an offset, and returns the offset after them.
 pub(crate) fn put(buf: &mut [u8], at: usize, bytes: &[u8]) -> usize
     requires { at + length bytes.now ≤ length buf.old }
     ensures { Puts buf.old buf.new at result bytes.now }
@@ -38,7 +38,7 @@ fn put_u32(buf: &mut [u8], at: usize, number: u32) -> usize
     put(buf, at, &number.to_be_bytes())
 }
 
-/// Zeros behind a value, up to a multiple of four.
+/// Writes zeros after a value, up to a multiple of four.
 fn put_padding(buf: &mut [u8], at: usize, len: usize) -> usize
     requires room { at + (padded_len len - len) ≤ length buf.old }
     requires short { len < 2 ^ 16 }
@@ -47,7 +47,8 @@ fn put_padding(buf: &mut [u8], at: usize, len: usize) -> usize
     put(buf, at, &[0; 3][..(len + 3) / 4 * 4 - len])
 }
 
-/// An attribute and its padding. It stands apart, so that the walks over the rows are unrolled, and a row that is absent costs next to nothing.
+/// Writes an attribute and its padding. It is a separate function so that the loops over the rows are unrolled, and an
+/// absent row costs next to nothing.
 #[inline(never)]
 fn put_attribute(buf: &mut [u8], at: usize, code: u16, value: &[u8]) -> usize
     requires room { at + attribute_len (length value.now) ≤ length buf.old }
@@ -73,14 +74,14 @@ fn put_header(buf: &mut [u8], typ: u16, len: u16, id: &[u8; 12]) -> usize
     put(buf, at, id)
 }
 
-/// An attribute that is written, or none.
+/// A row of the attribute table: an attribute that is written, or an absent one.
 #[derive(Clone, Copy)]
 pub(crate) struct Row<'a> {
     pub(crate) code: u16,
     pub(crate) value: Option<&'a [u8]>,
 }
 
-/// The length of a row, where it is within the room.
+/// Returns the length of a row, if it fits the room.
 #[inline(always)]
 #[tactic(auto, using(crate::proofs::RowLemmas::row_length))]
 fn row_len(row: &Row<'_>, room: usize) -> Option<usize>
@@ -135,7 +136,7 @@ fn put_rows(buf: &mut [u8], at: usize, rows: &[Row<'_>]) -> usize
     end
 }
 
-/// The integrity of what stands before a place, where there is a password.
+/// Writes MESSAGE-INTEGRITY over the bytes before the offset, if there is a password.
 fn put_integrity<H: Sha1HmacProvider>(
     buf: &mut [u8],
     at: usize,
@@ -164,7 +165,7 @@ fn put_fingerprint(buf: &mut [u8], at: usize) -> usize
     put_attribute(buf, at, FINGERPRINT, &value.to_be_bytes())
 }
 
-/// What a message of these rows is, but for its key.
+/// A message of these rows, except its key.
 #[derive(Clone, Copy)]
 pub(crate) struct Draft<'a> {
     pub(crate) typ: u16,
@@ -181,7 +182,7 @@ fn integrity_len(password: Option<&[u8]>) -> usize
     }
 }
 
-/// What the header's length counts, where the message may be written into so much room.
+/// Returns the value of the header's length field, or the error if the message does not fit the room.
 fn body_len_within(
     rows: &[Row<'_>],
     password: Option<&[u8]>,
@@ -202,7 +203,7 @@ fn body_len_within(
     Ok(body_len)
 }
 
-/// Writes a message that has room.
+/// Writes a message that fits the buffer.
 fn write_within<H: Sha1HmacProvider>(
     draft: &Draft<'_>,
     len: usize,
@@ -223,7 +224,7 @@ fn write_within<H: Sha1HmacProvider>(
     put_fingerprint(buf, at)
 }
 
-/// Writes a message, or tells why it does not and leaves the buffer as it was.
+/// Writes a message, or fails and leaves the buffer unchanged.
 pub(crate) fn write_draft<H: Sha1HmacProvider>(
     draft: &Draft<'_>,
     password: Option<&[u8]>,

@@ -6,7 +6,7 @@ ghost use Rattle.is_candidate.specs.Addresses.{is_valid_ip};
 use is_proto::Protocol;
 use std::net::{IpAddr, Ipv4Addr, Ipv6Addr, SocketAddr, SocketAddrV4, SocketAddrV6};
 
-/// The number by which a foundation knows the protocol.
+/// Returns the number of the protocol in a foundation's hash.
 pub(crate) fn protocol_number(proto: Protocol) -> u8
     ensures { result ≡ protocol_number proto }
 {
@@ -32,14 +32,14 @@ pub fn same_address(a: SocketAddr, b: SocketAddr) -> bool
     a == b
 }
 
-/// Whether two addresses have one IP version.
+/// Whether two addresses have the same IP version.
 pub fn same_version(a: SocketAddr, b: SocketAddr) -> bool
     ensures { result ≡ same_version a b }
 {
     a.is_ipv4() == b.is_ipv4()
 }
 
-/// The address with the port, without flow information and scope.
+/// Returns the address with the port, without flow information and scope.
 pub(crate) fn plain_socket(ip: IpAddr, port: u16) -> SocketAddr
     ensures { result ≡ plain_socket ip port }
 {
@@ -49,8 +49,8 @@ pub(crate) fn plain_socket(ip: IpAddr, port: u16) -> SocketAddr
     }
 }
 
-/// The unspecified address of the same IP version, with port 0. Browsers write it in place of the related
-/// address, which is for diagnosis alone, so as not to tell of local addresses.
+/// Returns the unspecified address of the same IP version, with port 0. Browsers write it in place of the related
+/// address, which is only for diagnosis, so that local addresses are not revealed.
 pub(crate) fn unspecified_like(addr: SocketAddr) -> SocketAddr
     ensures { result ≡ unspecified_like addr }
 {
@@ -60,7 +60,7 @@ pub(crate) fn unspecified_like(addr: SocketAddr) -> SocketAddr
     }
 }
 
-/// Whether the address may be a candidate's own.
+/// Whether a candidate may have this address.
 pub(crate) fn is_valid_ip(ip: IpAddr) -> bool
     ensures { result ≡ is_valid_ip ip }
 {

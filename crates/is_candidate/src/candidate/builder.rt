@@ -1,4 +1,4 @@
-//! A builder whose states are types: a protocol comes first, then a route, and a TCP type stands with TCP alone.
+//! A builder whose states are types: first a protocol, then a route; only TCP takes a TCP type.
 ghost use Rattle.std.specs.Prelude.{◌≡◌, ◌++◌, codes, Some, None};
 ghost use Rattle.std.specs.Net.Text.{ip_text};
 ghost use Rattle.is_candidate.specs.declared.candidate.builder.Route.TheVariants.{Host, ServerReflexive, Relayed};
@@ -48,7 +48,8 @@ enum Route {
     Relayed { addr: SocketAddr, local: SocketAddr },
 }
 
-/// A candidate in the making, as `Candidate::builder().tcp().host(addr).tcptype(TcpType::Passive).build(alloc)`.
+/// A candidate that is being built, as in
+/// `Candidate::builder().tcp().host(addr).tcptype(TcpType::Passive).build(alloc)`.
 #[derive(Clone, Copy, Debug)]
 pub struct CandidateBuilder<P, R> {
     protocol_state: P,
@@ -57,7 +58,7 @@ pub struct CandidateBuilder<P, R> {
 }
 
 impl Candidate {
-    /// A candidate in the making, with no protocol and no route.
+    /// Starts a builder, with no protocol and no route.
     pub fn builder() -> CandidateBuilder<NoProtocol, NoRoute>
         ensures { tcptype_of result ≡ None }
     {
@@ -87,7 +88,7 @@ fn with_protocol<P>(
 }
 
 impl CandidateBuilder<NoProtocol, NoRoute> {
-    /// Over UDP.
+    /// Chooses UDP.
     pub fn udp(self) -> CandidateBuilder<HasProtocol<Udp>, NoRoute>
         ensures protocol { protocol_of result ≡ Protocol.Udp }
         ensures tcptype { tcptype_of result ≡ tcptype_of self }
@@ -95,7 +96,7 @@ impl CandidateBuilder<NoProtocol, NoRoute> {
         with_protocol(self, Protocol::Udp)
     }
 
-    /// Over TCP.
+    /// Chooses TCP.
     pub fn tcp(self) -> CandidateBuilder<HasProtocol<Tcp>, NoRoute>
         ensures protocol { protocol_of result ≡ Protocol.Tcp }
         ensures tcptype { tcptype_of result ≡ tcptype_of self }
@@ -103,7 +104,7 @@ impl CandidateBuilder<NoProtocol, NoRoute> {
         with_protocol(self, Protocol::Tcp)
     }
 
-    /// Over TCP, behind a pseudo TLS handshake.
+    /// Chooses TCP, with a pseudo-TLS handshake first.
     pub fn ssl_tcp(self) -> CandidateBuilder<HasProtocol<Tcp>, NoRoute>
         ensures protocol { protocol_of result ≡ Protocol.SslTcp }
         ensures tcptype { tcptype_of result ≡ tcptype_of self }
@@ -111,7 +112,7 @@ impl CandidateBuilder<NoProtocol, NoRoute> {
         with_protocol(self, Protocol::SslTcp)
     }
 
-    /// Over TLS.
+    /// Chooses TLS.
     pub fn tls(self) -> CandidateBuilder<HasProtocol<Tcp>, NoRoute>
         ensures protocol { protocol_of result ≡ Protocol.Tls }
         ensures tcptype { tcptype_of result ≡ tcptype_of self }
@@ -136,7 +137,7 @@ fn with_route<P>(
 }
 
 impl<P> CandidateBuilder<HasProtocol<P>, NoRoute> {
-    /// A host candidate: a socket on a local interface.
+    /// Makes it a host candidate: a socket on a local interface.
     pub fn host(self, addr: SocketAddr) -> CandidateBuilder<HasProtocol<P>, HasRoute>
         ensures protocol { protocol_of result ≡ protocol_of self }
         ensures route { route_of result ≡ Host addr }
@@ -145,7 +146,7 @@ impl<P> CandidateBuilder<HasProtocol<P>, NoRoute> {
         with_route(self, Route::Host { addr })
     }
 
-    /// A server reflexive candidate: the address of the local socket `base` as a STUN server sees it.
+    /// Makes it a server-reflexive candidate: the address of the local socket `base` as a STUN server sees it.
     pub fn server_reflexive(
         self,
         addr: SocketAddr,
@@ -158,7 +159,8 @@ impl<P> CandidateBuilder<HasProtocol<P>, NoRoute> {
         with_route(self, Route::ServerReflexive { addr, base })
     }
 
-    /// A relayed candidate: an address that a TURN server allocated for a request from the local address `local`.
+    /// Makes it a relayed candidate: an address that a TURN server allocated for a request from the local address
+    /// `local`.
     pub fn relayed(
         self,
         addr: SocketAddr,
@@ -183,10 +185,10 @@ impl<R> CandidateBuilder<HasProtocol<Tcp>, R> {
 }
 
 impl<P> CandidateBuilder<HasProtocol<P>, HasRoute> {
-    /// The candidate, of component 1.
+    /// Returns the candidate, with component 1.
     ///
-    /// Refused with `BadCandidate`, in this order: "Invalid IP: IP" where the address is link-local IPv4, broadcast,
-    /// multicast or unspecified; "address IP version mismatch: addr=IP base=IP".
+    /// Fails with `BadCandidate`, in this order: "Invalid IP: IP" if the address is link-local IPv4, broadcast,
+    /// multicast or unspecified; "address IP version mismatch: addr=IP base=IP" if the two IP versions differ.
     pub fn build(self, alloc: Global) -> Result<Candidate, IceError>
         ensures { Makes (route_fault (route_of self))
             (built_candidate (protocol_of self) (route_of self) (tcptype_of self)) result }
@@ -213,7 +215,7 @@ impl<P> CandidateBuilder<HasProtocol<P>, HasRoute> {
     }
 }
 
-/// The refusal of an address, or want of memory for its message.
+/// Returns the error for an address, or `OutOfMemory` if there is no memory for its message.
 fn invalid_ip(alloc: Global, ip: IpAddr) -> IceError
     ensures { RefusesWith (codes "Invalid IP: " ++ ip_text ip) result }
 {
@@ -223,7 +225,7 @@ fn invalid_ip(alloc: Global, ip: IpAddr) -> IceError
     }
 }
 
-/// The refusal of two IP versions, or want of memory for its message.
+/// Returns the error for two IP versions, or `OutOfMemory` if there is no memory for its message.
 fn mixed_versions(alloc: Global, addr: IpAddr, base: IpAddr) -> IceError
     ensures { RefusesWith (mixed_text addr base) result }
 {

@@ -1,11 +1,11 @@
-//! Copies that can be refused.
+//! Copies, which can fail if there is no memory.
 ghost use Rattle.std.specs.Prelude.{◌≡◌, IfOk, Some};
 
 use super::Candidate;
 use is_proto::Text;
 use std::alloc::AllocError;
 
-/// A copy is equal, discard mark and local preference included.
+/// A copy equals its original, including the discard mark and the local preference.
 impl Clone for Candidate {
     ghost is_clone = { λ old copy. copy ≡ old };
 
@@ -16,7 +16,7 @@ impl Clone for Candidate {
     }
 }
 
-/// A copy under another user fragment. The old one is not copied.
+/// Copies the candidate, with another username fragment. The old username fragment is not copied.
 pub fn clone_with_ufrag(c: &Candidate, ufrag: &Text) -> Result<Candidate, AllocError>
     ensures { IfOk result (λ copy. copy ≡ record c.now { ufrag = Some ufrag.now }) }
 {

@@ -1,4 +1,4 @@
-//! In what two candidates agree.
+//! Which parts of two candidates are equal.
 ghost use Rattle.std.specs.Prelude.{◌≡◌, true};
 ghost use Rattle.is_candidate.specs.declared.candidate.Candidate.{Candidate};
 ghost use Rattle.is_candidate.specs.Addresses.{same_optional, same_address};
@@ -11,10 +11,10 @@ use super::kind::{CandidateKind, same_kind};
 use is_proto::laws::equal_values_hash_alike;
 use std::net::SocketAddr;
 
-/// The foundation of a remote candidate that a request brought, until signalling tells of it.
+/// The foundation of a remote candidate that was discovered from a request, until it is signaled.
 pub const TEMPORARY_FOUNDATION: &str = "tmp_prflx";
 
-/// Whether two candidates are equal in address, base and protocol.
+/// Whether two candidates have the same address, base and protocol.
 pub fn is_same_place(a: &Candidate, b: &Candidate) -> bool
     ensures { result ≡ is_same_place a.now b.now }
 {
@@ -23,7 +23,7 @@ pub fn is_same_place(a: &Candidate, b: &Candidate) -> bool
         && same_protocol(a.proto, b.proto)
 }
 
-/// Whether two candidates are equal in kind and related address.
+/// Whether two candidates have the same kind and related address.
 pub fn is_same_origin(a: &Candidate, b: &Candidate) -> bool
     ensures { result ≡ is_same_origin a.now b.now }
 {
@@ -40,21 +40,21 @@ fn same_related(a: Option<SocketAddr>, b: Option<SocketAddr>) -> bool
     }
 }
 
-/// Whether two candidates are equal in address, base, protocol, kind and related address.
+/// Whether two candidates have the same address, base, protocol, kind and related address.
 pub fn is_equivalent(a: &Candidate, b: &Candidate) -> bool
     ensures { result ≡ is_equivalent a.now b.now }
 {
     is_same_place(a, b) && is_same_origin(a, b)
 }
 
-/// Whether two candidates have one kind and one IP version, as local preferences count candidates.
+/// Whether two candidates have the same kind and IP version, as local preferences count candidates.
 pub fn is_alike(a: &Candidate, b: &Candidate) -> bool
     ensures { result ≡ is_alike a.now b.now }
 {
     same_kind(a.kind, b.kind) && same_version(a.addr, b.addr)
 }
 
-/// Whether a request brought this remote candidate and signalling has not told of it yet.
+/// Whether this remote candidate was discovered from a request and is not signaled yet.
 pub fn is_temporary(c: &Candidate) -> bool
     ensures { result ≡ is_temporary c.now }
 {
@@ -66,7 +66,7 @@ pub fn is_temporary(c: &Candidate) -> bool
     }
 }
 
-/// Equal candidates feed a hasher alike.
+/// Equal candidates feed a hasher with the same input.
 pub fn equal_candidates_hash_alike()
     ensures { (a b : Candidate) → ⟦<Candidate as PartialEq>⟧.eq a b ≡ true
         → ⟦<Candidate as std::hash::Hash>⟧.hash_input a ≡ ⟦<Candidate as std::hash::Hash>⟧.hash_input b }

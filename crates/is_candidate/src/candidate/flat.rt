@@ -1,4 +1,4 @@
-//! Candidate info whose members hold no others, read from its text in one pass.
+//! Candidate JSON whose members hold no others, read from its text in one pass.
 ghost use Rattle.std.specs.Prelude.{◌≡◌, ◌<◌, ℕ, length, false, Some, Ok, OnOk, IfOk, IfSome, IsTrue};
 ghost use Rattle.std.specs.Option.{option_copied};
 ghost use Rattle.serde_json.specs.Data.{Data, string, unsigned};
@@ -11,14 +11,14 @@ use fast_float::Numeral;
 use json::{Invalid, Reader, Scratch, Token};
 use std::alloc::AllocError;
 
-/// What candidate info says.
+/// The content of candidate JSON.
 #[derive(Clone, Copy, Debug, Drop)]
 pub(crate) struct FlatInfo<'a> {
     pub(crate) line: &'a str,
     pub(crate) ufrag: Option<&'a str>,
 }
 
-/// A value that is neither an array nor an object nor a fraction.
+/// A value that is no array, no object and no fraction.
 #[derive(Clone, Copy, Debug, Drop)]
 pub(crate) enum Plain<'a> {
     Text(&'a str),
@@ -26,8 +26,8 @@ pub(crate) enum Plain<'a> {
     Other,
 }
 
-/// What the text says where it is an object of plain values with a line, and a ufrag that is absent, null or a text. Of others
-/// nothing.
+/// Reads a text that is an object of plain values with a line, and with a ufrag that is absent, null or a string.
+/// Returns `None` for other texts.
 pub(crate) fn read_flat<'a>(
     text: &'a str,
     scratch: &'a mut Scratch,
@@ -41,7 +41,7 @@ pub(crate) fn read_flat<'a>(
     }
 }
 
-/// What the object says that comes next.
+/// Reads the next object.
 fn read_object<'a>(reader: &mut Reader<'a>) -> Result<FlatInfo<'a>, Invalid>
     ensures { IfOk result (λ info. (d : Data) × BeginsWith max_depth reader.old d reader.new × Tells d info) }
 {
@@ -64,7 +64,7 @@ fn read_object<'a>(reader: &mut Reader<'a>) -> Result<FlatInfo<'a>, Invalid>
     })
 }
 
-/// The plain value that comes next.
+/// Reads the next plain value.
 fn read_plain<'a>(reader: &mut Reader<'a>) -> Result<Plain<'a>, Invalid>
     ensures plain { IfOk result (λ plain. (d : Data) × IsPlain d plain × (has_float d ≡ false)
         × ((depth : ℕ) → BeginsWith depth reader.old d reader.new)) }
@@ -84,7 +84,7 @@ fn read_plain<'a>(reader: &mut Reader<'a>) -> Result<Plain<'a>, Invalid>
     }
 }
 
-/// The text that the value is.
+/// Returns the value if it is a string.
 fn text_of(plain: Plain<'_>) -> Result<&str, Invalid>
     ensures { IfOk result (λ text. (d : Data) → IsPlain d plain.entry → d ≡ string text.now) }
 {
@@ -94,7 +94,7 @@ fn text_of(plain: Plain<'_>) -> Result<&str, Invalid>
     }
 }
 
-/// The text that the value is, or none of null.
+/// Returns the value if it is a string, or `None` if it is null.
 fn text_or_null(plain: Plain<'_>) -> Result<Option<&str>, Invalid>
     ensures { IfOk result (λ text. (d : Data) → IsPlain d plain.entry → given_ufrag (Some d) ≡ Ok (option_copied text)) }
 {
@@ -105,7 +105,7 @@ fn text_or_null(plain: Plain<'_>) -> Result<Option<&str>, Invalid>
     }
 }
 
-/// Whether the number is a whole one of 64 bits, written with no sign.
+/// Whether the number is a whole number of 64 bits, written without a sign.
 fn is_unsigned(number: &str) -> bool
     ensures { IsTrue result → (n : ℕ) × (number_of number.now ≡ Some (unsigned n)) }
 {

@@ -13,7 +13,7 @@ const FNV_START: u64 = 0xCBF2_9CE4_8422_2325;
 
 const FNV_PRIME: u64 = 0x100_0000_01B3;
 
-/// FNV-1a in 64 bits of more bytes, from the hash of those before.
+/// Continues a 64-bit FNV-1a hash with more bytes, from the hash of the bytes before.
 fn fnv_from(start: u64, bytes: &[u8]) -> u64
     ensures { result ≡ fnv_from start bytes.now }
 {
@@ -42,7 +42,7 @@ fn with_related(hash: u64, raddr: Option<SocketAddr>) -> u64
     }
 }
 
-/// The hash of what candidates of one foundation have in common.
+/// Returns the hash of what candidates of one foundation have in common.
 fn common_hash(c: &Candidate) -> u64
     ensures { result ≡ fnv (common_bytes c.now) }
 {
@@ -52,8 +52,8 @@ fn common_hash(c: &Candidate) -> u64
     fnv_from(with_server, &[protocol_number(c.proto)])
 }
 
-/// The foundation as text: a given one as it is; else the priority with its bytes reversed as eight hexadecimal
-/// digits, and the hash without leading zeros.
+/// The foundation as text. A given foundation stays as it is. A computed one is the priority with its bytes reversed,
+/// as eight hexadecimal digits, and then the hash without leading zeros.
 #[derive(Clone, Copy)]
 pub struct Foundation<'a>(pub &'a Candidate);
 

@@ -1,4 +1,4 @@
-//! Candidate info as a JSON value.
+//! Candidate JSON (RTCIceCandidateInit) as a JSON value.
 ghost use Rattle.std.specs.Prelude.{◌≡◌, IfOk, IsOkUnless, MatchResult, Ok, Err};
 ghost use Rattle.std.specs.Option.{option_copied};
 ghost use Rattle.serde_json.specs.View.{view};
@@ -13,8 +13,8 @@ use serde_json::{Value, json};
 use std::alloc::{AllocError, Global};
 
 impl Candidate {
-    /// The object in which browsers signal the candidate: `candidate` with the line, `sdpMid` null, `sdpMLineIndex` 0,
-    /// `usernameFragment` with the ufrag or null.
+    /// Returns the object in which browsers signal the candidate: `candidate` with the candidate attribute, `sdpMid`
+    /// null, `sdpMLineIndex` 0, and `usernameFragment` with the username fragment or null.
     pub fn to_json(&self, alloc: Global) -> Result<Value, IceError>
         ensures info { IfOk result (λ value. view value ≡ info_of self.now) }
         ensures refusal { IsOkUnless result OutOfMemory }
@@ -38,12 +38,13 @@ impl Candidate {
         }
     }
 
-    /// The candidate of an object whose `candidate` is a line, and whose `usernameFragment` is absent, null or a text,
-    /// which then replaces the ufrag of the line. Other members are ignored, but for the numbers in them.
+    /// Reads a candidate from an object whose `candidate` is a candidate attribute, and whose `usernameFragment` is
+    /// absent, null or a string. A string replaces the username fragment of the attribute. Other members are ignored,
+    /// except the numbers in them.
     ///
-    /// Refused with `BadCandidate`, in this order: "candidate info is not an object"; "candidate info holds a fraction",
-    /// where a number anywhere in it is held neither as u64 nor as i64; "candidate info lacks candidate"; the line's
-    /// own; "bad usernameFragment".
+    /// Fails with `BadCandidate`, in this order: "candidate info is not an object"; "candidate info holds a fraction"
+    /// if a number anywhere in it is stored neither as u64 nor as i64; "candidate info lacks candidate"; the error of
+    /// the candidate attribute; "bad usernameFragment".
     pub fn from_json(alloc: Global, value: &Value) -> Result<Candidate, IceError>
         ensures { ReadsInfo (view value.now) result }
     {
@@ -66,7 +67,7 @@ impl Candidate {
     }
 }
 
-/// The line in the value, or the first fault.
+/// Returns the line in the value, or its first fault.
 fn line_in(value: &Value) -> Result<&str, &'static str>
     ensures { MatchResult result (λ line. line_in (view value.now) ≡ Ok line.now)
         (λ fault. line_in (view value.now) ≡ Err fault.now) }
@@ -83,7 +84,7 @@ fn line_in(value: &Value) -> Result<&str, &'static str>
     }
 }
 
-/// The ufrag in the value, or what is wrong with it.
+/// Returns the ufrag in the value, or its fault.
 fn ufrag_in(value: &Value) -> Result<Option<&str>, &'static str>
     ensures { MatchResult result (λ ufrag. ufrag_in (view value.now) ≡ Ok (option_copied ufrag))
         (λ fault. ufrag_in (view value.now) ≡ Err fault.now) }
@@ -102,7 +103,7 @@ fn ufrag_in(value: &Value) -> Result<Option<&str>, &'static str>
     }
 }
 
-/// The refusal with this message, or want of memory for it.
+/// Returns the error with this message, or `OutOfMemory` if there is no memory for it.
 pub(super) fn refusal(alloc: Global, message: &str) -> IceError
     ensures { RefusesWith message.now result }
 {

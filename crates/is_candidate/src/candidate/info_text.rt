@@ -1,4 +1,4 @@
-//! Candidate info as a JSON text.
+//! Candidate JSON (RTCIceCandidateInit) as a text.
 ghost use Rattle.is_candidate.specs.Infos.{ReadsInfoText};
 
 use super::Candidate;
@@ -10,13 +10,12 @@ use serde_json::Value;
 use std::alloc::Global;
 
 impl Candidate {
-    /// The candidate that `from_json` reads of the text's value, without the value where its members are texts, whole
-    /// numbers, truth values and nulls, as a browser's are. The scratch is room for reading: keep one from call to call, since
-    /// a new one clears 16 KiB.
+    /// Reads a candidate from a JSON text, as `from_json` reads it from the text's value. If the members are strings,
+    /// whole numbers, booleans and nulls, as a browser's are, it doesn't build the value. The scratch is working
+    /// memory: reuse one for many calls, because a new one clears 16 KiB.
     ///
-    /// Refused with `BadCandidate` as `from_json` does, but first "candidate info is not JSON", where
-    /// `serde_json` reads no value: the text is no JSON, nests more than 127 deep, or holds a number too large for a
-    /// double.
+    /// Fails with `BadCandidate` as `from_json` does, but first with "candidate info is not JSON" if `serde_json` reads
+    /// no value: the text is no JSON, is nested more than 127 deep, or has a number too large for a double.
     pub fn from_json_str(
         alloc: Global,
         text: &str,
@@ -38,7 +37,7 @@ impl Candidate {
     }
 }
 
-/// The same by way of the value.
+/// Reads the same candidate from the text's value.
 fn read_value(alloc: Global, text: &str) -> Result<Candidate, IceError>
     ensures { ReadsInfoText text.now result }
 {

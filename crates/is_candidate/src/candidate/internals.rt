@@ -1,4 +1,4 @@
-//! What the agent asks of its candidates and changes in them, beyond what users see.
+//! Functions that the agent, but no user, calls to read and change candidates.
 ghost use Rattle.std.specs.Prelude.{◌≡◌, ◌≤◌, Some, None, true, false};
 ghost use Rattle.std.specs.Option.{option_copied};
 ghost use Rattle.is_candidate.specs.Candidates.{base_of, IsBased};
@@ -7,7 +7,8 @@ use super::Candidate;
 use is_proto::Text;
 use std::net::SocketAddr;
 
-/// The base: where packets of the candidate are sent from. It is the address of a host or relayed candidate.
+/// Returns the base: the address from which packets of the candidate are sent. A host or relayed candidate is its own
+/// base.
 pub fn base(c: &Candidate) -> SocketAddr
     ensures base { result ≡ base_of c.now }
     ensures based { IsBased c.now }
@@ -18,14 +19,14 @@ pub fn base(c: &Candidate) -> SocketAddr
     }
 }
 
-/// The related address.
+/// Returns the related address.
 pub fn raddr(c: &Candidate) -> Option<SocketAddr>
     ensures { result ≡ c.now.raddr }
 {
     c.raddr
 }
 
-/// The foundation that the candidate was given, where it was given one.
+/// Returns the foundation that the candidate was given, if there is one.
 pub fn given_foundation(c: &Candidate) -> Option<&str>
     ensures { option_copied result ≡ c.now.foundation }
 {
@@ -35,7 +36,7 @@ pub fn given_foundation(c: &Candidate) -> Option<&str>
     }
 }
 
-/// The component: 1 but where a line named another.
+/// Returns the component: 1, except if a candidate attribute named another.
 pub fn component(c: &Candidate) -> u16
     ensures { result ≡ c.now.component }
 {
@@ -56,7 +57,7 @@ pub fn discard(c: &mut Candidate)
     c.discarded = true;
 }
 
-/// Takes the discard mark away.
+/// Removes the discard mark.
 pub fn enable(c: &mut Candidate)
     ensures { c.new ≡ record c.old { discarded = false } }
 {
@@ -71,14 +72,14 @@ pub fn set_local_preference(c: &mut Candidate, preference: u32)
     c.local_preference = Some(preference as u16);
 }
 
-/// Sets the user fragment, which takes no memory.
+/// Sets the username fragment. It never allocates.
 pub fn give_ufrag(c: &mut Candidate, ufrag: Text)
     ensures { c.new ≡ record c.old { ufrag = Some ufrag } }
 {
     c.ufrag = Some(ufrag);
 }
 
-/// Takes the user fragment away.
+/// Removes the username fragment.
 pub fn clear_ufrag(c: &mut Candidate)
     ensures { c.new ≡ record c.old { ufrag = None } }
 {

@@ -9,7 +9,7 @@ use std::fmt;
 pub enum CandidateKind {
     /// A socket on a local interface.
     Host,
-    /// An address that a peer's check or its answer showed.
+    /// An address that a peer's check, or the response to a check, revealed.
     PeerReflexive,
     /// The address of a local socket as a STUN server sees it.
     ServerReflexive,
@@ -17,7 +17,7 @@ pub enum CandidateKind {
     Relayed,
 }
 
-/// The word of the kind in a candidate line: `host`, `prflx`, `srflx` or `relay`.
+/// Writes the word of the kind in a candidate attribute: `host`, `prflx`, `srflx` or `relay`.
 impl fmt::Display for CandidateKind {
     ghost output = { λ k. Some (kind_word k) };
 
@@ -31,7 +31,7 @@ impl fmt::Display for CandidateKind {
     }
 }
 
-/// The number by which a foundation knows the kind.
+/// Returns the number of the kind in a foundation's hash.
 pub(crate) fn kind_number(kind: CandidateKind) -> u8
     ensures { result ≡ kind_number kind }
 {
@@ -49,7 +49,7 @@ pub fn same_kind(a: CandidateKind, b: CandidateKind) -> bool
     kind_number(a) == kind_number(b)
 }
 
-/// Whether packets of such a candidate are sent from its own address.
+/// Whether packets of a candidate of this kind are sent from its own address.
 pub fn is_direct(kind: CandidateKind) -> bool
     ensures { result ≡ is_direct kind }
 {

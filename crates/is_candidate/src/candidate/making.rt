@@ -15,9 +15,9 @@ use std::alloc::Global;
 use std::net::{IpAddr, SocketAddr};
 
 impl Candidate {
-    /// A host candidate of component 1: a socket on a local interface.
+    /// Makes a host candidate of component 1: a socket on a local interface.
     ///
-    /// Refused with `BadCandidate` ("invalid ip IP") where the address is link-local IPv4, broadcast, multicast or
+    /// Fails with `BadCandidate` ("invalid ip IP") if the address is link-local IPv4, broadcast, multicast or
     /// unspecified.
     pub fn host(alloc: Global, addr: SocketAddr, proto: Protocol) -> Result<Candidate, IceError>
         ensures { Makes (ip_fault (socket_ip addr)) (host_candidate addr proto None) result }
@@ -28,11 +28,12 @@ impl Candidate {
         Ok(new_host(addr, proto, None))
     }
 
-    /// A server reflexive candidate of component 1: the address `addr` of the local socket `base`, as a STUN server
-    /// sees it. Its local address is its base, its related address the unspecified one of the same IP version.
+    /// Makes a server-reflexive candidate of component 1: the address `addr` of the local socket `base`, as a STUN
+    /// server sees it. Its local address is its base; its related address is the unspecified one of the same IP
+    /// version.
     ///
-    /// Refused with `BadCandidate`, in this order: "invalid ip IP" where `addr` is link-local IPv4, broadcast, multicast
-    /// or unspecified; "addr and base are different IP versions".
+    /// Fails with `BadCandidate`, in this order: "invalid ip IP" if `addr` is link-local IPv4, broadcast, multicast or
+    /// unspecified; "addr and base are different IP versions".
     pub fn server_reflexive(
         alloc: Global,
         addr: SocketAddr,
@@ -50,11 +51,10 @@ impl Candidate {
         Ok(new_server_reflexive(addr, base, proto, None))
     }
 
-    /// A relayed candidate of component 1: the address `addr` that a TURN server allocated for a request from the
+    /// Makes a relayed candidate of component 1: the address `addr` that a TURN server allocated for a request from the
     /// local address `local`. Its related address is the unspecified one of the same IP version.
     ///
-    /// Refused with `BadCandidate` ("invalid ip IP") where `addr` is link-local IPv4, broadcast, multicast or
-    /// unspecified.
+    /// Fails with `BadCandidate` ("invalid ip IP") if `addr` is link-local IPv4, broadcast, multicast or unspecified.
     pub fn relayed(
         alloc: Global,
         addr: SocketAddr,
@@ -69,8 +69,8 @@ impl Candidate {
         Ok(new_relayed(addr, local, proto, None))
     }
 
-    /// The candidate that a line tells of. Nothing is refused. Its base is its address; its local address is its
-    /// address for a host, else the unspecified one of the same IP version with port 0.
+    /// Makes the candidate that a candidate attribute describes. It never fails. Its base is its address. Its local
+    /// address is its address for a host, otherwise the unspecified one of the same IP version with port 0.
     #[allow(clippy::too_many_arguments)]
     pub fn from_parts(
         foundation: Text,
@@ -107,8 +107,8 @@ impl Candidate {
     }
 }
 
-/// A peer reflexive candidate of component 1: an address that a check found, with the priority that the check
-/// named. Its local address is its base.
+/// Makes a peer-reflexive candidate of component 1: an address that a check discovered, with the priority that the
+/// check carried. Its local address is its base.
 pub fn peer_reflexive(
     foundation: Option<Text>,
     proto: Protocol,
@@ -211,7 +211,7 @@ fn gathered(
     }
 }
 
-/// The refusal of an address, or want of memory for its message.
+/// Returns the error for an address, or `OutOfMemory` if there is no memory for its message.
 fn invalid_ip(alloc: Global, ip: IpAddr) -> IceError
     ensures { RefusesWith (codes "invalid ip " ++ ip_text ip) result }
 {
@@ -221,7 +221,7 @@ fn invalid_ip(alloc: Global, ip: IpAddr) -> IceError
     }
 }
 
-/// The refusal of two IP versions, or want of memory for its message.
+/// Returns the error for two IP versions, or `OutOfMemory` if there is no memory for its message.
 fn mixed_versions(alloc: Global) -> IceError
     ensures { RefusesWith (codes "addr and base are different IP versions") result }
 {

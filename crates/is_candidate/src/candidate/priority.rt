@@ -7,8 +7,8 @@ use super::kind::CandidateKind;
 use is_proto::Protocol;
 
 impl Candidate {
-    /// The priority: a given one as it is, else the recommended formula of RFC 8445, section 5.1.2.1, which stays
-    /// below 2^31.
+    /// Returns the priority: the given one, if any, otherwise the one of the recommended formula (RFC 8445, section
+    /// 5.1.2.1), which is below 2^31.
     pub fn prio(&self) -> u32
         ensures { result ≡ candidate_priority self.now }
     {
@@ -19,8 +19,8 @@ impl Candidate {
     }
 }
 
-/// What PRIORITY says in a check from this candidate: its priority, were it peer reflexive (RFC 8445,
-/// section 7.1.1). So it is below the greatest priority where that of the candidate is.
+/// Returns the PRIORITY for a check from this candidate: its priority if it were peer-reflexive (RFC 8445, section
+/// 7.1.1). So it is below the greatest priority if that of the candidate is.
 pub fn check_priority(c: &Candidate) -> u32
     ensures value { result ≡ check_priority c.now }
     ensures low { candidate_priority c.now < 4294967295 → result < 4294967295 }
@@ -40,7 +40,7 @@ fn formula(c: &Candidate, kind: CandidateKind) -> u32
         + 256u32.saturating_sub(u32::from(c.component))
 }
 
-/// RFC 8445, section 5.1.2.2, and for other protocols than UDP the values of libwebrtc.
+/// Returns the type preference: for UDP by RFC 8445, section 5.1.2.2, for other protocols by the values of libwebrtc.
 fn type_preference(kind: CandidateKind, proto: Protocol) -> u32
     ensures value { result ≡ type_preference kind proto }
     ensures low { result ≤ 126 }

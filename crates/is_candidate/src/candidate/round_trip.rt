@@ -1,14 +1,14 @@
-//! Printed lines read again.
+//! Printed candidate attributes parse again.
 ghost use Rattle.std.specs.Prelude.{IfSome};
 ghost use Rattle.is_candidate.specs.RoundTrips.{HasPlainTexts, LineReadsAgain, PartsFit};
 
 use super::Candidate;
 use std::net::{IpAddr, SocketAddr};
 
-/// Where foundation and ufrag, if given, are not empty and hold no white space, the line that `to_sdp_string` prints
-/// reads again, as the candidate that the line tells of, and that one prints the same line. A line tells nothing of
-/// the base, nor of flow information and scope. The body reads the parts whose types keep them in range, and does
-/// nothing with them.
+/// The line that `to_sdp_string` prints round-trips if foundation and ufrag, when given, are not empty and have no
+/// white space: it parses as the candidate that the line describes, and that candidate prints the same line. A line
+/// says nothing about the base, flow information and scope. The body reads the parts whose types keep them in range,
+/// and does nothing else.
 pub fn printed_line_reads_again(candidate: &Candidate)
     ensures { HasPlainTexts candidate.now → LineReadsAgain candidate.now }
 {

@@ -1,4 +1,4 @@
-//! The line of a candidate (RFC 5245, section 15.1).
+//! The candidate attribute, here also: the line of a candidate (RFC 5245, section 15.1).
 ghost use Rattle.std.specs.Prelude.{◌≡◌, Some, IfOk, IsOkUnless, string_bytes};
 ghost use Rattle.is_proto.specs.declared.error.IceError.TheVariants.{OutOfMemory};
 ghost use Rattle.is_candidate.specs.Sdp.{front_text, place_text, related_text, role_text, fragment_text, sdp_text};
@@ -10,12 +10,12 @@ use std::alloc::Global;
 use std::fmt;
 use std::net::SocketAddr;
 
-/// Room for most lines, in bytes.
+/// A capacity that is enough for most lines, in bytes.
 const LINE_ROOM: usize = 128;
 
 impl Candidate {
-    /// The line of the candidate: `candidate:`, foundation, component, protocol, priority, address, port, `typ` and
-    /// kind, then `raddr` with `rport`, `tcptype` and `ufrag`, each where it is known.
+    /// Returns the candidate attribute: `candidate:`, foundation, component, protocol, priority, address, port, `typ`
+    /// and kind, then `raddr` with `rport`, `tcptype` and `ufrag`, each if it is known.
     pub fn to_sdp_string(&self, alloc: Global) -> Result<String, IceError>
         ensures text { IfOk result (λ line. string_bytes line ≡ sdp_text self.now) }
         ensures refusal { IsOkUnless result OutOfMemory }
@@ -26,7 +26,7 @@ impl Candidate {
     }
 }
 
-/// The line, as `to_sdp_string` gives it.
+/// Writes the candidate attribute, as `to_sdp_string` returns it.
 impl fmt::Display for Candidate {
     ghost output = { λ c. Some (sdp_text c) };
 

@@ -1,10 +1,10 @@
-//! What is wrong with a candidate line.
+//! The faults of a candidate line.
 ghost use Rattle.std.specs.Prelude.{Some};
 ghost use Rattle.is_candidate.specs.Faults.{fault_text};
 
 use std::fmt;
 
-/// The first fault of a line, in the order in which lines are read.
+/// The first fault of a line, in the order of parsing.
 #[derive(Clone, Copy, Debug, PartialEq, Eq)]
 pub(crate) enum Fault<'a> {
     MissingPrefix,

@@ -15,7 +15,7 @@ pub(crate) struct Head<'a> {
     pub(crate) priority: u32,
 }
 
-/// The first four words, or the first fault among them.
+/// Reads the first four words, or returns the first fault among them.
 pub(crate) fn read_head<'a>(words: &[&'a str]) -> Result<Head<'a>, Fault<'a>>
     ensures { ReadsHead (texts words.now) (head_answer result) }
 {

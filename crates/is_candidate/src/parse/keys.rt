@@ -1,4 +1,4 @@
-//! The keys behind the kind: of equal ones the last counts, and each value of a known one is checked.
+//! The keys after the kind. The last one of equal keys counts, and each value of a known key is checked.
 ghost use Rattle.std.specs.Prelude.{◌≡◌, slice_get};
 ghost use Rattle.std.specs.Option.{option_copied};
 ghost use Rattle.is_candidate.specs.Lines.{ReadsKey, ReadsKeys, no_keys};
@@ -9,7 +9,7 @@ use super::words::small_number;
 use is_proto::TcpType;
 use std::net::IpAddr;
 
-/// The values of the keys that are known.
+/// The values of the known keys.
 #[derive(Clone, Copy, Debug, Default, PartialEq, Eq)]
 pub(crate) struct Keys<'a> {
     pub(crate) raddr: Option<IpAddr>,
@@ -18,7 +18,7 @@ pub(crate) struct Keys<'a> {
     pub(crate) ufrag: Option<&'a str>,
 }
 
-/// The keys with one more, whose value may be missing. It stands apart, so that lines without keys cost nothing for it.
+/// Adds one key, whose value may be missing. It is a separate function, so that lines without keys cost nothing for it.
 #[inline(never)]
 fn with_key<'a>(keys: Keys<'a>, key: &str, value: Option<&'a str>) -> Result<Keys<'a>, Fault<'a>>
     ensures { ReadsKey key.now (option_copied value.entry) (keys_of keys.entry) (keys_answer result) }
@@ -61,7 +61,7 @@ fn with_key<'a>(keys: Keys<'a>, key: &str, value: Option<&'a str>) -> Result<Key
     }
 }
 
-/// All the keys, or the first fault.
+/// Reads all the keys, or returns the first fault.
 pub(crate) fn read_keys<'a>(words: &[&'a str]) -> Result<Keys<'a>, Fault<'a>>
     ensures { ReadsKeys no_keys (texts words.now) (keys_answer result) }
 {

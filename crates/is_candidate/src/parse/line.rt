@@ -1,4 +1,4 @@
-//! The words of a line, and the candidate that they tell of.
+//! The words of a line, and the candidate that they describe.
 ghost use Rattle.std.specs.Prelude.{◌≡◌, IfOk, drop};
 ghost use Rattle.is_candidate.specs.Lines.{ReadsWords, related_address};
 ghost use Rattle.is_candidate.specs.Scanned.{texts, candidate_of, line_answer};
@@ -21,7 +21,7 @@ pub(crate) struct Line<'a> {
     pub(crate) keys: Keys<'a>,
 }
 
-/// The parts that the words write, or the first fault.
+/// Reads the parts from the words, or returns the first fault.
 pub(crate) fn read_words<'a>(words: &[&'a str]) -> Result<Line<'a>, Fault<'a>>
     ensures { ReadsWords (texts words.now) (line_answer result) }
 {
@@ -39,14 +39,14 @@ pub(crate) fn read_words<'a>(words: &[&'a str]) -> Result<Line<'a>, Fault<'a>>
     }
 }
 
-/// The words behind the first `count`.
+/// Returns the words after the first `count`.
 fn behind<'w, 'a>(words: &'w [&'a str], count: usize) -> &'w [&'a str]
     ensures { texts result.now ≡ drop count (texts words.now) }
 {
     &words[count.min(words.len())..]
 }
 
-/// The candidate of the parts.
+/// Makes the candidate of the parts.
 pub(crate) fn candidate_of(alloc: Global, line: &Line<'_>) -> Result<Candidate, AllocError>
     ensures { IfOk result (λ c. c ≡ candidate_of line.now) }
 {

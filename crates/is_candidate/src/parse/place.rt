@@ -18,7 +18,7 @@ pub(crate) struct Place {
     pub(crate) kind: CandidateKind,
 }
 
-/// Address, port, `typ` and kind, or the first fault among them.
+/// Reads address, port, `typ` and kind, or returns the first fault among them.
 pub(crate) fn read_place<'a>(words: &[&'a str]) -> Result<Place, Fault<'a>>
     ensures { ReadsPlace (texts words.now) (place_answer result) }
 {
@@ -59,7 +59,7 @@ fn is_typ(word: &str) -> bool
     word == "typ"
 }
 
-/// The kind of a word, whose case counts.
+/// Returns the kind of a word. Case matters.
 fn kind_of(word: &str) -> Option<CandidateKind>
     ensures { MatchOption result ((k : CandidateKind) → ¬ (word.now ≡ kind_word k)) (λ k. word.now ≡ kind_word k) }
 {

@@ -1,4 +1,4 @@
-//! The words of a line, and the numbers that they write.
+//! The words of a line, and the numbers that they encode.
 ghost use Rattle.std.specs.Prelude.{◌^◌, ◌≤◌, ℕ, length, take, IfOk, IfSome, MatchOption};
 ghost use Rattle.is_candidate.specs.Lines.{IsNumberBelow};
 ghost use Rattle.is_candidate.specs.Scanned.{texts};
@@ -6,10 +6,10 @@ ghost use Rattle.is_candidate.specs.Words.{HasWords};
 
 use std::alloc::{AllocError, Global};
 
-/// Room for the words of a browser's line.
+/// The capacity for the words of a browser's line.
 pub(crate) const MANY_WORDS: usize = 20;
 
-/// Puts the words of the text into the room, and tells how many; none where there are more than have room.
+/// Stores the words of the text in the array and returns how many there are, or `None` if there are more than it holds.
 pub(crate) fn place_words<'a>(text: &'a str, room: &mut [&'a str; MANY_WORDS]) -> Option<usize>
     ensures { IfSome result (λ count. (count ≤ length room.new) × HasWords text.now (texts (take count room.new))) }
 {
@@ -24,7 +24,7 @@ pub(crate) fn place_words<'a>(text: &'a str, room: &mut [&'a str; MANY_WORDS]) -
     Some(count)
 }
 
-/// The words of the text, split at white space (Unicode's White_Space).
+/// Returns the words of the text, split at white space (Unicode's White_Space).
 pub(crate) fn words_of(alloc: Global, text: &str) -> Result<Vec<&str>, AllocError>
     ensures { IfOk result (λ v. HasWords text.now (texts v.items)) }
 {
@@ -35,7 +35,7 @@ pub(crate) fn words_of(alloc: Global, text: &str) -> Result<Vec<&str>, AllocErro
     Ok(words)
 }
 
-/// The number below 2^16 that the word writes.
+/// Returns the number that the word encodes, if it is below 2^16.
 pub(crate) fn small_number(word: &str) -> Option<u16>
     ensures { MatchOption result ((n : ℕ) → ¬ IsNumberBelow (2 ^ 16) word.now n) (IsNumberBelow (2 ^ 16) word.now) }
 {
@@ -45,7 +45,7 @@ pub(crate) fn small_number(word: &str) -> Option<u16>
     }
 }
 
-/// The number below 2^32 that the word writes.
+/// Returns the number that the word encodes, if it is below 2^32.
 pub(crate) fn number(word: &str) -> Option<u32>
     ensures { MatchOption result ((n : ℕ) → ¬ IsNumberBelow (2 ^ 32) word.now n) (IsNumberBelow (2 ^ 32) word.now) }
 {

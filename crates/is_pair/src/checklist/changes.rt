@@ -1,4 +1,4 @@
-//! What changes in pairs that stay.
+//! Changes of pairs that stay in the checklist.
 
 ghost use Rattle.std.specs.Prelude.{◌≡◌, ◌<◌, ℕ, true, map};
 ghost use Rattle.is_pair.specs.Bag.{are_below, change_pair, with_priority, KeepsKeys};
@@ -12,7 +12,7 @@ use crate::reset_next_binding_attempt;
 use is_proto::Instant;
 use is_stun::stun::StunTiming;
 
-/// Where no check of the peer's came, one is taken to have come now.
+/// If the pair has received no check from the peer, counts one as received now.
 #[derive(Clone, Copy)]
 struct Heard {
     now: Instant,
@@ -30,7 +30,7 @@ impl PairChange for Heard {
     }
 }
 
-/// The next check's moment is to be asked for anew.
+/// Forgets the fixed due time of the next check, so that it is computed again.
 #[derive(Clone, Copy)]
 struct Undue;
 
@@ -44,7 +44,7 @@ impl PairChange for Undue {
     }
 }
 
-/// The next check's moment is asked for, which fixes it.
+/// Computes the due time of the next check, and fixes it.
 #[derive(Clone, Copy)]
 struct Asked<'a> {
     now: Instant,
@@ -62,7 +62,7 @@ impl PairChange for Asked<'_> {
 }
 
 impl Checklist {
-    /// Changes the pair of the number, if there is one.
+    /// Changes the pair with the number, if there is one.
     pub fn change<C: PairChange>(&mut self, number: u64, change: &C)
         requires keys { KeepsKeys (C.makes change.now) }
         ensures changed { bag_of self.new ≡ change_pair number (C.makes change.now) (bag_of self.old) }
@@ -84,7 +84,7 @@ impl Checklist {
         mapped::change_all(&mut self.pairs, change);
     }
 
-    /// Asks all pairs for the moments of their next checks, which stand from now on.
+    /// Computes the due times of the next checks of all pairs, and fixes them.
     pub fn fix_due_times(&mut self, now: Instant, timing: &StunTiming)
         ensures asked { bag_of self.new ≡ map (asked now.0 timing.now) (bag_of self.old) }
         ensures room { (n : ℕ) → HasRoom n self.old → HasRoom n self.new }
@@ -94,7 +94,7 @@ impl Checklist {
         self.change_all(&Asked { now, timing });
     }
 
-    /// Has the moments of all next checks asked for anew, as when the timing changes.
+    /// Forgets the fixed due times of all pairs, so that they are computed again, as when the timing changes.
     pub fn reset_next_binding_attempts(&mut self)
         ensures reset { bag_of self.new ≡ map undue (bag_of self.old) }
         ensures room { (n : ℕ) → HasRoom n self.old → HasRoom n self.new }
@@ -104,8 +104,8 @@ impl Checklist {
         self.change_all(&Undue);
     }
 
-    /// Takes a check of the peer's to have come now on each pair on which none came, as an ice-lite agent does, which
-    /// gives up the pairs on which none comes any more.
+    /// On each pair that has received no check from the peer, counts one as received now. An ICE-lite agent does this,
+    /// because it removes the pairs on which the peer's checks stop.
     pub fn hear_all(&mut self, now: Instant)
         ensures heard { bag_of self.new ≡ map (heard now.0) (bag_of self.old) }
         ensures room { (n : ℕ) → HasRoom n self.old → HasRoom n self.new }
@@ -115,7 +115,7 @@ impl Checklist {
         self.change_all(&Heard { now });
     }
 
-    /// Gives all pairs their priorities by a rule, as when the agents swap their roles.
+    /// Sets the priorities of all pairs by a rule, as when the agents switch their roles.
     pub fn set_priorities<R: PairPriority>(&mut self, rule: &R)
         ensures set { bag_of self.new ≡ map (with_priority (R.gives rule.now)) (bag_of self.old) }
         ensures room { (n : ℕ) → HasRoom n self.old → HasRoom n self.new }

@@ -1,4 +1,4 @@
-//! Checks of the pairs, and their answers (RFC 8445, section 7.2).
+//! The checks of the pairs, and their responses (RFC 8445, section 7.2).
 
 ghost use Rattle.std.specs.Prelude.{◌≡◌, ◌<◌, ℕ, true, IfSome, OnOk};
 ghost use Rattle.std.specs.List.{list_any};
@@ -16,9 +16,9 @@ use rand_core::Rng;
 use std::alloc::AllocError;
 
 impl Checklist {
-    /// Makes room for one more check, on whichever pair.
+    /// Reserves capacity for one more check, on any pair.
     ///
-    /// Refused where there is none: the pairs are as before.
+    /// If the allocation fails, the pairs are unchanged.
     pub fn reserve_check(&mut self) -> Result<(), AllocError>
         ensures bag { bag_of self.new ≡ bag_of self.old }
         ensures reserved { OnOk result (HasCheckRoom self.new) }
@@ -28,8 +28,8 @@ impl Checklist {
         mapped::reserve_beyond_all(&mut self.spare, &self.pairs)
     }
 
-    /// Sends a check on the pair of the number, which is one of the pairs: keeps it, and answers its transaction id. Takes
-    /// the room of one check.
+    /// Sends a check on the pair with the number, which must be in the checklist: stores the check, and returns its
+    /// transaction ID. Uses the reserved capacity of one check.
     pub fn new_attempt<R: Rng>(
         &mut self,
         number: u64,
@@ -63,7 +63,7 @@ impl Checklist {
         }
     }
 
-    /// A pair that keeps a check of the id and passes.
+    /// Returns a pair that stores a check with the transaction ID and passes the test.
     pub fn awaiting<T: PairTest>(&self, trans_id: TransId, test: &T) -> Option<&CandidatePair>
         ensures awaiting { IsAwaiting trans_id.0 (T.passes test.now) (bag_of self.now) (option_copied result) }
         ensures kept { IfSome (option_copied result) (λ p. keeps trans_id.0 p.number (bag_of self.now) ≡ true) }
@@ -74,14 +74,14 @@ impl Checklist {
         }
     }
 
-    /// Whether a pair keeps a check of the id and passes.
+    /// Whether a pair stores a check with the transaction ID and passes the test.
     pub fn has_awaiting<T: PairTest>(&self, trans_id: TransId, test: &T) -> bool
         ensures { result ≡ list_any (is_awaiting trans_id.0 (T.passes test.now)) (bag_of self.now) }
     {
         self.awaiting(trans_id, test).is_some()
     }
 
-    /// The pair of the number, which keeps a check of the id, takes its answer.
+    /// Records the response on the pair with the number, which stores a check with the transaction ID.
     pub fn record_binding_response(&mut self, number: u64, now: Instant, trans_id: TransId)
         requires kept { keeps trans_id.0 number (bag_of self.old) ≡ true }
         ensures answered { RecordsAnswer number now.0 trans_id.0 (bag_of self.old) (bag_of self.new) }

@@ -9,7 +9,7 @@ use super::Checklist;
 use crate::pair::CandidatePair;
 
 impl Checklist {
-    /// A pair of least priority, if there is one.
+    /// Returns a pair of lowest priority, if there is one.
     pub fn least(&self) -> Option<&CandidatePair>
         ensures { IsLowest (bag_of self.now) (option_copied result) }
     {
@@ -19,7 +19,7 @@ impl Checklist {
         }
     }
 
-    /// Removes pairs of least priority until there are no more than the limit.
+    /// Removes pairs of lowest priority until there are no more than the limit.
     pub fn evict(&mut self, limit: usize)
         ensures evicted { Evicts limit (bag_of self.old) (bag_of self.new) }
         ensures room { (n : ℕ) → HasRoom n self.old → HasRoom n self.new }

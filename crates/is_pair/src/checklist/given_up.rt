@@ -1,4 +1,4 @@
-//! Which pairs are given up.
+//! The pairs that are removed because they failed.
 
 ghost use Rattle.std.specs.Prelude.{◌<◌};
 
@@ -7,11 +7,11 @@ use crate::pair::CandidatePair;
 use is_proto::Instant;
 use is_stun::stun::StunTiming;
 
-/// Tells the pairs that are given up: those on which consent is lost (RFC 7675), and on an ice-lite agent, which sends no
-/// checks, those on which none of the peer's comes any more.
+/// A test for failed pairs: those whose consent expired (RFC 7675), and, on an ICE-lite agent, which sends no checks,
+/// those on which the peer's checks stopped.
 #[derive(Clone, Copy)]
 pub struct GivenUp<'a> {
-    /// Whether the agent is ice-lite.
+    /// Whether the agent is an ICE-lite agent.
     pub lite: bool,
     pub now: Instant,
     pub timing: &'a StunTiming,

@@ -1,4 +1,4 @@
-//! The index of a checklist: which pairs keep which ids.
+//! The index of a checklist: which pairs store checks with which transaction IDs.
 
 ghost use Rattle.std.specs.Prelude.{◌≡◌, ◌<◌, ◌≤◌, ◌==◌, true, false, not, ℕ, List, Bool, ◌||◌, filter, find, get_or, if◌then◌else◌};
 ghost use Rattle.std.specs.Prelude.{length, remove, vec_len, vec_capacity};
@@ -18,7 +18,7 @@ use crate::pair::cut::Cut;
 use indexmap::IndexMap;
 use is_stun::stun::TransId;
 
-/// Whether an entry names another pair than this one, or an id that this one keeps.
+/// Whether an entry names a pair other than this one, or a transaction ID that this one stores.
 fn is_current(kept: Kept, pair: &CandidatePair) -> bool
     ensures { result ≡ is_current pair.now kept }
 {
@@ -31,7 +31,7 @@ fn is_before(kept: Kept, id: TransId) -> bool
     kept.id.cmp(&id).is_lt()
 }
 
-/// How many entries stand before those of the id.
+/// Returns how many entries come before those of the ID.
 fn count_before(index: &[Kept], id: TransId) -> usize
     requires rising { ids_rise index.now ≡ true }
     ensures within { result ≤ length index.now }
@@ -46,7 +46,7 @@ fn is_behind(kept: Kept, id: TransId) -> bool
     id.cmp(&kept.id).is_lt()
 }
 
-/// How many entries stand before those behind the id.
+/// Returns how many entries come before those after the ID.
 fn count_through(index: &[Kept], id: TransId) -> usize
     requires rising { ids_rise index.now ≡ true }
     ensures within { result ≤ length index.now }
@@ -55,7 +55,7 @@ fn count_through(index: &[Kept], id: TransId) -> usize
     index.partition_point(|kept| !is_behind(*kept, id))
 }
 
-/// The entries of ids that the pair keeps no more go.
+/// Removes the entries of IDs that the pair no longer stores.
 fn forget_all(index: &mut Vec<Kept>, pair: &CandidatePair)
     ensures items { index.new.items ≡ filter (is_current pair.now) index.old.items }
     ensures within { vec_len index.new ≤ vec_len index.old }
@@ -64,7 +64,7 @@ fn forget_all(index: &mut Vec<Kept>, pair: &CandidatePair)
     index.retain(|kept| is_current(*kept, pair));
 }
 
-/// The entry at the place goes where it is of an id that the pair keeps no more.
+/// Removes the entry at the index if the pair no longer stores its ID.
 fn forget_at(index: &mut Vec<Kept>, pair: &CandidatePair, place: usize)
     requires within { place < length index.old.items }
     ensures items { (d : Kept) → index.new.items ≡ (if is_current pair.now (get_or index.old.items place d) then index.old.items
@@ -77,7 +77,8 @@ fn forget_at(index: &mut Vec<Kept>, pair: &CandidatePair, place: usize)
     }
 }
 
-/// The same of all entries, where this is the only id that the pair may keep no more. As a rule one entry is of the id.
+/// Does the same for all entries, if this is the only ID that the pair may no longer store. Usually one entry has the
+/// ID.
 fn forget_id(index: &mut Vec<Kept>, pair: &CandidatePair, id: TransId)
     requires rising { ids_rise index.old.items ≡ true }
     requires left { LeavesCurrent pair.now index.old.items (Oldest id) }
@@ -93,7 +94,7 @@ fn forget_id(index: &mut Vec<Kept>, pair: &CandidatePair, id: TransId)
     }
 }
 
-/// The same, by what was cut of the pair's checks.
+/// Does the same, depending on which of the pair's checks were dropped.
 fn forget(index: &mut Vec<Kept>, pair: &CandidatePair, cut: Cut)
     requires rising { ids_rise index.old.items ≡ true }
     requires left { LeavesCurrent pair.now index.old.items cut }
@@ -108,7 +109,7 @@ fn forget(index: &mut Vec<Kept>, pair: &CandidatePair, cut: Cut)
     }
 }
 
-/// One more entry, in its place.
+/// Inserts one more entry at its position.
 fn put(index: &mut Vec<Kept>, kept: Kept)
     requires room { vec_len index.old < vec_capacity index.old }
     requires rising { ids_rise index.old.items ≡ true }
@@ -121,7 +122,7 @@ fn put(index: &mut Vec<Kept>, kept: Kept)
     }
 }
 
-/// The first entry of the id whose pair passes.
+/// Returns the first entry of the ID whose pair passes the test.
 pub(crate) fn awaiting<T: PairTest>(
     index: &[Kept],
     pairs: &IndexMap<u64, CandidatePair>,
@@ -167,7 +168,7 @@ fn first_awaiting<T: PairTest>(
         .copied()
 }
 
-/// The pair, which sent a check with the id, keeps what it keeps now, behind what was cut.
+/// Updates the index after the pair sent a check with the ID and dropped the checks of the cut.
 pub(crate) fn follow(index: &mut Vec<Kept>, pair: &CandidatePair, id: TransId, cut: Cut)
     requires left { LeavesCurrent pair.now index.old.items cut }
     requires room { vec_len index.old < vec_capacity index.old }
@@ -180,7 +181,7 @@ pub(crate) fn follow(index: &mut Vec<Kept>, pair: &CandidatePair, id: TransId, c
     put(index, Kept { id, number });
 }
 
-/// The entries of pairs that are not there go.
+/// Removes the entries of pairs that no longer exist.
 pub(crate) fn keep_known(index: &mut Vec<Kept>, pairs: &IndexMap<u64, CandidatePair>)
     requires keyed { are_keyed pairs.now.entries ≡ true }
     ensures within { vec_len index.new ≤ vec_len index.old }
@@ -190,7 +191,7 @@ pub(crate) fn keep_known(index: &mut Vec<Kept>, pairs: &IndexMap<u64, CandidateP
     index.retain(|kept| pairs.contains_key(&kept.number));
 }
 
-/// The entries of the number go.
+/// Removes the entries of the number.
 pub(crate) fn drop_number(index: &mut Vec<Kept>, number: u64)
     ensures items { index.new.items ≡ filter (λ k. not (k.number == number)) index.old.items }
     ensures within { vec_len index.new ≤ vec_len index.old }

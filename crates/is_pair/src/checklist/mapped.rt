@@ -22,7 +22,7 @@ use is_stun::stun::StunTiming;
 use std::alloc::AllocError;
 use std::collections::VecDeque;
 
-/// The pair of the number changes, if there is one.
+/// Changes the pair with the number, if there is one.
 pub(crate) fn change<C: PairChange>(
     pairs: &mut IndexMap<u64, CandidatePair>,
     number: u64,
@@ -40,7 +40,7 @@ pub(crate) fn change<C: PairChange>(
     }
 }
 
-/// All pairs change.
+/// Changes all pairs.
 pub(crate) fn change_all<C: PairChange>(pairs: &mut IndexMap<u64, CandidatePair>, change: &C)
     requires keys { KeepsKeys (C.makes change.now) }
     requires keyed { are_keyed pairs.old.entries ≡ true }
@@ -54,7 +54,7 @@ pub(crate) fn change_all<C: PairChange>(pairs: &mut IndexMap<u64, CandidatePair>
     });
 }
 
-/// The pairs that pass go.
+/// Removes the pairs that pass the test.
 pub(crate) fn drop_passing<T: PairTest>(pairs: &mut IndexMap<u64, CandidatePair>, test: &T)
     requires keyed { are_keyed pairs.old.entries ≡ true }
     ensures left { pairs_of pairs.new.entries ≡ without (T.passes test.now) (pairs_of pairs.old.entries) }
@@ -64,7 +64,7 @@ pub(crate) fn drop_passing<T: PairTest>(pairs: &mut IndexMap<u64, CandidatePair>
     pairs.retain(|_, pair| !test.passes(pair));
 }
 
-/// The pair of the number goes.
+/// Removes the pair with the number.
 pub(crate) fn take_out(pairs: &mut IndexMap<u64, CandidatePair>, number: u64)
     requires keyed { are_keyed pairs.old.entries ≡ true }
     requires rising { rises (pairs_of pairs.old.entries) ≡ true }
@@ -75,7 +75,7 @@ pub(crate) fn take_out(pairs: &mut IndexMap<u64, CandidatePair>, number: u64)
     pairs.shift_remove(&number);
 }
 
-/// One more pair, of a number above all others.
+/// Adds a pair whose number is above all others.
 pub(crate) fn put(pairs: &mut IndexMap<u64, CandidatePair>, pair: CandidatePair)
     requires room { 0 < spare pairs.old }
     requires keyed { are_keyed pairs.old.entries ≡ true }
@@ -89,7 +89,7 @@ pub(crate) fn put(pairs: &mut IndexMap<u64, CandidatePair>, pair: CandidatePair)
     }
 }
 
-/// Whether the pair of the number passes.
+/// Whether the pair with the number passes the test.
 pub(crate) fn passes<T: PairTest>(
     pairs: &IndexMap<u64, CandidatePair>,
     number: u64,
@@ -112,7 +112,7 @@ fn set_priority<R: PairPriority>(pair: &mut CandidatePair, rule: &R)
     pair.set_prio(priority);
 }
 
-/// All priorities by a rule.
+/// Sets all priorities by a rule.
 pub(crate) fn set_priorities<R: PairPriority>(pairs: &mut IndexMap<u64, CandidatePair>, rule: &R)
     requires keyed { are_keyed pairs.old.entries ≡ true }
     ensures set { pairs.new.entries ≡ map (λ e. (e.0, with_priority (R.gives rule.now) e.1)) pairs.old.entries }
@@ -124,16 +124,16 @@ pub(crate) fn set_priorities<R: PairPriority>(pairs: &mut IndexMap<u64, Candidat
     });
 }
 
-// ---- what is asked of all pairs
+// ---- queries over all pairs
 
-/// Whether any passes.
+/// Whether any pair passes the test.
 pub(crate) fn any<T: PairTest>(pairs: &IndexMap<u64, CandidatePair>, test: &T) -> bool
     ensures { result ≡ list_any (T.passes test.now) (pairs_of pairs.now.entries) }
 {
     pairs.values().any(|pair| test.passes(pair))
 }
 
-/// The first that passes.
+/// Returns the first pair that passes the test.
 pub(crate) fn first<'a, T: PairTest>(
     pairs: &'a IndexMap<u64, CandidatePair>,
     test: &T,
@@ -143,7 +143,7 @@ pub(crate) fn first<'a, T: PairTest>(
     pairs.values().find(|pair| test.passes(pair))
 }
 
-/// The earliest of the due moments.
+/// Returns the earliest due time.
 pub(crate) fn earliest_due(
     pairs: &IndexMap<u64, CandidatePair>,
     now: Instant,
@@ -158,7 +158,7 @@ pub(crate) fn earliest_due(
     due
 }
 
-/// Whether a pair is due earlier, or at the same moment with no smaller priority.
+/// Whether a pair is due earlier, or at the same time with no smaller priority.
 fn goes_before(p: &CandidatePair, q: &CandidatePair, now: Instant, timing: &StunTiming) -> bool
     ensures before { result ≡ true → GoesBefore now.0 timing.now p.now q.now }
     ensures behind { result ≡ false → GoesBefore now.0 timing.now q.now p.now }
@@ -168,7 +168,7 @@ fn goes_before(p: &CandidatePair, q: &CandidatePair, now: Instant, timing: &Stun
     ours < theirs || (ours == theirs && p.prio() >= q.prio())
 }
 
-/// The earlier of the earliest so far and one more pair.
+/// Returns the earlier of the earliest so far and one more pair.
 fn earlier<'a>(
     first: Option<&'a CandidatePair>,
     pair: &'a CandidatePair,
@@ -184,7 +184,7 @@ fn earlier<'a>(
     }
 }
 
-/// A pair that goes before all others.
+/// Returns a pair that is due before all others, or at the same time with no smaller priority.
 pub(crate) fn earliest<'a>(
     pairs: &'a IndexMap<u64, CandidatePair>,
     now: Instant,
@@ -199,7 +199,7 @@ pub(crate) fn earliest<'a>(
     first
 }
 
-/// Makes the spare queue longer than that of each pair.
+/// Gives the spare queue more capacity than any pair stores checks.
 pub(crate) fn reserve_beyond_all(
     spare: &mut VecDeque<BindingAttempt>,
     pairs: &IndexMap<u64, CandidatePair>,

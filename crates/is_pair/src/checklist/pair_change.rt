@@ -2,7 +2,7 @@
 
 use crate::pair::CandidatePair;
 
-/// A change of pairs, with its stated function.
+/// A change of pairs, and the function by which contracts state it.
 pub trait PairChange {
     ghost use Rattle.std.specs.Prelude.{◌≡◌};
     ghost use Rattle.is_pair.specs.Pairs.{PairRecord};

@@ -12,7 +12,7 @@ use super::pair_test::PairTest;
 use crate::pair::CandidatePair;
 use indexmap::IndexMap;
 
-/// One more, behind those of no greater priority.
+/// Inserts one more, after those of no greater priority.
 pub(crate) fn put(ranks: &mut Vec<Rank>, rank: Rank)
     requires room { vec_len ranks.old < vec_capacity ranks.old }
     requires ordered { are_ordered ranks.old.items ≡ true }
@@ -27,7 +27,7 @@ pub(crate) fn put(ranks: &mut Vec<Rank>, rank: Rank)
     }
 }
 
-/// Those of pairs that are not there go.
+/// Removes those of pairs that no longer exist.
 pub(crate) fn keep_known(ranks: &mut Vec<Rank>, pairs: &IndexMap<u64, CandidatePair>)
     requires keyed { are_keyed pairs.now.entries ≡ true }
     ensures items { ranks.new.items ≡ filter (λ r. has_number r.number (pairs_of pairs.now.entries)) ranks.old.items }
@@ -37,7 +37,7 @@ pub(crate) fn keep_known(ranks: &mut Vec<Rank>, pairs: &IndexMap<u64, CandidateP
     ranks.retain(|rank| pairs.contains_key(&rank.number));
 }
 
-/// Those of the number go.
+/// Removes those of the number.
 pub(crate) fn drop_number(ranks: &mut Vec<Rank>, number: u64)
     ensures items { ranks.new.items ≡ filter (λ r. not (r.number == number)) ranks.old.items }
     ensures within { vec_len ranks.new ≤ vec_len ranks.old }
@@ -46,7 +46,7 @@ pub(crate) fn drop_number(ranks: &mut Vec<Rank>, number: u64)
     ranks.retain(|rank| rank.number != number);
 }
 
-/// Of those whose pairs pass, the last.
+/// Returns the last one whose pair passes the test.
 pub(crate) fn last_passing<T: PairTest>(
     ranks: &[Rank],
     pairs: &IndexMap<u64, CandidatePair>,
@@ -63,7 +63,7 @@ pub(crate) fn last_passing<T: PairTest>(
         .copied()
 }
 
-/// Each gets the priority that its pair has now.
+/// Gives each the current priority of its pair.
 fn follow_each(ranks: &mut [Rank], pairs: &IndexMap<u64, CandidatePair>)
     ensures { ranks.new ≡ map (rank_now pairs.now.entries) ranks.old }
 {
@@ -92,7 +92,7 @@ fn rank_now(rank: Rank, pairs: &IndexMap<u64, CandidatePair>) -> Rank
     }
 }
 
-/// All by the priorities that the pairs have now.
+/// Sorts all by the current priorities of their pairs.
 pub(crate) fn order_anew(ranks: &mut Vec<Rank>, pairs: &IndexMap<u64, CandidatePair>)
     ensures any { (test : Rank → Bool) → list_any test ranks.new.items ≡ list_any test (map (rank_now pairs.now.entries) ranks.old.items) }
     ensures ordered { are_ordered ranks.new.items ≡ true }

@@ -1,4 +1,4 @@
-//! What is asked of the pairs.
+//! Queries over the pairs.
 
 ghost use Rattle.std.specs.Prelude.{◌≡◌, ◌<◌, true, IfSome, find, fold, map, min};
 ghost use Rattle.std.specs.List.{list_any};
@@ -16,7 +16,7 @@ use is_proto::Instant;
 use is_stun::stun::StunTiming;
 
 impl Checklist {
-    /// The pairs, in the order of their numbers.
+    /// Returns the pairs, in the order of their numbers.
     pub fn iter(&self) -> Values<'_, u64, CandidatePair>
         ensures rest { result ≡ bag_of self.now }
         ensures runs { ShowsInOrder (deref {X = CandidatePair}) }
@@ -24,32 +24,32 @@ impl Checklist {
         self.pairs.values()
     }
 
-    /// Whether any pair passes.
+    /// Whether any pair passes the test.
     pub fn any<T: PairTest>(&self, test: &T) -> bool
         ensures { result ≡ list_any (T.passes test.now) (bag_of self.now) }
     {
         mapped::any(&self.pairs, test)
     }
 
-    /// Whether there is a pair of the number, and it passes.
+    /// Whether there is a pair with the number, and it passes the test.
     pub fn passes<T: PairTest>(&self, number: u64, test: &T) -> bool
         ensures { result ≡ list_any (passes_at number (T.passes test.now)) (bag_of self.now) }
     {
         mapped::passes(&self.pairs, number, test)
     }
 
-    /// Of the pairs that pass, that of the least number.
+    /// Returns the pair with the smallest number among those that pass the test.
     pub fn first<T: PairTest>(&self, test: &T) -> Option<&CandidatePair>
         ensures { option_copied result ≡ find (T.passes test.now) (bag_of self.now) }
     {
         mapped::first(&self.pairs, test)
     }
 
-    /// Of the pairs that pass, one of greatest priority.
+    /// Returns a pair of greatest priority among those that pass the test.
     pub fn greatest<T: PairTest>(&self, test: &T) -> Option<&CandidatePair>
         ensures { IsGreatest (T.passes test.now) (bag_of self.now) (option_copied result) }
     {
-        // a walk over all pairs that finds none is the quicker one: it looks no pair up
+        // first search all pairs: if none passes, this is faster, because it looks no pair up
         if !self.any(test) {
             return None;
         }
@@ -59,8 +59,8 @@ impl Checklist {
         }
     }
 
-    /// The pair that is checked now, where one is due: that of the earliest moment, and among several such one of greatest
-    /// priority (RFC 8445, section 6.1.4.2).
+    /// Returns the pair to check now, if one is due: the one with the earliest due time, and among several of those one
+    /// of greatest priority (RFC 8445, section 6.1.4.2).
     pub fn next_due(&self, now: Instant, timing: &StunTiming) -> Option<&CandidatePair>
         ensures next { IsNextDue now.0 timing.now (bag_of self.now) (option_copied result) }
         ensures has { IfSome (option_copied result) (λ p. has_number p.number (bag_of self.now) ≡ true) }
@@ -73,7 +73,7 @@ impl Checklist {
         }
     }
 
-    /// The earliest moment at which a pair is due for its next check, and the end of time where there is none.
+    /// Returns the earliest time at which a pair is due for its next check, or the last `Instant` if there is no pair.
     pub fn earliest_due(&self, now: Instant, timing: &StunTiming) -> Instant
         ensures { result.0 ≡ fold min MAX (map (due_moment now.0 timing.now) (bag_of self.now)) }
     {

@@ -7,17 +7,17 @@ use is_proto::{Duration, Instant};
 use is_stun::stun::TransId;
 use std::marker::Model;
 
-/// One connectivity check that a pair sent, a Binding request, and its answer (RFC 8445, section 7.2).
+/// One connectivity check that a pair sent, a Binding request, and its response (RFC 8445, section 7.2).
 #[derive(Clone, Copy, Debug)]
 pub struct BindingAttempt {
-    /// Ties the answer to the request.
+    /// Matches the response to the request.
     pub(crate) trans_id: TransId,
     pub(crate) request_sent: Instant,
-    /// When the last answer came.
+    /// The time of the last response.
     pub(crate) response_received: Option<Instant>,
-    /// Whether the pair was nominated.
+    /// Whether the pair was nominated when the check was sent.
     pub(crate) nominated: bool,
-    /// The role that the agent had.
+    /// Whether the agent was controlling when the check was sent.
     pub(crate) controlling: bool,
 }
 
@@ -46,8 +46,8 @@ impl Model for BindingAttempt {
 }
 
 impl BindingAttempt {
-    /// Whether the agent was controlling when the check was sent. An answer of role conflict acts only where
-    /// this is still the agent's role.
+    /// Whether the agent was controlling when the check was sent. A 487 (Role Conflict) response has an effect only if
+    /// the agent still has this role.
     pub fn controlling(&self) -> bool
         ensures { result ≡ self.now.controlling }
     {
@@ -66,7 +66,7 @@ impl BindingAttempt {
         self.response_received.is_some()
     }
 
-    /// How long the last answer took.
+    /// Returns the round-trip time of the last response.
     pub(crate) fn round_trip(&self) -> Option<Duration>
         ensures { option_map (λ took. took.0) result ≡ round_trip_of self.now }
     {

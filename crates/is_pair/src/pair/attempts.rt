@@ -1,4 +1,4 @@
-//! The checks that a pair keeps, oldest first.
+//! The stored checks of a pair, oldest first.
 
 ghost use Rattle.std.specs.Prelude.{◌≡◌, ◌<◌, ◌≤◌, OnOk, find, length, position, reverse, slice_get};
 ghost use Rattle.std.specs.Option.{option_copied};
@@ -11,7 +11,7 @@ use std::alloc::AllocError;
 use std::collections::VecDeque;
 use std::mem::swap;
 
-/// The first check of this id.
+/// Returns the first check with this transaction ID.
 pub(crate) fn with_id(
     attempts: &VecDeque<BindingAttempt>,
     trans_id: TransId,
@@ -21,21 +21,21 @@ pub(crate) fn with_id(
     attempts.iter().find(|attempt| attempt.has_id(trans_id))
 }
 
-/// The first one.
+/// Returns the first check.
 pub(crate) fn first(attempts: &VecDeque<BindingAttempt>) -> Option<BindingAttempt>
     ensures { result ≡ slice_get attempts.now.items 0 }
 {
     attempts.front().copied()
 }
 
-/// The last one.
+/// Returns the last check.
 pub(crate) fn last(attempts: &VecDeque<BindingAttempt>) -> Option<BindingAttempt>
     ensures { result ≡ last_check attempts.now.items }
 {
     attempts.back().copied()
 }
 
-/// Lets all go but the last so many.
+/// Removes all except the last `kept` checks.
 pub(crate) fn keep_last(attempts: &mut VecDeque<BindingAttempt>, kept: usize)
     ensures { attempts.new.items ≡ last_checks kept attempts.old.items }
 {
@@ -44,21 +44,21 @@ pub(crate) fn keep_last(attempts: &mut VecDeque<BindingAttempt>, kept: usize)
     }
 }
 
-/// The last answered one.
+/// Returns the last check that had a response.
 pub(crate) fn last_answered(attempts: &VecDeque<BindingAttempt>) -> Option<&BindingAttempt>
     ensures { option_copied result ≡ find is_answered (reverse attempts.now.items) }
 {
     attempts.iter().rev().find(|attempt| attempt.is_answered())
 }
 
-/// The first behind the last answered one.
+/// Returns the first check after the last one that had a response.
 pub(crate) fn first_unanswered(attempts: &VecDeque<BindingAttempt>) -> Option<BindingAttempt>
     ensures { result ≡ first_unanswered attempts.now.items }
 {
     attempts.get(attempts.len() - unanswered(attempts)).copied()
 }
 
-/// How many stand behind the last answered one: all where none was answered.
+/// Returns how many checks follow the last one that had a response, or the number of all checks if none had.
 pub(crate) fn unanswered(attempts: &VecDeque<BindingAttempt>) -> usize
     ensures count { result ≡ unanswered_count attempts.now.items }
     ensures within { result ≤ length attempts.now.items }
@@ -70,14 +70,14 @@ pub(crate) fn unanswered(attempts: &VecDeque<BindingAttempt>) -> usize
     answered.unwrap_or(attempts.len())
 }
 
-/// The place of a check of this id, if there is one.
+/// Returns the index of the first check with this transaction ID, if there is one.
 pub(crate) fn place_of(attempts: &VecDeque<BindingAttempt>, trans_id: TransId) -> Option<usize>
     ensures { result ≡ position (has_id trans_id.0) attempts.now.items }
 {
     attempts.iter().position(|attempt| attempt.has_id(trans_id))
 }
 
-/// Room for one more: a full queue gives its checks to the spare one, and they change places.
+/// Makes capacity for one more check: a full queue moves its checks to the spare one, and the two are swapped.
 pub(crate) fn make_room(
     attempts: &mut VecDeque<BindingAttempt>,
     spare: &mut VecDeque<BindingAttempt>,
@@ -96,7 +96,7 @@ pub(crate) fn make_room(
     }
 }
 
-/// Makes the spare queue longer than so many checks, for `new_attempt_reserved`.
+/// Gives the spare queue capacity for more than `most` checks, for `new_attempt_reserved`.
 pub(crate) fn reserve_beyond(
     spare: &mut VecDeque<BindingAttempt>,
     most: usize,

@@ -1,4 +1,4 @@
-//! Sending checks on a pair, and taking their answers (RFC 8445, section 7.2).
+//! Sending checks on a pair, and recording their responses (RFC 8445, section 7.2).
 
 ghost use Rattle.std.specs.Prelude.{◌≡◌, ◌<◌, IfErr, IfOk, IsTrue, find, is_some, length};
 ghost use Rattle.std.specs.Option.{option_copied};
@@ -17,10 +17,11 @@ use rand_core::Rng;
 use std::collections::VecDeque;
 
 impl CandidatePair {
-    /// Keeps a check that is sent now, of the last `max_retransmits` at most, and answers its transaction id. A
-    /// check of a nominated pair is a nominating one.
+    /// Stores a check that is sent now, and returns its transaction ID. The pair stores at most the last
+    /// `max_retransmits` checks. A check of a nominated pair is a nominating check.
     ///
-    /// Refused with `OutOfMemory` where the check has no room: then the pair is as before, and nothing was drawn.
+    /// Fails with `OutOfMemory` if there is no memory for the check; then the pair is unchanged, and nothing was drawn
+    /// from the generator.
     pub fn new_attempt<R: Rng>(
         &mut self,
         now: Instant,
@@ -43,7 +44,7 @@ impl CandidatePair {
         Ok(trans_id)
     }
 
-    /// Which checks go when one more is sent.
+    /// Returns which checks are dropped when one more is sent.
     pub(crate) fn cut_by_next(&self, timing_config: &StunTiming) -> Cut
         ensures { CutsByNext timing_config.now.max_retransmits self.now.checks result }
     {
@@ -57,7 +58,7 @@ impl CandidatePair {
         }
     }
 
-    /// The check that is sent now.
+    /// Returns the check that is sent now.
     fn attempt(&self, trans_id: TransId, now: Instant, controlling: bool) -> BindingAttempt
         ensures { result ≡ check_of now.0 controlling trans_id.0 self.now }
     {
@@ -71,7 +72,7 @@ impl CandidatePair {
         }
     }
 
-    /// A check was sent.
+    /// Updates the state after a check was sent.
     fn once_sent(&mut self, timing_config: &StunTiming)
         ensures { self.new ≡ once_sent timing_config.now.max_retransmits self.old }
     {
@@ -81,8 +82,8 @@ impl CandidatePair {
         self.cached_next_attempt_time = None;
     }
 
-    /// The same where it can't be refused: a spare queue has room for one check more than the pair keeps. Where the
-    /// pair's own is full they change places.
+    /// Does the same without failing: the spare queue has capacity for one check more than the pair stores. If the
+    /// pair's own queue is full, the two are swapped.
     pub(crate) fn new_attempt_reserved<R: Rng>(
         &mut self,
         now: Instant,
@@ -104,14 +105,14 @@ impl CandidatePair {
         trans_id
     }
 
-    /// How many checks it keeps.
+    /// Returns how many checks the pair stores.
     pub(crate) fn kept_count(&self) -> usize
         ensures { result ≡ length self.now.checks }
     {
         self.binding_attempts.len()
     }
 
-    /// The kept check of this transaction id, if there is one: the first, where several have it.
+    /// Returns the stored check with this transaction ID, if there is one: the first, if several have it.
     pub fn binding_attempt(&self, trans_id: TransId) -> Option<&BindingAttempt>
         ensures kept { is_some result ≡ is_kept trans_id.0 self.now.checks }
         ensures found { option_copied result ≡ find (has_id trans_id.0) self.now.checks }
@@ -119,10 +120,10 @@ impl CandidatePair {
         attempts::with_id(&self.binding_attempts, trans_id)
     }
 
-    /// Takes the answer to a kept check. It counts, also where the check was answered before: its time goes into
-    /// the total, and its moment takes the place of the last one's. The pair is valid from now on, and a
-    /// nomination that went out with the check has succeeded. The local candidate that the answer's mapped
-    /// address names plays no part in what a pair does.
+    /// Records the response to a stored check. It counts even if the check had a response before: its round-trip time
+    /// is added to the total, and its time replaces that of the previous response. The pair is valid from now on, and a
+    /// nomination that was sent with the check has succeeded. `_valid_idx`, the local candidate with the mapped address
+    /// of the response, has no effect on the pair.
     pub fn record_binding_response(&mut self, now: Instant, trans_id: TransId, _valid_idx: usize)
         requires { IsTrue (is_kept trans_id.0 self.old.checks) }
         ensures { TakesAnswer self.old now.0 trans_id.0 self.new }

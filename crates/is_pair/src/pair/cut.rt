@@ -1,14 +1,14 @@
-//! Which checks go when one more is sent.
+//! Which checks are dropped when one more is sent.
 
 use is_stun::stun::TransId;
 
-/// Which of the kept checks go when one more is sent.
+/// Which of the stored checks are dropped when one more is sent.
 #[derive(Clone, Copy)]
 pub(crate) enum Cut {
-    /// None.
+    /// No check.
     Nothing,
-    /// The oldest alone, of this id.
+    /// Only the oldest, with this transaction ID.
     Oldest(TransId),
-    /// Several, as where fewer are to be kept than before.
+    /// Several, as when fewer are to be stored than before.
     Several,
 }

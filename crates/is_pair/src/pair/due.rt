@@ -1,4 +1,4 @@
-//! When a pair is due for its next check, and when it is given up.
+//! When a pair is due for its next check, and when it fails.
 
 ghost use Rattle.std.specs.Prelude.{◌≡◌, ◌<◌, is_some, min};
 ghost use Rattle.is_proto.specs.Moments.{later};
@@ -13,15 +13,17 @@ use is_proto::{Duration, Instant};
 use is_stun::stun::StunTiming;
 use std::collections::VecDeque;
 
-/// How far a nominated pair that was not checked since goes before all others.
+/// How long before now a nominated pair without a check since its nomination is due, so that it comes before all
+/// others.
 const HEAD_START: Duration = Duration(60_000_000_000);
 
 impl CandidatePair {
-    /// When the next check is due. Asking fixes the moment, until a check is sent or answered.
+    /// Returns the due time of the next check. The call fixes this time until a check is sent or a response arrives.
     ///
-    /// A pair that was nominated and not checked since is due before all others, one that was never checked at
-    /// once; else the check comes a delay behind the last one, by the number of kept checks, or of unanswered ones
-    /// where the peer has been silent for longer than half of `max_rto`. It comes at most `max_rto` from now.
+    /// A nominated pair without a check since its nomination is due before all others. A pair that was never checked is
+    /// due now. Otherwise the check is due one RTO after the last one. The RTO depends on the number of stored checks,
+    /// or, if the peer has been silent for longer than half of `max_rto`, on the number of checks without a response.
+    /// The due time is at most `max_rto` from now.
     pub fn next_binding_attempt(&mut self, now: Instant, timing_config: &StunTiming) -> Instant
         requires { 0 < timing_config.now.max_retransmits }
         ensures moment { result.0 ≡ due_moment now.0 timing_config.now self.old }
@@ -30,7 +32,7 @@ impl CandidatePair {
         self.fix_due_moment(now, timing_config)
     }
 
-    /// The same, for any timing.
+    /// Does the same, for any timing.
     pub(crate) fn fix_due_moment(&mut self, now: Instant, timing_config: &StunTiming) -> Instant
         ensures moment { result.0 ≡ due_moment now.0 timing_config.now self.old }
         ensures fixed { self.new ≡ asked now.0 timing_config.now self.old }
@@ -40,7 +42,7 @@ impl CandidatePair {
         due
     }
 
-    /// The moment that asking now would tell, and fix.
+    /// Returns the due time that `fix_due_moment` would return, and fix, now.
     #[inline(always)]
     pub(crate) fn due_moment(&self, now: Instant, timing_config: &StunTiming) -> Instant
         ensures { result.0 ≡ due_moment now.0 timing_config.now self.now }
@@ -51,7 +53,7 @@ impl CandidatePair {
         }
     }
 
-    /// The moment that asking now would fix, where none stands fixed.
+    /// Returns the due time that `fix_due_moment` would fix now, if none is fixed yet.
     #[inline(never)]
     fn unfixed_moment(&self, now: Instant, timing_config: &StunTiming) -> Instant
         ensures { result.0 ≡ min (wanted_moment self.now.nomination now.0 timing_config.now self.now.checks) (later now.0 timing_config.now.max_rto.0) }
@@ -63,8 +65,8 @@ impl CandidatePair {
         next.min(now + timing_config.max_rto())
     }
 
-    /// Whether the path may still work. It is given up where no check of the peer's came for 15 s, `max_retransmits`
-    /// checks went unanswered, and the last of them has had its delay.
+    /// Whether the path may still work. It fails if no check from the peer arrived for 15 s, `max_retransmits` checks
+    /// had no response, and the delay after the last of them has passed.
     pub fn is_still_possible(&self, now: Instant, timing_config: &StunTiming) -> bool
         requires { 0 < timing_config.now.max_retransmits }
         ensures { result ≡ is_possible now.0 timing_config.now self.now }
@@ -75,7 +77,7 @@ impl CandidatePair {
             || is_in_time(&self.binding_attempts, now, timing_config)
     }
 
-    /// Whether a check of the peer's came less than 15 s ago.
+    /// Whether a check from the peer arrived less than 15 s ago.
     fn is_heard(&self, now: Instant) -> bool
         ensures { result ≡ is_heard now.0 self.now }
     {
@@ -86,14 +88,14 @@ impl CandidatePair {
     }
 }
 
-/// The head start before now, and now where that would be before the beginning.
+/// Returns the time that is `HEAD_START` before now, or now if that would be before the first `Instant`.
 fn long_before(now: Instant) -> Instant
     ensures { result.0 ≡ long_before now.0 }
 {
     now.checked_sub(HEAD_START).unwrap_or(now)
 }
 
-/// A delay behind the last check, and now where there was none.
+/// Returns the time one RTO after the last check, or now if there was none.
 fn next_moment(attempts: &VecDeque<BindingAttempt>, now: Instant, timing: &StunTiming) -> Instant
     ensures { result.0 ≡ next_moment now.0 timing.now attempts.now.items }
 {
@@ -105,7 +107,7 @@ fn next_moment(attempts: &VecDeque<BindingAttempt>, now: Instant, timing: &StunT
     }
 }
 
-/// How many checks the delay goes by.
+/// Returns the number of checks that the RTO depends on.
 fn delaying_count(attempts: &VecDeque<BindingAttempt>, now: Instant, timing: &StunTiming) -> usize
     ensures { result ≡ delaying_count now.0 timing.now attempts.now.items }
 {
@@ -117,7 +119,7 @@ fn delaying_count(attempts: &VecDeque<BindingAttempt>, now: Instant, timing: &St
     }
 }
 
-/// Whether the last check may still be answered in time.
+/// Whether the response to the last check may still arrive in time.
 fn is_in_time(attempts: &VecDeque<BindingAttempt>, now: Instant, timing: &StunTiming) -> bool
     ensures { result ≡ is_in_time now.0 timing.now attempts.now.items }
 {
@@ -127,16 +129,16 @@ fn is_in_time(attempts: &VecDeque<BindingAttempt>, now: Instant, timing: &StunTi
     }
 }
 
-// ---- what the agent asks, and its users do not
+// ---- for the agent, but not for its users
 
-/// The moment that asking for the next check's would tell, and fix.
+/// Returns the due time of the next check that a call of `next_binding_attempt` would return, and fix, now.
 pub fn due_moment(pair: &CandidatePair, now: Instant, timing: &StunTiming) -> Instant
     ensures { result.0 ≡ due_moment now.0 timing.now pair.now }
 {
     pair.due_moment(now, timing)
 }
 
-/// Whether the moment of the next check was asked for, and so stands.
+/// Whether the due time of the next check is fixed.
 pub fn is_asked(pair: &CandidatePair) -> bool
     ensures { result ≡ is_some pair.now.due }
 {
@@ -146,7 +148,7 @@ pub fn is_asked(pair: &CandidatePair) -> bool
     }
 }
 
-/// Has the next check's moment asked for anew, as when the agent changes its timing.
+/// Forgets the fixed due time of the next check, so that it is computed again, as when the agent changes its timing.
 pub fn reset_next_binding_attempt(pair: &mut CandidatePair)
     ensures { pair.new ≡ undue pair.old }
 {

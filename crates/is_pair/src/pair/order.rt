@@ -1,4 +1,4 @@
-//! Which pairs are equal, and which stand first.
+//! Which pairs are equal, and which come first.
 
 ghost use Rattle.std.specs.Prelude.{◌==◌};
 ghost use Rattle.std.proofs.Common.{rules};
@@ -10,7 +10,7 @@ ghost use Rattle.is_pair.specs.Order.{are_equal_pairs, pair_cmp};
 use super::CandidatePair;
 use std::cmp::Ordering;
 
-/// Pairs are equal where both places and the priority are.
+/// Two pairs are equal if both candidate indices and the priority are equal.
 impl PartialEq for CandidatePair {
     ghost eq = { are_equal_pairs };
 
@@ -27,7 +27,7 @@ impl Eq for CandidatePair {
     ghost laws = { Prim.search (comparing, rules) };
 }
 
-/// The greater priority first, then the lesser local place, then the lesser remote one.
+/// The greater priority comes first, then the smaller local index, then the smaller remote index.
 impl Ord for CandidatePair {
     ghost cmp = { pair_cmp };
 

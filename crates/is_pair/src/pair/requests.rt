@@ -8,7 +8,7 @@ use super::states::CheckState;
 use is_proto::{Duration, Instant};
 
 impl CandidatePair {
-    /// Counts a check of the peer's that came at this moment.
+    /// Counts a check from the peer that arrived at `now`.
     pub fn increase_remote_binding_requests(&mut self, now: Instant)
         ensures { self.new ≡ with_request now.0 self.old }
     {
@@ -16,16 +16,16 @@ impl CandidatePair {
         self.remote_binding_request_time = Some(now);
     }
 
-    /// Makes the pair valid with no check of its own, as an ice-lite agent does where it answers a check of the
-    /// peer's.
+    /// Makes the pair valid without a check of its own, as an ICE-lite agent does when it responds to a check from the
+    /// peer.
     pub fn record_remote_binding_request_success(&mut self)
         ensures { self.new ≡ validated self.old }
     {
         self.state = CheckState::Succeeded;
     }
 
-    /// Whether an ice-lite agent, which sends no checks, still hears of the peer: no check of the peer's came yet,
-    /// or the last one came less than 15 s ago.
+    /// Whether the peer of an ICE-lite agent, which sends no checks, is still active: no check from the peer arrived
+    /// yet, or the last one arrived less than 15 s ago.
     pub fn is_ice_lite_alive(&self, now: Instant) -> bool
         ensures { result ≡ is_lite_alive now.0 self.now }
     {
@@ -36,12 +36,12 @@ impl CandidatePair {
     }
 }
 
-/// Whether a check of the peer's that came at this moment still keeps its pair.
+/// Whether a check from the peer that arrived at `at` is recent enough to keep its pair.
 pub(crate) fn is_recent(now: Instant, at: Instant) -> bool
     ensures { result ≡ is_recent now.0 at.0 }
 {
     now - at < RECENT_BINDING_REQUEST
 }
 
-/// How long a pair is kept for a check of the peer's alone.
+/// How long a check from the peer is enough to keep its pair.
 const RECENT_BINDING_REQUEST: Duration = Duration(15_000_000_000);

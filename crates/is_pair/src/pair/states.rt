@@ -1,33 +1,33 @@
-//! How far a pair and its nomination have come.
+//! The check state and the nomination state of a pair.
 
 ghost use Rattle.std.specs.Prelude.{◌≡◌};
 ghost use Rattle.is_pair.specs.States.{state_once_sent, state_once_answered, state_from, nomination_once_sent, nomination_once_answered};
 ghost use Rattle.is_pair.specs.States.{nomination_from};
 
-/// How far the checks of a pair have come (RFC 8445, section 6.1.2.6). There is no frozen state, since every
-/// new pair may be checked, and no failed one, since a pair that fails is given up.
+/// The check state of a pair (RFC 8445, section 6.1.2.6). There is no Frozen state, because every new pair may be
+/// checked, and no Failed state, because a pair that fails is removed.
 #[derive(Clone, Copy, Debug, Default, PartialEq, Eq)]
 pub enum CheckState {
     /// No check was sent.
     #[default]
     Waiting,
-    /// A check was sent, and none was answered.
+    /// A check was sent, and none had a response.
     InProgress,
-    /// The pair is valid: a check was answered, or was on a pair that this one replaced.
+    /// The pair is valid: a check on it had a response, or a check on the pair that it replaced had one.
     Succeeded,
 }
 
-/// How far the nomination of a pair has come (RFC 8445, section 8.1.1).
+/// The nomination state of a pair (RFC 8445, section 8.1.1).
 #[derive(Clone, Copy, Debug, Default, PartialEq, Eq)]
 pub enum NominationState {
     /// Not nominated.
     #[default]
     None,
-    /// Nominated, and no check was sent since.
+    /// Nominated, and no check was sent since then.
     Nominated,
-    /// A check was sent since.
+    /// A check was sent since then.
     Attempt,
-    /// Such a check was answered.
+    /// Such a check had a response.
     Success,
 }
 
@@ -50,7 +50,7 @@ impl CheckState {
         }
     }
 
-    /// Of a pair that replaces one in the other state.
+    /// Returns the state of a pair that replaces one in the other state.
     pub(crate) fn replacing(self, other: CheckState) -> CheckState
         ensures { result ≡ state_from other self }
     {
@@ -71,7 +71,7 @@ impl NominationState {
         }
     }
 
-    /// By whether the pair was nominated when the check was sent.
+    /// Returns the state after a response, depending on whether the pair was nominated when the check was sent.
     pub(crate) fn once_answered(self, nominated: bool) -> NominationState
         ensures { result ≡ nomination_once_answered nominated self }
     {
@@ -81,8 +81,8 @@ impl NominationState {
         }
     }
 
-    /// Of a pair that replaces one whose nomination came as far as the other: the nominating check in flight
-    /// was the other's, so this pair has to send one.
+    /// Returns the state of a pair that replaces one in the other nomination state. A nominating check in flight was
+    /// the other's, so this pair has to send one.
     pub(crate) fn replacing(self, other: NominationState) -> NominationState
         ensures { result ≡ nomination_from other self }
     {

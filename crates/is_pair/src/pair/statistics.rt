@@ -1,4 +1,4 @@
-//! What is counted of the answers.
+//! Statistics of the responses.
 
 ghost use Rattle.std.specs.Prelude.{◌≡◌, option_map};
 ghost use Rattle.is_pair.specs.Checks.{last_round_trip};
@@ -7,21 +7,21 @@ use super::{CandidatePair, attempts};
 use is_proto::Duration;
 
 impl CandidatePair {
-    /// How long the answer to the last answered check took. None where no kept check was answered.
+    /// Returns the round-trip time of the last check that had a response, or `None` if no stored check had one.
     pub fn last_successful_rtt(&self) -> Option<Duration>
         ensures { option_map (λ took. took.0) result ≡ last_round_trip self.now.checks }
     {
         attempts::last_answered(&self.binding_attempts).and_then(|attempt| attempt.round_trip())
     }
 
-    /// How many answers came, repeated ones too.
+    /// Returns how many responses arrived, including repeated ones.
     pub fn responses_received(&self) -> u64
         ensures { result ≡ self.now.answers }
     {
         self.responses_received
     }
 
-    /// How long all answers took together.
+    /// Returns the sum of the round-trip times of all responses.
     pub fn total_round_trip_time(&self) -> Duration
         ensures { result.0 ≡ self.now.total_round_trip }
     {
