@@ -1,4 +1,5 @@
--- What an agent achieves if its timeouts are kept: timeouts are not late, every timeout makes progress, and no pair starves.
+-- What an agent achieves if `handle_timeout` is called at the times that `poll_timeout` returns: timeouts are not late, every
+-- timeout makes progress, and no pair starves.
 use Rattle.std.specs.Prelude.{◌≡◌, ◌≢◌, ℕ, ◌<◌, ◌≤◌, max, true, false, List, [], ◌∷◌, length, Option, Some, None, is_some, IfSome, Ok, ◌⊎◌}
 use Rattle.rand_core.specs.Stream.{Stream}
 use Rattle.is_proto.specs.Lists.{Has, is_empty}
