@@ -32,7 +32,7 @@ pub record AgentRecord (H P : Type 0) : Type 0 where
   pub remote_creds : Option IceCreds
   pub controlling : Bool
   pub tie_breaker : ℕ
-  -- The candidates. The index of a candidate in its list never changes.
+  -- The candidates. The index of a candidate does not change while it is in its list.
   pub local : List CandidateRecord
   pub remote : List CandidateRecord
   -- The checklist: a multiset of pairs, listed in the order of their numbers.
@@ -61,7 +61,7 @@ no_stats = record {
   nomination_send_count = 0;
 }
 
--- 250 ms, 9 retransmits, and 3 s at most
+-- an initial RTO of 250 ms, at most 9 retransmits, and an RTO of at most 3 s
 abbrev pub default_timing : StunTiming
 default_timing = record { initial_rto = record { 0 = 250 * MILLISECOND }; max_retransmits = 9; max_rto = record { 0 = 3000 * MILLISECOND } }
 

@@ -1,5 +1,5 @@
--- A controlled agent: if the peer nominated a path, and a success response was received on it, in either order, the next
--- `handle_timeout` call selects a path.
+-- A controlled agent: if the peer nominated a path, and a success response was received on it, in either order, a path is
+-- selected by the end of the next `handle_timeout` call.
 use Rattle.std.specs.Prelude.{◌≡◌, ℕ, ◌⊎◌, true, false, List, [], ◌∷◌, ◌++◌, Some, None}
 use Rattle.rand_core.specs.Stream.{Stream}
 use Rattle.is_proto.specs.Lists.{Has}
@@ -60,8 +60,8 @@ module _ {H P : Type 0} where
           × Point mac answers first s log before mid x after × Has part x × Has mid.pairs p × Joins mid path p × MayEnd mid x.call x.entry p
 
       -- In a segment of the log the peer nominated a path and a success response was received on it, in either order. A
-      -- `handle_timeout` call that serves no early request follows. If only one pair joins the path then, a path is selected,
-      -- unless a pair that joins the path may have been removed.
+      -- `handle_timeout` call that serves no early request follows. If only one pair joins the path then, a path is selected by
+      -- the end of this call, unless a pair that joins the path may have been removed.
       abbrev pub AskedPathsAnnounce : Type 0
       AskedPathsAnnounce =
           (before part : List (Logged P)) (start last : AgentRecord H P) (moment : Logged P) (now : ℕ) (path : Path)

@@ -1,5 +1,5 @@
 -- A controlled agent in an execution: if it accepted the peer's nomination of a path, and a success response was received on the
--- path, the next `handle_timeout` call selects a path.
+-- path, a path is selected by the end of the next `handle_timeout` call.
 use Rattle.std.specs.Prelude.{◌≡◌, ℕ, ◌⊎◌, true, false, List, [], ◌∷◌, ◌++◌, None, is_some}
 use Rattle.rand_core.specs.Stream.{Stream}
 use Rattle.is_proto.specs.Lists.{Has}
@@ -48,9 +48,9 @@ module _ {H P : Type 0} where
     GrantsAlong (x ∷ rest) old new course path =
         (Grants old x.0 x.1 path × (course.0.controlling ≡ false)) ⊎ GrantsAlong rest course.0 new course.5 path
 
-    -- Assume that in a segment of an execution the agent accepted the nomination of a path and received a success response on it,
-    -- in either order. A `handle_timeout` call that serves no early request follows. If only one pair joins the path then, a path
-    -- was selected, unless a pair that joins the path may have been removed.
+    -- In a segment of an execution the agent accepted the nomination of a path and received a success response on it, in either
+    -- order. A `handle_timeout` call that serves no early request follows. If only one pair joins the path then, a path was
+    -- selected by the end of this call, unless a pair that joins the path may have been removed.
     abbrev pub GrantedAreAnnounced : Type 0
     GrantedAreAnnounced =
         (first start near last : AgentRecord H P) (before xs : List (Call P × Entry)) (s t : Stream) (now : ℕ) (moment : Entry) (path : Path)

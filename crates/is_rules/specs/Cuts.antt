@@ -4,7 +4,8 @@ use Rattle.is_proto.specs.Lists.{Has}
 use Rattle.is_pair.specs.Pairs.{PairRecord}
 use Rattle.is_pair.specs.Bag.{rises, Evicts}
 
--- As many pairs stay as the limit allows, and no removed pair has a higher priority than one that stays. Ties are free.
+-- As many pairs stay as the limit allows, and no removed pair has a higher priority than one that stays. Ties are broken
+-- arbitrarily.
 abbrev pub IsCut : ℕ → List PairRecord → List PairRecord → Type 0
 IsCut limit old new =
     (keep : PairRecord → Bool) × (new ≡ filter keep old) × (length new ≡ min (length old) limit)

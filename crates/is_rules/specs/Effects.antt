@@ -91,11 +91,12 @@ module _ {H P : Type 0} where
       pub owed : Owes old call e new
       -- A request that is served was an early request, or was received now.
       pub serves : (q : RequestRecord) → IsServing old call e q → Has old.queue q ⊎ IsBrought call e q
-      -- Each transaction was pending on its path before, or its check was sent now in the agent's role, which does not change.
+      -- Each pending transaction was pending on its path before, or its check was sent now in the agent's role, which does not
+      -- change.
       pub checks : (path : Path) (id : List ℕ) (controlling : Bool) → IsKept new path id controlling
           → IsKept old path id controlling
           ⊎ ((e.emitted.issued ≡ Some (issued_as path class.Request id)) × (controlling ≡ old.controlling) × (new.controlling ≡ old.controlling))
-      -- Each valid path was valid before, or receives its success response now.
+      -- Each valid path was valid before, or its success response is received now.
       pub valid : old.lite ≡ false → (path : Path) → IsValidOn new path → IsValidOn old path ⊎ IsAnswered mac old call e path
       -- While the agent is controlled, each nominated path was nominated before, or the peer nominates it now.
       pub nominated : old.lite ≡ false → old.controlling ≡ false → new.controlling ≡ false
@@ -105,7 +106,7 @@ module _ {H P : Type 0} where
       pub replied : (issued : Issued) → e.emitted.issued ≡ Some issued → issued.class ≡ class.Success
           → (q : RequestRecord) × IsServing old call e q × (issued ≡ issued_as (reversed q.path) class.Success q.id)
           × (q.use_candidate ≡ true → new.controlling ≡ false → IsNominatedOn new (reversed q.path))
-      -- Each selected path was valid before, or receives its success response now. While the agent is controlled, it was
+      -- Each selected path was valid before, or its success response is received now. While the agent is controlled, it was
       -- nominated before, or the peer nominates it now.
       pub announced : old.lite ≡ false → (path : Path) → Has e.emitted.announced (Some path)
           → IsValidOn old path ⊎ IsAnswered mac old call e path
@@ -147,8 +148,8 @@ module _ {H P : Type 0} where
       -- The role does not change, or it switches because of a request or of a 487, or the user sets it.
       pub role : (new.controlling ≡ old.controlling)
           ⊎ (YieldsTo old call e new ⊎ (IsRefusedBy old call e new ⊎ IsRoleSet call new.controlling))
-      -- A served request that passes the tests determines the role. After an accepted 487 the agent has the role that its check
-      -- was not sent in.
+      -- A served request that passes the tests determines the role (`role_once`). After an accepted 487 the agent has the role
+      -- that its check was not sent in.
       pub settled : (q : RequestRecord) → IsServing old call e q → IsServedPastTests old q
           → new.controlling ≡ role_once (conflict_of old q) old.controlling
       pub given_up : (at : ℕ) (by : Path) (m : Message) → Brings call e at by m → m.class ≡ class.Failure → is_role_conflict m ≡ true

@@ -99,7 +99,7 @@ tried s at (Some found) old =
     (old.next_number + 1)
     else old
 
--- The redundant pair has the greatest priority of all redundant ones. Ties are free.
+-- The redundant pair has the greatest priority of all redundant ones. Ties are broken arbitrarily.
 abbrev pub Tries : SidesRecord → Combination → Formed → Formed → Type 0
 Tries s at old new = (found : Option PairRecord) × IsGreatest (is_redundant s at) old.pairs found × (new ≡ tried s at found old)
 

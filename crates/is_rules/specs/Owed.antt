@@ -63,8 +63,8 @@ abbrev pub owed : (Transaction → Bool) → List RequestRecord → ℕ
 owed test [] = 0
 owed test (q ∷ qs) = one_if (test (transaction_of q)) + owed test qs
 
--- The responses and the early requests after a transition were early requests before it, or were received now. Counting with any
--- test says this of multisets.
+-- The responses that a transition sends and the early requests after it are, as multisets, among the early requests before it and
+-- the requests received now: counted by any test.
 abbrev pub Owes : {H P : Type 0} → AgentRecord H P → Call P → Entry → AgentRecord H P → Type 0
 Owes old call e new =
     (test : Transaction → Bool)

@@ -37,7 +37,8 @@ local_place local q = first_place (is_reached q) local
 abbrev pub is_sender : RequestRecord → CandidateRecord → Bool
 is_sender q c = is_at q.path.source q.path.proto c
 
--- Among the indices below the end whose candidates pass, one with the greatest priority; none if none passes. Ties are free.
+-- Among the indices below the end whose candidates pass, one with the greatest priority; none if none passes. Ties are broken
+-- arbitrarily.
 abbrev pub IsGreatestBelow : ℕ → (CandidateRecord → Bool) → List CandidateRecord → Option ℕ → Type 0
 IsGreatestBelow end test cs None = (k : ℕ) → k < end → test (candidate_at cs k) ≡ false
 IsGreatestBelow end test cs (Some place) =

@@ -40,7 +40,7 @@ IsMetOn path r = (id : List ℕ) → r.moment.entry.emitted.issued ≡ Some (iss
 
 module _ {H P : Type 0} where
   -- A pair waits for its check: its due time, computed at time `at`, is at most `by`, and it will not be removed after timeout
-  -- before that. It is not valid, so nothing nominates it first, or its due time is fixed already.
+  -- before the check. It is not valid, so nothing nominates it first, or its due time is fixed already.
   pub record IsInLine (at by : ℕ) (a : AgentRecord H P) (p : PairRecord) : Type 0 where
     pub checking : IsChecking a
     pub queue : a.queue ≡ []
@@ -68,8 +68,8 @@ module _ {H P : Type 0} where
         → ChecksIn rounds (path_of start p) ⊎ IsAnsweredIn (entries_of rounds) (path_of start p)
 
     -- Assume also that each check on the pair's path is answered in its round, and that the peer nominates the path to the
-    -- controlled agent in one of them. Then the next `handle_timeout` call that serves no early request leaves a path selected,
-    -- if only one pair joins the pair's path then, unless a pair that joins it may have been removed.
+    -- controlled agent in one of them. A `handle_timeout` call that serves no early request follows. If only one pair joins the
+    -- pair's path then, a path is selected by the end of this call, unless a pair that joins the path may have been removed.
     abbrev pub AskedRoundsAnnounceIn : AgentRecord H P → Stream → List (Logged P) → Type 0
     AskedRoundsAnnounceIn first s log =
         (before : List (Logged P)) (start last : AgentRecord H P) (rounds : List (LoggedRound P)) (moment : Logged P) (now : ℕ)

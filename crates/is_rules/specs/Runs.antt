@@ -74,7 +74,7 @@ module _ {H P : Type 0} (mac : H → List ℕ → List ℕ → List ℕ) (answer
   IsControlledSince first s (x ∷ before) last t run =
       (last.controlling ≡ false) × ((clears_at x ≡ true) ⊎ IsControlledSince first s before run.0 run.1 run.2)
 
-  -- If the agent is controlled since then, each path that it selects was nominated by the peer.
+  -- Each path that is selected while the agent was controlled since the last clear was nominated by the peer.
   abbrev pub PathsAreAskedFor : AgentRecord H P → Stream → List (Logged P) → Type 0
   PathsAreAskedFor first s log =
       (before : List (Logged P)) (mid after : AgentRecord H P) (x : Logged P) (point : Point first s log before mid x after)

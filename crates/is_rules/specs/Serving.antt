@@ -182,14 +182,14 @@ module _ {H P : Type 0} where
 
   -- ---- when a pair is needed and no number is left
 
-  -- These are candidates, and a pair, at which the request can be served. None: the request is dropped before.
+  -- These are candidates, and a pair, at which the request can be served. None: the request is dropped before that.
   abbrev pub Chooses : AgentRecord H P → RequestRecord → Option Places → Type 0
   Chooses s q None = MatchBool (names_another s q) (Unit {0}) (local_place s.local q ≡ None)
   Chooses s q (Some at) =
       (names_another s q ≡ false) × (local_place s.local q ≡ Some at.local) × IsRemotePlace s.remote q at.remote
       × IsPairBetween s.pairs at.local (remote_index s.remote at.remote) at.pair
 
-  -- A pair must be added there.
+  -- A pair must be added for these candidates.
   abbrev pub wants_pair : AgentRecord H P → RequestRecord → Places → Bool
   wants_pair s q at =
       is_admitted (conflict_of s q) s.controlling q && wants_pair_at at.remote at.pair (candidate_at s.local at.local).discarded
@@ -212,6 +212,6 @@ module _ {H P : Type 0} where
   MayRefuseRequest s q OutOfMemory = ¬ AlwaysLacksNumber s q
   MayRefuseRequest s q _ = ⊥
 
-  -- Queueing an early request fails only for an allocation failure.
+  -- Why the arrival of a request may fail: queueing it fails only for an allocation failure, and serving it as above.
   abbrev pub MayRefuseArrival : AgentRecord H P → RequestRecord → IceError → Type 0
   MayRefuseArrival s q error = MatchOption s.remote_creds (error ≡ OutOfMemory) (λ _. MayRefuseRequest s q error)

@@ -1,5 +1,5 @@
 -- The external view of an agent, as its peer observes it: its role, its early requests, its packets, its pending transactions and
--- its valid paths. And the effect that one transition may have on them.
+-- its valid paths. Also the effect that one transition may have on this view.
 use Rattle.std.specs.Prelude.{◌≡◌, ℕ, Bool, true, false, not, nat_lt, nat_le, List, [], Option, Some, None, ◌⊎◌, if◌then◌else◌}
 use Rattle.std.specs.Option.{option_map_or}
 use Rattle.is_proto.specs.Lists.{Has}
@@ -18,7 +18,7 @@ pub record Mail : Type 0 where
   -- It is an error response with code 487 (Role Conflict).
   pub is_conflict : Bool
 
--- a pending transaction: a check that a pair stores, with the role in which it was sent
+-- A pending transaction: a check that a pair stores, with the role in which it was sent. A response does not remove it.
 pub record Kept : Type 0 where
   pub path : Path
   pub id : List ℕ
@@ -139,7 +139,7 @@ pub record RoleEffect (old : Standing) (d : Deed) (new : Standing) : Type 0 wher
   pub kept : (k : Kept) → Has new.kept k → Has old.kept k
       ⊎ ((d.issued ≡ Some record { path = k.path; class = class.Request; id = k.id }) × (k.controlling ≡ old.controlling)
       × (new.controlling ≡ old.controlling))
-  -- Each valid path was valid before, or receives its success response now. So does each path that is selected.
+  -- Each valid path was valid before, or its success response is received now. The same holds of each selected path.
   pub valid : old.lite ≡ false → d.makes_lite ≡ false → (path : Path) → Has new.valid path → Has old.valid path ⊎ MeetsSuccess old d path
   pub announced : old.lite ≡ false → d.makes_lite ≡ false → (path : Path) → Has d.announced path → Has old.valid path ⊎ MeetsSuccess old d path
   -- A clear leaves no pending transaction and no valid path, and selects no path.

@@ -156,15 +156,15 @@ pub fn parts_are_runs<H: Sha1HmacProvider, P: LocalPreference>()
     ensures { PartsAreRuns H.mac P.answers }
 {}
 
-/// From a newly created agent: if n pairs are due by an earlier time at a `handle_timeout` call of the log, and the call begins n
-/// rounds in which the checks of one of these pairs are answered, a path is selected in one of the rounds, while the agent is
-/// controlling.
+/// From a newly created agent: at a `handle_timeout` call of the log n pairs are due by an earlier time. The call begins n rounds
+/// in which the checks of one of these pairs are answered, while the agent is controlling. Then a path is selected in one of the
+/// rounds.
 pub fn answered_rounds_announce<H: Sha1HmacProvider, P: LocalPreference>()
     ensures { AnsweredRoundsAnnounce H.mac P.answers }
 {}
 
-/// From a newly created agent: if `poll_timeout` is called while no packet is queued, a `handle_timeout` call at the returned
-/// time or later makes progress: a check is sent, a pair is removed, or there are fewer early requests.
+/// From a newly created agent: if `poll_timeout` is called while no packet is queued, a `handle_timeout` call at the time that it
+/// returns, or later, makes progress: a check is sent, a pair is removed, or there are fewer early requests.
 pub fn turns_are_of_use<H: Sha1HmacProvider, P: LocalPreference>()
     ensures { TurnsAreOfUse H.mac P.answers }
 {}
@@ -245,14 +245,14 @@ pub fn pairs_stay_in_logs<H: Sha1HmacProvider, P: LocalPreference>()
     ensures { PairsStayOn H.mac P.answers }
 {}
 
-/// From a newly created agent: if the peer nominated a path to a controlled agent, and a success response was received on it, in
-/// either order, the next `handle_timeout` call selects a path, if only one pair joins this path and no pair that joins it may
-/// have been removed.
+/// From a newly created agent: the peer nominated a path to a controlled agent, and a success response was received on it, in
+/// either order. Then a path is selected by the end of the next `handle_timeout` call, if only one pair joins this path and no
+/// pair that joins it may have been removed.
 pub fn asked_are_announced<H: Sha1HmacProvider, P: LocalPreference>()
     ensures { AskedAreAnnounced H.mac P.answers }
 {}
 
-/// From a newly created agent: if one of n pairs is due, a check is sent on its path in one of 2n - 1 rounds, and one more for
+/// From a newly created agent: one of n pairs is due. Then a check is sent on its path in one of 2n - 1 rounds, and one more for
 /// each pair that is added in them, unless a success response is received on the path in one of them. This holds in either role,
 /// whatever the agent receives and nominates.
 pub fn pairs_are_reached<H: Sha1HmacProvider, P: LocalPreference>()
@@ -264,8 +264,9 @@ pub fn courses_reach<H: Sha1HmacProvider, P: LocalPreference>()
     ensures { CoursesReach H.mac P.answers }
 {}
 
-/// If the checks on the pair's path are answered in such rounds, and the peer nominates the path to a controlled agent, the next
-/// `handle_timeout` call selects a path, if only one pair joins this path and no pair that joins it may have been removed.
+/// In such rounds the checks on the pair's path are answered, and the peer nominates the path to a controlled agent. Then a path
+/// is selected by the end of the next `handle_timeout` call, if only one pair joins this path and no pair that joins it may have
+/// been removed.
 pub fn asked_rounds_announce<H: Sha1HmacProvider, P: LocalPreference>()
     ensures { AskedRoundsAnnounce H.mac P.answers }
 {}
@@ -282,9 +283,9 @@ pub fn checks_ask<H: Sha1HmacProvider, P: LocalPreference>()
     checks_are_answered::<H, P>();
 }
 
-/// If a controlled agent, which may share its random source, accepted the nomination of a path and received a success response on
-/// it, a path is selected by the next `handle_timeout` call that serves no early request, unless a pair that joins the path may
-/// have been removed.
+/// A controlled agent, which may share its random source, accepted the nomination of a path and received a success response on
+/// it. Then a path is selected by the end of the next `handle_timeout` call that serves no early request, unless a pair that
+/// joins the path may have been removed.
 pub fn granted_are_announced<H: Sha1HmacProvider, P: LocalPreference>()
     ensures { GrantedAreAnnounced H.mac P.answers }
 {}
