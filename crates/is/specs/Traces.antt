@@ -46,7 +46,7 @@ pub record HasAnswer (es : List WorldEntry) (side : Side) (id : TransId) (end : 
   pub answer : IsAt es t.answered (Takes side class.Success id)
   pub in_order : (t.checked < t.delivered) × (t.delivered ≤ t.replied) × (t.replied < t.answered) × (t.answered < end)
 
--- The side sent a check on the path, which got such a response, and did not clear its pairs since then.
+-- The side sent a check on the path, which got such a response, and the side did not clear its pairs since then.
 pub record IsTrace (es : List WorldEntry) (side : Side) (path : Path) (end : ℕ) (t : Trace) : Type 0 where
   pub id : TransId
   pub check : IsAt es t.checked (Issues side path class.Request id)

@@ -101,8 +101,7 @@ module _ {H P : Type 0} (mac : H → List ℕ → List ℕ → List ℕ) (answer
     pub happens : world.Happens mac answers mid u x.event x.outcome after v
     pub leads : world.Run mac answers after v n rest last t
 
-  -- From the event on at which the agent with the smaller tie-breaker met the other one's role (`Meets`), the roles are
-  -- different.
+  -- Once the agent with the smaller tie-breaker has met the other one's role (`Meets`), the roles are different.
   abbrev pub RolesDifferOnceMet : WorldRecord H P → Stream → List (Logged P) → Type 0
   RolesDifferOnceMet first s log =
       (greater : Side) → IsFairWorld first greater log → (mid : WorldRecord H P) (x : Logged P) (rest : List (Logged P))

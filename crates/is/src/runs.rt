@@ -80,8 +80,9 @@ pub fn run<H: Sha1HmacProvider + Drop, P: LocalPreference, R: Rng>(
     ensures asked_for { IsFresh (record_of agent.old) → NeverLite (log_of calls.items result)
         → PathsAreAskedFor H.mac P.answers (record_of agent.old) (R.stream rng.old) (log_of calls.items result) }
 
-    // After an accepted success response, and after a `handle_timeout` call that served no early request, the path that was
-    // selected last since the last clear is that of an eligible pair with the greatest stored priority, if a pair is eligible.
+    // Nomination points are accepted success responses, and `handle_timeout` calls that served no early request. After each of
+    // them, if a pair is eligible, the path that was selected last since the last clear is that of an eligible pair with the
+    // greatest stored priority.
     ensures nomination { IsFresh (record_of agent.old)
         → LastPathsAreTop H.mac P.answers (record_of agent.old) (R.stream rng.old) (log_of calls.items result) }
 
@@ -95,9 +96,9 @@ pub fn run<H: Sha1HmacProvider + Drop, P: LocalPreference, R: Rng>(
     // Each segment of the log leads from one state to another, to which the two next clauses refer.
     ensures parts { PartsStand H.mac P.answers (record_of agent.old) (R.stream rng.old) (log_of calls.items result) }
 
-    // Progress: a `handle_timeout` call at the next timeout, or later, makes progress: a check is sent, a pair is removed, or
-    // there are fewer early requests. Precondition: `poll_timeout` was called while no packet was queued, and the agent is not
-    // lite, knows the peer and has a pair.
+    // Progress: a `handle_timeout` call at the time that `poll_timeout` returned, or later, makes progress: a check is sent, a
+    // pair is removed, or there are fewer early requests. Precondition: no packet was queued when `poll_timeout` was called, and
+    // the agent is not lite, knows the peer and has a pair.
     ensures of_use { IsFresh (record_of agent.old)
         → MomentsAreOfUse H.mac P.answers (record_of agent.old) (R.stream rng.old) (log_of calls.items result) }
 

@@ -206,10 +206,10 @@ fn first_trace(entries: &[WorldEntry], side: Side, path: Path, end: usize) -> Op
 impl WorldLog {
     ghost use Rattle.is.specs.Traces.{IsFirstTrace};
 
-    /// The causal chain of the path that an entry selected, the one at this index of its paths: a check that was sent on the path
-    /// reached the other agent, which issued a success response, and the response was received; all of this since the pairs of
-    /// the selecting agent were last cleared. Of several such chains it is the first one, in order of `checked`, then
-    /// `delivered`, `replied` and `answered`.
+    /// The causal chain of the path that an entry selected, the one at this index of its paths. A check that was sent on the path
+    /// reached the other agent, that agent issued a success response, and the response was received. All of this happened since
+    /// the pairs of the selecting agent were last cleared. Of several such chains, the result is the first one in order of
+    /// `checked`, then `delivered`, `replied` and `answered`.
     ///
     /// None if there is no chain, or if no path was selected at this index. Does not allocate.
     pub fn trace(&self, entry: usize, place: usize) -> Option<Trace>

@@ -432,7 +432,7 @@ impl<H: Sha1HmacProvider + Drop, P: LocalPreference> TwoAgents<H, P> {
         // The other agent switches its role at most once.
         ensures yields { LesserYieldsOnce (world_of self.old) (logged events.items result.entries.items) }
 
-        // From the event on at which this other agent met the role of the first, the roles are different.
+        // Once this other agent has met the role of the first (`Meets`), the roles are different.
         ensures differ { RolesDifferOnceMet H.mac P.answers (world_of self.old) (R.stream rng.old) (logged events.items result.entries.items) }
 
         // Whatever roles they start with: if a check of either is delivered, and its 487 if it gets one, the roles are different
@@ -449,10 +449,10 @@ impl<H: Sha1HmacProvider + Drop, P: LocalPreference> TwoAgents<H, P> {
         // controlling agent selects a path in one of the rounds, whatever else happens.
         ensures rounds { DeliveredRoundsAnnounce H.mac P.answers (world_of self.old) (R.stream rng.old) (logged events.items result.entries.items) }
 
-        // Progress of the controlled agent: the controlling agent checks the reverse of a path whose pairs it nominated, the
-        // controlled agent checks the path, and the network delivers the first check, the second, and its success response. Then
-        // the controlled agent selected a path by its next `handle_timeout` call that serves no early request. Precondition: only
-        // one of its pairs joins the path, and none of its calls may have removed such a pair.
+        // Progress of the controlled agent: the controlling agent checks the reverse of a path whose pairs it nominated, and the
+        // controlled agent checks the path. The network delivers the first check, the second, and its success response. Then the
+        // controlled agent selected a path by its next `handle_timeout` call that serves no early request. Precondition: only one
+        // of its pairs joins the path, and none of its calls may have removed such a pair.
         ensures granted { GrantedPathsAnnounce H.mac P.answers (world_of self.old) (R.stream rng.old) (logged events.items result.entries.items) }
 
         // Progress of both: the controlling agent has a nominated pair, and the controlled agent a pair on the reverse path. Each

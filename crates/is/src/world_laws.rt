@@ -27,7 +27,7 @@ pub(crate) fn lesser_yields_once<H: Sha1HmacProvider, P: LocalPreference>()
     fresh_is_sound::<H, P>();
 }
 
-/// After they met, the roles are different.
+/// Once the agent with the smaller tie-breaker has met the other one's role, the roles are different.
 pub(crate) fn roles_differ_once_met<H: Sha1HmacProvider, P: LocalPreference>()
     ensures { DiffersLaw H.mac P.answers }
 {
