@@ -9,7 +9,7 @@ use is::stun::Builder;
 struct Answers;
 
 impl Subject for Answers {
-    fn play(&self, player: &mut Player) -> Emitted {
+    fn play(&self, player: &mut Player) -> Told {
         off_its_path_nothing_comes_of_an_answer(player)?;
         an_answer_on_its_path_announces_it(player)?;
         figures_are_those_of_the_announced_pair(player)?;
@@ -40,7 +40,7 @@ fn drops_off_path(player: &mut Player, from: SocketAddr, to: SocketAddr) -> bool
         && player.has_no_figures()
 }
 
-fn off_its_path_nothing_comes_of_an_answer(player: &mut Player) -> Emitted {
+fn off_its_path_nothing_comes_of_an_answer(player: &mut Player) -> Told {
     Story("off_its_path_nothing_comes_of_an_answer").holds(&[
         player.set_up_pair(),
         player.checks(0) && player.tells(b"Rc"),
@@ -67,7 +67,7 @@ fn announces(player: &mut Player, from: SocketAddr, to: SocketAddr) -> bool {
     }
 }
 
-fn an_answer_on_its_path_announces_it(player: &mut Player) -> Emitted {
+fn an_answer_on_its_path_announces_it(player: &mut Player) -> Told {
     Story("an_answer_on_its_path_announces_it").holds(&[
         player.set_up_pair(),
         player.checks(0) && player.tells(b"Rc"),
@@ -78,14 +78,14 @@ fn an_answer_on_its_path_announces_it(player: &mut Player) -> Emitted {
     ])
 }
 
-fn figures_are_those_of_the_announced_pair(player: &mut Player) -> Emitted {
+fn figures_are_those_of_the_announced_pair(player: &mut Player) -> Told {
     Story("figures_are_those_of_the_announced_pair").holds(&[
         player.set_up_pair(),
         player.has_no_figures() && player.complete_check(at(1, 1000)),
         player.has_figures(50, 50, 1),
         // an answer that comes again counts again
         player.hears_peer(70) && player.has_figures(70, 120, 2),
-        player.agent.stats().bind_success_recv == 2,
+        same(player.agent.stats().bind_success_recv, 2, player),
     ])
 }
 
@@ -108,7 +108,7 @@ fn expects_forged(player: &mut Player) -> bool {
     }
 }
 
-fn an_answer_of_another_key_or_id_is_none(player: &mut Player) -> Emitted {
+fn an_answer_of_another_key_or_id_is_none(player: &mut Player) -> Told {
     Story("an_answer_of_another_key_or_id_is_none").holds(&[
         player.set_up_pair(),
         player.checks(0) && player.tells(b"Rc"),
@@ -131,7 +131,7 @@ fn expects_failure(player: &mut Player) -> bool {
     player.expects(message, "farpass")
 }
 
-fn a_failure_of_another_code_is_taken_and_does_nothing(player: &mut Player) -> Emitted {
+fn a_failure_of_another_code_is_taken_and_does_nothing(player: &mut Player) -> Told {
     Story("a_failure_of_another_code_is_taken_and_does_nothing").holds(&[
         player.set_up_pair(),
         player.checks(0) && expects_failure(player),
@@ -151,7 +151,7 @@ fn checks_under_one_id(player: &mut Player, ms: u64) -> bool {
 
 const OTHER: &str = "candidate:1 1 udp 2130706175 10.0.0.3 3000 typ host";
 
-fn of_equal_ids_the_one_on_the_path_is_answered(player: &mut Player) -> Emitted {
+fn of_equal_ids_the_one_on_the_path_is_answered(player: &mut Player) -> Told {
     Story("of_equal_ids_the_one_on_the_path_is_answered").holds(&[
         player.set_up_pair(),
         checks_under_one_id(player, 0) && player.hears(OTHER),
@@ -170,7 +170,7 @@ fn checks_under_zeros(player: &mut Player, ms: u64, destination: SocketAddr) -> 
     player.agent.handle_timeout(later(ms), &mut Zeros).is_ok()
         && player.sends()
         && player.has_sent_from(at(1, 1000), destination)
-        && player.sent_id() == Some(TransId([0; 12]))
+        && same(player.sent_id(), Some(TransId([0; 12])), player)
 }
 
 /// Sets up an agent that has checked both addresses of the peer under one id; an answer of that id is to come.
@@ -183,7 +183,7 @@ fn set_up_two_checks(player: &mut Player) -> bool {
         && player.expects_answer(at(1, 1000))
 }
 
-fn of_two_checks_of_one_id_that_of_the_pair_left_is_answered(player: &mut Player) -> Emitted {
+fn of_two_checks_of_one_id_that_of_the_pair_left_is_answered(player: &mut Player) -> Told {
     Story("of_two_checks_of_one_id_that_of_the_pair_left_is_answered").holds(&[
         set_up_two_checks(player),
         player.loses(PEER) && player.takes(60, at(3, 2000), at(1, 1000)),
@@ -191,7 +191,7 @@ fn of_two_checks_of_one_id_that_of_the_pair_left_is_answered(player: &mut Player
     ])
 }
 
-fn of_two_checks_of_one_id_that_of_the_pair_gone_is_not(player: &mut Player) -> Emitted {
+fn of_two_checks_of_one_id_that_of_the_pair_gone_is_not(player: &mut Player) -> Told {
     Story("of_two_checks_of_one_id_that_of_the_pair_gone_is_not").holds(&[
         set_up_two_checks(player),
         player.loses(SECOND) && !player.takes(60, at(3, 2000), at(1, 1000)),
@@ -212,7 +212,7 @@ fn accepts_bare_failure(player: &Player) -> bool {
     }
 }
 
-fn a_failure_that_carries_nothing_is_refused(player: &mut Player) -> Emitted {
+fn a_failure_that_carries_nothing_is_refused(player: &mut Player) -> Told {
     Story("a_failure_that_carries_nothing_is_refused").holds(&[
         player.set_up_pair() && checks_under_zeros(player, 0, at(2, 2000)),
         !accepts_bare_failure(player),
@@ -226,18 +226,18 @@ fn answered_from(player: &mut Player, source: SocketAddr) -> (bool, bool) {
     (taken, player.accepts())
 }
 
-fn of_two_checks_of_one_id_each_goes_with_its_pair(player: &mut Player) -> Emitted {
+fn of_two_checks_of_one_id_each_goes_with_its_pair(player: &mut Player) -> Told {
     let (first, second) = (at(2, 2000), at(3, 2000));
     Story("of_two_checks_of_one_id_each_goes_with_its_pair").holds(&[
-        set_up_two_checks(player) && answered_from(player, second) == (true, true),
-        player.loses(PEER) && answered_from(player, second) == (true, true),
-        answered_from(player, first) == (false, true),
-        player.loses(SECOND) && answered_from(player, second) == (false, false),
+        set_up_two_checks(player) && same(answered_from(player, second), (true, true), player),
+        player.loses(PEER) && same(answered_from(player, second), (true, true), player),
+        same(answered_from(player, first), (false, true), player),
+        player.loses(SECOND) && same(answered_from(player, second), (false, false), player),
         // the other way round
-        set_up_two_checks(player) && answered_from(player, second) == (true, true),
-        player.loses(SECOND) && answered_from(player, second) == (false, true),
-        answered_from(player, first) == (true, true),
-        player.loses(PEER) && answered_from(player, first) == (false, false),
+        set_up_two_checks(player) && same(answered_from(player, second), (true, true), player),
+        player.loses(SECOND) && same(answered_from(player, second), (false, true), player),
+        same(answered_from(player, first), (true, true), player),
+        player.loses(PEER) && same(answered_from(player, first), (false, false), player),
     ])
 }
 
@@ -254,7 +254,7 @@ fn has_learnt(player: &Player, base: SocketAddr, prio: u32) -> bool {
     is_learnt
 }
 
-fn an_unknown_mapped_address_is_a_candidate(player: &mut Player) -> Emitted {
+fn an_unknown_mapped_address_is_a_candidate(player: &mut Player) -> Told {
     Story("an_unknown_mapped_address_is_a_candidate").holds(&[
         player.set_up_pair(),
         player.complete_check(at(9, 9000)),
@@ -264,7 +264,7 @@ fn an_unknown_mapped_address_is_a_candidate(player: &mut Player) -> Emitted {
     ])
 }
 
-fn a_discarded_candidate_keeps_its_address_from_being_learnt(player: &mut Player) -> Emitted {
+fn a_discarded_candidate_keeps_its_address_from_being_learnt(player: &mut Player) -> Told {
     Story("a_discarded_candidate_keeps_its_address_from_being_learnt").holds(&[
         player.set_up_pair(),
         player.host(at(9, 9000)),
@@ -273,12 +273,12 @@ fn a_discarded_candidate_keeps_its_address_from_being_learnt(player: &mut Player
     ])
 }
 
-fn a_learnt_candidate_pairs_with_later_ones(player: &mut Player) -> Emitted {
+fn a_learnt_candidate_pairs_with_later_ones(player: &mut Player) -> Told {
     Story("a_learnt_candidate_pairs_with_later_ones").holds(&[
         player.set_up_pair(),
         player.complete_check(at(9, 9000)),
         // it alone is left
         player.loses("candidate:1 1 udp 1 10.0.0.1 1000 typ host"),
-        player.hears(OTHER) && player.places_with(OTHER) == Some((1, 1)),
+        player.hears(OTHER) && same(player.places_with(OTHER), Some((1, 1)), player),
     ])
 }

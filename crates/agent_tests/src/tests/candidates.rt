@@ -7,7 +7,7 @@ use is::{CandidateKind, LocalPreference};
 struct Candidates;
 
 impl Subject for Candidates {
-    fn play(&self, player: &mut Player) -> Emitted {
+    fn play(&self, player: &mut Player) -> Told {
         the_greatest_priority_is_refused(player)?;
         equal_candidates_supersede_unless_they_are_less(player)?;
         a_candidate_that_comes_again_is_as_it_was(player)?;
@@ -105,14 +105,14 @@ fn refuses_greatest(player: &mut Player) -> bool {
     }
 }
 
-fn the_greatest_priority_is_refused(player: &mut Player) -> Emitted {
+fn the_greatest_priority_is_refused(player: &mut Player) -> Told {
     Story("the_greatest_priority_is_refused").holds(&[
         set_up_without_peer(player),
         refuses_greatest(player) && player.is_at(&[]),
     ])
 }
 
-fn equal_candidates_supersede_unless_they_are_less(player: &mut Player) -> Emitted {
+fn equal_candidates_supersede_unless_they_are_less(player: &mut Player) -> Told {
     Story("equal_candidates_supersede_unless_they_are_less").holds(&[
         set_up_without_peer(player),
         player.own("candidate:1 1 udp 100 10.0.0.1 1000 typ host"),
@@ -136,7 +136,7 @@ fn is_first(player: &Player, ufrag: &str, prio: u32) -> bool {
 
 const OWN: &str = "candidate:1 1 udp 1 10.0.0.1 1000 typ host";
 
-fn a_candidate_that_comes_again_is_as_it_was(player: &mut Player) -> Emitted {
+fn a_candidate_that_comes_again_is_as_it_was(player: &mut Player) -> Told {
     Story("a_candidate_that_comes_again_is_as_it_was").holds(&[
         player.set_up_pair(),
         player.loses(OWN) && !player.loses(OWN),
@@ -148,14 +148,14 @@ fn a_candidate_that_comes_again_is_as_it_was(player: &mut Player) -> Emitted {
     ])
 }
 
-fn discarded_candidates_count_for_preference(player: &mut Player) -> Emitted {
+fn discarded_candidates_count_for_preference(player: &mut Player) -> Told {
     Story("discarded_candidates_count_for_preference").holds(&[
         player.set_up_alone(),
         player.loses(OWN) && stands_at(player, at(1, 1001), 2130705663),
     ])
 }
 
-fn the_first_equal_candidate_decides_though_discarded(player: &mut Player) -> Emitted {
+fn the_first_equal_candidate_decides_though_discarded(player: &mut Player) -> Told {
     Story("the_first_equal_candidate_decides_though_discarded").holds(&[
         set_up_without_peer(player),
         player.own("candidate:1 1 udp 200 10.0.0.1 1000 typ host"),
@@ -167,7 +167,7 @@ fn the_first_equal_candidate_decides_though_discarded(player: &mut Player) -> Em
     ])
 }
 
-fn a_lite_agent_has_hosts_alone(player: &mut Player) -> Emitted {
+fn a_lite_agent_has_hosts_alone(player: &mut Player) -> Told {
     Story("a_lite_agent_has_hosts_alone").holds(&[
         set_up_without_peer(player) && player.becomes_lite(),
         !player.own("candidate:1 1 udp 100 10.0.0.1 1000 typ srflx"),
@@ -182,7 +182,7 @@ fn ignores(player: &mut Player, line: &str) -> bool {
     player.hears(line) && player.has_heard_of(&[at(2, 2000)])
 }
 
-fn some_remote_candidates_are_ignored(player: &mut Player) -> Emitted {
+fn some_remote_candidates_are_ignored(player: &mut Player) -> Told {
     Story("some_remote_candidates_are_ignored").holds(&[
         player.set_up_pair(),
         ignores(
@@ -210,7 +210,7 @@ fn are_unnamed(player: &Player) -> bool {
     true
 }
 
-fn a_candidate_without_a_pair_is_stored_again(player: &mut Player) -> Emitted {
+fn a_candidate_without_a_pair_is_stored_again(player: &mut Player) -> Told {
     Story("a_candidate_without_a_pair_is_stored_again").holds(&[
         player.set_up_alone() && player.limit_pairs(0),
         player.hears(PEER) && player.hears(PEER),
@@ -218,7 +218,7 @@ fn a_candidate_without_a_pair_is_stored_again(player: &mut Player) -> Emitted {
     ])
 }
 
-fn lists_skip_what_was_taken_back(player: &mut Player) -> Emitted {
+fn lists_skip_what_was_taken_back(player: &mut Player) -> Told {
     Story("lists_skip_what_was_taken_back").holds(&[
         player.set_up_pair(),
         player.hears("candidate:1 1 udp 7 10.0.0.3 3000 typ host"),

@@ -28,13 +28,15 @@ pub(super) fn generator() -> Pcg32 {
     Pcg32::new(42, 54)
 }
 
-/// An agent, its random source and memory, the packet that it sent last, and the bytes that come to it next.
+/// An agent, its random source and memory, the packet that it sent last, the first comparison that failed, and the bytes that
+/// come to the agent next.
 #[derive(Drop)]
 pub(super) struct Player {
     pub(super) agent: Agent,
     pub(super) rng: Pcg32,
     pub(super) alloc: Global,
     pub(super) sent: Option<Transmit>,
+    pub(super) difference: Option<String>,
     coming: Vec<u8>,
 }
 
@@ -51,6 +53,7 @@ impl Player {
             rng: Pcg32::seed_from_u64(tie_breaker),
             alloc,
             sent: None,
+            difference: None,
             coming: Vec::new(alloc),
         })
     }
@@ -62,7 +65,8 @@ impl Player {
     /// Is a new agent, as `new` makes it.
     pub(super) fn begins(&mut self, ufrag: &str, pass: &str, tie_breaker: u64) -> bool {
         match Player::new(self.alloc, ufrag, pass, tie_breaker) {
-            Ok(player) => {
+            Ok(mut player) => {
+                player.difference = self.difference.take();
                 *self = player;
                 true
             }

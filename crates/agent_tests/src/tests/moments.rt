@@ -6,7 +6,7 @@ use super::*;
 struct Moments;
 
 impl Subject for Moments {
-    fn play(&self, player: &mut Player) -> Emitted {
+    fn play(&self, player: &mut Player) -> Told {
         a_path_is_announced_and_nominated(player)?;
         a_pair_without_answers_is_given_up(player)?;
         a_waiting_packet_leaves_due_moments_open(player)?;
@@ -23,7 +23,7 @@ fn moments_pass(rt: HostRuntime) -> Result<(), Fail> {
     tell(rt.alloc(), &Moments)
 }
 
-fn a_path_is_announced_and_nominated(player: &mut Player) -> Emitted {
+fn a_path_is_announced_and_nominated(player: &mut Player) -> Told {
     Story("a_path_is_announced_and_nominated").holds(&[
         player.set_up_pair(),
         player.checks(0) && player.has_checked(88, false),
@@ -33,7 +33,7 @@ fn a_path_is_announced_and_nominated(player: &mut Player) -> Emitted {
         player.checks(50) && player.has_checked(92, true),
         // the announced pair stands at the greatest priority: it is not announced again
         player.emits_nothing(),
-        player.agent.stats().nomination_send_count == 1,
+        same(player.agent.stats().nomination_send_count, 1, player),
     ])
 }
 
@@ -50,18 +50,18 @@ fn follows_schedule(player: &mut Player) -> bool {
     true
 }
 
-fn a_pair_without_answers_is_given_up(player: &mut Player) -> Emitted {
+fn a_pair_without_answers_is_given_up(player: &mut Player) -> Told {
     Story("a_pair_without_answers_is_given_up").holds(&[
         player.set_up_pair(),
         follows_schedule(player) && player.tells(b"Rc"),
         player.timeout(18750) && player.tells(b"x") && player.sends_nothing(),
         player.pair_with(PEER).is_none() && player.wakes_at(21750),
         player.agent.state().is_disconnected(),
-        player.agent.stats().bind_request_sent == 9,
+        same(player.agent.stats().bind_request_sent, 9, player),
     ])
 }
 
-fn a_waiting_packet_leaves_due_moments_open(player: &mut Player) -> Emitted {
+fn a_waiting_packet_leaves_due_moments_open(player: &mut Player) -> Told {
     Story("a_waiting_packet_leaves_due_moments_open").holds(&[
         player.set_up_pair(),
         player.agent.poll_timeout().is_none(),
@@ -71,7 +71,7 @@ fn a_waiting_packet_leaves_due_moments_open(player: &mut Player) -> Emitted {
     ])
 }
 
-fn an_earlier_moment_makes_no_check(player: &mut Player) -> Emitted {
+fn an_earlier_moment_makes_no_check(player: &mut Player) -> Told {
     Story("an_earlier_moment_makes_no_check").holds(&[
         player.set_up_pair(),
         player.checks(1000),
@@ -87,7 +87,7 @@ fn nominates_and_wakes_at(player: &mut Player, ms: u64) -> bool {
         && player.wakes_at(ms)
 }
 
-fn a_nomination_leaves_a_due_moment_that_was_asked_for(player: &mut Player) -> Emitted {
+fn a_nomination_leaves_a_due_moment_that_was_asked_for(player: &mut Player) -> Told {
     Story("a_nomination_leaves_a_due_moment_that_was_asked_for").holds(&[
         player.set_up_credentials(),
         player.hears(PEER) && player.checks(0) && player.wakes_at(250),
@@ -95,7 +95,7 @@ fn a_nomination_leaves_a_due_moment_that_was_asked_for(player: &mut Player) -> E
     ])
 }
 
-fn a_nominated_pair_that_was_not_asked_is_due(player: &mut Player) -> Emitted {
+fn a_nominated_pair_that_was_not_asked_is_due(player: &mut Player) -> Told {
     Story("a_nominated_pair_that_was_not_asked_is_due").holds(&[
         player.set_up_credentials(),
         player.hears(PEER) && player.checks(0),
@@ -103,7 +103,7 @@ fn a_nominated_pair_that_was_not_asked_is_due(player: &mut Player) -> Emitted {
     ])
 }
 
-fn another_delay_asks_for_due_moments_anew(player: &mut Player) -> Emitted {
+fn another_delay_asks_for_due_moments_anew(player: &mut Player) -> Told {
     Story("another_delay_asks_for_due_moments_anew").holds(&[
         player.set_up_pair(),
         player.checks(0) && player.wakes_at(250),
@@ -114,7 +114,7 @@ fn another_delay_asks_for_due_moments_anew(player: &mut Player) -> Emitted {
     ])
 }
 
-fn fewer_checks_give_up_sooner(player: &mut Player) -> Emitted {
+fn fewer_checks_give_up_sooner(player: &mut Player) -> Told {
     Story("fewer_checks_give_up_sooner").holds(&[
         player.set_up_pair() && player.tries_once(),
         player.checks(0),

@@ -10,7 +10,7 @@ use is::Duration;
 struct Progress;
 
 impl Subject for Progress {
-    fn play(&self, player: &mut Player) -> Emitted {
+    fn play(&self, player: &mut Player) -> Told {
         the_least_of_four_pairs_is_announced_in_the_fourth_round(player)?;
         the_least_of_a_hundred_pairs_is_announced_in_the_hundredth_round(player)?;
         without_an_advance_the_wake_up_is_the_last_moment(player)?;
@@ -118,30 +118,31 @@ fn announced(player: &mut Player, address: SocketAddr, rounds: u64) -> Option<(u
 
 /// So many rounds pass in which it checks nothing, and announces nothing.
 fn checks_nothing(player: &mut Player, rounds: u64) -> bool {
-    announced(player, peer(1), rounds).is_none() && player.agent.stats().bind_request_sent == 0
+    announced(player, peer(1), rounds).is_none()
+        && same(player.agent.stats().bind_request_sent, 0, player)
 }
 
 // ---- of n pairs the last is checked in round n, (n - 1) * 50 ms behind the first
 
-fn the_least_of_four_pairs_is_announced_in_the_fourth_round(player: &mut Player) -> Emitted {
+fn the_least_of_four_pairs_is_announced_in_the_fourth_round(player: &mut Player) -> Told {
     Story("the_least_of_four_pairs_is_announced_in_the_fourth_round").holds(&[
         set_up_pairs(player, 4),
-        announced(player, peer(4), 100) == Some((4, 150)),
-        player.agent.stats().bind_request_sent == 4,
+        same(announced(player, peer(4), 100), Some((4, 150)), player),
+        same(player.agent.stats().bind_request_sent, 4, player),
     ])
 }
 
-fn the_least_of_a_hundred_pairs_is_announced_in_the_hundredth_round(player: &mut Player) -> Emitted {
+fn the_least_of_a_hundred_pairs_is_announced_in_the_hundredth_round(player: &mut Player) -> Told {
     Story("the_least_of_a_hundred_pairs_is_announced_in_the_hundredth_round").holds(&[
         set_up_pairs(player, 100),
-        announced(player, peer(100), 200) == Some((100, 4950)),
-        player.agent.stats().bind_request_sent == 100,
+        same(announced(player, peer(100), 200), Some((100, 4950)), player),
+        same(player.agent.stats().bind_request_sent, 100, player),
     ])
 }
 
 // ---- runs that hold it up
 
-fn without_an_advance_the_wake_up_is_the_last_moment(player: &mut Player) -> Emitted {
+fn without_an_advance_the_wake_up_is_the_last_moment(player: &mut Player) -> Told {
     Story("without_an_advance_the_wake_up_is_the_last_moment").holds(&[
         set_up_pairs(player, 2) && player.set_pacing(0),
         player.checks(100) && player.wakes_at(100),
@@ -158,16 +159,18 @@ fn set_up_initial_rto(player: &mut Player, nanos: u64) -> bool {
     true
 }
 
-fn below_a_millisecond_a_pair_goes_twice_before_another(player: &mut Player) -> Emitted {
+fn below_a_millisecond_a_pair_goes_twice_before_another(player: &mut Player) -> Told {
     Story("below_a_millisecond_a_pair_goes_twice_before_another").holds(&[
         // due again at 1 ms, behind the other
-        set_up_initial_rto(player, 1_000_000) && announced(player, peer(2), 9) == Some((2, 50)),
+        set_up_initial_rto(player, 1_000_000)
+            && same(announced(player, peer(2), 9), Some((2, 50)), player),
         // due again at once, before the other of less priority
-        set_up_initial_rto(player, 999_999) && announced(player, peer(2), 9) == Some((3, 100)),
+        set_up_initial_rto(player, 999_999)
+            && same(announced(player, peer(2), 9), Some((3, 100)), player),
     ])
 }
 
-fn a_lite_agent_checks_nothing(player: &mut Player) -> Emitted {
+fn a_lite_agent_checks_nothing(player: &mut Player) -> Told {
     Story("a_lite_agent_checks_nothing").holds(&[
         player.set_up_alone() && player.becomes_lite(),
         hears_of_all(player, 1) && checks_nothing(player, 10),
@@ -176,14 +179,14 @@ fn a_lite_agent_checks_nothing(player: &mut Player) -> Emitted {
     ])
 }
 
-fn without_the_credentials_of_the_peer_nothing_is_checked(player: &mut Player) -> Emitted {
+fn without_the_credentials_of_the_peer_nothing_is_checked(player: &mut Player) -> Told {
     Story("without_the_credentials_of_the_peer_nothing_is_checked").holds(&[
         player.begins("near", "nearpass", 7) && player.takes_role(true),
         player.host(at(1, 1000)) && hears_of_all(player, 1),
         // its pair is due all the time
         checks_nothing(player, 10) && player.wakes_at(500),
         player.knows("farr", "farpass"),
-        announced(player, peer(1), 9) == Some((1, 500)),
+        same(announced(player, peer(1), 9), Some((1, 500)), player),
     ])
 }
 
@@ -210,14 +213,14 @@ fn set_up_one_checked(player: &mut Player) -> bool {
     set_up_pairs(player, 2) && player.checks(60_000) && player.has_sent_from(at(1, 1000), peer(1))
 }
 
-fn a_role_that_turns_twice_within_a_round_puts_a_pair_ahead(player: &mut Player) -> Emitted {
+fn a_role_that_turns_twice_within_a_round_puts_a_pair_ahead(player: &mut Player) -> Told {
     Story("a_role_that_turns_twice_within_a_round_puts_a_pair_ahead").holds(&[
         set_up_one_checked(player),
-        announced(player, peer(2), 9) == Some((1, 60_050)),
+        same(announced(player, peer(2), 9), Some((1, 60_050)), player),
         set_up_one_checked(player),
         turn_role(player, 60_010, true) && turn_role(player, 60_020, false),
         // the pair that was nominated meanwhile is checked once more
-        announced(player, peer(2), 9) == Some((2, 60_100)),
+        same(announced(player, peer(2), 9), Some((2, 60_100)), player),
     ])
 }
 
@@ -226,7 +229,7 @@ fn check_and_wait(player: &mut Player) -> bool {
     player.checks(0) && player.expects_answer(at(1, 1000)) && player.wakes_at(250)
 }
 
-fn a_pair_of_one_check_is_given_up_before_a_late_answer(player: &mut Player) -> Emitted {
+fn a_pair_of_one_check_is_given_up_before_a_late_answer(player: &mut Player) -> Told {
     Story("a_pair_of_one_check_is_given_up_before_a_late_answer").holds(&[
         set_up_pairs(player, 1) && check_and_wait(player) && player.checks(250),
         // the answer to the first check counts behind the second one too

@@ -6,7 +6,7 @@ use super::*;
 struct Queue;
 
 impl Subject for Queue {
-    fn play(&self, player: &mut Player) -> Emitted {
+    fn play(&self, player: &mut Player) -> Told {
         the_last_100_requests_wait(player)?;
         a_request_waits_as_long_as_a_pair_is_checked(player)?;
         an_old_request_is_dropped(player)?;
@@ -55,19 +55,22 @@ fn takes_many(player: &mut Player) -> bool {
 fn replies_in_order(player: &mut Player) -> bool {
     for before in 0..100u8 {
         let is_served = player.checks(0) && player.has_sent(Class::Success, 64);
-        if !is_served || player.sent_id() != Some(numbered(before + 1)) || !player.sends_nothing() {
+        if !is_served
+            || !same(player.sent_id(), Some(numbered(before + 1)), player)
+            || !player.sends_nothing()
+        {
             return false;
         }
     }
     true
 }
 
-fn the_last_100_requests_wait(player: &mut Player) -> Emitted {
+fn the_last_100_requests_wait(player: &mut Player) -> Told {
     Story("the_last_100_requests_wait").holds(&[
         set_up_without_peer(player),
         takes_many(player) && player.tells(b"D") && player.sends_nothing(),
         player.knows("SQAt", "x") && replies_in_order(player),
-        player.agent.stats().bind_request_recv == 100,
+        same(player.agent.stats().bind_request_recv, 100, player),
         // a moment that served a request is no last moment
         player.agent.poll_timeout().is_none(),
         player.checks(0) && player.has_sent(Class::Request, 88),
@@ -82,39 +85,39 @@ fn set_up_waiting_request(player: &mut Player) -> bool {
         && player.knows("SQAt", "x")
 }
 
-fn a_request_waits_as_long_as_a_pair_is_checked(player: &mut Player) -> Emitted {
+fn a_request_waits_as_long_as_a_pair_is_checked(player: &mut Player) -> Told {
     Story("a_request_waits_as_long_as_a_pair_is_checked").holds(&[
         set_up_waiting_request(player),
         player.checks(21499) && player.has_replied(PASSWORD),
     ])
 }
 
-fn an_old_request_is_dropped(player: &mut Player) -> Emitted {
+fn an_old_request_is_dropped(player: &mut Player) -> Told {
     Story("an_old_request_is_dropped").holds(&[
         set_up_waiting_request(player),
         player.timeout(21500) && player.sends_nothing() && player.wakes_at(24500),
     ])
 }
 
-fn without_delays_no_request_waits(player: &mut Player) -> Emitted {
+fn without_delays_no_request_waits(player: &mut Player) -> Told {
     Story("without_delays_no_request_waits").holds(&[
         set_up_waiting_request(player) && player.waits_at_most(0),
         player.timeout(0) && player.sends_nothing(),
     ])
 }
 
-fn a_refused_moment_changes_nothing(player: &mut Player) -> Emitted {
+fn a_refused_moment_changes_nothing(player: &mut Player) -> Told {
     Story("a_refused_moment_changes_nothing").holds(&[
         // the request wants a pair, and no number is left
         set_up_waiting_request(player) && player.skips_to(18446744073709551615),
         !player.timeout(0) && player.emits_nothing(),
-        player.agent.state() == IceConnectionState::New,
+        same(player.agent.state(), IceConnectionState::New, player),
         // it still waits, until it is too old
         !player.timeout(21499) && player.timeout(21500) && player.tells(b"Rc"),
     ])
 }
 
-fn a_waiting_request_wants_to_be_served_soon(player: &mut Player) -> Emitted {
+fn a_waiting_request_wants_to_be_served_soon(player: &mut Player) -> Told {
     Story("a_waiting_request_wants_to_be_served_soon").holds(&[
         set_up_without_peer(player),
         player.timeout(10) && player.wakes_at(3010),
@@ -122,7 +125,7 @@ fn a_waiting_request_wants_to_be_served_soon(player: &mut Player) -> Emitted {
     ])
 }
 
-fn a_waiting_request_outlives_a_restart(player: &mut Player) -> Emitted {
+fn a_waiting_request_outlives_a_restart(player: &mut Player) -> Told {
     Story("a_waiting_request_outlives_a_restart").holds(&[
         set_up_without_peer(player),
         player.receive_request(0, at(1, 1000)) && player.restarts("new1", "newpass", true),

@@ -8,7 +8,7 @@ use is_agent::emitted::{last_announced, last_issued};
 struct Requests;
 
 impl Subject for Requests {
-    fn play(&self, player: &mut Player) -> Emitted {
+    fn play(&self, player: &mut Player) -> Told {
         the_request_is_answered(player)?;
         its_source_is_told_of_once(player)?;
         its_source_is_told_of_once_over_each_protocol(player)?;
@@ -52,11 +52,11 @@ fn has_issued(player: &Player) -> bool {
 }
 
 /// So many requests were served.
-fn has_served(player: &Player, count: u64) -> bool {
-    player.agent.stats().bind_request_recv == count
+fn has_served(player: &mut Player, count: u64) -> bool {
+    same(player.agent.stats().bind_request_recv, count, player)
 }
 
-fn the_request_is_answered(player: &mut Player) -> Emitted {
+fn the_request_is_answered(player: &mut Player) -> Told {
     Story("the_request_is_answered").holds(&[
         player.set_up_credentials(),
         player.receive_request(0, at(1, 1000)) && has_issued(player),
@@ -65,13 +65,13 @@ fn the_request_is_answered(player: &mut Player) -> Emitted {
     ])
 }
 
-fn its_source_is_told_of_once(player: &mut Player) -> Emitted {
+fn its_source_is_told_of_once(player: &mut Player) -> Told {
     Story("its_source_is_told_of_once").holds(&[
         player.set_up_credentials(),
         player.receive_request(0, at(1, 1000)) && discovers(player),
         player.receive_request(1, at(1, 1000)) && player.tells(b""),
         player.agent.poll_timeout().is_none(),
-        player.agent.stats().discovered_recv_count == 1,
+        same(player.agent.stats().discovered_recv_count, 1, player),
     ])
 }
 
@@ -94,14 +94,14 @@ fn discovers_by(player: &mut Player, proto: Protocol) -> bool {
     receive_request_over(player, proto) && discovers_over(player, proto) && player.tells(b"")
 }
 
-fn its_source_is_told_of_once_over_each_protocol(player: &mut Player) -> Emitted {
+fn its_source_is_told_of_once_over_each_protocol(player: &mut Player) -> Told {
     Story("its_source_is_told_of_once_over_each_protocol").holds(&[
         player.set_up_credentials(),
         discovers_by(player, Protocol::Udp),
         discovers_by(player, Protocol::Tcp),
         receive_request_over(player, Protocol::Tcp) && player.tells(b""),
         receive_request_over(player, Protocol::Udp) && player.tells(b""),
-        player.agent.stats().discovered_recv_count == 2,
+        same(player.agent.stats().discovered_recv_count, 2, player),
     ])
 }
 
@@ -116,7 +116,7 @@ fn reacts_to_request(player: &mut Player) -> bool {
 }
 
 /// The request is for the one agent, and for none of the others.
-fn a_request_for_others_changes_nothing(player: &mut Player) -> Emitted {
+fn a_request_for_others_changes_nothing(player: &mut Player) -> Told {
     let other = "xJcE9AQAR7kczUDVOXRUCm";
     Story("a_request_for_others_changes_nothing").holds(&[
         set_up_named(player, "p9KA", PASSWORD, "SQAt") && reacts_to_request(player),
@@ -126,7 +126,7 @@ fn a_request_for_others_changes_nothing(player: &mut Player) -> Emitted {
     ])
 }
 
-fn a_request_to_no_local_candidate_is_dropped(player: &mut Player) -> Emitted {
+fn a_request_to_no_local_candidate_is_dropped(player: &mut Player) -> Told {
     Story("a_request_to_no_local_candidate_is_dropped").holds(&[
         player.set_up_credentials(),
         player.receive_request(0, at(1, 1001)) && player.sends_nothing(),
@@ -135,7 +135,7 @@ fn a_request_to_no_local_candidate_is_dropped(player: &mut Player) -> Emitted {
     ])
 }
 
-fn a_request_to_a_discarded_candidate_forms_no_pair(player: &mut Player) -> Emitted {
+fn a_request_to_a_discarded_candidate_forms_no_pair(player: &mut Player) -> Told {
     Story("a_request_to_a_discarded_candidate_forms_no_pair").holds(&[
         player.set_up_credentials(),
         player.loses("candidate:1 1 udp 1 10.0.0.1 1000 typ host"),
@@ -146,7 +146,7 @@ fn a_request_to_a_discarded_candidate_forms_no_pair(player: &mut Player) -> Emit
     ])
 }
 
-fn a_request_of_a_discarded_sender_is_dropped(player: &mut Player) -> Emitted {
+fn a_request_of_a_discarded_sender_is_dropped(player: &mut Player) -> Told {
     Story("a_request_of_a_discarded_sender_is_dropped").holds(&[
         player.set_up_credentials(),
         player.hears(PEER) && player.loses(PEER),
@@ -167,7 +167,7 @@ fn named() -> Builder<'static, HasClass> {
         .prio(100)
 }
 
-fn a_controlling_agent_is_not_asked_to_nominate(player: &mut Player) -> Emitted {
+fn a_controlling_agent_is_not_asked_to_nominate(player: &mut Player) -> Told {
     let message = named().ice_controlled(3).use_candidate();
     Story("a_controlling_agent_is_not_asked_to_nominate").holds(&[
         player.set_up_alone(),
@@ -178,7 +178,7 @@ fn a_controlling_agent_is_not_asked_to_nominate(player: &mut Player) -> Emitted 
     ])
 }
 
-fn a_request_of_no_role_is_served(player: &mut Player) -> Emitted {
+fn a_request_of_no_role_is_served(player: &mut Player) -> Told {
     Story("a_request_of_no_role_is_served").holds(&[
         player.set_up_alone(),
         player.expects(named().build(TransId([1; 12])), "nearpass"),
@@ -187,7 +187,7 @@ fn a_request_of_no_role_is_served(player: &mut Player) -> Emitted {
     ])
 }
 
-fn of_two_roles_the_own_one_counts_once(player: &mut Player) -> Emitted {
+fn of_two_roles_the_own_one_counts_once(player: &mut Player) -> Told {
     // greater than the own tie-breaker in the own role, less in the other
     let message = named().ice_controlling(9).ice_controlled(1);
     Story("of_two_roles_the_own_one_counts_once").holds(&[

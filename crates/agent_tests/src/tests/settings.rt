@@ -7,7 +7,7 @@ use is::Duration;
 struct Settings;
 
 impl Subject for Settings {
-    fn play(&self, player: &mut Player) -> Emitted {
+    fn play(&self, player: &mut Player) -> Told {
         a_packet_may_be_as_long_as_the_longest_check(player)?;
         what_is_not_set_has_a_default(player)?;
         a_check_claims_the_role_by_the_tie_breaker(player)?;
@@ -31,7 +31,7 @@ fn has_lengths(agent: &Agent, mtu: usize, mtu_warn: usize) -> bool {
     agent.mtu() == mtu && agent.mtu_warn() == mtu_warn
 }
 
-fn a_packet_may_be_as_long_as_the_longest_check(player: &mut Player) -> Emitted {
+fn a_packet_may_be_as_long_as_the_longest_check(player: &mut Player) -> Told {
     Story("a_packet_may_be_as_long_as_the_longest_check").holds(&[
         player.set_up_alone(),
         has_lengths(&player.agent, 1150, 1280),
@@ -56,12 +56,16 @@ fn set_up_provider(player: &mut Player) -> bool {
     }
 }
 
-fn what_is_not_set_has_a_default(player: &mut Player) -> Emitted {
+fn what_is_not_set_has_a_default(player: &mut Player) -> Told {
     Story("what_is_not_set_has_a_default").holds(&[
         set_up_provider(player),
         !player.agent.controlling() && !player.agent.ice_lite(),
-        player.agent.state() == IceConnectionState::New,
-        player.agent.ice_timeout() == Duration::from_millis(21500),
+        same(player.agent.state(), IceConnectionState::New, player),
+        same(
+            player.agent.ice_timeout(),
+            Duration::from_millis(21500),
+            player,
+        ),
         player.agent.remote_credentials().is_none(),
         player.agent.local_credentials().ufrag.as_str() == "aaaa",
     ])
@@ -76,7 +80,7 @@ fn breaks_ties_by(player: &mut Player, tie_breaker: u64) -> bool {
     true
 }
 
-fn a_check_claims_the_role_by_the_tie_breaker(player: &mut Player) -> Emitted {
+fn a_check_claims_the_role_by_the_tie_breaker(player: &mut Player) -> Told {
     Story("a_check_claims_the_role_by_the_tie_breaker").holds(&[
         player.set_up_pair() && breaks_ties_by(player, TIE_BREAKER),
         player.checks(0) && player.has_claimed(TIE_BREAKER, "farr:near"),
@@ -88,7 +92,7 @@ fn is_of(state: IceConnectionState, connected: bool, disconnected: bool) -> bool
     state.is_connected() == connected && state.is_disconnected() == disconnected
 }
 
-fn connected_and_completed_are_connected() -> Emitted {
+fn connected_and_completed_are_connected() -> Told {
     Story("connected_and_completed_are_connected").holds(&[
         is_of(IceConnectionState::New, false, false),
         is_of(IceConnectionState::Checking, false, false),
@@ -99,8 +103,12 @@ fn connected_and_completed_are_connected() -> Emitted {
 }
 
 /// A pair without answers is given up behind so many milliseconds.
-fn gives_up_behind(player: &Player, ms: u64) -> bool {
-    player.agent.ice_timeout() == Duration::from_millis(ms)
+fn gives_up_behind(player: &mut Player, ms: u64) -> bool {
+    same(
+        player.agent.ice_timeout(),
+        Duration::from_millis(ms),
+        player,
+    )
 }
 
 /// Checks a pair twice from now on.
@@ -109,7 +117,7 @@ fn checks_twice(player: &mut Player) -> bool {
     true
 }
 
-fn how_long_a_pair_is_checked_follows_the_delays(player: &mut Player) -> Emitted {
+fn how_long_a_pair_is_checked_follows_the_delays(player: &mut Player) -> Told {
     Story("how_long_a_pair_is_checked_follows_the_delays").holds(&[
         player.set_up_alone(),
         // 500, and 500 behind the last check

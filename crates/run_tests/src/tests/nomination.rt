@@ -21,7 +21,7 @@ fn says(ms: u64, from: SocketAddr, said: Said) -> Step {
 struct Nomination;
 
 impl Subject for Nomination {
-    fn play(&self, stage: &mut Stage) -> Emitted {
+    fn play(&self, stage: &mut Stage) -> Told {
         the_greater_of_two_eligible_pairs_is_announced(stage)?;
         a_lesser_pair_is_not_announced_behind_it(stage)?;
         a_replaced_pair_is_announced_at_the_next_moment(stage)?;
@@ -52,7 +52,7 @@ fn play_two_answers(stage: &mut Stage, first: Step, second: Step) -> bool {
     ]])
 }
 
-fn the_greater_of_two_eligible_pairs_is_announced(stage: &mut Stage) -> Emitted {
+fn the_greater_of_two_eligible_pairs_is_announced(stage: &mut Stage) -> Told {
     let lesser = says(60, at(3, 3000), Said::Success(1));
     let greater = says(70, at(2, 2000), Said::Success(0));
     let paths = [(7, path_to(at(3, 3000))), (8, path_to(at(2, 2000)))];
@@ -63,25 +63,25 @@ fn the_greater_of_two_eligible_pairs_is_announced(stage: &mut Stage) -> Emitted 
     ];
     Story("the_greater_of_two_eligible_pairs_is_announced").holds(&[
         play_two_answers(stage, lesser, greater),
-        announces(&stage.log, &paths),
-        issues(&stage.log, &checks),
+        announces(stage, &paths),
+        issues(stage, &checks),
     ])
 }
 
-fn a_lesser_pair_is_not_announced_behind_it(stage: &mut Stage) -> Emitted {
+fn a_lesser_pair_is_not_announced_behind_it(stage: &mut Stage) -> Told {
     let greater = says(60, at(2, 2000), Said::Success(0));
     let lesser = says(70, at(3, 3000), Said::Success(1));
     Story("a_lesser_pair_is_not_announced_behind_it").holds(&[
         play_two_answers(stage, greater, lesser),
-        takes(&stage.log, 7, true),
-        takes(&stage.log, 8, true),
-        announces(&stage.log, &[(7, path_to(at(2, 2000)))]),
+        takes(stage, 7, true),
+        takes(stage, 8, true),
+        announces(stage, &[(7, path_to(at(2, 2000)))]),
         // it is valid all the same
         stage.agent.has_viable_remote_candidate(at(3, 3000)),
     ])
 }
 
-fn a_replaced_pair_is_announced_at_the_next_moment(stage: &mut Stage) -> Emitted {
+fn a_replaced_pair_is_announced_at_the_next_moment(stage: &mut Stage) -> Told {
     let steps = [
         Step::Controlling(true),
         Step::Remote,
@@ -97,10 +97,10 @@ fn a_replaced_pair_is_announced_at_the_next_moment(stage: &mut Stage) -> Emitted
     let checks = [(4, check(0, at(2, 2000))), (7, check(1, at(2, 2000)))];
     Story("a_replaced_pair_is_announced_at_the_next_moment").holds(&[
         stage.plays(&[&steps]),
-        announces(&stage.log, &[(5, path), (7, path)]),
-        issues(&stage.log, &checks),
+        announces(stage, &[(5, path), (7, path)]),
+        issues(stage, &checks),
         // the pair of the first check is gone
-        takes(&stage.log, 8, false),
+        takes(stage, 8, false),
     ])
 }
 
@@ -125,7 +125,7 @@ fn nominating() -> Step {
     says(50, at(2, 2000), Said::Nominating { number: 1 })
 }
 
-fn a_controlled_agent_announces_what_was_asked_for(stage: &mut Stage) -> Emitted {
+fn a_controlled_agent_announces_what_was_asked_for(stage: &mut Stage) -> Told {
     let packets = [
         (3, check(0, at(2, 2000))),
         (5, reply(1, Class::Success)),
@@ -133,15 +133,15 @@ fn a_controlled_agent_announces_what_was_asked_for(stage: &mut Stage) -> Emitted
     ];
     Story("a_controlled_agent_announces_what_was_asked_for").holds(&[
         play_controlled(stage, success(), nominating()),
-        takes(&stage.log, 4, true),
-        takes(&stage.log, 5, true),
-        issues(&stage.log, &packets),
+        takes(stage, 4, true),
+        takes(stage, 5, true),
+        issues(stage, &packets),
         // the request nominates, and the next moment announces
-        announces(&stage.log, &[(6, path_to(at(2, 2000)))]),
+        announces(stage, &[(6, path_to(at(2, 2000)))]),
     ])
 }
 
-fn a_pair_that_was_asked_for_is_announced_once_it_is_valid(stage: &mut Stage) -> Emitted {
+fn a_pair_that_was_asked_for_is_announced_once_it_is_valid(stage: &mut Stage) -> Told {
     let packets = [
         (3, check(0, at(2, 2000))),
         (4, reply(1, Class::Success)),
@@ -149,14 +149,14 @@ fn a_pair_that_was_asked_for_is_announced_once_it_is_valid(stage: &mut Stage) ->
     ];
     Story("a_pair_that_was_asked_for_is_announced_once_it_is_valid").holds(&[
         play_controlled(stage, nominating(), success()),
-        takes(&stage.log, 4, true),
-        takes(&stage.log, 5, true),
-        issues(&stage.log, &packets),
-        announces(&stage.log, &[(5, path_to(at(2, 2000)))]),
+        takes(stage, 4, true),
+        takes(stage, 5, true),
+        issues(stage, &packets),
+        announces(stage, &[(5, path_to(at(2, 2000)))]),
     ])
 }
 
-fn a_controlled_agent_announces_nothing_unasked(stage: &mut Stage) -> Emitted {
+fn a_controlled_agent_announces_nothing_unasked(stage: &mut Stage) -> Told {
     let unasked = Said::Request {
         number: 1,
         controlling: true,
@@ -164,9 +164,9 @@ fn a_controlled_agent_announces_nothing_unasked(stage: &mut Stage) -> Emitted {
     let packets = [(3, check(0, at(2, 2000))), (5, reply(1, Class::Success))];
     Story("a_controlled_agent_announces_nothing_unasked").holds(&[
         play_controlled(stage, success(), says(60, at(2, 2000), unasked)),
-        takes(&stage.log, 4, true),
-        takes(&stage.log, 5, true),
-        issues(&stage.log, &packets),
-        announces(&stage.log, &[]),
+        takes(stage, 4, true),
+        takes(stage, 5, true),
+        issues(stage, &packets),
+        announces(stage, &[]),
     ])
 }
