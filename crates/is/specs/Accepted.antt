@@ -1,4 +1,4 @@
--- Which bytes an agent accepts, and what becomes of those that it does not.
+-- Which bytes an agent accepts, and what happens to those that it does not accept.
 use Rattle.std.specs.Prelude.{◌≡◌, ℕ, true, false, List, ◌⊎◌}
 use Rattle.rand_core.specs.Stream.{Stream}
 use Rattle.is_proto.specs.declared.error.IceError.{IceError}
@@ -14,31 +14,31 @@ use Rattle.is_rules.specs.Steps.{ReceivePacket, Answer, Flag, Unparsed, Refused,
 use Rattle.is_rules.specs.Logs.{Logged}
 use Rattle.is_rules.specs.Runs.{AtEach}
 
--- false, or that the bytes do not read
+-- The call returns false, or the parse fault of the bytes.
 abbrev pub SaysNo : Answer → Type 0
 SaysNo answer = (answer ≡ Flag false) ⊎ ((fault : ParseFault) × (answer ≡ Unparsed fault))
 
--- true, or a refusal
+-- The call returns true, or it fails.
 abbrev pub SaysYes : Answer → Type 0
 SaysYes answer = (answer ≡ Flag true) ⊎ ((error : IceError) × (answer ≡ Refused error))
 
--- the record stays, nothing is issued or announced, and the answer is a no
+-- The state does not change, nothing is issued or selected, and the bytes are not accepted.
 pub record ChangesNothing {H P : Type 0} (old : AgentRecord H P) (e : Entry) (new : AgentRecord H P) : Type 0 where
   pub same : new ≡ old
   pub emitted : e.emitted ≡ nothing_emitted
   pub answer : SaysNo e.answer
 
 module _ {H P : Type 0} (mac : H → List ℕ → List ℕ → List ℕ) where
-  -- the bytes read as a message that the agent accepts on the way that they came
+  -- The bytes encode a message that the agent accepts on the path on which it was received.
   abbrev pub Accepts : AgentRecord H P → Path → List ℕ → Type 0
   Accepts a path bytes = (m : Message) × Reads bytes m × IsAcceptedOn mac a path m
 
-  -- bytes that are not accepted change nothing, and those that are get a yes
+  -- Bytes that are not accepted change nothing. For accepted bytes the call returns true, or it fails.
   pub record IsSettled (old : AgentRecord H P) (path : Path) (bytes : List ℕ) (e : Entry) (new : AgentRecord H P) : Type 0 where
     pub unaccepted : ¬ Accepts old path bytes → ChangesNothing old e new
     pub accepted : Accepts old path bytes → SaysYes e.answer
 
-  -- wherever a packet stands in the log
+  -- This holds of each packet in the log.
   abbrev pub PacketsAreSettled : (P → CandidateRecord → ℕ → ℕ → Type 0) → AgentRecord H P → Stream → List (Logged P) → Type 0
   PacketsAreSettled answers first s log =
       AtEach mac answers first s log (λ before mid x after. (now : ℕ) (path : Path) (bytes : List ℕ)

@@ -1,4 +1,5 @@
--- How both of two agents come to a path: rounds of each in which the network delivers (RFC 8445, sections 6.1.4.2, 7.2.5.3 and 7.3.1.5).
+-- How both of two agents select a path, if each has rounds in which the network delivers (RFC 8445, sections 6.1.4.2, 7.2.5.3 and
+-- 7.3.1.5).
 use Rattle.std.specs.Prelude.{◌≡◌, ℕ, ◌+◌, ◌*◌, ◌<◌, ◌≤◌, List, [], ◌∷◌, ◌++◌, length, Some, None, ◌⊎◌, slice_get}
 use Rattle.rand_core.specs.Stream.{Stream}
 use Rattle.is_proto.specs.Lists.{Has}
@@ -25,7 +26,7 @@ use Rattle.is.specs.Grantings.{Occurrence, IsControlled, Arrival, MayEndAt, occu
 use Rattle.is.specs.World.{WorldRecord, InFlightRecord, Call, Deliver, Logged, Run, at, other}
 use Rattle.is.specs.WorldRoles.{IsNewAgent}
 
--- a moment of a side, and what occurs behind it, oldest first
+-- a `handle_timeout` call of a side, and what happens after it, oldest first
 pub record Round (H P : Type 0) : Type 0 where
   pub now : ℕ
   pub moment : Occurrence H P
@@ -36,7 +37,8 @@ all_of [] = []
 all_of (r ∷ later) = r.moment ∷ (r.behind ++ all_of later)
 
 module _ {H P : Type 0} where
-  -- The moment is done, and lies behind this one. Then the side makes no call but polls, whatever comes to it and whatever the other one does.
+  -- The `handle_timeout` call is later than `by` and returns Ok. After it the side makes only polls, whatever it receives and
+  -- whatever the other side does.
   pub record IsKept (side : Side) (by : ℕ) (r : Round H P) : Type 0 where
     pub comes : r.moment.entry.event ≡ Call side (agent.HandleTimeout r.now)
     pub done : r.moment.entry.outcome.entry.answer ≡ agent.Done
@@ -44,8 +46,9 @@ module _ {H P : Type 0} where
     pub early : r.now < MAX
     pub polls : (x : Occurrence H P) → Has r.behind x → MakesPolls side x.entry.event
 
-  -- The side has rounds in the part that suffice for a pair on the path, which is due by a moment when they begin: they lie behind it, and are
-  -- 2n - 1 where it has n pairs, and one more for each that it adds in them.
+  -- The side has rounds in the segment that suffice for a pair on the path, which is due by the time `by` when they begin: the
+  -- rounds are later than `by`. If the side has n pairs, there are at least 2n - 1 rounds, and one more for each pair that it
+  -- adds in them.
   pub record HasRounds (side : Side) (path : Path) (part : List (Occurrence H P)) (last : WorldRecord H P) : Type 0 where
     pub ahead : List (Occurrence H P)
     pub first : Round H P
@@ -59,18 +62,19 @@ module _ {H P : Type 0} where
     pub enough : 2 * length (at side first.moment.before).pairs + (at side last).next_number
         ≤ length (first ∷ later) + 1 + (at side first.moment.before).next_number
 
-  -- the moment sends this check on the path
+  -- The `handle_timeout` call sends this check on the path.
   pub record SendsOn (side : Side) (path : Path) (r : Round H P) (check : Packet) (id : List ℕ) : Type 0 where
     pub on : via_out check ≡ path
     pub sends : Sends (at side r.moment.before) r.moment.entry.outcome.entry Request id check (at side r.moment.behind)
 
-  -- the check comes to the other side before the next moment, and reaches it, while both know each other
+  -- The check is delivered to the other side before the next `handle_timeout` call, and reaches it, while both agents know each
+  -- other.
   pub record IsHanded (mac : H → List ℕ → List ℕ → List ℕ) (side : Side) (path : Path) (r : Round H P) (check : Packet) : Type 0 where
     pub comes : Arrival side (other side) check r.behind
     pub know : KnowEachOther mac (at side comes.handed.before) (at (other side) comes.handed.before)
     pub reached : IsReachedBy (at (other side) comes.handed.before) path
 
-  -- a success on the path is accepted
+  -- A success response that is received on the reverse path is accepted.
   pub record Succeeds (side : Side) (path : Path) (x : Occurrence H P) : Type 0 where
     pub place : ℕ
     pub now : ℕ
@@ -81,15 +85,16 @@ module _ {H P : Type 0} where
     pub its : other in_flight.sender ≡ side
     pub accepts : AcceptsSuccessOn {P = P} (agent.ReceivePacket now via in_flight.packet.contents) x.entry.outcome.entry path
 
-  -- A round of the side that asks: a check that goes out on the path is delivered, and the path's pairs are nominated by then. No success comes
-  -- on the path in a round in which no check goes out on it.
+  -- A round of the side that nominates: a check that is sent on the path is delivered, and the pairs on the path are nominated by
+  -- then. A success response for the path is received only in a round in which a check is sent on it.
   pub record Asks (mac : H → List ℕ → List ℕ → List ℕ) (side : Side) (path : Path) (r : Round H P) : Type 0 where
     pub handed : (check : Packet) (id : List ℕ) → SendsOn side path r check id → IsHanded mac side path r check
     pub nominated : AreNominatedOn (at side r.moment.behind) path
     pub timely : (x : Occurrence H P) → Has r.behind x → Succeeds side path x
         → (id : List ℕ) × (r.moment.entry.outcome.entry.emitted.issued ≡ Some (issued_as path Request id))
 
-  -- a round of the side that is asked: a check that goes out on the path is delivered, and its success comes back before the next moment
+  -- A round of the side whose peer nominates: a check that is sent on the path is delivered, and its success response is received
+  -- before the next `handle_timeout` call.
   abbrev pub IsAnswered : (H → List ℕ → List ℕ → List ℕ) → Side → Path → Round H P → Type 0
   IsAnswered mac side path r =
       (check : Packet) (id : List ℕ) → SendsOn side path r check id
@@ -98,10 +103,11 @@ module _ {H P : Type 0} where
       → Arrival side side reply h.comes.rest)
 
   module _ (mac : H → List ℕ → List ℕ → List ℕ) (answers : P → CandidateRecord → ℕ → ℕ → Type 0) where
-    -- Between two agents as they are made, wherever in a part of the log the controlling side has rounds that suffice for a nominated pair, in
-    -- which it asks for the path, and the controlled side has rounds that suffice for a pair on the way back, in which it is answered, and a
-    -- moment of the controlled side comes behind them that serves no request, it announced a path by then, where one pair of it alone joins
-    -- this one, unless a call of it may have taken such a pair away. Whatever else happens.
+    -- Two agents are newly created. In a segment of the log the controlling side has rounds that suffice for a nominated pair on
+    -- the reverse path, in which it nominates that path. The controlled side has rounds that suffice for a pair on the path, in
+    -- which its checks are answered. A `handle_timeout` call of the controlled side that serves no early request follows. By then
+    -- the controlled side selected a path, if only one of its pairs joins this path, unless one of its calls may have removed
+    -- such a pair. This holds whatever else happens.
     abbrev pub BothConnect : WorldRecord H P → Stream → List (Logged P) → Type 0
     BothConnect first s log =
         (last : WorldRecord H P) (t : Stream) (run : Run mac answers first s 0 log last t) (before part rest : List (Occurrence H P)) (moment : Occurrence H P)

@@ -1,5 +1,5 @@
--- Rounds of a world in which the network delivers: a check that goes out on a path comes to the other agent, and its success comes back
--- before the next round.
+-- Rounds of the network model in which the network delivers: a check that is sent on a path is delivered to the other agent, and
+-- its success response is delivered back before the next round.
 use Rattle.std.specs.Prelude.{◌≡◌, ℕ, suc, ◌+◌, ◌<◌, ◌≤◌, true, false, List, [], ◌∷◌, ◌++◌, length, Some, is_some, ◌⊎◌, slice_get}
 use Rattle.rand_core.specs.Stream.{Stream}
 use Rattle.is_proto.specs.Lists.{Has}
@@ -22,7 +22,7 @@ use Rattle.is.specs.declared.world.Side.{Side}
 use Rattle.is.specs.World.{WorldRecord, Event, Call, Deliver, Logged, Happens, Run, at, other}
 use Rattle.is.specs.WorldRoles.{IsNewAgent, role_in}
 
--- a moment of a side, and what happens behind it, oldest first
+-- a `handle_timeout` call of a side, and what happens after it, oldest first
 pub record WorldRound (P : Type 0) : Type 0 where
   pub now : ℕ
   pub moment : Logged P
@@ -32,21 +32,21 @@ abbrev pub entries_of : {P : Type 0} → List (WorldRound P) → List (Logged P)
 entries_of [] = []
 entries_of (r ∷ later) = r.moment ∷ (r.behind ++ entries_of later)
 
--- the side makes no call but polls; whatever comes to it, and whatever the other one does
+-- The side makes only polls, whatever it receives and whatever the other side does.
 abbrev pub MakesPolls : {P : Type 0} → Side → Event P → Type 0
 MakesPolls side (Call s c) = s ≡ side → is_poll c ≡ true
 MakesPolls side _ = Unit {0}
 
--- the side is controlling behind the entry, and the other one is not
+-- After the entry the side is controlling, and the other side is controlled.
 abbrev pub AreApart : {P : Type 0} → Side → Logged P → Type 0
 AreApart side x = (role_in side x ≡ true) × (role_in (other side) x ≡ false)
 
--- the side announced a path
+-- The side selected a path.
 abbrev pub Announces : {P : Type 0} → Side → Logged P → Type 0
 Announces side x = (x.outcome.side ≡ Some side) × (is_some (last_of x.outcome.entry.emitted.announced) ≡ true)
 
 module _ {H P : Type 0} where
-  -- the event brings the packet to the side, as the other one sent it off, and the call is not refused
+  -- The event delivers the packet to the side, as the other side sent it, and the call does not fail.
   pub record Hands (side : Side) (packet : Packet) (w : WorldRecord H P) (x : Logged P) : Type 0 where
     pub place : ℕ
     pub now : ℕ
@@ -55,13 +55,14 @@ module _ {H P : Type 0} where
     pub granted : is_refusal x.outcome.entry.answer ≡ false
 
   module _ (mac : H → List ℕ → List ℕ → List ℕ) (answers : P → CandidateRecord → ℕ → ℕ → Type 0) (side : Side) where
-    -- one of the events brings the packet to the side
+    -- One of the events delivers the packet to the side.
     abbrev pub Returns : Packet → (w : WorldRecord H P) (s : Stream) (n : ℕ) (log : List (Logged P)) (last : WorldRecord H P) (t : Stream)
         → Run mac answers w s n log last t → Type 0
     Returns packet w s n [] last t run = ⊥
     Returns packet w s n (x ∷ rest) last t run = Hands side packet w x ⊎ Returns packet run.0 run.1 (suc n) rest last t run.4
 
-    -- one brings the check to the other side, which it reaches, while both know each other; and a later one brings its success back
+    -- One event delivers the check to the other side, which it reaches, while both agents know each other. A later event delivers
+    -- the success response back.
     abbrev pub Exchanges : Packet → List ℕ → (w : WorldRecord H P) (s : Stream) (n : ℕ) (log : List (Logged P)) (last : WorldRecord H P) (t : Stream)
         → Run mac answers w s n log last t → Type 0
     Exchanges check id w s n [] last t run = ⊥
@@ -71,7 +72,8 @@ module _ {H P : Type 0} where
         → Returns reply run.0 run.1 (suc n) rest last t run.4))
         ⊎ Exchanges check id run.0 run.1 (suc n) rest last t run.4
 
-    -- a round of the side: a moment that is done, and what happens behind it; a check that goes out on the path is exchanged for its success
+    -- A round of the side: a `handle_timeout` call that succeeds, and what happens after it. A check that is sent on the path
+    -- gets its success response in the round.
     pub record IsDelivered (by : ℕ) (path : Path) (r : WorldRound P) (w : WorldRecord H P) (s : Stream) (n : ℕ) (next : WorldRecord H P) (t : Stream) : Type 0 where
       pub mid : WorldRecord H P
       pub u : Stream
@@ -86,16 +88,16 @@ module _ {H P : Type 0} where
       pub exchanged : (check : Packet) (id : List ℕ) → via_out check ≡ path → Sends (at side w) r.moment.outcome.entry Request id check (at side mid)
           → Exchanges check id mid u (suc n) r.behind next t run
 
-    -- round after round
+    -- one round after another
     abbrev pub AreDelivered : ℕ → Path → List (WorldRound P) → WorldRecord H P → Stream → ℕ → WorldRecord H P → Stream → Type 0
     AreDelivered by path [] w s n last t = (last ≡ w) × (t ≡ s)
     AreDelivered by path (r ∷ later) w s n last t =
         (next : WorldRecord H P) × (v : Stream) × IsDelivered by path r w s n next v × AreDelivered by path later next v (suc n + length r.behind) last t
 
   module _ (mac : H → List ℕ → List ℕ → List ℕ) (answers : P → CandidateRecord → ℕ → ℕ → Type 0) where
-    -- Between two agents as they are made, wherever n rounds stand in the log that are delivered for a pair of the controlling side: where n
-    -- pairs, asked at the first moment, are due by an earlier one, by which this pair is due, and none is valid yet, the side announces a path in
-    -- one of the rounds. Whatever else happens.
+    -- Two agents are newly created. In the log, n rounds are delivered for a pair of the controlling side. When they begin, no
+    -- pair of the side is valid, and n pairs are due by an earlier time `by`, this pair among them, with due times computed at
+    -- the time of the first round. Then the side selects a path in one of the rounds, whatever else happens.
     abbrev pub DeliveredRoundsAnnounce : WorldRecord H P → Stream → List (Logged P) → Type 0
     DeliveredRoundsAnnounce first s log =
         (before rest : List (Logged P)) (start last : WorldRecord H P) (u t : Stream) (side : Side) (r : WorldRound P) (rounds : List (WorldRound P)) (p : PairRecord) (by : ℕ)

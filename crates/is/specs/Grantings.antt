@@ -1,5 +1,5 @@
--- How the controlled one of two agents finds a path: the other one asks for it, and its own check on it is answered (RFC 8445, sections
--- 7.2.5.3.2 and 7.3.1.5).
+-- How the controlled one of two agents selects a path: the other one nominates it, and its own check on it is answered (RFC 8445,
+-- sections 7.2.5.3.2 and 7.3.1.5).
 use Rattle.std.specs.Prelude.{◌≡◌, ℕ, suc, true, false, List, [], ◌∷◌, ◌++◌, None, ◌⊎◌}
 use Rattle.rand_core.specs.Stream.{Stream}
 use Rattle.is_proto.specs.Lists.{Has}
@@ -21,18 +21,18 @@ use Rattle.is.specs.Deliveries.{MakesPolls, Announces, Hands}
 use Rattle.is.specs.World.{WorldRecord, Call, Logged, Run, at, other}
 use Rattle.is.specs.WorldRoles.{IsNewAgent}
 
--- an entry of a log, between the worlds before and behind it
+-- a log entry, with the states of the network model before and after it
 pub record Occurrence (H P : Type 0) : Type 0 where
   pub before : WorldRecord H P
   pub entry : Logged P
   pub behind : WorldRecord H P
 
 module _ {H P : Type 0} where
-  -- before each of them the side is controlled, and the other one is not
+  -- Before each of these entries the side is controlled, and the other side is controlling.
   abbrev pub IsControlled : Side → List (Occurrence H P) → Type 0
   IsControlled side all = (x : Occurrence H P) → Has all x → ((at side x.before).controlling ≡ false) × ((at (other side) x.before).controlling ≡ true)
 
-  -- the packet comes to a side; before it does the waiting one makes no call but polls
+  -- The packet is delivered to `side`. Before that, the `waiting` side makes only polls.
   pub record Arrival (waiting side : Side) (packet : Packet) (all : List (Occurrence H P)) : Type 0 where
     pub between : List (Occurrence H P)
     pub handed : Occurrence H P
@@ -41,7 +41,8 @@ module _ {H P : Type 0} where
     pub polls : (x : Occurrence H P) → Has between x → MakesPolls waiting x.entry.event
     pub hands : Hands side packet handed.before handed.entry
 
-  -- at a moment the side sends a check on the path, which comes to the other one before the next, and reaches it, while both know each other
+  -- In a `handle_timeout` call the side sends a check on the path. It is delivered to the other side before the next such call,
+  -- and reaches it, while both agents know each other.
   pub record HandedCheck (mac : H → List ℕ → List ℕ → List ℕ) (side : Side) (path : Path) (all : List (Occurrence H P)) : Type 0 where
     pub before : List (Occurrence H P)
     pub sent : Occurrence H P
@@ -57,31 +58,32 @@ module _ {H P : Type 0} where
     pub know : KnowEachOther mac (at side comes.handed.before) (at (other side) comes.handed.before)
     pub reached : IsReachedBy (at (other side) comes.handed.before) path
 
-  -- the other side asks for the path: it checks the way back, whose pairs are nominated
+  -- The other side nominates the path: it checks the reverse path, whose pairs are nominated.
   abbrev pub IsAskedOver : (H → List ℕ → List ℕ → List ℕ) → Side → Path → List (Occurrence H P) → Type 0
   IsAskedOver mac side path all = (k : HandedCheck mac (other side) (reversed path) all) × AreNominatedOn (at (other side) k.sent.behind) (reversed path)
 
-  -- the side checks the path, and the success comes back to it before its next moment
+  -- The side checks the path, and receives the success response before its next `handle_timeout` call.
   abbrev pub IsExchangedOver : (H → List ℕ → List ℕ → List ℕ) → Side → Path → List (Occurrence H P) → Type 0
   IsExchangedOver mac side path all =
       (k : HandedCheck mac side path all)
       × ((reply : Packet) → Sends (at (other side) k.comes.handed.before) k.comes.handed.entry.outcome.entry Success k.id reply (at (other side) k.comes.handed.behind)
       → Arrival side side reply k.comes.rest)
 
-  -- a call of the side may take away a pair of the path
+  -- A call of the side may remove a pair of the path.
   abbrev pub MayEndAt : Side → Path → Occurrence H P → Type 0
   MayEndAt side path x = (c : agent.Call P) × (x.entry.event ≡ Call side c) × Ends (at side x.before) c x.entry.outcome.entry path
 
   module _ (mac : H → List ℕ → List ℕ → List ℕ) (answers : P → CandidateRecord → ℕ → ℕ → Type 0) where
-    -- what occurred in a run
+    -- the entries of an execution, with the states before and after each
     abbrev pub occurrences_in : (w : WorldRecord H P) (s : Stream) (n : ℕ) (log : List (Logged P)) (last : WorldRecord H P) (t : Stream) → Run mac answers w s n log last t
         → List (Occurrence H P)
     occurrences_in w s n [] last t run = []
     occurrences_in w s n (x ∷ rest) last t run = record { before = w; entry = x; behind = run.0 } ∷ occurrences_in run.0 run.1 (suc n) rest last t run.4
 
-    -- Between two agents as they are made, wherever in a part of the log the controlled side is asked for a path and its own check there is
-    -- answered, in whichever order, and a moment of it comes behind that serves no request, it announced a path by then, where one pair of it
-    -- alone joins this one, unless a call of it may have taken such a pair away.
+    -- Two agents are newly created. In a segment of the log the peer nominates a path to the controlled side, and the controlled
+    -- side's own check on it is answered, in either order. A `handle_timeout` call of the controlled side that serves no early
+    -- request follows. By then it selected a path, if only one of its pairs joins this path, unless one of its calls may have
+    -- removed such a pair.
     abbrev pub GrantedPathsAnnounce : WorldRecord H P → Stream → List (Logged P) → Type 0
     GrantedPathsAnnounce first s log =
         (last : WorldRecord H P) (t : Stream) (run : Run mac answers first s 0 log last t) (before part rest : List (Occurrence H P)) (moment : Occurrence H P)

@@ -1,4 +1,4 @@
--- The log of a run: the calls beside what became of each, newest first.
+-- The log of an execution: the calls with their recorded results, newest first.
 use Rattle.std.specs.Prelude.{◌≡◌, ℕ, MatchBool, List, [], ◌∷◌, ◌++◌, length}
 use Rattle.rand_core.specs.Stream.{Stream}
 use Rattle.is_candidate.specs.Candidates.{CandidateRecord}
@@ -10,7 +10,7 @@ use Rattle.is.specs.declared.calls.Entry.{Entry}
 use Rattle.is.specs.declared.runs.RunLog.{RunLog}
 use Rattle.is.specs.Views.{call_view, entry_view}
 
--- a call beside what became of it
+-- a log entry: a call with its recorded result
 abbrev pub logged_as : {P : Type 0} → AgentCall P → Entry → Logged P
 logged_as c e = record { number = e.number; call = call_view c; entry = entry_view e }
 
@@ -25,14 +25,14 @@ abbrev pub log_of : {P : Type 0} → List (AgentCall P) → RunLog → List (Log
 log_of calls log = logged [] calls log.entries.items
 
 module _ {H P : Type 0} (mac : H → List ℕ → List ℕ → List ℕ) (answers : P → CandidateRecord → ℕ → ℕ → Type 0) where
-  -- one entry for each call, in order, or nothing done
+  -- One entry for each call, in order; or nothing was done.
   abbrev pub IsRunLog : AgentRecord H P → Stream → List (AgentCall P) → RunLog → AgentRecord H P → Stream → Type 0
   IsRunLog old s calls log new t =
       MatchBool log.stopped
       ((log.entries.items ≡ []) × (new ≡ old) × (t ≡ s))
       ((length log.entries.items ≡ length calls) × Run mac answers old s (log_of calls log) new t)
 
-  -- each entry stands between two records that the run passes
+  -- Each entry is between two states of the execution.
   abbrev pub EntriesStand : AgentRecord H P → Stream → List (Logged P) → Type 0
   EntriesStand first s log =
       (rest before : List (Logged P)) (x : Logged P) → log ≡ rest ++ x ∷ before

@@ -1,4 +1,4 @@
--- Looking for what entries tell, from a number on and below another.
+-- The search for log entries with a mark, from one number on and below another.
 use Rattle.std.specs.Prelude.{◌≡◌, ℕ, ◌<◌, ◌≤◌, true, List, Option, Some, MatchOption}
 use Rattle.is_stun.specs.declared.header.Class.TheVariants as class
 use Rattle.is_stun.specs.declared.trans_id.TransId.{TransId}
@@ -15,26 +15,26 @@ IsMarked (Taken side class id) e = Takes side class id e
 IsMarked (Issued side class id) e = (path : Path) × Issues side path class id e
 IsMarked (Cleared side) e = (e.side ≡ Some side) × (e.clear ≡ true)
 
--- none of these entries is marked
+-- None of these entries has the mark.
 abbrev pub NoneMarked : List WorldEntry → Mark → ℕ → ℕ → Type 0
 NoneMarked es mark first end = (n : ℕ) → first ≤ n → n < end → ¬ IsAt es n (IsMarked mark)
 
--- the first of these entries that is marked
+-- the first of these entries that has the mark
 abbrev pub IsFirstMarked : List WorldEntry → Mark → ℕ → ℕ → Option ℕ → Type 0
 IsFirstMarked es mark first end result =
     MatchOption result (NoneMarked es mark first end) (λ n. (first ≤ n) × (n < end) × IsAt es n (IsMarked mark) × NoneMarked es mark first n)
 
--- who announced the path at this place of the entry, and which
+-- the side that selected the path at this index of the entry, and the path
 abbrev pub IsAnnounced : List WorldEntry → ℕ → ℕ → Option (Side × Path) → Type 0
 IsAnnounced es n place result =
     MatchOption result ((side : Side) (path : Path) → ¬ IsAt es n (Announces side path place)) (λ by. IsAt es n (Announces by.0 by.1 place))
 
--- the id of the check that went out at the entry on the path
+-- the ID of the check that the entry sent on the path
 abbrev pub IsCheckAt : List WorldEntry → Side → Path → ℕ → Option TransId → Type 0
 IsCheckAt es side path n result =
     MatchOption result ((id : TransId) → ¬ IsAt es n (Issues side path class.Request id)) (λ id. IsAt es n (Issues side path class.Request id))
 
--- the first of the traces, or whatever chain of entries is meant, that begin at this number
+-- the first of the causal chains, or of whatever chains `Is` describes, that begin at this entry number
 abbrev pub IsFirstFrom : (Trace → Type 0) → ℕ → Option Trace → Type 0
 IsFirstFrom Is checked result =
     MatchOption result ((t : Trace) → t.checked ≡ checked → ¬ Is t)

@@ -1,4 +1,5 @@
--- Two agents whose roles meet: one check that the network delivers, and its 487 where it gives one, make them differ (RFC 8445, section 7.3.1.1).
+-- How two agents come to have different roles: by one check that the network delivers, and its 487 if it gets one (RFC 8445,
+-- section 7.3.1.1).
 use Rattle.std.specs.List.{AllByRecursion}
 use Rattle.std.specs.Prelude.{◌≡◌, ◌≢◌, ℕ, suc, ◌+◌, List, [], ◌∷◌, ◌++◌, length, ◌⊎◌}
 use Rattle.rand_core.specs.Stream.{Stream}
@@ -15,13 +16,14 @@ use Rattle.is.specs.Deliveries.{WorldRound, MakesPolls, Hands, Returns}
 use Rattle.is.specs.World.{WorldRecord, Call, Logged, Happens, Run, at, other}
 use Rattle.is.specs.WorldRoles.{IsFairWorld, role_in}
 
--- behind the entry one agent is controlling and the other is not
+-- After the entry one agent is controlling and the other is controlled.
 abbrev pub AreOpposite : {P : Type 0} → Logged P → Type 0
 AreOpposite x = role_in A x ≢ role_in B x
 
 module _ {H P : Type 0} (mac : H → List ℕ → List ℕ → List ℕ) (answers : P → CandidateRecord → ℕ → ℕ → Type 0) where
   module _ (side : Side) where
-    -- one event brings the check to the other side, which it reaches, while both know each other; and where that gives a 487, a later one brings it back
+    -- One event delivers the check to the other side, which it reaches, while both agents know each other. If the check gets a
+    -- 487, a later event delivers that back.
     abbrev pub Confronts : Packet → List ℕ → (w : WorldRecord H P) (s : Stream) (n : ℕ) (log : List (Logged P)) (last : WorldRecord H P) (t : Stream)
         → Run mac answers w s n log last t → Type 0
     Confronts check id w s n [] last t run = ⊥
@@ -31,7 +33,8 @@ module _ {H P : Type 0} (mac : H → List ℕ → List ℕ → List ℕ) (answer
         → Returns mac answers side refusal run.0 run.1 (suc n) rest last t run.4))
         ⊎ Confronts check id run.0 run.1 (suc n) rest last t run.4
 
-    -- a moment of the side sends the check, which confronts the other one; behind the moment the side makes no call but polls
+    -- A `handle_timeout` call of the side sends the check, which confronts the other side (`Confronts`). After the call the side
+    -- makes only polls.
     pub record IsMeeting (check : Packet) (id : List ℕ) (r : WorldRound P) (w : WorldRecord H P) (s : Stream) (n : ℕ) (last : WorldRecord H P) (t : Stream) : Type 0 where
       pub mid : WorldRecord H P
       pub u : Stream
@@ -42,8 +45,8 @@ module _ {H P : Type 0} (mac : H → List ℕ → List ℕ → List ℕ) (answer
       pub polls : (x : Logged P) → Has r.behind x → MakesPolls side x.event
       pub confronts : Confronts check id mid u (suc n) r.behind last t run
 
-  -- Between two agents as they are made, with different tie-breakers, whatever their roles are: wherever a moment of either sends a check that
-  -- confronts the other one before its next call, their roles are opposite from then on.
+  -- Two agents are newly created, with different tie-breakers, in any roles. If a `handle_timeout` call of either agent sends a
+  -- check that confronts the other agent before the sender's next call, their roles are different from then on.
   abbrev pub RolesMeet : WorldRecord H P → Stream → List (Logged P) → Type 0
   RolesMeet first s log =
       (greater side : Side) (before rest : List (Logged P)) (start last end : WorldRecord H P) (u t v : Stream) (r : WorldRound P) (check : Packet) (id : List ℕ)

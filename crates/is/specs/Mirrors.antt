@@ -1,4 +1,4 @@
--- How the paths of two agents lie to each other.
+-- How the selected paths of two agents relate to each other.
 use Rattle.std.specs.Prelude.{◌≡◌, ℕ, false, List, Some}
 use Rattle.rand_core.specs.Stream.{Stream}
 use Rattle.is_proto.specs.Lists.{Has}
@@ -13,17 +13,17 @@ use Rattle.is.specs.World.{WorldRecord, Logged, Run, at, other}
 use Rattle.is.specs.WorldRoles.{IsNewAgent}
 
 module _ {H P : Type 0} where
-  -- the side announced the path
+  -- The side selected the path.
   abbrev pub Tells : Side → Path → Occurrence H P → Type 0
   Tells side path x = (x.entry.outcome.side ≡ Some side) × Has x.entry.outcome.entry.emitted.announced (Some path)
 
-  -- the side is not lite, and its pairs are all on the path
+  -- The side is not lite, and all its pairs are on the path.
   abbrev pub KeepsTo : Side → Path → WorldRecord H P → Type 0
   KeepsTo side path w = ((at side w).lite ≡ false) × ((p : PairRecord) → Has (at side w).pairs p → path_of (at side w) p ≡ path)
 
   module _ (mac : H → List ℕ → List ℕ → List ℕ) (answers : P → CandidateRecord → ℕ → ℕ → Type 0) where
-    -- Between two agents as they are made, where before each entry of the log neither is lite, all pairs of one are on a path and all of the
-    -- other on its way back, whatever paths the two announced are each other's turned.
+    -- Two agents are newly created. Before each entry of the log neither is lite, all pairs of one are on a path, and all pairs
+    -- of the other are on the reverse path. Then any two paths that they selected are the reverse of each other.
     abbrev pub LonePathsMirror : WorldRecord H P → Stream → List (Logged P) → Type 0
     LonePathsMirror first s log =
         (last : WorldRecord H P) (t : Stream) (run : Run mac answers first s 0 log last t) (x y : Occurrence H P) (side : Side) (path one two : Path)

@@ -1,4 +1,4 @@
--- What calls issue, and in which order it is polled.
+-- What calls issue, and the order in which it is polled.
 use Rattle.std.specs.Prelude.{◌≡◌, ℕ, Bool, true, false, List, None}
 use Rattle.rand_core.specs.Stream.{Stream}
 use Rattle.is_candidate.specs.Candidates.{CandidateRecord}
@@ -9,7 +9,7 @@ use Rattle.is_rules.specs.Steps.{Call, ReceivePacket, HandleTimeout, Entry}
 use Rattle.is_rules.specs.Logs.{Logged}
 use Rattle.is_rules.specs.Runs.{AtEach}
 
--- a packet and a moment; what they issue is at most one packet, since an entry has room for no more
+-- Received packets and `handle_timeout` calls may issue packets. Each issues at most one, since a log entry holds only one.
 abbrev pub may_issue : {P : Type 0} → Call P → Bool
 may_issue (ReceivePacket now path bytes) = true
 may_issue (HandleTimeout now) = true
@@ -19,11 +19,11 @@ abbrev pub IssuesNone : {P : Type 0} → Call P → Entry → Type 0
 IssuesNone call e = may_issue call ≡ false → e.emitted.issued ≡ None
 
 module _ {H P : Type 0} (mac : H → List ℕ → List ℕ → List ℕ) (answers : P → CandidateRecord → ℕ → ℕ → Type 0) where
-  -- no call issues a packet but a packet and a moment
+  -- Only received packets and `handle_timeout` calls issue packets.
   abbrev pub OthersIssueNone : AgentRecord H P → Stream → List (Logged P) → Type 0
   OthersIssueNone first s log = AtEach mac answers first s log (λ before mid x after. IssuesNone x.call x.entry)
 
-  -- what is issued stands at the end of its queue, a poll hands out the first, and a restart leaves its own events alone
+  -- What is issued is appended to its queue, a poll removes the first element, and an ICE restart leaves only its own events.
   abbrev pub QueuesAreKept : AgentRecord H P → Stream → List (Logged P) → Type 0
   QueuesAreKept first s log =
       AtEach mac answers first s log (λ before mid x after.

@@ -1,4 +1,4 @@
--- Announced paths, traced through the log to the other agent.
+-- The causal chain of each selected path, through the log to the other agent and back.
 use Rattle.std.specs.Prelude.{◌≡◌, ℕ, suc, ◌<◌, ◌≤◌, true, false, List, Option, Some, ◌⊎◌, MatchOption, slice_get}
 use Rattle.std.specs.List.{AllByRecursion}
 use Rattle.is_stun.specs.declared.header.Class.{Class}
@@ -14,39 +14,39 @@ use Rattle.is.specs.World as world
 use Rattle.is.specs.World.{WorldRecord, Logged, Event, other}
 use Rattle.is.specs.WorldRoles.{IsFairWorld}
 
--- ---- what an entry tells
+-- ---- what an entry records
 
--- the side issued the packet
+-- The side issued the packet.
 abbrev pub Issues : Side → Path → Class → TransId → WorldEntry → Type 0
 Issues side path class id e = (e.side ≡ Some side) × (e.issued ≡ Some record { path = path; class = class; id = id })
 
--- a message of this class and id was delivered to the side, and accepted
+-- A message of this class and ID was delivered to the side, and accepted.
 abbrev pub Takes : Side → Class → TransId → WorldEntry → Type 0
 Takes side class id e = (e.side ≡ Some side) × (e.answer ≡ answer.Flag true) × (e.moved ≡ Some (class, id))
 
--- the side announced the path, the one at this place of its paths
+-- The side selected the path, the one at this index of the entry's paths.
 abbrev pub Announces : Side → Path → ℕ → WorldEntry → Type 0
 Announces side path place e = (e.side ≡ Some side) × (slice_get e.announced place ≡ Some (Some path))
 
--- the entry of this number is such
+-- The entry with this number has the property.
 abbrev pub IsAt : List WorldEntry → ℕ → (WorldEntry → Type 0) → Type 0
 IsAt es n Is = (e : WorldEntry) × (slice_get es n ≡ Some e) × Is e
 
--- no clear of the side in these entries
+-- No entry of these is a clear of the side.
 abbrev pub IsUncleared : List WorldEntry → Side → ℕ → ℕ → Type 0
 IsUncleared es side first end = (n : ℕ) (e : WorldEntry) → first ≤ n → n < end → slice_get es n ≡ Some e → e.side ≡ Some side → e.clear ≡ false
 
--- ---- traces
+-- ---- causal chains
 
--- the check of this id that the side had sent reached the other agent; that answered it with success, and the answer came back, all
--- of it before the entry `end`
+-- The check with this ID, which the side had sent, reached the other agent. That agent issued a success response, and the
+-- response was received and accepted; all of this before the entry `end`.
 pub record HasAnswer (es : List WorldEntry) (side : Side) (id : TransId) (end : ℕ) (t : Trace) : Type 0 where
   pub delivery : IsAt es t.delivered (Takes (other side) class.Request id)
   pub reply : IsAt es t.replied (λ e. (reply_path : Path) × Issues (other side) reply_path class.Success id e)
   pub answer : IsAt es t.answered (Takes side class.Success id)
   pub in_order : (t.checked < t.delivered) × (t.delivered ≤ t.replied) × (t.replied < t.answered) × (t.answered < end)
 
--- the side sent a check on the path, which has such an answer, and did not clear its pairs since
+-- The side sent a check on the path, which got such a response, and the side did not clear its pairs since then.
 pub record IsTrace (es : List WorldEntry) (side : Side) (path : Path) (end : ℕ) (t : Trace) : Type 0 where
   pub id : TransId
   pub check : IsAt es t.checked (Issues side path class.Request id)
@@ -61,19 +61,19 @@ IsNoLater t u =
     × ((t.replied < u.replied) ⊎ ((t.replied ≡ u.replied)
     × (t.answered ≤ u.answered))))))
 
--- a trace of what the entry announced at this place, up to that entry
+-- a causal chain of the path that the entry selected at this index, up to that entry
 abbrev pub IsTraceOf : List WorldEntry → ℕ → ℕ → Trace → Type 0
 IsTraceOf es n place t = (side : Side) × (path : Path) × IsAt es n (Announces side path place) × IsTrace es side path (suc n) t
 
--- the first trace, and none only where there is none
+-- The first causal chain; none only if there is none.
 abbrev pub IsFirstTrace : List WorldEntry → ℕ → ℕ → Option Trace → Type 0
 IsFirstTrace es n place result =
     MatchOption result ((t : Trace) → ¬ IsTraceOf es n place t)
     (λ first. IsTraceOf es n place first × ((t : Trace) → IsTraceOf es n place t → IsNoLater first t))
 
--- ---- the promise
+-- ---- the theorem
 
--- the side is not made lite
+-- The side is not made lite.
 abbrev pub StaysFull : {P : Type 0} → Side → Event P → Type 0
 StaysFull side (world.Call s (agent.SetIceLite lite)) = s ≡ side → lite ≡ false
 StaysFull side _ = Unit {0}
@@ -81,12 +81,13 @@ StaysFull side _ = Unit {0}
 abbrev pub IsNeverLite : {P : Type 0} → Side → List (Logged P) → Type 0
 IsNeverLite side log = AllByRecursion (λ x. StaysFull side x.event) log
 
--- the event is a delivery from the path's remote address to its base
+-- The event is a delivery from the path's remote address to its base.
 abbrev pub ComesBack : {P : Type 0} → Path → Event P → Type 0
 ComesBack path (world.Deliver packet now via) = (via.source ≡ path.destination) × (via.destination ≡ path.source)
 ComesBack path _ = ⊥
 
--- each path that a side announced which is never lite has a trace, and the answer of each of its traces came back on the path
+-- If a side is never lite, each path that it selected has a causal chain, and in each such chain the response was received on the
+-- reverse path.
 abbrev pub AnnouncedAreTraced : {H P : Type 0} → WorldRecord H P → List (Logged P) → List WorldEntry → Type 0
 AnnouncedAreTraced first log es =
     (greater side : Side) → IsFairWorld first greater log → IsNeverLite side log → (n place : ℕ) (path : Path) → IsAt es n (Announces side path place)

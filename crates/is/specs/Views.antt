@@ -1,4 +1,5 @@
--- What specs see of calls, answers and entries: no room of vectors, and no parts of packets apart.
+-- Calls, results and log entries as specifications see them: without the capacity of vectors, and with the path of a packet as
+-- one value.
 use Rattle.std.specs.Prelude.{option_map}
 use Rattle.std.specs.Range.{range_inclusive_start, range_inclusive_end}
 use Rattle.is_proto.specs.Packets.{packet_of}

@@ -1,4 +1,4 @@
--- Two agents and the bag of packets between them.
+-- The two-agent network model: two agents, and the in-flight packets between them.
 use Rattle.std.specs.Prelude.{◌≡◌, ℕ, Bool, true, false, MatchBool, List, [], ◌∷◌, ◌++◌, map, suc, Option, Some, None, ◌⊎◌, slice_get}
 use Rattle.std.specs.Prelude.{length, Result, Ok, Err}
 use Rattle.rand_core.specs.Stream.{Stream}
@@ -32,9 +32,9 @@ use Rattle.is.specs.declared.world.WorldEntry.{WorldEntry}
 use Rattle.is.specs.declared.world.WorldLog.{WorldLog}
 use Rattle.is.specs.Views.{call_view, answer_view}
 
--- ---- what is seen of a world
+-- ---- the state of the network model
 
--- a packet that was sent off, and its sender
+-- an in-flight packet, and its sender
 pub record InFlightRecord : Type 0 where
   pub sender : Side
   pub packet : Packet
@@ -66,10 +66,10 @@ put B r w = record w { b = r }
 abbrev pub roles_of : {H P : Type 0} → WorldRecord H P → List Bool
 roles_of w = w.a.controlling ∷ w.b.controlling ∷ []
 
--- ---- a world as it is made
+-- ---- a newly created network model
 
 module _ {H P : Type 0} where
-  -- an agent as it is made, in its role
+  -- a newly created agent, in its role
   abbrev pub MakesMember : AgentSpec H → Result (AgentRecord H P) IceError → Type 0
   MakesMember spec (Ok a) =
       (are_too_long spec.creds None ≡ false) × (a ≡ record (fresh spec.provider spec.creds spec.tie_breaker) { controlling = spec.controlling })
@@ -84,12 +84,12 @@ module _ {H P : Type 0} where
   MakesWorld a b (Ok w) = MakesMember a (Ok w.a) × MakesMember b (Ok w.b) × (w.bag ≡ [])
   MakesWorld a b (Err error) = MakesMember a (Err error) ⊎ MakesMember b (Err error)
 
--- ---- events and entries
+-- ---- events and log entries
 
 pub data Event (P : Type 0) : Type 0 where
   Call : Side → agent.Call P → Event P
   Poll : Side → Event P
-  -- a packet of the bag, the moment, and the way by which it arrives
+  -- the index of an in-flight packet, the time, and the path on which it is received
   Deliver : ℕ → ℕ → Path → Event P
 
 abbrev pub event_view : {P : Type 0} → TwoAgentsEvent P → Event P
@@ -98,8 +98,8 @@ event_view (event.Poll side) = Poll side
 event_view (event.Deliver packet now proto source destination) =
     Deliver packet now.0 (record { proto = proto; source = source; destination = destination })
 
--- what became of an event: what the agent answered and told, both roles behind it, the side that acted, whether that cleared its
--- pairs, and what a delivered packet reads as
+-- The recorded result of an event: what the agent returned and emitted, both roles after it, the side that acted, whether the
+-- event cleared its pairs, and what a delivered packet encodes.
 pub record Outcome : Type 0 where
   pub entry : agent.Entry
   pub controlling : List Bool
@@ -116,7 +116,7 @@ outcome_of e = record {
   moved = e.moved;
 }
 
--- what bytes read as: none where they have a fault
+-- What the bytes encode; none if they have a parse fault.
 abbrev pub read_unless : Option ParseFault → Message → Option (Class × TransId)
 read_unless None m = Some (m.class, record { 0 = m.id })
 read_unless (Some fault) m = None
@@ -125,28 +125,28 @@ abbrev pub moved_by : {P : Type 0} → agent.Call P → Option (Class × TransId
 moved_by (agent.ReceivePacket now path bytes) = read_unless (fault_of bytes) (message_of bytes)
 moved_by _ = None
 
--- ---- what happens
+-- ---- transitions
 
--- calls that are steps of a world: packets come from the bag alone, and no role or tie-breaker is set
+-- The calls that are transitions of the network model: packets are received only by delivery, and no role or tie-breaker is set.
 abbrev pub in_world : {P : Type 0} → agent.Call P → Bool
 in_world (agent.ReceivePacket now path bytes) = false
 in_world (agent.SetControlling controlling) = false
 in_world (agent.SetControlTieBreaker tie_breaker) = false
 in_world _ = true
 
--- an agent's packet moves into the bag, or there is none, or no room
+-- An agent's packet becomes an in-flight packet; or there is none; or memory is exhausted.
 abbrev pub PolledInto : {H P : Type 0} → AgentRecord H P → List InFlightRecord → Side → Answer → AgentRecord H P → List InFlightRecord → Type 0
 PolledInto old bag side answer new bag' =
     ((answer ≡ Refused OutOfMemory) × (new ≡ old) × (bag' ≡ bag))
     ⊎ (((answer ≡ Flag false) × PollsTransmit old None new × (bag' ≡ bag))
     ⊎ ((p : Packet) × PollsTransmit old (Some p) new × (answer ≡ Flag true) × (bag' ≡ bag ++ record { sender = side; packet = p } ∷ [])))
 
--- an outcome that tells no more than its answer, its side and the roles
+-- a recorded result with only the returned value, the side and the roles
 abbrev pub plain : Answer → Option Side → List Bool → Outcome
 plain answer side roles = record { entry = quiet answer; controlling = roles; side = side; clear = false; moved = None }
 
 module _ {H P : Type 0} (mac : H → List ℕ → List ℕ → List ℕ) (answers : P → CandidateRecord → ℕ → ℕ → Type 0) where
-  -- nothing happens, and the entry says why
+  -- Nothing happens, and the log entry says why.
   abbrev pub Stands : WorldRecord H P → Stream → Answer → Option Side → Outcome → WorldRecord H P → Stream → Type 0
   Stands w s answer side e w' t = (w' ≡ w) × (t ≡ s) × (e ≡ plain answer side (roles_of w))
 
@@ -162,7 +162,7 @@ module _ {H P : Type 0} (mac : H → List ℕ → List ℕ → List ℕ) (answer
     pub clear : e.clear ≡ clears c e.entry.answer
     pub moved : e.moved ≡ moved_by c
 
-  -- a packet moves into the bag
+  -- An agent's packet becomes an in-flight packet.
   pub record Polls (w : WorldRecord H P) (s : Stream) (side : Side) (e : Outcome) (w' : WorldRecord H P) (t : Stream) : Type 0 where
     pub answer : Answer
     pub new : AgentRecord H P
@@ -184,7 +184,7 @@ module _ {H P : Type 0} (mac : H → List ℕ → List ℕ → List ℕ) (answer
 
 -- ---- the log
 
--- an event beside what became of it, and the number that its entry has
+-- a log entry: the event, its recorded result, and the number of the entry
 pub record Logged (P : Type 0) : Type 0 where
   pub number : ℕ
   pub event : Event P
@@ -193,20 +193,20 @@ pub record Logged (P : Type 0) : Type 0 where
 abbrev pub logged_as : {P : Type 0} → TwoAgentsEvent P → WorldEntry → Logged P
 logged_as v e = record { number = e.number; event = event_view v; outcome = outcome_of e }
 
--- in order
+-- the log, in order
 abbrev pub logged : {P : Type 0} → List (TwoAgentsEvent P) → List WorldEntry → List (Logged P)
 logged [] entries = []
 logged (v ∷ events) [] = []
 logged (v ∷ events) (e ∷ entries) = logged_as v e ∷ logged events entries
 
 module _ {H P : Type 0} (mac : H → List ℕ → List ℕ → List ℕ) (answers : P → CandidateRecord → ℕ → ℕ → Type 0) where
-  -- the log, in order, may be that of a run from the first world to the last; its entries are numbered from n
+  -- The log, in order, may be that of an execution from the first state to the last. Its entries are numbered from n.
   abbrev pub Run : WorldRecord H P → Stream → ℕ → List (Logged P) → WorldRecord H P → Stream → Type 0
   Run first s n [] last t = (last ≡ first) × (t ≡ s)
   Run first s n (x ∷ rest) last t =
       (mid : WorldRecord H P) × (u : Stream) × (x.number ≡ n) × Happens mac answers first s x.event x.outcome mid u × Run mid u (suc n) rest last t
 
-  -- one entry for each event, in order, or nothing done
+  -- One entry for each event, in order; or nothing was done.
   abbrev pub IsWorldLog : WorldRecord H P → Stream → List (TwoAgentsEvent P) → WorldLog → WorldRecord H P → Stream → Type 0
   IsWorldLog old s events log new t =
       MatchBool log.stopped

@@ -1,4 +1,4 @@
--- The theorems of two agents, of every log of a world.
+-- The theorems of two agents, for every log of the network model.
 use Rattle.std.specs.Prelude.{ℕ, List}
 use Rattle.rand_core.specs.Stream.{Stream}
 use Rattle.is_candidate.specs.Candidates.{CandidateRecord}

@@ -19,21 +19,22 @@ use Rattle.is.specs.declared.world.Side.TheVariants.{A, B}
 use Rattle.is.specs.World as world
 use Rattle.is.specs.World.{WorldRecord, InFlightRecord, Logged, Event, at, other, in_world}
 
--- ---- the premises
+-- ---- the preconditions
 
 module _ {H P : Type 0} where
-  -- an agent as it is made, in either role
+  -- a newly created agent, in either role
   abbrev pub IsNewAgent : AgentRecord H P → Type 0
   IsNewAgent a =
       (creds : IceCreds) × (tie_breaker : ℕ) × (controlling : Bool) × (a ≡ record (fresh a.provider creds tie_breaker) { controlling = controlling })
 
--- no two of the entries issued checks with the same transaction id
+-- No two of the entries issued checks with the same transaction ID.
 abbrev pub HaveDistinctIds : {P : Type 0} → List (Logged P) → Type 0
 HaveDistinctIds log =
     (i j : ℕ) (id : List ℕ) (p q : Path) (x y : Logged _) → slice_get log i ≡ Some x → slice_get log j ≡ Some y
     → x.outcome.entry.emitted.issued ≡ Some (issued_as p class.Request id) → y.outcome.entry.emitted.issued ≡ Some (issued_as q class.Request id) → i ≡ j
 
--- both agents are as they are made, nothing is between them, `greater` has the greater tie-breaker, and no check's id comes twice
+-- Both agents are newly created, no packet is in flight, `greater` has the greater tie-breaker, and no two checks have the same
+-- ID.
 pub record IsFairWorld {H P : Type 0} (first : WorldRecord H P) (greater : Side) (log : List (Logged P)) : Type 0 where
   pub new : (side : Side) → IsNewAgent (at side first)
   pub empty : first.bag ≡ []
@@ -42,7 +43,7 @@ pub record IsFairWorld {H P : Type 0} (first : WorldRecord H P) (greater : Side)
 
 -- ---- roles in the log
 
--- the role of a side, where A's comes first
+-- the role of a side, in a list in which A's role comes first
 abbrev pub role_at : Side → List Bool → Bool
 role_at A (a ∷ rest) = a
 role_at B (a ∷ b ∷ rest) = b
@@ -57,27 +58,27 @@ changes role [] = 0
 changes role (next ∷ roles) = (if same role next then 0 else 1) + changes next roles
 
 module _ {H P : Type 0} where
-  -- the role of the greater tie-breaker is the same behind every event
+  -- The agent with the greater tie-breaker has the same role after every event.
   abbrev pub GreaterKeeps : WorldRecord H P → List (Logged P) → Type 0
   GreaterKeeps first log =
       (greater : Side) → IsFairWorld first greater log → AllByRecursion (λ x. role_in greater x ≡ (at greater first).controlling) log
 
-  -- the role of the other one changes in at most one event
+  -- The role of the other agent changes in at most one event.
   abbrev pub LesserYieldsOnce : WorldRecord H P → List (Logged P) → Type 0
   LesserYieldsOnce first log =
       (greater : Side) → IsFairWorld first greater log → changes (at (other greater) first).controlling (map (role_in (other greater)) log) ≤ 1
 
-  -- ---- once they met
+  -- ---- after they met
 
-  -- the event makes the side do the call
+  -- The event makes the side do the call.
   abbrev pub Makes : WorldRecord H P → Event P → Side → agent.Call P → Type 0
   Makes w (world.Call s c) side d = (s ≡ side) × (d ≡ c) × (in_world c ≡ true)
   Makes w (world.Poll s) side d = ⊥
   Makes w (world.Deliver place now path) side d =
       (l : InFlightRecord) × (slice_get w.bag place ≡ Some l) × (other l.sender ≡ side) × (d ≡ agent.ReceivePacket now path l.packet.contents)
 
-  -- at this event the side serves a request past the tests of its user name and its destination, directly or from its queue, or
-  -- accepts a failure answer of code 487
+  -- At this event the side serves a request that passes the tests of its USERNAME and its destination, received now or earlier;
+  -- or it accepts an error response with code 487.
   abbrev pub Meets : Side → WorldRecord H P → Logged P → Type 0
   Meets side w x =
       (c : agent.Call P) × Makes w x.event side c
@@ -85,7 +86,7 @@ module _ {H P : Type 0} where
       ⊎ ((now : ℕ) × (path : Path) × (m : Message) × Brings c x.outcome.entry now path m × (m.class ≡ class.Failure) × (is_role_conflict m ≡ true)))
 
 module _ {H P : Type 0} (mac : H → List ℕ → List ℕ → List ℕ) (answers : P → CandidateRecord → ℕ → ℕ → Type 0) where
-  -- x stands in the log, with the world before it
+  -- x is in the log, with the state of the network model before it.
   pub record Point (first : WorldRecord H P) (s : Stream) (log : List (Logged P)) (mid : WorldRecord H P) (x : Logged P)
       (rest : List (Logged P)) : Type 0 where
     pub before : List (Logged P)
@@ -100,7 +101,7 @@ module _ {H P : Type 0} (mac : H → List ℕ → List ℕ → List ℕ) (answer
     pub happens : world.Happens mac answers mid u x.event x.outcome after v
     pub leads : world.Run mac answers after v n rest last t
 
-  -- from the event on at which the lesser met the greater's role the roles differ
+  -- Once the agent with the smaller tie-breaker has met the other one's role (`Meets`), the roles are different.
   abbrev pub RolesDifferOnceMet : WorldRecord H P → Stream → List (Logged P) → Type 0
   RolesDifferOnceMet first s log =
       (greater : Side) → IsFairWorld first greater log → (mid : WorldRecord H P) (x : Logged P) (rest : List (Logged P))

@@ -1,4 +1,4 @@
-//! Calls of an agent as values, and what becomes of each.
+//! Calls of an agent as values, and their results.
 use is_agent::{IceAgentEvent, IceCreds};
 use is_candidate::{Candidate, LocalPreference};
 use is_proto::{Duration, IceError, Instant, ParseFault, Protocol, Transmit};
@@ -9,112 +9,112 @@ use std::ops::RangeInclusive;
 /// A call of an `IceAgent`.
 pub type Call = AgentCall<Box<dyn LocalPreference>>;
 
-/// A call that can change an agent: one variant for each, with the call's arguments. Local candidates may be preferred
-/// by an object of `P`.
+/// A call that can change an agent: one variant for each, with the call's arguments. The preferences of local candidates may come
+/// from an object of `P`.
 #[derive(Drop)]
 pub enum AgentCall<P> {
-    /// `set_mtu`, which answers `Done`.
+    /// `set_mtu`. Its result is `Done`.
     SetMtu(RangeInclusive<usize>),
-    /// `set_control_tie_breaker`, which answers `Done`.
+    /// `set_control_tie_breaker`. Its result is `Done`.
     SetControlTieBreaker(u64),
-    /// `set_max_candidate_pairs`, which answers `Done`.
+    /// `set_max_candidate_pairs`. Its result is `Done`.
     SetMaxCandidatePairs(usize),
-    /// `set_ice_lite`, which answers `Done`.
+    /// `set_ice_lite`. Its result is `Done`.
     SetIceLite(bool),
-    /// `set_timing_advance`, which answers `Done`.
+    /// `set_timing_advance`. Its result is `Done`.
     SetTimingAdvance(Duration),
-    /// `set_initial_stun_rto`, which answers `Done`.
+    /// `set_initial_stun_rto`. Its result is `Done`.
     SetInitialStunRto(Duration),
-    /// `set_max_stun_rto`, which answers `Done`.
+    /// `set_max_stun_rto`. Its result is `Done`.
     SetMaxStunRto(Duration),
-    /// `set_max_stun_retransmits`, which answers `Done`; `NotCalled` where the limit is 0.
+    /// `set_max_stun_retransmits`. Its result is `Done`, or `NotCalled` if the limit is 0.
     SetMaxStunRetransmits(usize),
-    /// `set_local_preference`, which answers `Done`.
+    /// `set_local_preference`. Its result is `Done`.
     SetLocalPreference(P),
-    /// `set_controlling`, which answers `Done`.
+    /// `set_controlling`. Its result is `Done`.
     SetControlling(bool),
-    /// `set_local_credentials`, which answers `Done`.
+    /// `set_local_credentials`. Its result is `Done`.
     SetLocalCredentials(IceCreds),
-    /// `set_remote_credentials`, which answers `Done`.
+    /// `set_remote_credentials`. Its result is `Done`.
     SetRemoteCredentials(IceCreds),
-    /// `skip_pair_ids`, which answers `Done`.
+    /// `skip_pair_ids`. Its result is `Done`.
     SkipPairIds(u64),
-    /// `add_local_candidate`, which answers `Added` or `NotAdded`.
+    /// `add_local_candidate`. Its result is `Added` or `NotAdded`.
     AddLocalCandidate(Candidate),
-    /// `add_remote_candidate`, which answers `Done`.
+    /// `add_remote_candidate`. Its result is `Done`.
     AddRemoteCandidate(Candidate),
-    /// `invalidate_candidate`, which answers `Flag`.
+    /// `invalidate_candidate`. Its result is `Flag`.
     InvalidateCandidate(Candidate),
-    /// `ice_restart`, which answers `Done`.
+    /// `ice_restart`. Its result is `Done`.
     RestartIce {
         /// The new local credentials.
         creds: IceCreds,
         /// Whether the local candidates stay.
         keep: bool,
     },
-    /// `recreate_candidate_pairs`, which answers `Done`.
+    /// `recreate_candidate_pairs`. Its result is `Done`.
     RecreateCandidatePairs,
-    /// `handle_packet` of the message that the bytes read as, which answers `Flag`; `Unparsed` where they read as none.
+    /// `handle_packet` of the message that the bytes encode. Its result is `Flag`, or `Unparsed` if they encode none.
     Packet {
-        /// When the packet came.
+        /// When the packet was received.
         now: Instant,
-        /// The protocol that it came over.
+        /// The protocol over which it was received.
         proto: Protocol,
         /// Where it came from.
         source: SocketAddr,
-        /// The local address that it came to.
+        /// The local address on which it was received.
         destination: SocketAddr,
-        /// The whole packet, as it came.
+        /// The whole packet, as it was received.
         bytes: Vec<u8>,
     },
-    /// `handle_timeout` at this moment, which answers `Done`.
+    /// `handle_timeout` at this time. Its result is `Done`.
     HandleTimeout(Instant),
-    /// `poll_transmit`, which answers `Transmit`.
+    /// `poll_transmit`. Its result is `Transmit`.
     PollTransmit,
-    /// `poll_timeout`, which answers `Wake`.
+    /// `poll_timeout`. Its result is `Wake`.
     PollTimeout,
-    /// `poll_event`, which answers `Event`.
+    /// `poll_event`. Its result is `Event`.
     PollEvent,
 }
 
-/// What a call answered.
+/// The result of a call.
 #[derive(Debug, PartialEq, Eq, Drop)]
 pub enum Answer {
-    /// A call that has no more to say was done.
+    /// The call succeeded, and has no other result.
     Done,
     /// The local candidate was added.
     Added,
     /// The local candidate was not added.
     NotAdded,
-    /// The truth value of the call: of a packet, whether it was accepted.
+    /// The boolean that the call returned: for a packet, whether it was accepted.
     Flag(bool),
     /// The packet to send next, if there is one.
     Transmit(Option<Transmit>),
     /// The next event, if there is one.
     Event(Option<IceAgentEvent>),
-    /// The moment at which the agent wants to be called, if there is one.
+    /// The next timeout, if there is one.
     Wake(Option<Instant>),
-    /// The bytes are no STUN message, by their first fault. Nothing was changed.
+    /// The bytes are not a STUN message; this is their first fault. Nothing was changed.
     Unparsed(ParseFault),
-    /// The call was refused. Nothing was changed.
+    /// The call failed with this error. Nothing was changed.
     Refused(IceError),
-    /// The call breaks a condition of the agent, and was not made.
+    /// The call violates a precondition of the agent, and was not made.
     NotCalled,
-    /// The call has no place in a world of agents, and was not made.
+    /// The call does not belong to the two-agent network model, and was not made.
     NotInWorld,
-    /// There is no packet of this number, and nothing was done.
+    /// There is no packet with this number, and nothing was done.
     NoSuchPacket,
 }
 
-/// What became of one call.
+/// A log entry: the result of one call.
 #[derive(Debug, PartialEq, Eq, Drop)]
 pub struct Entry {
-    /// The place of the call in the list, from 0.
+    /// The index of the call in the list, from 0.
     pub number: usize,
-    /// What the call answered.
+    /// What the call returned.
     pub answer: Answer,
-    /// The packet that the call issued: `poll_transmit` hands it out behind those that were issued before it.
+    /// The packet that the call issued: `poll_transmit` returns it after those that were issued before it.
     pub issued: Option<Issued>,
-    /// The paths that the call announced by `NominatedSend`, in order.
+    /// The paths that the call selected (`NominatedSend`), in order.
     pub announced: [Option<Path>; 2],
 }

@@ -1,11 +1,11 @@
-//! An ICE agent (RFC 8445) that is proved. It has no sockets, no clock, no threads and no random source of its own: the
-//! caller hands in moments, candidates, packets and random words, and takes out packets, events and the next moment.
+//! A proved ICE agent (RFC 8445). It has no sockets, no clock, no threads and no random source of its own. The caller passes
+//! times, candidates, packets and random words, and polls packets, events and the next timeout.
 //!
-//! A session is a loop over an [`IceAgent`]: `handle_packet` for each packet that came, or `handle_timeout` at the moment
-//! that was asked for; then `poll_timeout` for when to come back, and `poll_transmit` and `poll_event` until each gives
-//! nothing. The wake-up is asked for first, since it is sooner while a packet waits, so that a path is announced sooner.
-//! [`run`] makes a whole list of such calls, with packets as raw bytes, and logs what became of each. A [`World`] is two
-//! agents and the packets between them.
+//! A session is a loop over an [`IceAgent`]: `handle_packet` for each packet that is received, or `handle_timeout` at the time
+//! that `poll_timeout` returned. Then `poll_timeout` for the next timeout, and `poll_transmit` and `poll_event` until each
+//! returns nothing. `poll_timeout` is called first, since it returns an earlier time while a packet is queued, so that a path is
+//! selected sooner. [`run`] makes a whole list of such calls, with packets as raw bytes, and logs the result of each. A [`World`]
+//! is two agents and the in-flight packets between them.
 #![tactic(auto)]
 
 mod calls;
@@ -45,7 +45,7 @@ pub mod pair {
     pub use is_pair::pair::{BindingAttempt, CandidatePair, CheckState, NominationState, PairId};
 }
 
-/// Candidate lines (RFC 5245, section 15.1).
+/// Candidate attributes (RFC 5245, section 15.1).
 pub mod parse {
     pub use is_candidate::parse::parse_candidate;
 }

@@ -1,4 +1,4 @@
-//! Runs of calls on an agent, with a log of what became of each.
+//! Executions: calls on an agent, with a log of their results.
 ghost use Rattle.is_agent.specs.View.{record_of};
 ghost use Rattle.is_rules.specs.Logs.{NeverLite, replies, requests};
 ghost use Rattle.is_rules.specs.Owed.{AreAmong};
@@ -17,16 +17,16 @@ use is_proto::Sha1HmacProvider;
 use is_rules::laws;
 use rand_core::Rng;
 
-/// What became of the calls of a run.
+/// The results of the calls of an execution.
 #[derive(Debug, PartialEq, Eq, Drop)]
 pub struct RunLog {
     /// One entry for each call, in the order of the calls.
     pub entries: Vec<Entry>,
-    /// Room for the entries was refused: no call was made, and there is no entry.
+    /// The allocation of the entries failed: no call was made, and there is no entry.
     pub stopped: bool,
 }
 
-/// Room for all entries is taken before the first call.
+/// Memory for all entries is allocated before the first call.
 fn run_calls<H: Sha1HmacProvider + Drop, P: LocalPreference, R: Rng>(
     agent: &mut Agent<H, P>,
     calls: Vec<AgentCall<P>>,
@@ -51,78 +51,83 @@ fn run_calls<H: Sha1HmacProvider + Drop, P: LocalPreference, R: Rng>(
     }
 }
 
-/// Makes the calls in order, and logs what became of each. Packets are taken as raw bytes. A refused call has its entry
-/// as any other, and the run goes on.
+/// Makes the calls in order, and logs the result of each. Packets are passed as raw bytes. A call that fails has its entry like
+/// any other, and the execution goes on.
 ///
-/// Room for all entries is taken first. Where that is refused nothing is done, and the log says so.
+/// Memory for all entries is allocated first. If that fails nothing is done, and the log says so.
 pub fn run<H: Sha1HmacProvider + Drop, P: LocalPreference, R: Rng>(
     agent: &mut Agent<H, P>,
     calls: Vec<AgentCall<P>>,
     rng: &mut R,
 ) -> RunLog
-    // The log is a run of the agent's steps: one entry for each call, in order, or nothing done.
+    // The log is an execution of the agent's transitions: one entry for each call, in order, or nothing was done.
     ensures log { IsRunLog H.mac P.answers (record_of agent.old) (R.stream rng.old) calls.items result (record_of agent.new) (R.stream rng.new) }
 
-    // Each entry stands between two records that the run passes, of which the clauses below speak.
+    // Each entry is between two states of the execution, to which the clauses below refer.
     ensures entries { EntriesStand H.mac P.answers (record_of agent.old) (R.stream rng.old) (log_of calls.items result) }
 
-    // Bytes that the agent does not accept, on the way that they came, change nothing, issue nothing and announce nothing.
+    // Bytes that the agent does not accept, on the path on which they were received, change nothing, issue nothing and select no
+    // path.
     ensures unaccepted { PacketsAreSettled H.mac P.answers (record_of agent.old) (R.stream rng.old) (log_of calls.items result) }
 
-    // Never lite: each announced path met an authentic success, on its way back, to a check sent since the last clear.
+    // Never lite: each selected path got an authentic success response, on its reverse path, to a check that was sent since the
+    // last clear.
     ensures answered { IsFresh (record_of agent.old) → NeverLite (log_of calls.items result)
         → PathsAreAnswered H.mac P.answers (record_of agent.old) (R.stream rng.old) (log_of calls.items result) }
 
-    // Never lite: each path announced while the agent was controlled since the last clear was asked for by an accepted
+    // Never lite: each path that was selected while the agent was controlled since the last clear was nominated by an accepted
     // request with USE-CANDIDATE.
     ensures asked_for { IsFresh (record_of agent.old) → NeverLite (log_of calls.items result)
         → PathsAreAskedFor H.mac P.answers (record_of agent.old) (R.stream rng.old) (log_of calls.items result) }
 
-    // Behind an accepted success, and behind a moment that served no queued request, the path announced last since the last
-    // clear is that of an eligible pair of greatest stored priority, wherever a pair is eligible.
+    // Nomination points are accepted success responses, and `handle_timeout` calls that served no early request. After each of
+    // them, if a pair is eligible, the path that was selected last since the last clear is that of an eligible pair with the
+    // greatest stored priority.
     ensures nomination { IsFresh (record_of agent.old)
         → LastPathsAreTop H.mac P.answers (record_of agent.old) (R.stream rng.old) (log_of calls.items result) }
 
-    // So behind each accepted success a controlling agent has announced, and behind each moment that served no queued request an
-    // agent with a pair that is valid and nominated.
+    // So a controlling agent has selected a path after each accepted success response, and an agent with a valid and nominated
+    // pair after each `handle_timeout` call that served no early request.
     ensures successes { IsFresh (record_of agent.old)
         → SuccessesAnnounce H.mac P.answers (record_of agent.old) (R.stream rng.old) (log_of calls.items result) }
     ensures nominations { IsFresh (record_of agent.old)
         → NominationsAnnounce H.mac P.answers (record_of agent.old) (R.stream rng.old) (log_of calls.items result) }
 
-    // Each part of the log leads from a record to another, of which the two next clauses speak.
+    // Each segment of the log leads from one state to another, to which the two next clauses refer.
     ensures parts { PartsStand H.mac P.answers (record_of agent.old) (R.stream rng.old) (log_of calls.items result) }
 
-    // Progress: a moment at a wake-up, or later, is of use: a check goes out, a pair is given up, or fewer requests wait. The wake-up
-    // was asked for while no packet waited, by an agent that is not lite, knows the peer and has a pair.
+    // Progress: a `handle_timeout` call at the time that `poll_timeout` returned, or later, makes progress: a check is sent, a
+    // pair is removed, or there are fewer early requests. Precondition: no packet was queued when `poll_timeout` was called, and
+    // the agent is not lite, knows the peer and has a pair.
     ensures of_use { IsFresh (record_of agent.old)
         → MomentsAreOfUse H.mac P.answers (record_of agent.old) (R.stream rng.old) (log_of calls.items result) }
 
-    // Progress: where n pairs, asked at a moment, are due by an earlier one, and in each of the n rounds from this moment on in which a
-    // check goes out on the path of one of them an accepted success comes, a controlling agent announces a path in one of the rounds.
-    // Whatever else comes, and whether or not the wake-up is asked for.
+    // Progress: n pairs are due by an earlier time at a `handle_timeout` call. In each of the n rounds from this call on in which
+    // a check is sent on the path of one of these pairs, an accepted success response is received. Then a controlling agent
+    // selects a path in one of the rounds. This holds whatever else is received, and whether or not `poll_timeout` is called.
     ensures rounds { IsFresh (record_of agent.old)
         → RoundsAnnounce H.mac P.answers (record_of agent.old) (R.stream rng.old) (log_of calls.items result) }
 
-    // At an accepted success a pair that keeps its check, on its path, is valid.
+    // After an accepted success response a pair with its pending transaction, on its path, is valid.
     ensures takers { IsFresh (record_of agent.old)
         → SuccessesMakeValid H.mac P.answers (record_of agent.old) (R.stream rng.old) (log_of calls.items result) }
 
-    // Where a request with USE-CANDIDATE is answered with success, and the agent is controlled behind it, a pair of the
-    // reply's path is nominated.
+    // If a request with USE-CANDIDATE gets a success response, and the agent is controlled afterwards, a pair on the response's
+    // path is nominated.
     ensures nominated { IsFresh (record_of agent.old)
         → RequestsNominate H.mac P.answers (record_of agent.old) (R.stream rng.old) (log_of calls.items result) }
 
-    // A packet and a moment issue at most one packet each, and no other call issues any.
+    // A received packet and a `handle_timeout` call issue at most one packet each, and no other call issues any.
     ensures issues { OthersIssueNone H.mac P.answers (record_of agent.old) (R.stream rng.old) (log_of calls.items result) }
 
-    // The replies are, as a bag, among the accepted Binding requests, each with its id and on its way back.
+    // The responses are, as a multiset, among the accepted Binding requests, each with its ID and on its reverse path.
     ensures replies { IsFresh (record_of agent.old) → AreAmong (replies (log_of calls.items result)) (requests (log_of calls.items result)) }
 
-    // Packets and events are polled in the order of issue, and a restart empties both queues before its own events.
+    // Packets and events are polled in the order in which they were issued, and an ICE restart empties both queues before its own
+    // events.
     ensures order { QueuesAreKept H.mac P.answers (record_of agent.old) (R.stream rng.old) (log_of calls.items result) }
 {
-    // what the clauses behind the first rest on
+    // the lemmas on which the clauses after the first one rest
     laws::entries_are_points::<H, P>();
     laws::announced_are_answered::<H, P>();
     laws::announced_are_asked_for::<H, P>();

@@ -1,4 +1,4 @@
-//! One call of a run.
+//! One call of an execution.
 ghost use Rattle.std.specs.Prelude.{◌≡◌};
 ghost use Rattle.rand_core.specs.Stream.{Stream};
 ghost use Rattle.is_agent.specs.View.{record_of, emitted_of};
@@ -17,7 +17,7 @@ use is_rules::emitted::Path;
 use is_stun::stun::{StunMessage, StunPacket};
 use rand_core::Rng;
 
-/// The entry of a call that issues and announces nothing.
+/// The log entry of a call that issues nothing and selects no path.
 pub(crate) fn quiet(number: usize, answer: Answer) -> Entry
     ensures emitted { entry_view result ≡ steps.quiet (answer_view answer) }
     ensures numbered { result.number ≡ number }
@@ -30,7 +30,7 @@ pub(crate) fn quiet(number: usize, answer: Answer) -> Entry
     }
 }
 
-/// The entry of a packet or a moment: what it made the agent do is asked for.
+/// The log entry of a packet or of a `handle_timeout` call: what it emitted is read from the agent.
 fn telling<H, P>(agent: &Agent<H, P>, number: usize, answer: Answer) -> Entry
     ensures emitted { entry_view result ≡ record { answer = answer_view answer; emitted = emitted_of agent.now } }
     ensures numbered { result.number ≡ number }
@@ -73,7 +73,7 @@ fn flag_or_refused(outcome: Result<bool, IceError>) -> Answer
     }
 }
 
-/// A packet that came, as bytes.
+/// A received packet, as bytes.
 pub(crate) fn take_packet<H: Sha1HmacProvider + Drop, P: LocalPreference>(
     agent: &mut Agent<H, P>,
     number: usize,
@@ -100,7 +100,7 @@ pub(crate) fn take_packet<H: Sha1HmacProvider + Drop, P: LocalPreference>(
     }
 }
 
-/// A moment.
+/// A `handle_timeout` call.
 fn take_moment<H: Sha1HmacProvider + Drop, P: LocalPreference, R: Rng>(
     agent: &mut Agent<H, P>,
     number: usize,
@@ -115,7 +115,7 @@ fn take_moment<H: Sha1HmacProvider + Drop, P: LocalPreference, R: Rng>(
     telling(agent, number, answer)
 }
 
-/// A retransmit limit. None at all breaks a condition of the agent.
+/// A retransmit limit. A limit of 0 violates a precondition of the agent.
 fn take_limit<H: Sha1HmacProvider + Drop, P: LocalPreference>(
     agent: &mut Agent<H, P>,
     number: usize,
@@ -131,7 +131,7 @@ fn take_limit<H: Sha1HmacProvider + Drop, P: LocalPreference>(
     quiet(number, Answer::Done)
 }
 
-/// One call, the one of this number.
+/// One call, with its number.
 pub(crate) fn step<H: Sha1HmacProvider + Drop, P: LocalPreference, R: Rng>(
     agent: &mut Agent<H, P>,
     number: usize,

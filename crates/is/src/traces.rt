@@ -1,4 +1,4 @@
-//! Announced paths, traced through a log to the other agent.
+//! The causal chain of each selected path, through a log to the other agent and back.
 
 ghost use Rattle.std.specs.Prelude.{◌≡◌, ◌<◌, ◌≤◌, ◌↔◌, Some, IsTrue, true, length};
 ghost use Rattle.is_stun.specs.declared.header.Class.TheVariants as classes;
@@ -13,25 +13,25 @@ use is_candidate::candidate::address::same_address;
 use is_rules::emitted::{Issued, Path};
 use is_stun::stun::{Class, TransId};
 
-/// How the path that an entry announced was answered by the other agent, by the numbers of entries.
+/// How the path that an entry selected was answered by the other agent: a causal chain, by the numbers of log entries.
 #[derive(Clone, Copy, Debug, PartialEq, Eq)]
 pub struct Trace {
-    /// The agent that announced the path had sent a check on it.
+    /// The agent that selected the path had sent a check on it.
     pub checked: usize,
     /// That check was delivered to the other agent, which accepted it.
     pub delivered: usize,
-    /// The other agent issued the success with the check's transaction id.
+    /// The other agent issued the success response with the check's transaction ID.
     pub replied: usize,
-    /// That success was delivered, and accepted.
+    /// That response was delivered, and accepted.
     pub answered: usize,
 }
 
-/// What is looked for in a log.
+/// What is searched for in a log.
 #[derive(Clone, Copy, Debug)]
 enum Mark {
-    /// The side accepted a message of this class and id, which was delivered to it.
+    /// The side accepted a message of this class and ID, which was delivered to it.
     Taken(Side, Class, TransId),
-    /// The side issued a message of this class and id.
+    /// The side issued a message of this class and ID.
     Issued(Side, Class, TransId),
     /// The side's pairs were cleared.
     Cleared(Side),
@@ -92,7 +92,7 @@ fn is_marked(entry: &WorldEntry, mark: &Mark) -> bool
     }
 }
 
-/// The first of the entries from this number on, and before the end, that tells of what is looked for.
+/// The first of the entries from this number on, and before the end, that has the mark.
 fn first_marked(entries: &[WorldEntry], from: usize, end: usize, mark: &Mark) -> Option<usize>
     requires { end ≤ length entries.now }
     ensures { IsFirstMarked entries.now mark.now from end result }
@@ -105,7 +105,7 @@ fn first_marked(entries: &[WorldEntry], from: usize, end: usize, mark: &Mark) ->
     None
 }
 
-/// The agent that announced a path, and the path.
+/// The agent that selected a path, and the path.
 fn announced_at(entries: &[WorldEntry], entry: usize, place: usize) -> Option<(Side, Path)>
     ensures { IsAnnounced entries.now entry place result }
 {
@@ -131,7 +131,7 @@ fn is_check(issued: &Issued, path: Path) -> bool
     issued.class == Class::Request && same_path(issued.path, path)
 }
 
-/// The transaction id of the check that the entry issued on the path.
+/// The transaction ID of the check that the entry issued on the path.
 fn check_at(entries: &[WorldEntry], side: Side, path: Path, entry: usize) -> Option<TransId>
     ensures { IsCheckAt entries.now side path entry result }
 {
@@ -145,7 +145,7 @@ fn check_at(entries: &[WorldEntry], side: Side, path: Path, entry: usize) -> Opt
     }
 }
 
-/// The first answer to the check of this id, by the numbers of its entries.
+/// The first causal chain from the check with this ID to its success response.
 fn answer_of(
     entries: &[WorldEntry],
     side: Side,
@@ -171,7 +171,7 @@ fn answer_of(
     })
 }
 
-/// The first trace of the path that begins at this entry.
+/// The first causal chain of the path that begins at this entry.
 fn trace_from(
     entries: &[WorldEntry],
     side: Side,
@@ -190,7 +190,7 @@ fn trace_from(
     }
 }
 
-/// The first trace of the path.
+/// The first causal chain of the path.
 fn first_trace(entries: &[WorldEntry], side: Side, path: Path, end: usize) -> Option<Trace>
     requires { end ≤ length entries.now }
     ensures { IsFirst (IsTrace entries.now side path end) result }
@@ -206,12 +206,12 @@ fn first_trace(entries: &[WorldEntry], side: Side, path: Path, end: usize) -> Op
 impl WorldLog {
     ghost use Rattle.is.specs.Traces.{IsFirstTrace};
 
-    /// How the path that an entry announced, the one at this place of its paths, was answered by the other agent: a check that
-    /// was sent on the path reached that agent, which answered it with success, and the answer came back, since the pairs of
-    /// the announcing agent were cleared last. Of several such chains of entries the first one, in order of `checked`, then
-    /// `delivered`, `replied` and `answered`.
+    /// The causal chain of the path that an entry selected, the one at this index of its paths. A check that was sent on the path
+    /// reached the other agent, that agent issued a success response, and the response was received. All of this happened since
+    /// the pairs of the selecting agent were last cleared. Of several such chains, the result is the first one in order of
+    /// `checked`, then `delivered`, `replied` and `answered`.
     ///
-    /// None where there is none, or where nothing was announced at this place. Takes no memory.
+    /// None if there is no chain, or if no path was selected at this index. Does not allocate.
     pub fn trace(&self, entry: usize, place: usize) -> Option<Trace>
         ensures { IsFirstTrace self.now.entries.items entry place result }
     {

@@ -1,4 +1,5 @@
-//! Two agents and the packets between them: which arrive, when, how often and from where is up to the caller.
+//! The two-agent network model: two agents and the in-flight packets between them. The caller decides which packets arrive, when,
+//! how often and from where.
 
 ghost use Rattle.std.specs.Prelude.{◌≡◌, Some, None, true, false, MatchOption, map, slice_get, if◌then◌else◌};
 ghost use Rattle.rand_core.specs.Stream.{Stream};
@@ -35,79 +36,79 @@ use rand_core::Rng;
 use std::alloc::Global;
 use std::net::SocketAddr;
 
-/// One of the two agents of a world.
+/// One of the two agents of the network model.
 #[derive(Clone, Copy, Debug, PartialEq, Eq)]
 pub enum Side {
     A,
     B,
 }
 
-/// A packet between the agents, and who sent it.
+/// An in-flight packet, and its sender.
 #[derive(Debug, Drop)]
 pub struct InFlight {
     pub(crate) sender: Side,
     pub(crate) packet: Transmit,
 }
 
-/// What happens in a world whose local candidates may be preferred by boxed objects.
+/// An event of two agents whose local preferences may come from boxed objects.
 pub type WorldEvent = TwoAgentsEvent<Box<dyn LocalPreference>>;
 
-/// What happens to two agents whose local candidates may be preferred by an object of `P`.
+/// An event of two agents whose local preferences may come from an object of `P`.
 #[derive(Drop)]
 pub enum TwoAgentsEvent<P> {
-    /// An agent is called. `Packet`, `SetControlling` and `SetControlTieBreaker` are no calls of a world.
+    /// An agent is called. `Packet`, `SetControlling` and `SetControlTieBreaker` are not calls of the network model.
     Call(Side, AgentCall<P>),
-    /// The next packet of the agent, if there is one, is sent off.
+    /// The next packet of the agent, if there is one, is sent: it becomes an in-flight packet.
     Poll(Side),
-    /// A packet that was sent off arrives at the agent that did not send it, by any way. It can arrive again.
+    /// An in-flight packet is delivered to the agent that did not send it, on any path. It can be delivered again.
     Deliver {
-        /// The number of the packet, in the order in which packets were sent off.
+        /// The number of the packet, in the order in which packets were sent.
         packet: usize,
-        /// When it arrives.
+        /// When it is delivered.
         now: Instant,
-        /// The protocol that it comes over.
+        /// The protocol over which it is delivered.
         proto: Protocol,
         /// Where it comes from.
         source: SocketAddr,
-        /// The local address that it comes to.
+        /// The local address to which it is delivered.
         destination: SocketAddr,
     },
 }
 
-/// What became of one event.
+/// A log entry: the result of one event.
 #[derive(Debug, PartialEq, Eq, Drop)]
 pub struct WorldEntry {
-    /// The place of the event in the list, from 0.
+    /// The index of the event in the list, from 0.
     pub number: usize,
-    /// What the call answered.
+    /// What the call returned.
     pub answer: Answer,
     /// The packet that the event made an agent issue.
     pub issued: Option<Issued>,
-    /// The paths that it made an agent announce, in order.
+    /// The paths that it made an agent select, in order.
     pub announced: [Option<Path>; 2],
     /// Which agents are controlling after it, A first.
     pub controlling: [bool; 2],
-    /// The agent that was called, polled or delivered to. None where there was no such packet.
+    /// The agent that was called, polled or delivered to. None if there was no such packet.
     pub side: Option<Side>,
-    /// The event was an `ice_restart` or a `recreate_candidate_pairs` that answered Ok: the agent's pairs were cleared.
+    /// The event was an `ice_restart` or a `recreate_candidate_pairs` that returned Ok: the agent's pairs were cleared.
     pub clear: bool,
-    /// What a packet that was delivered reads as. None where its bytes are no STUN message, and for all other events.
+    /// What a delivered packet encodes. None if its bytes are not a STUN message, and for all other events.
     pub moved: Option<(Class, TransId)>,
 }
 
-/// What became of the events of a run.
+/// The results of the events of an execution.
 #[derive(Debug, PartialEq, Eq, Drop)]
 pub struct WorldLog {
     /// One entry for each event, in order.
     pub entries: Vec<WorldEntry>,
-    /// Room for the entries was refused: nothing happened, and there is no entry.
+    /// The allocation of the entries failed: nothing happened, and there is no entry.
     pub stopped: bool,
 }
 
-/// Two agents whose local candidates may be preferred by boxed objects.
+/// Two agents whose local preferences may come from boxed objects.
 pub type World<H> = TwoAgents<H, Box<dyn LocalPreference>>;
 
-/// Two agents that sign by `H`, and the packets that they sent off.
+/// Two agents that sign with `H`, and their in-flight packets.
 #[derive(Drop)]
 pub struct TwoAgents<H, P> {
     pub(crate) a: Agent<H, P>,
@@ -115,16 +116,16 @@ pub struct TwoAgents<H, P> {
     pub(crate) bag: Vec<InFlight>,
 }
 
-/// How an agent of a world is made.
+/// The parameters of an agent of the network model.
 #[derive(Drop)]
 pub struct AgentSpec<H> {
     /// Its local credentials.
     pub creds: IceCreds,
-    /// It signs by this.
+    /// The HMAC provider with which it signs.
     pub provider: H,
-    /// The number that settles role conflicts (RFC 8445, section 7.3.1.1).
+    /// The tie-breaker of role conflicts (RFC 8445, section 7.3.1.1).
     pub tie_breaker: u64,
-    /// Whether it begins as the controlling agent.
+    /// Whether it starts as the controlling agent.
     pub controlling: bool,
 }
 
@@ -152,7 +153,7 @@ fn is_done(answer: &Answer) -> bool
     matches!(answer, Answer::Done)
 }
 
-/// What bytes read as.
+/// What bytes encode.
 fn read_as(bytes: &[u8]) -> Option<(Class, TransId)>
     ensures { result ≡ read_unless (fault_of bytes.now) (message_of bytes.now) }
 {
@@ -162,7 +163,7 @@ fn read_as(bytes: &[u8]) -> Option<(Class, TransId)>
     }
 }
 
-/// The entry of what an agent did.
+/// The log entry of what an agent did.
 fn emitted_as(
     entry: Entry,
     controlling: [bool; 2],
@@ -191,7 +192,8 @@ fn emitted_as(
     }
 }
 
-/// Moves an agent's packet, if there is one, into the bag, and answers whether; refused where the bag can't grow.
+/// Moves an agent's packet, if there is one, to the in-flight packets, and returns whether there was one. Fails with
+/// `OutOfMemory` if the list can't grow.
 fn poll_into<H: Sha1HmacProvider + Drop, P: LocalPreference>(
     agent: &mut Agent<H, P>,
     bag: &mut Vec<InFlight>,
@@ -218,7 +220,7 @@ fn in_flight_at(bag: &[InFlight], place: usize) -> Option<&InFlight>
     bag.get(place)
 }
 
-/// An agent as it is made, in its role.
+/// A newly created agent, in its role.
 fn member<H: Sha1HmacProvider + Drop, P: LocalPreference>(
     alloc: Global,
     spec: AgentSpec<H>,
@@ -231,9 +233,9 @@ fn member<H: Sha1HmacProvider + Drop, P: LocalPreference>(
 }
 
 impl<H: Sha1HmacProvider + Drop, P: LocalPreference> TwoAgents<H, P> {
-    /// Two agents as they are made, with nothing between them.
+    /// Two newly created agents, without in-flight packets.
     ///
-    /// Refused with `CredentialsTooLong` where the user fragment of one is too long.
+    /// Fails with `CredentialsTooLong` if the username fragment of one is too long.
     pub fn new(alloc: Global, a: AgentSpec<H>, b: AgentSpec<H>) -> Result<Self, IceError>
         ensures { MakesWorld a b (made_world result) }
     {
@@ -252,7 +254,7 @@ impl<H: Sha1HmacProvider + Drop, P: LocalPreference> TwoAgents<H, P> {
         [self.a.controlling(), self.b.controlling()]
     }
 
-    /// The entry of what an agent did.
+    /// The log entry of what an agent did.
     fn emitted(
         &self,
         entry: Entry,
@@ -272,7 +274,7 @@ impl<H: Sha1HmacProvider + Drop, P: LocalPreference> TwoAgents<H, P> {
         emitted_as(entry, self.roles(), side, clear, moved)
     }
 
-    /// The entry of a call that an agent made.
+    /// The log entry of a call that an agent made.
     fn emitted_call(&self, entry: Entry, side: Side, clearing: bool) -> WorldEntry
         ensures emitted { outcome_of result ≡ record {
           entry = entry_view entry;
@@ -321,7 +323,7 @@ impl<H: Sha1HmacProvider + Drop, P: LocalPreference> TwoAgents<H, P> {
         self.emitted(quiet(number, answer), side, false, None)
     }
 
-    /// A packet moves into the bag.
+    /// An agent's packet becomes an in-flight packet.
     fn poll(&mut self, side: Side, number: usize) -> WorldEntry
         ensures did { (s : Stream) → Happens H.mac P.answers (world_of self.old) s (world.Poll side) (outcome_of result) (world_of self.new) s }
         ensures numbered { result.number ≡ number }
@@ -338,7 +340,7 @@ impl<H: Sha1HmacProvider + Drop, P: LocalPreference> TwoAgents<H, P> {
         }
     }
 
-    /// A packet of the bag is given to the agent that did not send it.
+    /// An in-flight packet is delivered to the agent that did not send it.
     fn deliver(&mut self, number: usize, place: usize, now: Instant, path: Path) -> WorldEntry
         ensures did { (s : Stream) → Happens H.mac P.answers (world_of self.old) s (world.Deliver place now.0 path) (outcome_of result)
             (world_of self.new) s }
@@ -395,7 +397,7 @@ impl<H: Sha1HmacProvider + Drop, P: LocalPreference> TwoAgents<H, P> {
         }
     }
 
-    /// Room for all entries is taken before the first event.
+    /// Memory for all entries is allocated before the first event.
     fn run_events<R: Rng>(&mut self, events: Vec<TwoAgentsEvent<P>>, rng: &mut R) -> WorldLog
         ensures { IsWorldLog H.mac P.answers (world_of self.old) (R.stream rng.old) events.items result (world_of self.new) (R.stream rng.new) }
     {
@@ -416,46 +418,51 @@ impl<H: Sha1HmacProvider + Drop, P: LocalPreference> TwoAgents<H, P> {
         }
     }
 
-    /// Lets the events happen in order, and logs what became of each. What is promised of roles and traces holds of a world as
-    /// `new` made it.
+    /// Lets the events happen in order, and logs the result of each. The guarantees on roles and causal chains hold for two
+    /// agents as `new` creates them.
     ///
-    /// Room for all entries is taken first. Where that is refused nothing is done, and the log says so.
+    /// Memory for all entries is allocated first. If that fails nothing is done, and the log says so.
     pub fn run<R: Rng>(&mut self, events: Vec<TwoAgentsEvent<P>>, rng: &mut R) -> WorldLog
-        // The log is a run of both agents' steps: one entry for each event, in order, or nothing done.
+        // The log is an execution of both agents' transitions: one entry for each event, in order, or nothing was done.
         ensures log { IsWorldLog H.mac P.answers (world_of self.old) (R.stream rng.old) events.items result (world_of self.new) (R.stream rng.new) }
 
-        // The greater tie-breaker keeps its role.
+        // The agent with the greater tie-breaker keeps its role.
         ensures keeps { GreaterKeeps (world_of self.old) (logged events.items result.entries.items) }
 
-        // The other one yields at most once.
+        // The other agent switches its role at most once.
         ensures yields { LesserYieldsOnce (world_of self.old) (logged events.items result.entries.items) }
 
-        // From the event on at which it met the greater's role the roles differ.
+        // Once this other agent has met the role of the first (`Meets`), the roles are different.
         ensures differ { RolesDifferOnceMet H.mac P.answers (world_of self.old) (R.stream rng.old) (logged events.items result.entries.items) }
 
-        // Whatever roles they begin with: wherever a check of either is delivered, and its 487 where it gives one, the roles differ from then on.
+        // Whatever roles they start with: if a check of either is delivered, and its 487 if it gets one, the roles are different
+        // from then on.
         ensures meet { RolesMeet H.mac P.answers (world_of self.old) (R.stream rng.old) (logged events.items result.entries.items) }
 
-        // Each path that an agent announced which is never lite was answered by the other agent, and the answer came back on it.
+        // If an agent is never lite, each path that it selected was answered by the other agent, and the response was received on
+        // its reverse path.
         ensures traced { AnnouncedAreTraced (world_of self.old) (logged events.items result.entries.items) result.entries.items }
 
-        // Progress: where n pairs of the controlling agent, asked at a moment, are due by an earlier one, and in each of the n rounds from this
-        // moment on in which a check goes out on the path of one of them the network delivers it and its success, that agent announces a path
-        // in one of the rounds. Both know each other, their roles differ, and the path reaches the other one; whatever else happens.
+        // Progress of the controlling agent: n of its pairs are due by an earlier time at a `handle_timeout` call. In each of the
+        // n rounds from this call on in which a check is sent on the path of one of these pairs, the network delivers it and its
+        // success response. Both agents know each other, their roles differ, and the path reaches the other agent. Then the
+        // controlling agent selects a path in one of the rounds, whatever else happens.
         ensures rounds { DeliveredRoundsAnnounce H.mac P.answers (world_of self.old) (R.stream rng.old) (logged events.items result.entries.items) }
 
-        // And of the controlled agent: where the controlling one checks the way back of a path whose pairs it nominated, and the controlled one
-        // checks the path, and the network delivers the first check, the second and its success, it announced a path by its next moment that
-        // serves no request. Where one pair of it alone joins the path, and until a call of its own may take such a pair away.
+        // Progress of the controlled agent: the controlling agent checks the reverse of a path whose pairs it nominated, and the
+        // controlled agent checks the path. The network delivers the first check, the second, and its success response. Then the
+        // controlled agent selected a path by its next `handle_timeout` call that serves no early request. Precondition: only one
+        // of its pairs joins the path, and none of its calls may have removed such a pair.
         ensures granted { GrantedPathsAnnounce H.mac P.answers (world_of self.old) (R.stream rng.old) (logged events.items result.entries.items) }
 
-        // Both: where the controlling agent has a nominated pair, and the controlled one a pair on the way back, in rounds that suffice for each,
-        // 2n - 1 where it has n pairs and one more for each that it adds, and each check that goes out on these paths is delivered, and the
-        // controlled one's success too, the controlled one announced a path by its next moment, as above.
+        // Progress of both: the controlling agent has a nominated pair, and the controlled agent a pair on the reverse path. Each
+        // has rounds that suffice: 2n - 1 if it has n pairs, and one more for each pair that it adds. Each check that is sent on
+        // these paths is delivered, and so is the success response to the controlled agent. Then the controlled agent selected a
+        // path by its next `handle_timeout` call, as above.
         ensures connect { BothConnect H.mac P.answers (world_of self.old) (R.stream rng.old) (logged events.items result.entries.items) }
 
-        // And on the same path: while neither is lite, and all pairs of one are on a path and all of the other on its way back, whatever paths
-        // the two announced are each other's turned.
+        // And on the same path: while neither is lite, all pairs of one are on a path, and all pairs of the other on the reverse
+        // path, any two paths that they selected are the reverse of each other.
         ensures mirror { LonePathsMirror H.mac P.answers (world_of self.old) (R.stream rng.old) (logged events.items result.entries.items) }
     {
         greater_keeps::<H, P>();

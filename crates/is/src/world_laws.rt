@@ -1,4 +1,4 @@
-//! What holds of each run of a world. Each law is the contract of a function that does nothing.
+//! The theorems of each execution of the two-agent network model. Each is the contract of a function that does nothing.
 
 ghost use Rattle.is.specs.WorldLaws.{KeepsLaw, YieldsLaw, DiffersLaw, TracedLaw, DeliveriesLaw, GrantingsLaw, ConnectionsLaw, MeetingsLaw, MirrorsLaw};
 
@@ -9,7 +9,7 @@ use is_rules::laws::{
     fresh_is_sound, granted_are_announced, path_effect, role_effect, trade_effect,
 };
 
-/// Between two agents over any network the greater tie-breaker keeps its role.
+/// Of two agents over any network, the one with the greater tie-breaker keeps its role.
 pub(crate) fn greater_keeps<H: Sha1HmacProvider, P: LocalPreference>()
     ensures { KeepsLaw H.mac P.answers }
 {
@@ -18,7 +18,7 @@ pub(crate) fn greater_keeps<H: Sha1HmacProvider, P: LocalPreference>()
     fresh_is_sound::<H, P>();
 }
 
-/// The other one yields at most once.
+/// The other one switches its role at most once.
 pub(crate) fn lesser_yields_once<H: Sha1HmacProvider, P: LocalPreference>()
     ensures { YieldsLaw H.mac P.answers }
 {
@@ -27,7 +27,7 @@ pub(crate) fn lesser_yields_once<H: Sha1HmacProvider, P: LocalPreference>()
     fresh_is_sound::<H, P>();
 }
 
-/// Once they met the roles differ.
+/// Once the agent with the smaller tie-breaker has met the other one's role, the roles are different.
 pub(crate) fn roles_differ_once_met<H: Sha1HmacProvider, P: LocalPreference>()
     ensures { DiffersLaw H.mac P.answers }
 {
@@ -36,7 +36,7 @@ pub(crate) fn roles_differ_once_met<H: Sha1HmacProvider, P: LocalPreference>()
     fresh_is_sound::<H, P>();
 }
 
-/// Each path that an agent announces which is never lite was answered by the other agent.
+/// If an agent is never lite, each path that it selects was answered by the other agent.
 pub(crate) fn announced_are_traced<H: Sha1HmacProvider, P: LocalPreference>()
     ensures { TracedLaw H.mac P.answers }
 {
@@ -45,8 +45,8 @@ pub(crate) fn announced_are_traced<H: Sha1HmacProvider, P: LocalPreference>()
     fresh_is_sound::<H, P>();
 }
 
-/// Where the network delivers what goes out on a path, and its answers, a controlling agent announces a path within as many rounds as
-/// there are pairs that are due no later than the one of the path.
+/// If the network delivers what is sent on a path, and the responses to it, a controlling agent selects a path within as many
+/// rounds as there are pairs that are due no later than the one of the path.
 pub(crate) fn delivered_rounds_announce<H: Sha1HmacProvider, P: LocalPreference>()
     ensures { DeliveriesLaw H.mac P.answers }
 {
@@ -57,8 +57,8 @@ pub(crate) fn delivered_rounds_announce<H: Sha1HmacProvider, P: LocalPreference>
     courses_announce::<H, P>();
 }
 
-/// Where the controlled agent is asked for a path by the other one, and its own check on it is answered, its next moment that serves no
-/// request finds a path announced, unless a pair of the path may have gone.
+/// If the peer nominates a path to the controlled agent, and the agent's own check on it is answered, a path is selected by its
+/// next `handle_timeout` call that serves no early request, unless a pair of the path may have been removed.
 pub(crate) fn granted_paths_announce<H: Sha1HmacProvider, P: LocalPreference>()
     ensures { GrantingsLaw H.mac P.answers }
 {
@@ -69,8 +69,8 @@ pub(crate) fn granted_paths_announce<H: Sha1HmacProvider, P: LocalPreference>()
     granted_are_announced::<H, P>();
 }
 
-/// Where each of two agents, one controlling, has rounds that suffice for a pair of the path, in which the network delivers, the controlled
-/// one announces a path, too.
+/// If each of two agents, one of them controlling, has rounds that suffice for a pair on the path, and the network delivers in
+/// them, the controlled agent selects a path, too.
 pub(crate) fn both_connect<H: Sha1HmacProvider, P: LocalPreference>()
     ensures { ConnectionsLaw H.mac P.answers }
 {
@@ -83,7 +83,7 @@ pub(crate) fn both_connect<H: Sha1HmacProvider, P: LocalPreference>()
     courses_reach::<H, P>();
 }
 
-/// One delivered check, and its 487 where it gives one, make roles opposite.
+/// One delivered check, and its 487 if it gets one, makes the roles different.
 pub(crate) fn roles_meet<H: Sha1HmacProvider, P: LocalPreference>()
     ensures { MeetingsLaw H.mac P.answers }
 {
@@ -93,7 +93,8 @@ pub(crate) fn roles_meet<H: Sha1HmacProvider, P: LocalPreference>()
     conflicts_settle::<H, P>();
 }
 
-/// Where all pairs of one agent stay on a path, and all of the other on its way back, whatever paths they announce are each other's turned.
+/// If all pairs of one agent stay on a path, and all pairs of the other on the reverse path, any two paths that they select are
+/// the reverse of each other.
 pub(crate) fn lone_paths_mirror<H: Sha1HmacProvider, P: LocalPreference>()
     ensures { MirrorsLaw H.mac P.answers }
 {

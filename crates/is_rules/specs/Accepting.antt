@@ -1,4 +1,4 @@
--- Which messages the agent accepts, and what becomes of a packet (RFC 8445, sections 7.2.5 and 7.3).
+-- Which messages the agent accepts, and what it does with a packet (RFC 8445, sections 7.2.5 and 7.3).
 use Rattle.std.specs.Prelude.{◌≡◌, ℕ, ◌&&◌, Bool, true, false, List, [], ◌∷◌, ◌++◌, IfSome, IsSomeAnd, Option, Some, None, Result, Ok, Err}
 use Rattle.std.specs.Prelude.{if◌then◌else◌}
 use Rattle.std.specs.List.{list_any}
@@ -23,24 +23,25 @@ use Rattle.is_rules.specs.Serving.{TakesRequest, MayRefuseArrival}
 use Rattle.is_pair.specs.Bag.{keeps_check}
 use Rattle.is_rules.specs.Answers.{keeps_check_on, TakesSuccess, TakesFailure}
 
--- the source of a packet was told of
+-- The packet came from this discovered source.
 abbrev pub is_source : Path → Source → Bool
 is_source path s = same_address s.address path.source && same_protocol s.proto path.proto
 
 module _ {H P : Type 0} where
   -- ---- accepting
 
-  -- the user name is the agent's own fragment, a colon and the peer's, where one is known (RFC 8445, section 7.2.2)
+  -- USERNAME is the agent's own username fragment, a colon, and the peer's username fragment if it is known (RFC 8445, section
+  -- 7.2.2).
   abbrev pub IsAddressed : AgentRecord H P → Message → Type 0
   IsAddressed a m =
       IsSomeAnd (split_username m.attributes) (λ name. (name.0 ≡ a.local_creds.ufrag) × IfSome a.remote_creds (λ peer. name.1 ≡ peer.ufrag))
 
-  -- the peer's answer to a check that is kept
+  -- the peer's response to a pending transaction
   abbrev pub IsAwaited : (H → List ℕ → List ℕ → List ℕ) → (PairRecord → Bool) → AgentRecord H P → Message → Type 0
   IsAwaited mac keeps a m = (list_any keeps a.pairs ≡ true) × IsSomeAnd a.remote_creds (λ peer. IsSignedBy (mac a.provider) m peer.pass)
 
-  -- by the class: a request is addressed, and signed with the present local password; an answer is awaited, and signed with
-  -- the remote one
+  -- By the class: a request has this USERNAME, and is signed with the present local password; a response is for a pending
+  -- transaction, and is signed with the remote password.
   abbrev pub IsAcceptedAs : (H → List ℕ → List ℕ → List ℕ) → Class → (PairRecord → Bool) → AgentRecord H P → Message → Type 0
   IsAcceptedAs mac Request keeps a m = IsAddressed a m × IsSignedBy (mac a.provider) m a.local_creds.pass
   IsAcceptedAs mac Success keeps a m = IsAwaited mac keeps a m
@@ -50,20 +51,20 @@ module _ {H P : Type 0} where
   abbrev pub IsAcceptedBy : (H → List ℕ → List ℕ → List ℕ) → (PairRecord → Bool) → AgentRecord H P → Message → Type 0
   IsAcceptedBy mac keeps a m = (m.method ≡ Binding) × IsAcceptedAs mac m.class keeps a m
 
-  -- `accepts_message`, which sees no addresses
+  -- `accepts_message`, which does not see addresses
   abbrev pub IsAccepted : (H → List ℕ → List ℕ → List ℕ) → AgentRecord H P → Message → Type 0
   IsAccepted mac a m = IsAcceptedBy mac (keeps_check m.id) a m
 
-  -- `accepts_packet`: an answer comes back on its check's path
+  -- `accepts_packet`: a response is received on the reverse of its check's path.
   abbrev pub IsAcceptedOn : (H → List ℕ → List ℕ → List ℕ) → AgentRecord H P → Path → Message → Type 0
   IsAcceptedOn mac a path m = IsAcceptedBy mac (keeps_check_on a path m.id) a m
 
-  -- ---- sources
+  -- ---- discovered sources
 
   abbrev pub is_discovered : Path → AgentRecord H P → Bool
   is_discovered path a = list_any (is_source path) a.discovered_sources
 
-  -- a protocol and source that was not seen since the last restart is told of
+  -- A protocol and source address that was not seen since the last ICE restart is discovered: its event is emitted, and counted.
   abbrev pub discovered_emitted : Path → AgentRecord H P → AgentRecord H P
   discovered_emitted path a = record a {
     discovered_sources = if is_discovered path a then a.discovered_sources else a.discovered_sources ++ record { proto = path.proto; address = path.source } ∷ [];
@@ -82,7 +83,7 @@ module _ {H P : Type 0} where
   Takes mac Failure now old path m emitted new = TakesFailure old path m emitted new
   Takes mac _ now old path m emitted new = ⊥
 
-  -- an accepted request may be refused as its arrival may be, an answer for want of memory alone
+  -- An accepted request may fail as its arrival may; a response fails only for an allocation failure.
   abbrev pub MayRefuseAs : Class → AgentRecord H P → RequestRecord → IceError → Type 0
   MayRefuseAs Request a q error = MayRefuseArrival a q error
   MayRefuseAs _ a q error = error ≡ OutOfMemory
@@ -90,7 +91,7 @@ module _ {H P : Type 0} where
   abbrev pub MayRefusePacket : (H → List ℕ → List ℕ → List ℕ) → ℕ → AgentRecord H P → Path → Message → IceError → Type 0
   MayRefusePacket mac now a path m error = IsAcceptedOn mac a path m × MayRefuseAs m.class a (request_in now path m) error
 
-  -- `handle_packet`: what is not accepted changes nothing
+  -- `handle_packet`: a packet that is not accepted changes nothing.
   abbrev pub HandlesPacket : (H → List ℕ → List ℕ → List ℕ) → ℕ → AgentRecord H P → Path → Message → Result Bool IceError → Emitted
       → AgentRecord H P → Type 0
   HandlesPacket mac now old path m (Ok false) emitted new = ¬ IsAcceptedOn mac old path m × (emitted ≡ nothing_emitted) × (new ≡ old)
@@ -98,7 +99,7 @@ module _ {H P : Type 0} where
       IsAcceptedOn mac old path m × ((mid : AgentRecord H P) × Takes mac m.class now old path m emitted mid × (new ≡ discovered_emitted path mid))
   HandlesPacket mac now old path m (Err error) emitted new = MayRefusePacket mac now old path m error × (emitted ≡ nothing_emitted) × (new ≡ old)
 
-  -- what becomes of a packet of the class, by whether it is accepted
+  -- what happens to a packet of this class, by whether it is accepted
   abbrev pub Arrives : Type 0 → (H → List ℕ → List ℕ → List ℕ) → Class → ℕ → AgentRecord H P → Path → Message
       → Result (Option Emitted) IceError → AgentRecord H P → Type 0
   Arrives Accepted mac class now old path m (Ok None) new = ¬ Accepted × (new ≡ old)

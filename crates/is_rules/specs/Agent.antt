@@ -1,4 +1,4 @@
--- What contracts see of an agent (RFC 8445).
+-- The abstract state of an agent (RFC 8445): what contracts say of it.
 use Rattle.std.specs.Prelude.{◌≡◌, ℕ, ◌*◌, Bool, true, false, List, [], Option, None, Result, Ok, Err}
 use Rattle.is_proto.specs.Packets.{Packet}
 use Rattle.is_proto.specs.Moments.{MILLISECOND}
@@ -16,7 +16,7 @@ use Rattle.is_rules.specs.declared.event.IceConnectionState.TheVariants.{New}
 use Rattle.is_rules.specs.Request.{RequestRecord}
 use Rattle.is_rules.specs.Fitting.{are_too_long}
 
--- an agent with a provider of H, and with objects of P as preferences
+-- The abstract state. `H` is the type of the HMAC provider, `P` that of the local preference object.
 pub record AgentRecord (H P : Type 0) : Type 0 where
   pub provider : H
   pub preference : Option P
@@ -24,7 +24,7 @@ pub record AgentRecord (H P : Type 0) : Type 0 where
   pub timing : StunTiming
   pub timing_advance : ℕ
   pub lite : Bool
-  -- the MTU's target, and the length from which on packets are warned of
+  -- the target MTU, and the packet length from which a warning is due
   pub mtu : ℕ
   pub mtu_warn : ℕ
   -- credentials and role (RFC 8445, sections 5.3 and 6.1.1)
@@ -32,23 +32,23 @@ pub record AgentRecord (H P : Type 0) : Type 0 where
   pub remote_creds : Option IceCreds
   pub controlling : Bool
   pub tie_breaker : ℕ
-  -- candidates; a place in a list never moves
+  -- The candidates. The index of a candidate does not change while it is in its list.
   pub local : List CandidateRecord
   pub remote : List CandidateRecord
-  -- the checklist: a bag of pairs, listed in the order of their numbers
+  -- The checklist: a multiset of pairs, listed in the order of their numbers.
   pub pairs : List PairRecord
   pub next_number : ℕ
-  -- the number of the pair that was announced last
+  -- the number of the pair that was selected last (`NominatedSend`)
   pub selected_pair : Option ℕ
-  -- the requests that wait for remote credentials
+  -- the early requests: received before the remote credentials
   pub queue : List RequestRecord
   pub state : IceConnectionState
-  -- the last moment that it was told of
+  -- the time of the last `handle_timeout` call that served no early request
   pub last_moment : Option ℕ
-  -- what is to be polled
+  -- the packets and events that are still to be polled
   pub packets : List Packet
   pub events : List IceAgentEvent
-  -- the sources that were told of, and what was counted
+  -- the discovered sources (`DiscoveredRecv`), and the counters
   pub discovered_sources : List Source
   pub stats : IceAgentStats
 
@@ -61,12 +61,12 @@ no_stats = record {
   nomination_send_count = 0;
 }
 
--- 250 ms, 9 retransmits, and 3 s at most
+-- an initial RTO of 250 ms, at most 9 retransmits, and an RTO of at most 3 s
 abbrev pub default_timing : StunTiming
 default_timing = record { initial_rto = record { 0 = 250 * MILLISECOND }; max_retransmits = 9; max_rto = record { 0 = 3000 * MILLISECOND } }
 
 module _ {H P : Type 0} where
-  -- an agent as it is made
+  -- the initial state of a newly created agent
   abbrev pub fresh : H → IceCreds → ℕ → AgentRecord H P
   fresh provider creds tie_breaker = record {
     provider = provider;
@@ -95,7 +95,7 @@ module _ {H P : Type 0} where
     stats = no_stats;
   }
 
-  -- `new` and `with_hmac`
+  -- The results of `new` and `with_hmac`.
   abbrev pub MakesAgent : H → IceCreds → ℕ → Result (AgentRecord H P) IceError → Type 0
   MakesAgent provider creds tie_breaker (Ok a) = (are_too_long creds None ≡ false) × (a ≡ fresh provider creds tie_breaker)
   MakesAgent provider creds tie_breaker (Err CredentialsTooLong) = are_too_long creds None ≡ true

@@ -1,4 +1,4 @@
--- Answers to the agent's own checks (RFC 8445, section 7.2.5).
+-- Responses to the agent's own checks (RFC 8445, section 7.2.5).
 use Rattle.std.specs.Prelude.{◌≡◌, ℕ, ◌==◌, ◌&&◌, Bool, true, false, List, [], ◌∷◌, ◌++◌, slice_get, slice_set, Option, Some, None}
 use Rattle.std.specs.Prelude.{MatchBool, if◌then◌else◌}
 use Rattle.std.specs.List.{list_any}
@@ -25,34 +25,34 @@ use Rattle.is_rules.specs.States.{evaluated}
 use Rattle.is_rules.specs.Roles.{switched}
 use Rattle.is_rules.specs.Serving.{Drops}
 
--- a local candidate has the address, discarded ones too
+-- A local candidate has this address, possibly a discarded one.
 abbrev pub is_known_address : List CandidateRecord → SocketAddr → Bool
 is_known_address local address = list_any (λ c. same_address c.addr address) local
 
--- a failure of code 487
+-- an error response with code 487
 abbrev pub is_role_conflict : Message → Bool
 is_role_conflict m = option_map_or (λ (e : ℕ × List ℕ). e.0 == ROLE_CONFLICT) m.attributes.error_code false
 
--- one more candidate, where there is one
+-- one more candidate, if there is one
 abbrev pub joined_by : Option CandidateRecord → List CandidateRecord → List CandidateRecord
 joined_by None cs = cs
 joined_by (Some c) cs = cs ++ c ∷ []
 
--- a packet of the first path came back on the second one; protocols are not compared
+-- `via` is the reverse of `path` in its addresses. Protocols are not compared.
 abbrev pub goes_back : Path → Path → Bool
 goes_back via path = same_address via.source path.destination && same_address via.destination path.source
 
 module _ {H P : Type 0} where
-  -- and the packet came back on the pair's path
+  -- The pair has the pending transaction, and the packet was received on the reverse of the pair's path.
   abbrev pub keeps_check_on : AgentRecord H P → Path → List ℕ → PairRecord → Bool
   keeps_check_on a via id p = keeps_check id p && goes_back via (path_of a p)
 
-  -- ---- success: any pair and kept check with the id, on the packet's path, may take it
+  -- ---- success: any pair with the pending transaction, on the reverse of whose path the packet was received, may record it
 
   abbrev pub success_counted : AgentRecord H P → AgentRecord H P
   success_counted a = record a { stats = record a.stats { bind_success_recv = counted a.stats.bind_success_recv } }
 
-  -- the candidate that an unknown mapped address becomes (RFC 8445, section 7.2.5.3.1)
+  -- the peer-reflexive candidate that an unknown mapped address becomes (RFC 8445, section 7.2.5.3.1)
   abbrev pub mapped_candidate : AgentRecord H P → PairRecord → SocketAddr → CandidateRecord
   mapped_candidate a p mapped =
       peer_reflexive_candidate None (candidate_at a.local p.local).proto (check_priority (candidate_at a.local p.local)) mapped
@@ -62,11 +62,11 @@ module _ {H P : Type 0} where
   local_with p None a = a.local
   local_with p (Some mapped) a = if is_known_address a.local mapped then a.local else a.local ++ mapped_candidate a p mapped ∷ []
 
-  -- it forms no pair here
+  -- The candidate is added here without forming a pair.
   abbrev pub mapped_learnt : PairRecord → Option SocketAddr → AgentRecord H P → AgentRecord H P
   mapped_learnt p mapped a = record a { local = local_with p mapped a }
 
-  -- the pair at the place takes the answer
+  -- The pair at this index records the response.
   abbrev pub Records : ℕ → AgentRecord H P → Path → Message → AgentRecord H P → Type 0
   Records now old via m new =
       (place : ℕ) × (p after : PairRecord)
@@ -77,14 +77,14 @@ module _ {H P : Type 0} where
   Concludes now old emitted new =
       (path : Option Path) × (mid : AgentRecord H P) × Nominates old path mid × (emitted ≡ announced_only path) × (new ≡ evaluated now mid)
 
-  -- then nomination and state are evaluated
+  -- Then nomination and state are evaluated.
   abbrev pub TakesSuccess : ℕ → AgentRecord H P → Path → Message → Emitted → AgentRecord H P → Type 0
   TakesSuccess now old via m emitted new =
       (recorded : AgentRecord H P) × Records now old via m recorded × Concludes now recorded emitted new
 
-  -- ---- failure: a 487 (RFC 8445, section 7.2.5.1) acts only where its check was sent under the present role
+  -- ---- errors: a 487 (RFC 8445, section 7.2.5.1) has an effect only if its check was sent in the present role
 
-  -- nomination and state are not evaluated, and the check is not answered
+  -- Nomination and state are not evaluated, and the check is not marked as answered.
   abbrev pub GivesUpRole : AgentRecord H P → Path → Message → Emitted → AgentRecord H P → Type 0
   GivesUpRole old via m emitted new =
       (p : PairRecord) × (c : Check) × Has old.pairs p × (keeps_check_on old via m.id p ≡ true) × Has p.checks c × (c.id ≡ m.id)

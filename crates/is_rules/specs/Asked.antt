@@ -1,4 +1,5 @@
--- A controlled agent: a path that the peer asked for, and that was answered, is announced at the next moment, whichever came first.
+-- A controlled agent: if the peer nominated a path, and a success response was received on it, in either order, a path is
+-- selected by the end of the next `handle_timeout` call.
 use Rattle.std.specs.Prelude.{◌≡◌, ℕ, ◌⊎◌, true, false, List, [], ◌∷◌, ◌++◌, Some, None}
 use Rattle.rand_core.specs.Stream.{Stream}
 use Rattle.is_proto.specs.Lists.{Has}
@@ -20,7 +21,7 @@ use Rattle.is_rules.specs.Staying.{MayEnd}
 use Rattle.is_rules.specs.Steps.{HandleTimeout, Done}
 use Rattle.is_rules.specs.Emitted.{issued_as}
 
--- an accepted success came back on the path
+-- An accepted success response was received on the reverse path.
 abbrev pub IsAnsweredOn : {P : Type 0} → Logged P → Path → Type 0
 IsAnsweredOn x path = (at : ℕ) × (by : Path) × (m : Message) × Brings x.call x.entry at by m × (m.class ≡ class.Success) × (goes_back by path ≡ true)
 
@@ -28,22 +29,23 @@ abbrev pub IsAnsweredIn : {P : Type 0} → List (Logged P) → Path → Type 0
 IsAnsweredIn part path = (x : Logged _) × Has part x × IsAnsweredOn x path
 
 module _ {H P : Type 0} where
-  -- the pair goes from the path's source to its destination
+  -- The pair joins the path: it goes from the path's source to its destination.
   abbrev pub Joins : AgentRecord H P → Path → PairRecord → Type 0
   Joins a path p = ((path_of a p).source ≡ path.source) × ((path_of a p).destination ≡ path.destination)
 
-  -- at most one pair does
+  -- At most one pair joins the path.
   abbrev pub IsAlone : AgentRecord H P → Path → Type 0
   IsAlone a path = (p q : PairRecord) → Has a.pairs p → Has a.pairs q → Joins a path p → Joins a path q → p ≡ q
 
-  -- a request with USE-CANDIDATE is answered with success on the path, and the agent is controlled
+  -- The peer nominates the path: a request with USE-CANDIDATE gets a success response on the path, and the agent is controlled
+  -- afterwards.
   abbrev pub IsAskedOn : AgentRecord H P → Logged P → AgentRecord H P → Path → Type 0
   IsAskedOn old x new path =
       (q : RequestRecord) × (id : List ℕ) × IsServing old x.call x.entry q × (q.use_candidate ≡ true)
       × (x.entry.emitted.issued ≡ Some (issued_as path class.Success id)) × (new.controlling ≡ false)
 
   module _ (mac : H → List ℕ → List ℕ → List ℕ) (answers : P → CandidateRecord → ℕ → ℕ → Type 0) where
-    -- an entry of the part asks for the path
+    -- At an entry of the segment the peer nominates the path.
     abbrev pub IsAskedIn : (before : List (Logged P)) (start : AgentRecord H P) (s : Stream) (part : List (Logged P)) (last : AgentRecord H P) (t : Stream)
         → RunsOn mac answers before start s part last t → Path → Type 0
     IsAskedIn before start s [] last t run path = ⊥
@@ -51,14 +53,15 @@ module _ {H P : Type 0} where
         IsAskedOn run.0 x last path ⊎ IsAskedIn before start s part run.0 run.1 run.2 path
 
     module _ (first : AgentRecord H P) (s : Stream) (log : List (Logged P)) where
-      -- at an entry of the part a pair that joins the path may go
+      -- At an entry of the segment a pair that joins the path may be removed.
       abbrev pub MayEndIn : List (Logged P) → Path → Type 0
       MayEndIn part path =
           (before : List (Logged P)) × (mid after : AgentRecord H P) × (x : Logged P) × (p : PairRecord)
           × Point mac answers first s log before mid x after × Has part x × Has mid.pairs p × Joins mid path p × MayEnd mid x.call x.entry p
 
-      -- Wherever a part of the log asked for a path and answered it, in whichever order, and a moment comes that serves no request, a
-      -- path is announced, where one pair alone joins this one, unless a pair that joins it may have gone.
+      -- In a segment of the log the peer nominated a path and a success response was received on it, in either order. A
+      -- `handle_timeout` call that serves no early request follows. If only one pair joins the path then, a path is selected by
+      -- the end of this call, unless a pair that joins the path may have been removed.
       abbrev pub AskedPathsAnnounce : Type 0
       AskedPathsAnnounce =
           (before part : List (Logged P)) (start last : AgentRecord H P) (moment : Logged P) (now : ℕ) (path : Path)

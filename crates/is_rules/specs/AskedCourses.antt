@@ -1,4 +1,5 @@
--- A controlled agent in a course: a path that it granted to its peer, and that was answered, is announced at the next moment.
+-- A controlled agent in an execution: if it accepted the peer's nomination of a path, and a success response was received on the
+-- path, a path is selected by the end of the next `handle_timeout` call.
 use Rattle.std.specs.Prelude.{◌≡◌, ℕ, ◌⊎◌, true, false, List, [], ◌∷◌, ◌++◌, None, is_some}
 use Rattle.rand_core.specs.Stream.{Stream}
 use Rattle.is_proto.specs.Lists.{Has}
@@ -20,7 +21,7 @@ use Rattle.is_rules.specs.Runs.{IsFresh}
 use Rattle.is_rules.specs.Staying.{MayEnd}
 use Rattle.is_rules.specs.Steps.{Call, Entry, HandleTimeout, Done, Step}
 
--- an accepted success came back on the path
+-- An accepted success response was received on the reverse path.
 abbrev pub AcceptsSuccessOn : {P : Type 0} → Call P → Entry → Path → Type 0
 AcceptsSuccessOn call e path =
     (at : ℕ) × (by : Path) × (m : Message) × Brings call e at by m × (m.class ≡ class.Success) × (goes_back by path ≡ true)
@@ -32,7 +33,7 @@ abbrev pub AnnouncesAlong : {P : Type 0} → List (Call P × Entry) → Type 0
 AnnouncesAlong xs = (x : Call _ × Entry) × Has xs x × (is_some (last_of x.1.emitted.announced) ≡ true)
 
 module _ {H P : Type 0} where
-  -- the step may take away a pair that joins the path
+  -- The transition may remove a pair that joins the path.
   abbrev pub Ends : AgentRecord H P → Call P → Entry → Path → Type 0
   Ends a call e path = (p : PairRecord) × Has a.pairs p × Joins a path p × MayEnd a call e p
 
@@ -41,14 +42,15 @@ module _ {H P : Type 0} where
     EndsAlong [] old new course path = ⊥
     EndsAlong (x ∷ rest) old new course path = Ends old x.0 x.1 path ⊎ EndsAlong rest course.0 new course.5 path
 
-    -- a call grants the path, and the agent is controlled behind it
+    -- A call accepts the nomination of the path, and the agent is controlled afterwards.
     abbrev pub GrantsAlong : (xs : List (Call P × Entry)) (old new : AgentRecord H P) → Course mac answers xs old new → Path → Type 0
     GrantsAlong [] old new course path = ⊥
     GrantsAlong (x ∷ rest) old new course path =
         (Grants old x.0 x.1 path × (course.0.controlling ≡ false)) ⊎ GrantsAlong rest course.0 new course.5 path
 
-    -- Wherever a part of a course granted a path and had an answer on it, in whichever order, and a moment comes that serves no request, a
-    -- path was announced, where one pair alone joins this one, unless a pair that joins it may have gone.
+    -- In a segment of an execution the agent accepted the nomination of a path and received a success response on it, in either
+    -- order. A `handle_timeout` call that serves no early request follows. If only one pair joins the path then, a path was
+    -- selected by the end of this call, unless a pair that joins the path may have been removed.
     abbrev pub GrantedAreAnnounced : Type 0
     GrantedAreAnnounced =
         (first start near last : AgentRecord H P) (before xs : List (Call P × Entry)) (s t : Stream) (now : ℕ) (moment : Entry) (path : Path)

@@ -1,4 +1,4 @@
--- A check on a nominated path asks for it, and the other agent takes it so (RFC 8445, sections 7.1 and 7.3.1.5).
+-- A check on a nominated path carries USE-CANDIDATE, and the peer serves it as a nomination (RFC 8445, sections 7.1 and 7.3.1.5).
 use Rattle.std.specs.Prelude.{◌≡◌, ℕ, true, false, List, Some}
 use Rattle.rand_core.specs.Stream.{Stream}
 use Rattle.is_proto.specs.Lists.{Has}
@@ -19,18 +19,19 @@ use Rattle.is_rules.specs.Steps.{Call, Entry, HandleTimeout, ReceivePacket, Step
 use Rattle.is_rules.specs.Emitted.{issued_as, reversed}
 
 module _ {H P : Type 0} where
-  -- each pair on the path is nominated
+  -- Each pair on the path is nominated.
   abbrev pub AreNominatedOn : AgentRecord H P → Path → Type 0
   AreNominatedOn a path = (p : PairRecord) → Has a.pairs p → path_of a p ≡ path → is_nominated p ≡ true
 
-  -- the step serves a request that asks for the path, and answers it with success
+  -- The nomination is accepted: the transition serves a request with USE-CANDIDATE, and issues its success response on the path.
   abbrev pub Grants : AgentRecord H P → Call P → Entry → Path → Type 0
   Grants old call e path =
       (q : RequestRecord) × (id : List ℕ) × IsServing old call e q × (q.use_candidate ≡ true) × (e.emitted.issued ≡ Some (issued_as path Success id))
 
   module _ (mac : H → List ℕ → List ℕ → List ℕ) (answers : P → CandidateRecord → ℕ → ℕ → Type 0) where
-    -- A check that a controlling agent sends at a moment on a path whose pairs are nominated behind it, delivered to the controlled one that knows
-    -- it before the next moment, asks for the way back and is answered with success there.
+    -- A controlling agent sends a check in a `handle_timeout` call on a path whose pairs are nominated afterwards. The check is
+    -- delivered to the controlled agent, which knows the first one, before the first agent's next `handle_timeout` call. Then the
+    -- controlled agent accepts the nomination of the reverse path, and issues its success response on it.
     abbrev pub ChecksAsk : Type 0
     ChecksAsk =
         (a sent near b served : AgentRecord H P) (s t : Stream) (now at : ℕ) (check : Packet) (id : List ℕ) (moment handed : Entry) (xs : List (Call P × Entry))

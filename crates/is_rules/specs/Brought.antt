@@ -1,4 +1,4 @@
--- What a call brought to the agent, and parts of the record by paths.
+-- What a call brought to the agent, and parts of its state by path.
 use Rattle.std.specs.Prelude.{◌≡◌, ℕ, Bool, true, false, not, List, Some, is_some}
 use Rattle.is_proto.specs.Lists.{Has}
 use Rattle.is_pair.specs.Checks.{Check}
@@ -23,12 +23,12 @@ use Rattle.is_rules.specs.Queue.{request_at}
 use Rattle.is_rules.specs.Answers.{is_role_conflict, goes_back}
 use Rattle.is_rules.specs.Steps.{Call, SetControlling, ReceivePacket, HandleTimeout}
 
--- the role behind a request that is served past the tests
+-- the role after a request that is served and passes the tests
 abbrev pub role_once : Conflict → Bool → Bool
 role_once Yields controlling = not controlling
 role_once _ controlling = controlling
 
--- this message, by this path at this moment, and it was accepted
+-- The call brought this message, on this path at this time, and it was accepted.
 abbrev pub Brings : {P : Type 0} → Call P → Entry → ℕ → Path → Message → Type 0
 Brings (ReceivePacket now path bytes) e at by m = (now ≡ at) × (path ≡ by) × Reads bytes m × (e.answer ≡ Flag true)
 Brings _ e at by m = ⊥
@@ -38,9 +38,9 @@ abbrev pub IsBrought : {P : Type 0} → Call P → Entry → RequestRecord → T
 IsBrought call e q = (at : ℕ) × (by : Path) × (m : Message) × Brings call e at by m × (m.class ≡ class.Request) × (q ≡ request_in at by m)
 
 module _ {H P : Type 0} where
-  -- ---- parts of the record, by paths
+  -- ---- parts of the state, by path
 
-  -- a check with the id, sent under the role, is kept on the path
+  -- A transaction with this ID, whose check was sent in this role, is pending on the path.
   abbrev pub IsKept : AgentRecord H P → Path → List ℕ → Bool → Type 0
   IsKept a path id controlling =
       (p : PairRecord) × (c : Check) × Has a.pairs p × Has p.checks c × (c.id ≡ id) × (c.controlling ≡ controlling) × (path_of a p ≡ path)
@@ -51,7 +51,7 @@ module _ {H P : Type 0} where
   abbrev pub IsNominatedOn : AgentRecord H P → Path → Type 0
   IsNominatedOn a path = (p : PairRecord) × Has a.pairs p × (is_nominated p ≡ true) × (path_of a p ≡ path)
 
-  -- the pair stood there, on the same path, and is as valid and nominated as it was
+  -- The pair existed before, on the same path. It is valid if it was valid, and nominated if it was nominated.
   abbrev pub Continues : AgentRecord H P → AgentRecord H P → PairRecord → Type 0
   Continues old new p =
       (q : PairRecord) × Has old.pairs q × (q.number ≡ p.number) × (path_of old q ≡ path_of new p)
@@ -59,26 +59,27 @@ module _ {H P : Type 0} where
 
   -- ---- requests
 
-  -- the step serves this request: the one that the call brought, or the one that the moment takes from the queue
+  -- The transition serves this request: the one that the call brought, or the early request that `handle_timeout` takes from the
+  -- queue.
   abbrev pub IsServing : AgentRecord H P → Call P → Entry → RequestRecord → Type 0
   IsServing old (HandleTimeout now) e q = (request_at now old ≡ Some q) × (e.answer ≡ Done)
   IsServing old call e q =
       (at : ℕ) × (by : Path) × (m : Message) × Brings call e at by m × (m.class ≡ class.Request) × (is_some old.remote_creds ≡ true)
       × (q ≡ request_in at by m)
 
-  -- the peer nominates the path
+  -- The peer nominates the path.
   abbrev pub IsAskedFor : AgentRecord H P → Call P → Entry → Path → Type 0
   IsAskedFor old call e path = (q : RequestRecord) × IsServing old call e q × (q.use_candidate ≡ true) × (reversed q.path ≡ path)
 
   -- ----
 
-  -- the request gets past the tests of its user fragment and its destination
+  -- The request passes the tests of its username fragment and its destination.
   abbrev pub IsServedPastTests : AgentRecord H P → RequestRecord → Type 0
   IsServedPastTests old q = (names_another old q ≡ false) × ((l : ℕ) × (local_place old.local q ≡ Some l))
 
-  -- ---- answers
+  -- ---- responses
 
-  -- an authentic success came back on the path, with the id of a check that was kept there
+  -- An authentic success response was received on the reverse path, with the ID of a transaction that was pending on the path.
   abbrev pub IsAnswered : (H → List ℕ → List ℕ → List ℕ) → AgentRecord H P → Call P → Entry → Path → Type 0
   IsAnswered mac old call e path =
       (at : ℕ) × (by : Path) × (m : Message) × (controlling : Bool) × (peer : IceCreds)
@@ -88,19 +89,19 @@ module _ {H P : Type 0} where
 
   -- ---- roles
 
-  -- a request of a greater tie-breaker claims the agent's role, which yields
+  -- A request claims the agent's role with a greater tie-breaker, and the agent switches its role.
   abbrev pub YieldsTo : AgentRecord H P → Call P → Entry → AgentRecord H P → Type 0
   YieldsTo old call e new =
       (q : RequestRecord) × IsServing old call e q × (conflict_of old q ≡ Yields) × (new.controlling ≡ not old.controlling)
 
-  -- a 487 came to a check of the role that the agent does not have after it
+  -- A 487 was received for a check, and the agent then has the role that the check was not sent in.
   abbrev pub IsRefusedBy : AgentRecord H P → Call P → Entry → AgentRecord H P → Type 0
   IsRefusedBy old call e new =
       (at : ℕ) × (by path : Path) × (m : Message) × (controlling : Bool)
       × Brings call e at by m × (m.class ≡ class.Failure) × (is_role_conflict m ≡ true)
       × IsKept old path m.id controlling × (new.controlling ≡ not controlling)
 
--- the user sets the role
+-- The user sets the role.
 abbrev pub IsRoleSet : {P : Type 0} → Call P → Bool → Type 0
 IsRoleSet (SetControlling controlling) role = role ≡ controlling
 IsRoleSet _ role = ⊥

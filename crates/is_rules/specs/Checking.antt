@@ -18,7 +18,7 @@ use Rattle.is_pair.specs.Bag.{change_pair}
 use Rattle.is_rules.specs.Agent.{AgentRecord}
 use Rattle.is_rules.specs.Sending.{with_packet, path_of}
 
--- the peer's user fragment, a colon and the own one (RFC 8445, section 7.2.2)
+-- the peer's username fragment, a colon, and the agent's own username fragment (RFC 8445, section 7.2.2)
 abbrev pub username_between : IceCreds → IceCreds → List ℕ
 username_between remote local = remote.ufrag ++ 58 ∷ local.ufrag
 
@@ -29,14 +29,14 @@ module _ {H P : Type 0} where
   abbrev pub all_heard : ℕ → AgentRecord H P → AgentRecord H P
   all_heard now a = record a { pairs = map (heard now) a.pairs }
 
-  -- with USE-CANDIDATE where the agent is controlling and the pair nominated (RFC 8445, section 7.1)
+  -- The check has USE-CANDIDATE if the agent is controlling and the pair is nominated (RFC 8445, section 7.1).
   abbrev pub check_message : AgentRecord H P → IceCreds → PairRecord → List ℕ → Message
   check_message a remote p id =
       binding_request (username_between remote a.local_creds) id a.controlling a.tie_breaker
       (check_priority (candidate_at a.local p.local)) (a.controlling && is_nominated p)
 
   module _ (mac : H → List ℕ → List ℕ → List ℕ) where
-    -- it goes out on the pair's path, signed with the remote password, and is kept
+    -- The check is sent on the pair's path, signed with the remote password, and becomes a pending transaction.
     abbrev pub check_sent : ℕ → IceCreds → PairRecord → List ℕ → AgentRecord H P → AgentRecord H P
     check_sent now remote p id a =
         with_packet (path_of a p) (written (mac a.provider) (Some remote.pass) (check_message a remote p id)) (record a {
@@ -44,7 +44,7 @@ module _ {H P : Type 0} where
           stats = record a.stats { bind_request_sent = counted a.stats.bind_request_sent };
         })
 
-    -- under twelve bytes of the stream
+    -- The transaction ID is twelve bytes of the random stream.
     abbrev pub ChecksPair : ℕ → IceCreds → PairRecord → AgentRecord H P → Stream → Option Issued → AgentRecord H P → Stream → Type 0
     ChecksPair now remote p old s issued new t =
         (id : List ℕ) × ((id, t) ≡ fill_bytes 12 s)
@@ -60,7 +60,7 @@ module _ {H P : Type 0} where
     ChecksNext now remote old s issued new t =
         (next : Option PairRecord) × IsNextDue now old.timing old.pairs next × ChecksTop now remote next old s issued new t
 
-    -- no check without remote credentials, and none under lite
+    -- Without remote credentials no check is sent, and under lite none is.
     abbrev pub MayCheck : ℕ → Option IceCreds → AgentRecord H P → Stream → Option Issued → AgentRecord H P → Stream → Type 0
     MayCheck now None old s issued new t = (issued ≡ None) × (new ≡ old) × (t ≡ s)
     MayCheck now (Some remote) old s issued new t =

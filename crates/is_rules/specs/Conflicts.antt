@@ -1,4 +1,4 @@
--- A role conflict, and the one check that settles it (RFC 8445, sections 7.2.5.1 and 7.3.1.1).
+-- A role conflict, and the one check that resolves it (RFC 8445, sections 7.2.5.1 and 7.3.1.1).
 use Rattle.std.specs.Prelude.{◌≡◌, ◌⊎◌, ℕ, ◌<◌, ◌≤◌, Bool, not, List}
 use Rattle.rand_core.specs.Stream.{Stream}
 use Rattle.is_proto.specs.Packets.{Packet}
@@ -15,22 +15,23 @@ use Rattle.is_rules.specs.Sound.{IsSound}
 use Rattle.is_rules.specs.Steps.{Call, Entry, HandleTimeout, ReceivePacket, Step}
 use Rattle.is_rules.specs.Emitted.{reversed}
 
--- the packet comes as it went out
+-- The packet is received as it was sent.
 abbrev pub handing : {P : Type 0} → Packet → ℕ → Call P
 handing packet at = ReceivePacket at (via_out packet) packet.contents
 
 module _ {H P : Type 0} where
-  -- each check of the id that the agent keeps went out under this role
+  -- Each pending transaction of the agent with this ID was sent in this role.
   abbrev pub AreSentUnder : Bool → AgentRecord H P → List ℕ → Type 0
   AreSentUnder role a id = (path : Path) (controlling : Bool) → IsKept a path id controlling → controlling ≡ role
 
-  -- the step serves a request past the tests of its user fragment and its destination
+  -- The transition serves a request that passes the tests of its username fragment and its destination.
   abbrev pub IsMet : AgentRecord H P → Call P → Entry → Type 0
   IsMet old call e = (q : RequestRecord) × IsServing old call e q × IsServedPastTests old q
 
   module _ (mac : H → List ℕ → List ℕ → List ℕ) (answers : P → CandidateRecord → ℕ → ℕ → Type 0) where
-    -- The check met an agent of its sender's role, with no smaller tie-breaker. That keeps its role, and a 487 goes out the way back. Wherever this
-    -- comes to the sender before its next moment it is accepted; and the sender has the other role behind it, where no other check of the id misleads it.
+    -- The check reached an agent that has its sender's role, and no smaller tie-breaker. That agent keeps its role, and sends a
+    -- 487 on the reverse path. If the sender receives this before its next `handle_timeout` call, it accepts it. Afterwards the
+    -- sender has the other role, if all its pending transactions with this ID were sent in its role.
     pub record IsConflictSent (a near b served : AgentRecord H P) (check : Packet) (id : List ℕ) (handed : Entry) : Type 0 where
       pub no_smaller : a.tie_breaker ≤ b.tie_breaker
       pub stays : served.controlling ≡ b.controlling
@@ -42,8 +43,9 @@ module _ {H P : Type 0} where
           → IsRefusedBy mid (handing refusal back) returned taken
           × (AreSentUnder a.controlling mid id → taken.controlling ≡ not b.controlling)
 
-    -- One of two agents that know each other sends a check at a moment, which is delivered to the other. Then it is served; and where that has
-    -- the role that the check went out under, either it has a smaller tie-breaker, and takes the other role; or it insists on its own.
+    -- One of two agents that know each other sends a check in a `handle_timeout` call, and it is delivered to the other agent.
+    -- Then it is served. If the other agent has the role that the check was sent in, either it has the smaller tie-breaker and
+    -- takes the other role, or it keeps its role and sends a 487.
     abbrev pub ConflictsSettle : Type 0
     ConflictsSettle =
         (a sent near b served : AgentRecord H P) (s t : Stream) (now at : ℕ) (check : Packet) (id : List ℕ) (moment handed : Entry) (xs : List (Call P × Entry))

@@ -3,7 +3,7 @@ use Rattle.std.specs.Prelude.{Bool, true, false}
 use Rattle.is_rules.specs.declared.event.IceConnectionState.{IceConnectionState}
 use Rattle.is_rules.specs.declared.event.IceConnectionState.TheVariants.{New, Checking, Connected, Completed, Disconnected}
 
--- media can go
+-- Media can be sent.
 abbrev pub is_connected : IceConnectionState → Bool
 is_connected Connected = true
 is_connected Completed = true

@@ -1,5 +1,5 @@
--- Rounds of a course: moments, and what comes behind each. Where the checks of a pair are answered in their rounds, a path is announced
--- in one of them.
+-- Rounds of an execution: a `handle_timeout` call, and everything up to the next one. If the checks of a pair are answered in
+-- their rounds, a path is selected in one of the rounds.
 use Rattle.std.specs.Prelude.{◌≡◌, ℕ, ◌<◌, ◌≤◌, true, List, [], ◌∷◌, length, Some, is_some}
 use Rattle.rand_core.specs.Stream.{Stream}
 use Rattle.is_proto.specs.Lists.{Has}
@@ -20,17 +20,18 @@ use Rattle.is_rules.specs.Sending.{path_of}
 use Rattle.is_rules.specs.Steps.{Call, Entry, HandleTimeout, Done, Step}
 use Rattle.is_rules.specs.Emitted.{issued_as}
 
--- a moment with what became of it, and what came behind it, oldest first
+-- a `handle_timeout` call with its recorded result, and what comes after it, oldest first
 pub record CourseRound (P : Type 0) : Type 0 where
   pub now : ℕ
   pub moment : Entry
   pub behind : List (Call P × Entry)
 
--- an accepted success came
+-- An accepted success response was received.
 abbrev pub AcceptsSuccess : {P : Type 0} → Call P → Entry → Type 0
 AcceptsSuccess call e = (at : ℕ) × (by : Path) × (m : Message) × Brings call e at by m × (m.class ≡ class.Success)
 
--- Packets and polls come behind the moment. Where a check goes out on the path, an accepted success comes in the same round.
+-- Only packets and polls come after the `handle_timeout` call. If a check is sent on the path, an accepted success response is
+-- received in the same round.
 pub record IsAnsweredRound {P : Type 0} (by : ℕ) (path : Path) (r : CourseRound P) : Type 0 where
   pub done : r.moment.answer ≡ Done
   pub late : by < r.now
@@ -39,26 +40,27 @@ pub record IsAnsweredRound {P : Type 0} (by : ℕ) (path : Path) (r : CourseRoun
   pub met : (id : List ℕ) → r.moment.emitted.issued ≡ Some (issued_as path class.Request id)
       → (x : Call P × Entry) × Has r.behind x × AcceptsSuccess x.0 x.1
 
--- an accepted success announces a path in one of the rounds
+-- In one of the rounds an accepted success response selects a path.
 abbrev pub AnnouncesAmong : {P : Type 0} → List (CourseRound P) → Type 0
 AnnouncesAmong rounds =
     (r : CourseRound _) × Has rounds r × ((x : Call _ × Entry) × Has r.behind x × AcceptsSuccess x.0 x.1 × (is_some (last_of x.1.emitted.announced) ≡ true))
 
 module _ {H P : Type 0} (mac : H → List ℕ → List ℕ → List ℕ) (answers : P → CandidateRecord → ℕ → ℕ → Type 0) where
-  -- controlling behind each call
+  -- The agent is controlling after each call.
   abbrev pub ControlsAlong : (xs : List (Call P × Entry)) (old new : AgentRecord H P) → Course mac answers xs old new → Type 0
   ControlsAlong [] old new course = Unit {0}
   ControlsAlong (x ∷ rest) old new course = (course.0.controlling ≡ true) × ControlsAlong rest course.0 new course.5
 
-  -- round after round, and controlling behind each call
+  -- one round after another, with the agent controlling after each call
   abbrev pub CourseRounds : List (CourseRound P) → AgentRecord H P → AgentRecord H P → Type 0
   CourseRounds [] old new = new ≡ old
   CourseRounds (r ∷ later) old new =
       (mid next : AgentRecord H P) × (s t : Stream) × Step mac answers old s (HandleTimeout r.now) r.moment mid t × (mid.controlling ≡ true)
       × (course : Course mac answers r.behind mid next) × ControlsAlong r.behind mid next course × CourseRounds later next new
 
-  -- From a fresh agent, wherever n pairs, asked at a moment, are due by an earlier one, and the moment begins n rounds in which the checks of
-  -- one of these pairs are answered, a path is announced in one of the rounds, while the agent is controlling.
+  -- An execution starts with a newly created agent. At the start of the rounds no pair is valid, and n pairs are due by an
+  -- earlier time `by`, with due times computed at the time of the first round. At least n rounds follow, in which the checks of
+  -- one of these pairs are answered and the agent is controlling. Then it selects a path in one of the rounds.
   abbrev pub CoursesAnnounce : Type 0
   CoursesAnnounce =
       (first start last : AgentRecord H P) (xs : List (Call P × Entry)) (r : CourseRound P) (rounds : List (CourseRound P)) (p : PairRecord) (by : ℕ)

@@ -1,10 +1,11 @@
--- The limit, said of what stays and what goes.
+-- The limit on pairs: which pairs stay, and which are removed.
 use Rattle.std.specs.Prelude.{◌≡◌, ℕ, ◌≤◌, Bool, true, false, List, filter, length, min}
 use Rattle.is_proto.specs.Lists.{Has}
 use Rattle.is_pair.specs.Pairs.{PairRecord}
 use Rattle.is_pair.specs.Bag.{rises, Evicts}
 
--- as many stay as the limit lets, and nothing that went is above what stays. Ties are free
+-- As many pairs stay as the limit allows, and no removed pair has a higher priority than one that stays. Ties are broken
+-- arbitrarily.
 abbrev pub IsCut : ℕ → List PairRecord → List PairRecord → Type 0
 IsCut limit old new =
     (keep : PairRecord → Bool) × (new ≡ filter keep old) × (length new ≡ min (length old) limit)

@@ -1,4 +1,5 @@
--- What a network that delivers brings about: a check is served and answered, and its answer is accepted (RFC 8445, section 7).
+-- What a network that delivers guarantees: a check is served and gets a response, and the response is accepted (RFC 8445, section
+-- 7).
 use Rattle.std.specs.Prelude.{◌≡◌, ℕ, ◌==◌, ◌&&◌, Bool, true, false, not, List, [], ◌∷◌, ◌++◌, length, Some}
 use Rattle.std.specs.List.{list_any}
 use Rattle.rand_core.specs.Stream.{Stream}
@@ -20,21 +21,21 @@ use Rattle.is_rules.specs.Sound.{IsSound}
 use Rattle.is_rules.specs.Steps.{Call, Entry, HandleTimeout, ReceivePacket, Step, is_refusal}
 use Rattle.is_rules.specs.Emitted.{issued_as, reversed}
 
--- a user fragment that stands in user names: not empty, and without a colon (RFC 8445, section 5.3)
+-- A username fragment that USERNAME can carry: not empty, and without a colon (RFC 8445, section 5.3).
 pub record IsFragment (ufrag : List ℕ) : Type 0 where
   pub some : is_empty ufrag ≡ false
   pub plain : list_any (λ b. b == 58) ufrag ≡ false
 
--- the candidate receives what comes on the way (RFC 8445, section 7.3)
+-- The candidate receives what comes on the path (RFC 8445, section 7.3).
 abbrev pub receives : Path → CandidateRecord → Bool
 receives path c = is_direct c.kind && is_at path.destination path.proto c
 
--- the way begins at the candidate, and it was discarded
+-- The path begins at the candidate, which was discarded.
 abbrev pub is_gone_at : Path → CandidateRecord → Bool
 is_gone_at path c = is_at path.source path.proto c && c.discarded
 
 module _ {H P : Type 0} where
-  -- the agents have each other's credentials, which fit into user names, and compute the same MACs, of twenty bytes
+  -- The agents have each other's credentials, which fit into USERNAME. They compute the same MACs, of twenty bytes.
   pub record KnowEachOther (mac : H → List ℕ → List ℕ → List ℕ) (a b : AgentRecord H P) : Type 0 where
     pub mine : a.remote_creds ≡ Some b.local_creds
     pub its : b.remote_creds ≡ Some a.local_creds
@@ -44,30 +45,30 @@ module _ {H P : Type 0} where
     pub alike : mac a.provider ≡ mac b.provider
     pub twenty : (key text : List ℕ) → length (mac a.provider key text) ≡ 20
 
-  -- the way leads to a candidate that stands, and from none that was discarded
+  -- The path leads to a local candidate that is not discarded, and does not begin at a discarded remote candidate.
   pub record IsReachedBy (a : AgentRecord H P) (path : Path) : Type 0 where
     pub there : list_any (is_live (receives path)) a.local ≡ true
     pub from : list_any (is_gone_at path) a.remote ≡ false
 
-  -- the step tells of this packet, and puts it behind the others
+  -- The transition reports this packet as issued, and appends it to the packet queue.
   pub record Sends (old : AgentRecord H P) (e : Entry) (class : Class) (id : List ℕ) (packet : Packet) (new : AgentRecord H P) : Type 0 where
     pub emitted : e.emitted.issued ≡ Some (issued_as (via_out packet) class id)
     pub put : new.packets ≡ old.packets ++ packet ∷ []
 
   module _ (mac : H → List ℕ → List ℕ → List ℕ) (answers : P → CandidateRecord → ℕ → ℕ → Type 0) where
-    -- the packet comes as it went out, and the call is not refused
+    -- The packet is received as it was sent, and the call does not fail.
     pub record Delivered (packet : Packet) (at : ℕ) (old : AgentRecord H P) (e : Entry) (new : AgentRecord H P) : Type 0 where
       pub before : Stream
       pub behind : Stream
       pub step : Step mac answers old before (ReceivePacket at (via_out packet) packet.contents) e new behind
       pub granted : is_refusal e.answer ≡ false
 
-    -- it was accepted, and reads as a message of the class
+    -- The packet was accepted, and encodes a message of this class.
     abbrev pub IsTaken : Packet → ℕ → Entry → Class → Type 0
     IsTaken packet at e class =
         (m : Message) × Brings {P = P} (ReceivePacket at (via_out packet) packet.contents) e at (via_out packet) m × (m.class ≡ class)
 
-    -- the step of a call issues the packet
+    -- The transition of a call issues the packet.
     pub record Issued (class : Class) (id : List ℕ) (packet : Packet) (old : AgentRecord H P) (new : AgentRecord H P) : Type 0 where
       pub call : Call P
       pub entry : Entry
@@ -76,8 +77,8 @@ module _ {H P : Type 0} where
       pub step : Step mac answers old before call entry new behind
       pub sends : Sends old entry class id packet new
 
-    -- A check that one of two agents issued, delivered to the other while their roles differ, is accepted, and its success goes
-    -- out the way back.
+    -- A check that one of two agents issued is delivered to the other while their roles differ. Then it is accepted, and its
+    -- success response is sent on the reverse path.
     abbrev pub ChecksAreServed : Type 0
     ChecksAreServed =
         (a sent b served : AgentRecord H P) (check : Packet) (id : List ℕ) (at : ℕ) (e : Entry)
@@ -86,7 +87,7 @@ module _ {H P : Type 0} where
         → IsTaken check at e Request
         × ((reply : Packet) × (via_out reply ≡ reversed (via_out check)) × Sends b e Success id reply served)
 
-    -- And that success, delivered to the first while it keeps the check, is accepted.
+    -- This success response, delivered to the first agent while the transaction is pending, is accepted.
     abbrev pub RepliesAreAccepted : Type 0
     RepliesAreAccepted =
         (a taken b served : AgentRecord H P) (reply : Packet) (id : List ℕ) (at : ℕ) (e : Entry)
@@ -94,7 +95,8 @@ module _ {H P : Type 0} where
         → list_any (keeps_check_on a (via_out reply) id) a.pairs ≡ true → Delivered reply at a e taken
         → IsTaken reply at e Success
 
-    -- A moment that sends a check keeps it, and so its way back.
+    -- After a `handle_timeout` call that sends a check, a pair has the pending transaction: its response is expected on the
+    -- reverse path.
     abbrev pub ChecksAreKept : Type 0
     ChecksAreKept =
         (a sent : AgentRecord H P) (s t : Stream) (now : ℕ) (check : Packet) (id : List ℕ) (e : Entry)

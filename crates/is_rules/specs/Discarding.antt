@@ -1,4 +1,4 @@
--- Candidates that go: a discarded one keeps its place, and its pairs go (`invalidate_candidate`).
+-- Discarded candidates: a discarded candidate keeps its index, and its pairs are removed (`invalidate_candidate`).
 use Rattle.std.specs.Prelude.{◌≡◌, ℕ, ◌==◌, Bool, true, false, List, position, slice_set, Option, Some, None, if◌then◌else◌}
 use Rattle.is_candidate.specs.Candidates.{CandidateRecord, candidate_at}
 use Rattle.is_candidate.specs.Equality.{is_equivalent}
@@ -12,19 +12,19 @@ discarded c = record c { discarded = true }
 abbrev pub change_place : ℕ → (CandidateRecord → CandidateRecord) → List CandidateRecord → List CandidateRecord
 change_place place change cs = slice_set cs place (change (candidate_at cs place))
 
--- the pair is of the local candidate at the place
+-- The pair's local candidate is at this index.
 abbrev pub is_local_at : ℕ → PairRecord → Bool
 is_local_at place p = p.local == place
 
 abbrev pub is_remote_at : ℕ → PairRecord → Bool
 is_remote_at place p = p.remote == place
 
--- the place of a candidate, where it is live
+-- the index of a candidate, if it is live
 abbrev pub live_at : List CandidateRecord → Option ℕ → Option ℕ
 live_at cs None = None
 live_at cs (Some place) = if (candidate_at cs place).discarded then None else Some place
 
--- the first equivalent candidate, where that one is live
+-- the index of the first equivalent candidate, if that one is live
 abbrev pub place_to_discard : CandidateRecord → List CandidateRecord → Option ℕ
 place_to_discard c cs = live_at cs (position (is_equivalent c) cs)
 

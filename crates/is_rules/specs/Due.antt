@@ -1,4 +1,5 @@
--- A check before it is sent, and the pair of an answer: what the agent's inner functions say. No contract of a public call names any of it.
+-- A check before it is sent, and the pair of a response: the definitions of the agent's internal functions. No contract of a
+-- public function names any of them.
 use Rattle.std.specs.Prelude.{◌≡◌, ℕ, ◌&&◌, ◌||◌, Bool, true, not, List, Option, Some, is_some}
 use Rattle.std.specs.List.{list_any}
 use Rattle.is_proto.specs.Lists.{Has, same}
@@ -16,37 +17,38 @@ use Rattle.is_rules.specs.Agent.{AgentRecord}
 use Rattle.is_rules.specs.Answers.{keeps_check_on, success_counted}
 use Rattle.is_rules.specs.Sending.{path_of}
 
--- the agent may nominate the pair by itself
+-- The agent may nominate the pair itself.
 abbrev pub awaits_nomination : Bool → PairRecord → Bool
 awaits_nomination controlling p = controlling && is_valid p && not (is_nominated p)
 
--- the pair is due at this moment, or is due once it is nominated at it: a nominated pair is due at once, unless it was asked
--- for its moment before
+-- The pair is due at this time, or it is due once it is nominated at this time. A nominated pair is due at once, unless its due
+-- time was fixed before.
 abbrev pub falls_due : Bool → ℕ → StunTiming → PairRecord → Bool
 falls_due controlling now t p = is_due now t p || (not (is_some p.due) && awaits_nomination controlling p)
 
--- a check of the pair was sent under a role, which is the present one or not
+-- A check of the pair with this ID was sent in a role; `present` says whether that is the role `controlling`.
 abbrev pub IsSentUnder : PairRecord → List ℕ → Bool → Bool → Type 0
 IsSentUnder p id controlling present = (c : Check) × Has p.checks c × (c.id ≡ id) × (present ≡ same c.controlling controlling)
 
 module _ {H P : Type 0} where
-  -- the draft is of a check of the pair
+  -- The draft is that of a check of the pair.
   abbrev pub Drafts : AgentRecord H P → PairRecord → Draft → Type 0
   Drafts a p d =
       (d.path ≡ path_of a p) × (d.priority ≡ check_priority (candidate_at a.local p.local)) × (d.nominated ≡ is_nominated p)
 
-  -- the agent may issue a check at this moment
+  -- The agent may send a check at this time.
   abbrev pub may_fall_due : ℕ → AgentRecord H P → Bool
   may_fall_due now a = not a.lite && is_some a.remote_creds && list_any (falls_due a.controlling now a.timing) a.pairs
 
   abbrev pub check_counted : AgentRecord H P → AgentRecord H P
   check_counted a = record a { stats = record a.stats { bind_request_sent = counted a.stats.bind_request_sent } }
 
-  -- the pair of the number keeps a check with the id, and the packet came back on its path
+  -- The pair with this number has a pending transaction with this ID, and the packet was received on the reverse of the pair's
+  -- path.
   abbrev pub KeepsCheckOn : AgentRecord H P → Path → List ℕ → ℕ → Type 0
   KeepsCheckOn a path id number = (p : PairRecord) × (pair_numbered number a.pairs ≡ Some p) × (keeps_check_on a path id p ≡ true)
 
-  -- what is recorded of an answer, once room is made
+  -- what is recorded of a success response, after capacity was reserved
   abbrev pub IsRecorded : ℕ → ℕ → List ℕ → List CandidateRecord → AgentRecord H P → AgentRecord H P → Type 0
   IsRecorded number now id local ready recorded =
       (pairs : List PairRecord) × RecordsAnswer number now id ready.pairs pairs

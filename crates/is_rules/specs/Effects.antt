@@ -1,4 +1,5 @@
--- What a step leaves, said of each part of the record alone: what the layers above build their invariants on.
+-- The effect of a transition on each part of the abstract state: the lemmas on which the theorems of executions and of two agents
+-- rest.
 use Rattle.std.specs.Prelude.{◌≡◌, ℕ, ◌<◌, ◌≤◌, Bool, true, false, List, [], ◌∷◌, Option, Some, None, ◌⊎◌, if◌then◌else◌}
 use Rattle.std.specs.Option.{option_or}
 use Rattle.rand_core.specs.Stream.{Stream}
@@ -29,7 +30,7 @@ use Rattle.is_rules.specs.Owed.{Owes}
 use Rattle.is_rules.specs.Points.{IsNominationPoint, IsTopAnnounced, AnswersAreValid}
 use Rattle.is_rules.specs.Issuing.{via_out, Queues, Waits, IsIssued}
 
--- ---- what calls that answer Ok set
+-- ---- what a call that returns Ok sets
 
 abbrev pub tie_set_by : {P : Type 0} → Call P → ℕ → ℕ
 tie_set_by (SetControlTieBreaker tie_breaker) old = tie_breaker
@@ -55,7 +56,7 @@ local_set_by _ local = local
 abbrev pub local_after : {P : Type 0} → Call P → Answer → IceCreds → IceCreds
 local_after call answer local = if is_done answer then local_set_by call local else local
 
--- a restart, or a re-creation, that answered Ok
+-- The call clears the pairs if it returns Ok: an ICE restart, or `recreate_candidate_pairs`.
 abbrev pub is_clearing : {P : Type 0} → Call P → Bool
 is_clearing (RestartIce creds keep) = true
 is_clearing RecreateCandidatePairs = true
@@ -64,91 +65,97 @@ is_clearing _ = false
 abbrev pub clears : {P : Type 0} → Call P → Answer → Bool
 clears call answer = if is_clearing call then is_done answer else false
 
--- the path that was announced last
+-- the path that was selected last
 abbrev pub last_of : List (Option Path) → Option Path
 last_of [] = None
 last_of (path ∷ paths) = option_or (last_of paths) path
 
 module _ {H P : Type 0} where
   module _ (mac : H → List ℕ → List ℕ → List ℕ) where
-    -- the call brought bytes that do not read as a message that is accepted
+    -- The call brought bytes that do not encode a message that the agent accepts.
     abbrev pub IsTurnedDown : AgentRecord H P → Call P → Type 0
     IsTurnedDown old (ReceivePacket now path bytes) = ¬ ((m : Message) × Reads bytes m × IsAcceptedOn mac old path m)
     IsTurnedDown old _ = ⊥
 
-    -- ---- paths: what the theorems of one agent stand on. Fields with a premise on lite are those that lite breaks
+    -- ---- paths: the basis of the theorems of one agent. Fields with a precondition on lite may fail for a lite agent
 
     pub record PathEffect (old : AgentRecord H P) (call : Call P) (e : Entry) (new : AgentRecord H P) : Type 0 where
       pub provider : new.provider ≡ old.provider
       pub lite : new.lite ≡ lite_set_by call old.lite
       pub remote_creds : new.remote_creds ≡ remote_after call e.answer old.remote_creds
-      -- what is brought was accepted: so it is a Binding message, and signed
+      -- A message that the call brought was accepted. So it is a Binding message, and signed.
       pub accepted : (at : ℕ) (by : Path) (m : Message) → Brings call e at by m → IsAcceptedOn mac old by m
-      -- what waits was waiting, or came now; and what is answered and what waits, as bags
+      -- Each early request was in the queue before, or was received now. The responses and the early requests after the
+      -- transition are, as multisets, among the early requests before it and the requests received now.
       pub queue : (q : RequestRecord) → Has new.queue q → Has old.queue q ⊎ IsBrought call e q
       pub owed : Owes old call e new
-      -- a request that is served had waited, or came now
+      -- A request that is served was an early request, or was received now.
       pub serves : (q : RequestRecord) → IsServing old call e q → Has old.queue q ⊎ IsBrought call e q
-      -- a kept check was there, on its path, or went out now under the role that stays
+      -- Each pending transaction was pending on its path before, or its check was sent now in the agent's role, which does not
+      -- change.
       pub checks : (path : Path) (id : List ℕ) (controlling : Bool) → IsKept new path id controlling
           → IsKept old path id controlling
           ⊎ ((e.emitted.issued ≡ Some (issued_as path class.Request id)) × (controlling ≡ old.controlling) × (new.controlling ≡ old.controlling))
-      -- a valid path was valid, or is answered now
+      -- Each valid path was valid before, or its success response is received now.
       pub valid : old.lite ≡ false → (path : Path) → IsValidOn new path → IsValidOn old path ⊎ IsAnswered mac old call e path
-      -- while the agent is controlled, a nominated path was nominated, or is asked for now
+      -- While the agent is controlled, each nominated path was nominated before, or the peer nominates it now.
       pub nominated : old.lite ≡ false → old.controlling ≡ false → new.controlling ≡ false
           → (path : Path) → IsNominatedOn new path → IsNominatedOn old path ⊎ IsAskedFor old call e path
-      -- a success is the reply to the request that is served; and where that asks for it, the path is nominated while the agent is controlled
+      -- A success response replies to the request that is served. If that has USE-CANDIDATE and the agent is controlled, the path
+      -- is nominated.
       pub replied : (issued : Issued) → e.emitted.issued ≡ Some issued → issued.class ≡ class.Success
           → (q : RequestRecord) × IsServing old call e q × (issued ≡ issued_as (reversed q.path) class.Success q.id)
           × (q.use_candidate ≡ true → new.controlling ≡ false → IsNominatedOn new (reversed q.path))
-      -- an announced path was valid, or is answered now; while the agent is controlled it was nominated, or is asked for now
+      -- Each selected path was valid before, or its success response is received now. While the agent is controlled, it was
+      -- nominated before, or the peer nominates it now.
       pub announced : old.lite ≡ false → (path : Path) → Has e.emitted.announced (Some path)
           → IsValidOn old path ⊎ IsAnswered mac old call e path
       pub announced_asked : old.lite ≡ false → old.controlling ≡ false → new.controlling ≡ false
           → (path : Path) → Has e.emitted.announced (Some path) → IsNominatedOn old path ⊎ IsAskedFor old call e path
-      -- the announced number stays where no path is announced; else it is that of the last path, whose pair is valid and
-      -- nominated where it still stands
+      -- The selected number does not change if no path is selected. Otherwise it is that of the last selected path, and its pair,
+      -- if it still exists, is valid and nominated.
       pub number_stays : last_of e.emitted.announced ≡ None → new.selected_pair ≡ old.selected_pair
       pub number_names : (path : Path) → last_of e.emitted.announced ≡ Some path
           → (p : PairRecord) → Has new.pairs p → new.selected_pair ≡ Some p.number
           → (path_of new p ≡ path) × (is_valid p ≡ true) × (is_nominated p ≡ true)
-      -- a clear tells nothing, and leaves new pairs alone, without checks, validity and nomination
+      -- A clear emits nothing. All pairs after it are new: without pending transactions, not valid and not nominated.
       pub cleared : clears call e.answer ≡ true → e.emitted ≡ nothing_emitted
       pub cleared_pairs : clears call e.answer ≡ true → (p : PairRecord) → Has new.pairs p
           → (old.next_number ≤ p.number) × (is_valid p ≡ false) × (is_nominated p ≡ false) × (p.checks ≡ [])
-      -- numbers rise, no number is given twice, and a pair keeps its path, its validity and its nomination
+      -- Numbers increase, and no number is used twice. A pair keeps its path, its validity and its nomination.
       pub counter : old.next_number ≤ new.next_number
       pub numbers : (p : PairRecord) → Has new.pairs p
           → Continues old new p ⊎ ((old.next_number ≤ p.number) × (p.number < new.next_number))
-      -- the pair that takes an answer is valid, and where nomination is evaluated at the end, the announced pair is a greatest one
+      -- The pair that records a success response is valid. If nomination is evaluated at the end, the selected pair is one of the
+      -- greatest.
       pub taken : AnswersAreValid call e new
       pub points : IsNominationPoint old call e → IsTopAnnounced new
 
-    -- ---- packets and roles: what the theorems of two agents stand on
+    -- ---- packets and roles: the basis of the theorems of two agents
 
     pub record TradeEffect (old : AgentRecord H P) (call : Call P) (e : Entry) (new : AgentRecord H P) : Type 0 where
       pub tie_breaker : new.tie_breaker ≡ tie_set_by call old.tie_breaker
       pub local_creds : new.local_creds ≡ local_after call e.answer old.local_creds
-      -- a refusal leaves the record, and tells nothing; and so do bytes that are not accepted
+      -- A call that fails changes nothing and emits nothing. Nor do bytes that are not accepted.
       pub refused : is_refusal e.answer ≡ true → (new ≡ old) × (e.emitted ≡ nothing_emitted)
       pub turned_down : IsTurnedDown old call → (new ≡ old) × (e.emitted ≡ nothing_emitted) × (is_turned_down e.answer ≡ true)
-      -- a packet was there, or is issued now; what is told to be issued stands among the packets
+      -- Each packet was in the queue before, or is issued now. What is reported as issued is in the queue.
       pub packets : (packet : Packet) → Has new.packets packet → Has old.packets packet ⊎ IsIssued mac old call e packet new.controlling
       pub issued : (issued : Issued) → e.emitted.issued ≡ Some issued
           → (packet : Packet) × Has new.packets packet × (via_out packet ≡ issued.path) × IsIssued mac old call e packet new.controlling
       pub sends : Queues call e old.packets new.packets
       pub waits : Waits old call e new
-      -- the role stays, or yields, or is given up, or is set
+      -- The role does not change, or it switches because of a request or of a 487, or the user sets it.
       pub role : (new.controlling ≡ old.controlling)
           ⊎ (YieldsTo old call e new ⊎ (IsRefusedBy old call e new ⊎ IsRoleSet call new.controlling))
-      -- a request that is served past the tests settles the role, and a 487 leaves the agent the other one than its check's
+      -- A served request that passes the tests determines the role (`role_once`). After an accepted 487 the agent has the role
+      -- that its check was not sent in.
       pub settled : (q : RequestRecord) → IsServing old call e q → IsServedPastTests old q
           → new.controlling ≡ role_once (conflict_of old q) old.controlling
       pub given_up : (at : ℕ) (by : Path) (m : Message) → Brings call e at by m → m.class ≡ class.Failure → is_role_conflict m ≡ true
           → IsRefusedBy old call e new
 
-    -- the laws that the layers above cite
+    -- the lemmas that the theorems use
     abbrev pub PathLaw : (P → CandidateRecord → ℕ → ℕ → Type 0) → Type 0
     PathLaw answers =
         (old new : AgentRecord H P) (s t : Stream) (call : Call P) (e : Entry)
@@ -159,7 +166,7 @@ module _ {H P : Type 0} where
         (old new : AgentRecord H P) (s t : Stream) (call : Call P) (e : Entry)
         → IsSound old → GivesBased call → Step mac answers old s call e new t → TradeEffect old call e new
 
-    -- a refused call keeps the record and the stream
+    -- A call that fails leaves the state and the random stream unchanged.
     abbrev pub RefusalKeeps : (P → CandidateRecord → ℕ → ℕ → Type 0) → Type 0
     RefusalKeeps answers =
         (old new : AgentRecord H P) (s t : Stream) (call : Call P) (e : Entry)

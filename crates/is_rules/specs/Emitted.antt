@@ -1,4 +1,4 @@
--- What a call emits: the packet that it issues, and the paths that it announces.
+-- What a call emits: the packet that it issues, and the paths that it selects.
 use Rattle.std.specs.Prelude.{ℕ, List, [], ◌∷◌, Option, Some, None}
 use Rattle.is_stun.specs.declared.header.Class.{Class}
 use Rattle.is_rules.specs.declared.emitted.Path.{Path}
@@ -8,14 +8,14 @@ use Rattle.is_rules.specs.declared.emitted.Emitted.{Emitted}
 abbrev pub nothing_emitted : Emitted
 nothing_emitted = record { issued = None; announced = None ∷ None ∷ [] }
 
--- this packet, with the transaction id, and no path
+-- this packet, with the transaction ID, and no path
 abbrev pub issued_only : Path → Class → List ℕ → Emitted
 issued_only path class id = record {
   issued = Some record { path = path; class = class; id = record { 0 = id } };
   announced = None ∷ None ∷ [];
 }
 
--- nothing issued, and this path announced, where there is one
+-- no packet, and this path if there is one
 abbrev pub announced_only : Option Path → Emitted
 announced_only path = record { issued = None; announced = path ∷ None ∷ [] }
 
@@ -23,7 +23,7 @@ announced_only path = record { issued = None; announced = path ∷ None ∷ [] }
 abbrev pub reversed : Path → Path
 reversed path = record { proto = path.proto; source = path.destination; destination = path.source }
 
--- the paths in the order in which they were announced
+-- the paths in the order in which they were selected
 abbrev pub announced_in : Option Path → Option Path → List (Option Path)
 announced_in (Some path) second = Some path ∷ second ∷ []
 announced_in None second = second ∷ None ∷ []

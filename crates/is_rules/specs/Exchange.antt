@@ -1,4 +1,5 @@
--- A check that goes out at a moment, its answer, and what may come between: whatever packets and polls there are, the check is kept.
+-- A check that a `handle_timeout` call sends, its response, and what may come between: packets and polls do not remove the
+-- pending transaction.
 use Rattle.std.specs.Prelude.{◌≡◌, ℕ, true, not, List, [], ◌∷◌}
 use Rattle.std.specs.List.{list_any}
 use Rattle.rand_core.specs.Stream.{Stream}
@@ -16,25 +17,27 @@ use Rattle.is_rules.specs.Sound.{IsSound, GivesBased}
 use Rattle.is_rules.specs.Steps.{Call, Entry, HandleTimeout, Step}
 use Rattle.is_rules.specs.Emitted.{reversed}
 
--- polls, and packets that come
+-- only polls, and packets that are received
 abbrev pub AreBetween : {P : Type 0} → List (Call P × Entry) → Type 0
 AreBetween xs = (x : Call _ × Entry) → Has xs x → is_between x.0 ≡ true
 
 module _ {H P : Type 0} (mac : H → List ℕ → List ℕ → List ℕ) (answers : P → CandidateRecord → ℕ → ℕ → Type 0) where
-  -- calls one after another with what became of each, oldest first. Their random words may come from anywhere, as where two agents
-  -- draw from one source
+  -- An execution of one agent: calls with their recorded results, oldest first. The random words of each call may come from any
+  -- stream, as they do when two agents share one source.
   abbrev pub Course : List (Call P × Entry) → AgentRecord H P → AgentRecord H P → Type 0
   Course [] old new = new ≡ old
   Course (x ∷ rest) old new = (mid : AgentRecord H P) × (s t : Stream) × GivesBased x.0 × Step mac answers old s x.0 x.1 mid t × Course rest mid new
 
-  -- Polls and packets leave each check that is kept, on its path: an answer marks it alone, and is accepted where it comes again.
+  -- Polls and packets leave each pending transaction, on its path: a response only marks it, and is accepted if it is received
+  -- again.
   abbrev pub ChecksStay : Type 0
   ChecksStay =
       (old new : AgentRecord H P) (xs : List (Call P × Entry)) (path : Path) (id : List ℕ) → IsSound old → AreBetween xs → Course xs old new
       → list_any (keeps_check_on old path id) old.pairs ≡ true → list_any (keeps_check_on new path id) new.pairs ≡ true
 
-  -- One of two agents that know each other sends a check at a moment, which is delivered to the other while its role differs from the one
-  -- that the check was sent under. Then it is accepted, and its success, delivered before the first one's next moment, is accepted too.
+  -- One of two agents that know each other sends a check in a `handle_timeout` call. The check is delivered to the other agent
+  -- while its role differs from the role that the check was sent in. Then it is accepted. Its success response, delivered before
+  -- the first agent's next `handle_timeout` call, is accepted too.
   abbrev pub ExchangesSucceed : Type 0
   ExchangesSucceed =
       (a sent near b served : AgentRecord H P) (s t : Stream) (now at : ℕ) (check : Packet) (id : List ℕ) (moment handed : Entry) (xs : List (Call P × Entry))

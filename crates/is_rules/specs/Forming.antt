@@ -11,7 +11,7 @@ use Rattle.is_pair.specs.Priorities.{pair_priority}
 use Rattle.is_rules.specs.Each.{Each}
 use Rattle.is_rules.specs.Agent.{AgentRecord}
 
--- ---- what forming reads, and what it changes
+-- ---- the input of forming, and what it changes
 
 pub record SidesRecord : Type 0 where
   pub local : List CandidateRecord
@@ -29,7 +29,7 @@ formed_as pairs next_number = record { pairs = pairs; next_number = next_number 
 
 -- ---- combinations
 
--- a local place and a remote one
+-- the index of a local candidate and that of a remote one
 abbrev pub Combination : Type 0
 Combination = ℕ × ℕ
 
@@ -39,15 +39,15 @@ is_alive c = not c.discarded
 abbrev pub is_alive_at : List CandidateRecord → ℕ → Bool
 is_alive_at cs place = is_alive (candidate_at cs place)
 
--- the places of candidates that are not discarded
+-- the indices of the candidates that are not discarded
 abbrev pub live_places : List CandidateRecord → List ℕ
 live_places cs = places_where nowhere is_alive cs
 
--- candidates of equal protocol and IP version may be paired (RFC 8445, section 6.1.2.2)
+-- Candidates with the same protocol and IP version may be paired (RFC 8445, section 6.1.2.2).
 abbrev pub may_pair : CandidateRecord → CandidateRecord → Bool
 may_pair l r = same_protocol l.proto r.proto && same_version l.addr r.addr
 
--- the places of the live candidates that may be paired with this one
+-- A live candidate that may be paired with this one, and the indices of all such candidates.
 abbrev pub is_partner : CandidateRecord → CandidateRecord → Bool
 is_partner c other = not other.discarded && may_pair other c
 
@@ -57,15 +57,15 @@ is_partner_at c cs place = is_partner c (candidate_at cs place)
 abbrev pub partners : CandidateRecord → List CandidateRecord → List ℕ
 partners c cs = places_where nowhere (is_partner c) cs
 
--- the combinations of a remote candidate, which is to stand at the place
+-- the combinations of a remote candidate that is to be stored at this index
 abbrev pub remote_combinations : CandidateRecord → ℕ → List CandidateRecord → List Combination
 remote_combinations c place local = map (λ l. (l, place)) (partners c local)
 
--- those of a local candidate, which is to stand at the place
+-- the combinations of a local candidate that is to be stored at this index
 abbrev pub local_combinations : CandidateRecord → ℕ → List CandidateRecord → List Combination
 local_combinations c place remote = map (λ r. (place, r)) (partners c remote)
 
--- those of all live candidates, local places outermost
+-- the combinations of all live candidates, by local index first
 abbrev pub live_row : List CandidateRecord → List CandidateRecord → ℕ → List Combination
 live_row local remote l = local_combinations (candidate_at local l) l remote
 
@@ -74,7 +74,7 @@ live_combinations local remote = flat_map (live_row local remote) (live_places l
 
 -- ---- one combination
 
--- the pair goes from the same base to the same address as the combination, by the same protocols (RFC 8445, section 6.1.2.4)
+-- The pair has the same base, the same remote address and the same protocols as the combination (RFC 8445, section 6.1.2.4).
 abbrev pub is_redundant : SidesRecord → Combination → PairRecord → Bool
 is_redundant s at p =
     same_address (base_of (candidate_at s.local p.local)) (base_of (candidate_at s.local at.0))
@@ -89,7 +89,8 @@ combined_priority s at =
 abbrev pub pair_of : SidesRecord → Combination → ℕ → PairRecord
 pair_of s at number = new_pair number at.0 at.1 (combined_priority s at)
 
--- what a combination leaves, against the redundant pair: none, or one that gives way to a greater priority
+-- What a combination leads to. Without a redundant pair a new pair is added. A redundant pair is replaced if the new pair has a
+-- greater priority.
 abbrev pub tried : SidesRecord → Combination → Option PairRecord → Formed → Formed
 tried s at None old = formed_as (old.pairs ++ pair_of s at old.next_number ∷ []) (old.next_number + 1)
 tried s at (Some found) old =
@@ -98,13 +99,13 @@ tried s at (Some found) old =
     (old.next_number + 1)
     else old
 
--- against a redundant pair of greatest priority. Ties are free
+-- The redundant pair has the greatest priority of all redundant ones. Ties are broken arbitrarily.
 abbrev pub Tries : SidesRecord → Combination → Formed → Formed → Type 0
 Tries s at old new = (found : Option PairRecord) × IsGreatest (is_redundant s at) old.pairs found × (new ≡ tried s at found old)
 
 -- ---- forming
 
--- each combination in turn, and then the limit holds
+-- Each combination is tried in turn, and then the limit is applied.
 abbrev pub FormsEach : SidesRecord → ℕ → List Combination → Formed → Formed → Type 0
 FormsEach s limit all old new =
     (mid : Formed) × Each (Tries s) all old mid × Evicts limit mid.pairs new.pairs × (new.next_number ≡ mid.next_number)
@@ -123,15 +124,15 @@ module _ {H P : Type 0} where
   abbrev pub with_formed : Formed → AgentRecord H P → AgentRecord H P
   with_formed f a = record a { pairs = f.pairs; next_number = f.next_number }
 
-  -- the combinations in turn, and then the limit holds
+  -- The combinations are tried in turn, and then the limit is applied.
   abbrev pub FormsAll : AgentRecord H P → List Combination → AgentRecord H P → Type 0
   FormsAll old all new = (f : Formed) × FormsEach (sides_of old) old.max_pairs all (formed_of old) f × (new ≡ with_formed f old)
 
-  -- by the present role, and the candidates that stand at the places now
+  -- by the present role, and the candidates that are at these indices now
   abbrev pub priority_between : AgentRecord H P → ℕ → ℕ → ℕ
   priority_between a l r = pair_priority a.controlling (candidate_priority (candidate_at a.remote r)) (candidate_priority (candidate_at a.local l))
 
-  -- the pair of two places, under the next number
+  -- the pair of two indices, with the next number
   abbrev pub formed : AgentRecord H P → ℕ → ℕ → PairRecord
   formed a l r = new_pair a.next_number l r (priority_between a l r)
 

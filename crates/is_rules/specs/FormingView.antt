@@ -1,4 +1,4 @@
--- The sides of forming, without where they lie in memory.
+-- The input of pair forming, without its layout in memory.
 use Rattle.is_rules.specs.declared.sides.Sides.{Sides}
 use Rattle.is_rules.specs.Forming.{SidesRecord}
 

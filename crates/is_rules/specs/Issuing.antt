@@ -1,4 +1,4 @@
--- What a step issues, and what becomes of the queues.
+-- What a transition issues, and how it changes the queues.
 use Rattle.std.specs.Prelude.{◌≡◌, ℕ, Bool, true, List, [], ◌∷◌, ◌++◌, Option, Some, None, ◌⊎◌, if◌then◌else◌}
 use Rattle.is_proto.specs.Lists.{Has}
 use Rattle.is_proto.specs.Packets.{Packet}
@@ -26,13 +26,13 @@ use Rattle.is_rules.specs.Checking.{username_between}
 use Rattle.is_rules.specs.Steps.{Call, RestartIce, HandleTimeout, PollTransmit}
 use Rattle.is_rules.specs.Brought.{Brings, IsServing}
 
--- ---- the queue of packets
+-- ---- the packet queue
 
--- the way that a packet takes
+-- the path of an outgoing packet
 abbrev pub via_out : Packet → Path
 via_out packet = record { proto = packet.proto; source = packet.source; destination = packet.destination }
 
--- at most one packet is appended: the one that is told of
+-- At most one packet is appended: the one that is reported as issued.
 abbrev pub IsQueued : Option Issued → List Packet → List Packet → Type 0
 IsQueued None old new = new ≡ old
 IsQueued (Some issued) old new = (packet : Packet) × (via_out packet ≡ issued.path) × (new ≡ old ++ packet ∷ [])
@@ -40,27 +40,29 @@ IsQueued (Some issued) old new = (packet : Packet) × (via_out packet ≡ issued
 abbrev pub IsEmptied : {X : Type 0} → Answer → List X → List X → Type 0
 IsEmptied answer old new = new ≡ (if is_done answer then [] else old)
 
--- a poll hands out the first packet, a restart empties the queue, and any other call appends the one that it tells of
+-- `poll_transmit` removes the first packet, an ICE restart empties the queue, and any other call appends the packet that it
+-- reports.
 abbrev pub Queues : {P : Type 0} → Call P → Entry → List Packet → List Packet → Type 0
 Queues PollTransmit e old new = (given : Option Packet) × (e ≡ quiet (Polled given)) × IsPolled old given new
 Queues (RestartIce creds keep) e old new = (e.emitted.issued ≡ None) × IsEmptied e.answer old new
 Queues _ e old new = IsQueued e.emitted.issued old new
 
--- ---- the queue of requests
+-- ---- the queue of early requests
 
--- a moment that is done takes some from the front, and then the one that it serves
+-- A `handle_timeout` call that succeeds removes some requests from the front, and then the one that it serves.
 abbrev pub WaitsPast : Option RequestRecord → Answer → List RequestRecord → List RequestRecord → Type 0
 WaitsPast None answer old new = (gone : List RequestRecord) × (old ≡ gone ++ new)
 WaitsPast (Some q) Done old new = (gone : List RequestRecord) × (old ≡ gone ++ q ∷ new)
 WaitsPast (Some q) answer old new = new ≡ old
 
--- a request is signed with the password of the agent that it goes to, and its answer with the same one (RFC 8445, section 7.2.2)
+-- A request is signed with the password of the agent that receives it, and its response with the same one (RFC 8445, section
+-- 7.2.2).
 abbrev pub key_for : Class → IceCreds → Option IceCreds → List ℕ
 key_for class.Request local (Some remote) = remote.pass
 key_for _ local remote = local.pass
 
 module _ {H P : Type 0} where
-  -- a request that came stands at the end, within the limit; else all is as it was
+  -- A request that was received is appended, within the limit; otherwise the queue does not change.
   abbrev pub WaitsWith : AgentRecord H P → Call P → Entry → AgentRecord H P → Type 0
   WaitsWith old call e new =
       (new.queue ≡ old.queue)
@@ -73,26 +75,26 @@ module _ {H P : Type 0} where
 
   -- ---- what is issued
 
-  -- what the bytes of a message say that the step issues, by its class; `controlling` is the role after the step
+  -- What the bytes of an issued message say, by its class. `controlling` is the role after the transition.
   abbrev pub Says : Class → AgentRecord H P → Call P → Entry → List ℕ → Message → Path → Bool → Type 0
-  -- a check claims the role, which stays, and nominates while the agent is controlling alone
+  -- A check claims the agent's role, which does not change. It has USE-CANDIDATE only if the agent is controlling.
   Says class.Request old call e bytes m path controlling =
       (peer : IceCreds) × (c : CandidateRecord) × (use_candidate : Bool)
       × (old.remote_creds ≡ Some peer) × Has old.local c
       × (m ≡ binding_request (username_between peer old.local_creds) m.id old.controlling old.tie_breaker (check_priority c) use_candidate)
       × IsPut bytes m × (controlling ≡ old.controlling) × (use_candidate ≡ true → old.controlling ≡ true)
-  -- a success is the reply to the request served, and goes back where that came from
+  -- A success response replies to the request that is served, on its reverse path.
   Says class.Success old call e bytes m path controlling =
       (q : RequestRecord) × IsServing old call e q × (m ≡ binding_reply q.id q.path.source) × (path ≡ reversed q.path)
       × IsPut bytes (binding_reply q.id (carried q.path.source))
-  -- and so does a 487, which came to the agent's own role and no greater tie-breaker; the role stays
+  -- So does a 487. Its request claimed the agent's own role with a tie-breaker that is not greater. The role does not change.
   Says class.Failure old call e bytes m path controlling =
       (q : RequestRecord) × IsServing old call e q × (m ≡ binding_role_conflict_reply q.id) × (path ≡ reversed q.path)
       × IsPut bytes m × (conflict_of old q ≡ Insists) × (controlling ≡ old.controlling)
-  -- no other message is issued
+  -- No other message is issued.
   Says _ old call e bytes m path controlling = ⊥
 
-  -- the step issues the packet: it is signed for its class, and told of
+  -- The transition issues the packet: it is signed as its class requires, and reported.
   abbrev pub IsIssued : (H → List ℕ → List ℕ → List ℕ) → AgentRecord H P → Call P → Entry → Packet → Bool → Type 0
   IsIssued mac old call e packet controlling =
       (m : Message)

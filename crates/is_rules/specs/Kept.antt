@@ -1,9 +1,9 @@
--- What every agent keeps. Nothing here names the agent, so that it may.
+-- The invariant on priorities. Nothing here names the agent, so the agent's own invariants can use it.
 use Rattle.std.specs.Prelude.{ℕ, ◌<◌, List, All}
 use Rattle.is_candidate.specs.Candidates.{CandidateRecord}
 use Rattle.is_candidate.specs.Priorities.{candidate_priority}
 
--- the greatest priority, for which no pair priority fits 64 bits
+-- The greatest candidate priority. With it, no pair priority fits into 64 bits.
 abbrev pub TOO_HIGH : ℕ
 TOO_HIGH = 0xffff_ffff
 

@@ -18,20 +18,21 @@ use Rattle.is_rules.specs.Agent.{AgentRecord}
 use Rattle.is_rules.specs.Discarding.{change_place, local_discarded}
 use Rattle.is_rules.specs.Forming.{HasNumbers, partners, local_combinations, FormsAll}
 
--- no pair priority fits 64 bits where both candidates have the greatest priority
+-- If both candidates have the greatest priority, no pair priority fits into 64 bits.
 abbrev pub is_too_high : CandidateRecord → Bool
 is_too_high c = candidate_priority c == TOO_HIGH
 
--- how many local candidates, discarded ones too, are of the kind and the IP version
+-- how many local candidates, including discarded ones, have the same kind and IP version
 abbrev pub count_alike : CandidateRecord → List CandidateRecord → ℕ
 count_alike c cs = count_by (is_alike c) cs
 
--- the preference that a candidate may be given which so many came before: by the object's stated relation, else the default one
+-- The preference that a candidate may get if `before` such candidates were added before it: by the stated relation of the object,
+-- or the default one.
 abbrev pub MayPrefer : {P : Type 0} → (P → CandidateRecord → ℕ → ℕ → Type 0) → Option P → CandidateRecord → ℕ → ℕ → Type 0
 MayPrefer answers None c before preference = preference ≡ default_preference c before
 MayPrefer answers (Some object) c before preference = answers object c before preference
 
--- a discarded candidate that comes again
+-- a discarded candidate that is added again
 abbrev pub comes_again : CandidateRecord → CandidateRecord → Bool
 comes_again c other = other.discarded && is_same_origin c other
 
@@ -42,24 +43,24 @@ abbrev pub preferred : ℕ → CandidateRecord → CandidateRecord
 preferred preference c = record c { local_preference = Some preference }
 
 module _ {H P : Type 0} where
-  -- ---- what becomes of the candidate, under its preference
+  -- ---- how the candidate is added, with its preference
 
-  -- under the agent's user fragment
+  -- the candidate with the agent's username fragment
   abbrev pub as_own : AgentRecord H P → CandidateRecord → CandidateRecord
   as_own a c = record c { ufrag = Some a.local_creds.ufrag }
 
   abbrev pub appended : CandidateRecord → AgentRecord H P → AgentRecord H P
   appended c a = record a { local = a.local ++ c ∷ [] }
 
-  -- it keeps its user fragment and its priority
+  -- The candidate keeps its username fragment and its priority.
   abbrev pub enabled_again : ℕ → AgentRecord H P → AgentRecord H P
   enabled_again place a = record a { local = change_place place enabled a.local }
 
-  -- a number for each pair that it may be in
+  -- There is a number for each pair that the candidate may form.
   abbrev pub HasNumbersAt : AgentRecord H P → CandidateRecord → Type 0
   HasNumbersAt a c = HasNumbers a.next_number (length (partners c a.remote))
 
-  -- the candidate stands at the place of this record, and is formed with the remote ones; numbers are looked at before memory
+  -- The candidate is at this index in the state `mid`, and is paired with the remote ones. Numbers are checked before memory.
   abbrev pub Enters : AgentRecord H P → CandidateRecord → ℕ → AgentRecord H P → Result (Option ℕ) IceError → AgentRecord H P → Type 0
   Enters old c place mid (Ok at) new = (at ≡ Some place) × HasNumbersAt old c × FormsAll mid (local_combinations c place old.remote) new
   Enters old c place mid (Err PairIdsExhausted) new = (¬ HasNumbersAt old c) × (new ≡ old)
@@ -69,16 +70,16 @@ module _ {H P : Type 0} where
   abbrev pub IsNotAdded : AgentRecord H P → Result (Option ℕ) IceError → AgentRecord H P → Type 0
   IsNotAdded old result new = IsOkAnd result (λ place. (place ≡ None) × (new ≡ old))
 
-  -- the candidate at the place is enabled again
+  -- The candidate at the index is enabled again.
   abbrev pub EntersAgain : AgentRecord H P → ℕ → Result (Option ℕ) IceError → AgentRecord H P → Type 0
   EntersAgain old place result new = Enters old (enabled (candidate_at old.local place)) place (enabled_again place old) result new
 
-  -- the candidate is appended, behind this record
+  -- The candidate is appended to the state `mid`.
   abbrev pub EntersNew : AgentRecord H P → CandidateRecord → AgentRecord H P → Result (Option ℕ) IceError → AgentRecord H P → Type 0
   EntersNew old c mid result new = Enters old (as_own old c) (length old.local) (appended (as_own old c) mid) result new
 
-  -- the first local candidate of equal address, base and protocol decides: it is enabled again, or stays before one of smaller
-  -- priority, or is superseded
+  -- The first local candidate with the same address, base and protocol decides. It is enabled again; or it stays, because the new
+  -- one has a smaller priority; or it is discarded, and the new one is appended.
   abbrev pub EnrolsAt : AgentRecord H P → CandidateRecord → Option ℕ → Result (Option ℕ) IceError → AgentRecord H P → Type 0
   EnrolsAt old c None result new = EntersNew old c old result new
   EnrolsAt old c (Some place) result new =
@@ -93,7 +94,7 @@ module _ {H P : Type 0} where
 
   -- ---- the call
 
-  -- under lite an agent has host candidates alone (RFC 8445, section 5.2)
+  -- A lite agent has only host candidates (RFC 8445, section 5.2).
   abbrev pub is_unwanted : AgentRecord H P → CandidateRecord → Bool
   is_unwanted a c = a.lite && not (same_kind c.kind Host)
 
@@ -104,7 +105,7 @@ module _ {H P : Type 0} where
       → AgentRecord H P → Type 0
   EnrolsPreferred answers old c result new = (preference : ℕ) × Prefers answers old c preference × Enrols old (preferred preference c) result new
 
-  -- `add_local_candidate`: the place of the candidate, or none. Priorities are looked at before all else
+  -- `add_local_candidate`: the index of the candidate, or none. The priority is checked before everything else.
   abbrev pub AddsLocal : (P → CandidateRecord → ℕ → ℕ → Type 0) → AgentRecord H P → CandidateRecord → Result (Option ℕ) IceError
       → AgentRecord H P → Type 0
   AddsLocal answers old c result new =
@@ -112,14 +113,14 @@ module _ {H P : Type 0} where
       ((result ≡ Err PriorityTooHigh) × (new ≡ old))
       (MatchBool (is_unwanted old c) (IsNotAdded old result new) (EnrolsPreferred answers old c result new))
 
-  -- the candidate that stands at the place is lent
+  -- The call returns a reference to the candidate at the index.
   abbrev pub LendsLocal : (P → CandidateRecord → ℕ → ℕ → Type 0) → AgentRecord H P → CandidateRecord
       → Result (Option (Bor CandidateRecord)) IceError → AgentRecord H P → Type 0
   LendsLocal answers old c (Ok lent) new =
       (place : Option ℕ) × AddsLocal answers old c (Ok place) new × (option_copied lent ≡ option_and_then (slice_get new.local) place)
   LendsLocal answers old c (Err error) new = AddsLocal answers old c (Err error) new
 
--- the refusals of this call, which own no memory, as errors
+-- the errors of this call, which own no memory, as `IceError`
 abbrev pub error_of : Refusal → IceError
 error_of refusal.OutOfMemory = OutOfMemory
 error_of refusal.PairIdsExhausted = PairIdsExhausted

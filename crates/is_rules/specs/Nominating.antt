@@ -10,23 +10,23 @@ use Rattle.is_rules.specs.Agent.{AgentRecord}
 use Rattle.is_pair.specs.Bag.{change_pair, IsGreatest, pair_numbered}
 use Rattle.is_rules.specs.Forming.{SidesRecord, sides_of}
 
--- valid and, while the agent is controlled, nominated
+-- valid and, if the agent is controlled, nominated
 abbrev pub is_eligible : Bool → PairRecord → Bool
 is_eligible controlling p = is_valid p && (controlling || is_nominated p)
 
--- nominated by the agent itself: only while controlling, or under lite, and there with success at once
+-- The agent nominates the pair itself: only if it is controlling or lite. Under lite the nomination succeeds at once.
 abbrev pub nominated_by_self : Bool → Bool → PairRecord → PairRecord
 nominated_by_self controlling lite p = if not (is_nominated p) && (controlling || lite) then nominated lite p else p
 
--- the pair that was announced last, while it stands
+-- the pair that was selected last, if it still exists
 abbrev pub pair_selected : Option ℕ → List PairRecord → Option PairRecord
 pair_selected number pairs = option_and_then (λ n. pair_numbered n pairs) number
 
--- it stands, with this priority
+-- The pair that was selected last still exists, with this priority.
 abbrev pub stands_at : Option ℕ → ℕ → List PairRecord → Bool
 stands_at number priority pairs = option_map_or (λ (p : PairRecord). p.priority == priority) (pair_selected number pairs) false
 
--- the pairs, and the number that was announced last
+-- the pairs, and the number of the pair that was selected last
 pub record Selection : Type 0 where
   pub pairs : List PairRecord
   pub selected_pair : Option ℕ
@@ -41,7 +41,7 @@ path_in s p = record {
   destination = (candidate_at s.remote p.remote).addr;
 }
 
--- an eligible pair of greatest priority is announced, unless the announced one has that priority
+-- An eligible pair with the greatest priority is selected, unless the pair that was selected last has that priority.
 abbrev pub NamesTop : SidesRecord → Option PairRecord → Selection → Option Path → Selection → Type 0
 NamesTop s None old emitted new = (emitted ≡ None) × (new ≡ old)
 NamesTop s (Some top) old emitted new =
@@ -53,11 +53,11 @@ abbrev pub Names : SidesRecord → Selection → Option Path → Selection → T
 Names s old emitted new = (top : Option PairRecord) × IsGreatest (is_eligible s.controlling) old.pairs top × NamesTop s top old emitted new
 
 module _ {H P : Type 0} where
-  -- the agent with these pairs, and this number
+  -- the agent with these pairs and this selected number
   abbrev pub with_selection : Selection → AgentRecord H P → AgentRecord H P
   with_selection s a = record a { pairs = s.pairs; selected_pair = s.selected_pair }
 
-  -- a path was announced
+  -- A path was selected: its event is emitted, and counted.
   abbrev pub nominated_emitted : Option Path → AgentRecord H P → AgentRecord H P
   nominated_emitted None a = a
   nominated_emitted (Some path) a = record a {
@@ -65,11 +65,11 @@ module _ {H P : Type 0} where
     stats = record a.stats { nomination_send_count = counted a.stats.nomination_send_count };
   }
 
-  -- and the path is told of
+  -- The selection, and the event for its path.
   abbrev pub Nominates : AgentRecord H P → Option Path → AgentRecord H P → Type 0
   Nominates old emitted new =
       (chosen : Selection) × Names (sides_of old) (selection old.pairs old.selected_pair) emitted chosen × (new ≡ nominated_emitted emitted (with_selection chosen old))
 
-  -- where it is evaluated at all
+  -- Nomination is evaluated only if `evaluates` is true.
   abbrev pub NominatesWhere : Bool → AgentRecord H P → Option Path → AgentRecord H P → Type 0
   NominatesWhere evaluates old emitted new = MatchBool evaluates (Nominates old emitted new) ((emitted ≡ None) × (new ≡ old))

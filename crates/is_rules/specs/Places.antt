@@ -1,4 +1,4 @@
--- Where a request is served: the choices that serving it rests on.
+-- The candidates at which a request is served.
 use Rattle.std.specs.Prelude.{◌≡◌, ℕ, ◌<◌, ◌≤◌, ◌&&◌, Bool, true, false, not, List, length, position, Option, Some, None}
 use Rattle.std.specs.List.{list_any}
 use Rattle.std.specs.Option.{option_or}
@@ -18,26 +18,27 @@ is_at address proto c = same_address c.addr address && same_protocol c.proto pro
 abbrev pub is_live : (CandidateRecord → Bool) → CandidateRecord → Bool
 is_live test c = test c && not c.discarded
 
--- ---- the local place
+-- ---- the index of the local candidate
 
--- a host or relayed candidate that the request came to
+-- a host or relayed candidate that received the request
 abbrev pub is_reached : RequestRecord → CandidateRecord → Bool
 is_reached q c = is_direct c.kind && is_at q.path.destination q.path.proto c
 
--- the first place at which a live candidate passes, else the first at which a discarded one does
+-- the first index at which a live candidate passes, else the first at which a discarded one passes
 abbrev pub first_place : (CandidateRecord → Bool) → List CandidateRecord → Option ℕ
 first_place test cs = option_or (position (is_live test) cs) (position test cs)
 
 abbrev pub local_place : List CandidateRecord → RequestRecord → Option ℕ
 local_place local q = first_place (is_reached q) local
 
--- ---- the remote place
+-- ---- the index of the remote candidate
 
--- a candidate that the request came from
+-- a candidate that sent the request
 abbrev pub is_sender : RequestRecord → CandidateRecord → Bool
 is_sender q c = is_at q.path.source q.path.proto c
 
--- of the places below the end whose candidates pass, one of greatest priority; none where none passes. Ties are free
+-- Among the indices below the end whose candidates pass, one with the greatest priority; none if none passes. Ties are broken
+-- arbitrarily.
 abbrev pub IsGreatestBelow : ℕ → (CandidateRecord → Bool) → List CandidateRecord → Option ℕ → Type 0
 IsGreatestBelow end test cs None = (k : ℕ) → k < end → test (candidate_at cs k) ≡ false
 IsGreatestBelow end test cs (Some place) =
@@ -52,12 +53,12 @@ place_by (Some place) knows = Known place
 place_by None true = Barred
 place_by None false = Unknown
 
--- a live candidate of greatest priority that the request came from; barred where discarded ones alone are there
+-- A live candidate with the greatest priority that sent the request. `Barred` if only discarded candidates sent it.
 abbrev pub IsRemotePlace : List CandidateRecord → RequestRecord → RemotePlace → Type 0
 IsRemotePlace remote q place =
     (live : Option ℕ) × IsGreatestPlace (is_live (is_sender q)) remote live × (place ≡ place_by live (list_any (is_sender q) remote))
 
--- the place of the remote candidate, where an unknown one is appended
+-- the index of the remote candidate; an unknown one is appended
 abbrev pub remote_index : List CandidateRecord → RemotePlace → ℕ
 remote_index remote (Known place) = place
 remote_index remote Barred = length remote

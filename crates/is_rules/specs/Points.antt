@@ -1,5 +1,5 @@
--- Where the announced pair is known to be one of the greatest: behind an accepted success answer, and behind a moment that
--- serves no queued request.
+-- Nomination points, at which the selected pair is one of the greatest: after an accepted success response, and after a
+-- `handle_timeout` call that serves no early request.
 use Rattle.std.specs.Prelude.{◌≡◌, ℕ, true, Option, None, IfSome}
 use Rattle.is_proto.specs.Lists.{Has}
 use Rattle.is_pair.specs.Pairs.{PairRecord, is_valid}
@@ -16,7 +16,7 @@ use Rattle.is_rules.specs.Steps.{Call, HandleTimeout}
 use Rattle.is_rules.specs.Brought.{Brings}
 
 module _ {H P : Type 0} where
-  -- wherever a pair is eligible, the announced pair stands, with the greatest priority among the eligible
+  -- If a pair is eligible, the selected pair exists, with the greatest priority of the eligible ones.
   abbrev pub IsTopAnnounced : AgentRecord H P → Type 0
   IsTopAnnounced a =
       (top : Option PairRecord) × IsGreatest (is_eligible a.controlling) a.pairs top
@@ -26,7 +26,7 @@ module _ {H P : Type 0} where
   IsNominationPoint old (HandleTimeout now) e = (e.answer ≡ Done) × (request_at now old ≡ None)
   IsNominationPoint old call e = (at : ℕ) × (by : Path) × (m : Message) × Brings call e at by m × (m.class ≡ class.Success)
 
-  -- a pair that kept the check that a success answers is valid
+  -- A pair that has the transaction that a success response completes is valid.
   abbrev pub AnswersAreValid : Call P → Entry → AgentRecord H P → Type 0
   AnswersAreValid call e new =
       (at : ℕ) (by : Path) (m : Message) → Brings call e at by m → m.class ≡ class.Success

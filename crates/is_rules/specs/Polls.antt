@@ -1,4 +1,4 @@
--- What is polled.
+-- What the polls return.
 use Rattle.std.specs.Prelude.{◌≡◌, ℕ, ◌*◌, min, max, ◌||◌, not, Bool, List, [], ◌∷◌, map, fold, Option, Some, None, MatchBool, IsSomeAnd}
 use Rattle.is_proto.specs.Lists.{is_empty}
 use Rattle.is_proto.specs.Moments.{MAX, SECOND, later}
@@ -7,7 +7,7 @@ use Rattle.is_proto.specs.Packets.{Packet}
 use Rattle.is_rules.specs.declared.event.IceAgentEvent.{IceAgentEvent}
 use Rattle.is_rules.specs.Agent.{AgentRecord}
 
--- a queue hands out its first
+-- A poll removes the first element of a queue and returns it.
 abbrev pub IsPolled : {X : Type 0} → List X → Option X → List X → Type 0
 IsPolled old None new = (old ≡ []) × (new ≡ [])
 IsPolled old (Some x) new = old ≡ x ∷ new
@@ -21,23 +21,23 @@ module _ {H P : Type 0} where
   abbrev pub PollsEvent : AgentRecord H P → Option IceAgentEvent → AgentRecord H P → Type 0
   PollsEvent old given new = IsPolled old.events given new.events × (new ≡ record old { events = new.events })
 
-  -- a packet waits to be sent, or a request to be served
+  -- A packet is to be sent, or an early request is to be served.
   abbrev pub is_waiting : AgentRecord H P → Bool
   is_waiting a = not (is_empty a.packets) || not (is_empty a.queue)
 
-  -- the next packet is paced (RFC 8445, section 14.2)
+  -- one pacing interval Ta after the last call (RFC 8445, section 14.2)
   abbrev pub soon : AgentRecord H P → ℕ → ℕ
   soon a last = later last a.timing_advance
 
-  -- the earliest due moment, asked at the last moment
+  -- the earliest due time of the pairs, computed at the time of the last call
   abbrev pub earliest_due : AgentRecord H P → ℕ → ℕ
   earliest_due a last = fold min MAX (map (due_moment last a.timing) a.pairs)
 
-  -- there is nothing to check
+  -- There is nothing to check.
   abbrev pub is_idle : AgentRecord H P → Bool
   is_idle a = a.lite || is_empty a.pairs
 
-  -- where no packet waits, asking fixes the due moments
+  -- If nothing is queued, `poll_timeout` fixes the due times.
   abbrev pub WakesIdle : AgentRecord H P → ℕ → ℕ → AgentRecord H P → Type 0
   WakesIdle old last wake new =
       MatchBool (is_idle old)
@@ -47,7 +47,7 @@ module _ {H P : Type 0} where
   abbrev pub Wakes : AgentRecord H P → ℕ → ℕ → AgentRecord H P → Type 0
   Wakes old last wake new = MatchBool (is_waiting old) ((wake ≡ soon old last) × (new ≡ old)) (WakesIdle old last wake new)
 
-  -- `poll_timeout`: with no moment told yet, none is asked for
+  -- `poll_timeout`: without a time of a last call it returns none.
   abbrev pub WakesFrom : Option ℕ → AgentRecord H P → Option ℕ → AgentRecord H P → Type 0
   WakesFrom None old wake new = (wake ≡ None) × (new ≡ old)
   WakesFrom (Some last) old wake new = IsSomeAnd wake (λ at. Wakes old last at new)

@@ -1,4 +1,5 @@
--- What an agent brings about whose wake-ups are kept: none comes too late, none is in vain, and no pair starves.
+-- What an agent achieves if `handle_timeout` is called at the times that `poll_timeout` returns: timeouts are not late, every
+-- timeout makes progress, and no pair starves.
 use Rattle.std.specs.Prelude.{◌≡◌, ◌≢◌, ℕ, ◌<◌, ◌≤◌, max, true, false, List, [], ◌∷◌, length, Option, Some, None, is_some, IfSome, Ok, ◌⊎◌}
 use Rattle.rand_core.specs.Stream.{Stream}
 use Rattle.is_proto.specs.Lists.{Has, is_empty}
@@ -29,57 +30,57 @@ use Rattle.is_rules.specs.Logs.{Logged}
 use Rattle.is_rules.specs.Runs.{IsFresh, AtEach, IsTopPath}
 use Rattle.is_pair.specs.Turns.{IsPaced, due_by}
 
--- no pair has the number
+-- No pair has this number.
 abbrev pub IsGone : ℕ → List PairRecord → Type 0
 IsGone number pairs = (p : PairRecord) → Has pairs p → p.number ≢ number
 
--- raw bytes that came, and what became of them
+-- raw bytes that were received, and the recorded result
 pub record Arrival : Type 0 where
   pub at : ℕ
   pub via : Path
   pub bytes : List ℕ
   pub entry : Entry
 
--- they read as a success, and were accepted
+-- The bytes encode a success response, and it was accepted.
 abbrev pub IsSuccess : Arrival → Type 0
 IsSuccess x = (m : Message) × Reads x.bytes m × (x.entry.answer ≡ Flag true) × (m.class ≡ class.Success)
 
 abbrev pub IsMet : List Arrival → Type 0
 IsMet arrivals = (x : Arrival) × Has arrivals x × IsSuccess x
 
--- a moment, and what came behind it
+-- a `handle_timeout` call, and what is received after it, up to the next one
 pub record Round : Type 0 where
   pub now : ℕ
   pub emitted : Emitted
   pub arrivals : List Arrival
 
 module _ {H P : Type 0} where
-  -- it checks pairs: it is not lite, and the peer is known
+  -- The agent checks pairs: it is not lite, and the remote credentials are known.
   pub record IsChecking (a : AgentRecord H P) : Type 0 where
     pub full : a.lite ≡ false
     pub peer : is_some a.remote_creds ≡ true
 
-  -- a check goes out on the pair's path
+  -- A check is sent on the pair's path.
   abbrev pub ChecksOn : AgentRecord H P → Emitted → PairRecord → Type 0
   ChecksOn a emitted p = (id : List ℕ) × (emitted.issued ≡ Some (issued_as (path_of a p) class.Request id))
 
-  -- a check goes out, a pair is given up, or fewer requests wait
+  -- The call makes progress: a check is sent, a pair is removed, or there are fewer early requests.
   abbrev pub IsOfUse : AgentRecord H P → Emitted → AgentRecord H P → Type 0
   IsOfUse old emitted new =
       ((p : PairRecord) × Has old.pairs p × (ChecksOn old emitted p ⊎ IsGone p.number new.pairs)) ⊎ (length new.queue < length old.queue)
 
-  -- a pair is eligible, and the announced pair is one of the greatest of these
+  -- A pair is eligible, and the selected pair is one of the greatest of the eligible ones.
   abbrev pub HasAnnounced : AgentRecord H P → Type 0
   HasAnnounced a = IsTopAnnounced a × ((p : PairRecord) × Has a.pairs p × (is_eligible a.controlling p ≡ true))
 
-  -- ---- turns
+  -- ---- polling cycles
 
-  -- nothing waits, so that the agent is asked for its next check
+  -- Nothing is queued, so `poll_timeout` computes the time of the next check.
   pub record IsIdle (a : AgentRecord H P) : Type 0 where
     pub packets : a.packets ≡ []
     pub queue : a.queue ≡ []
 
-  -- a pair waits for its check: asked at the first moment, it is due by the other one
+  -- A pair waits for its check: its due time, computed at time `at`, is at most `by`.
   pub record Awaits (at by : ℕ) (a : AgentRecord H P) (p : PairRecord) : Type 0 where
     pub checking : IsChecking a
     pub paced : IsPaced a.timing
@@ -87,17 +88,18 @@ module _ {H P : Type 0} where
     pub there : Has a.pairs p
     pub due : due_moment at a.timing p ≤ by
 
-  -- no pair is valid yet, and this one will not be given up before its check
+  -- No pair is valid yet, and this one will not be removed after timeout before its check.
   pub record IsUnanswered (a : AgentRecord H P) (p : PairRecord) : Type 0 where
     pub invalid : (q : PairRecord) → Has a.pairs q → is_valid q ≡ false
     pub young : unanswered_count p.checks < a.timing.max_retransmits
 
-  -- it is asked for its wake-up, or is not
+  -- `poll_timeout` is called, or it is not.
   abbrev pub MayBeAsked : AgentRecord H P → AgentRecord H P → Type 0
   MayBeAsked old new = (new ≡ old) ⊎ ((wake : Option ℕ) × PollsTimeout old wake new)
 
   module _ (mac : H → List ℕ → List ℕ → List ℕ) where
-    -- asked for its wake-up, the agent is given a moment, and what it has to send and to tell is taken
+    -- A polling cycle: `poll_timeout` returns a time, `handle_timeout` is called, all packets are polled, and the events are
+    -- polled down to `left`.
     pub record Turn (old : AgentRecord H P) (now : ℕ) (emitted : Emitted) (new : AgentRecord H P) : Type 0 where
       pub wake : ℕ
       pub asked : AgentRecord H P
@@ -109,14 +111,14 @@ module _ {H P : Type 0} where
       pub left : List IceAgentEvent
       pub taken : new ≡ record after { packets = []; events = left }
 
-    -- turn after turn, each at its moment and with what it tells
+    -- one polling cycle after another, each with its time and what it emits
     abbrev pub Turns : List (ℕ × Emitted) → AgentRecord H P → AgentRecord H P → Type 0
     Turns [] old new = new ≡ old
     Turns (x ∷ rest) old new = (mid : AgentRecord H P) × Turn old x.0 x.1 mid × Turns rest mid new
 
     -- ---- rounds
 
-    -- the agent is given a moment, and some of what it has to send and to tell is taken
+    -- `handle_timeout` is called, and then some of the packets and events are polled.
     pub record Passes (old : AgentRecord H P) (now : ℕ) (emitted : Emitted) (new : AgentRecord H P) : Type 0 where
       pub before : Stream
       pub behind : Stream
@@ -127,7 +129,8 @@ module _ {H P : Type 0} where
       pub taken : new ≡ record after { packets = waiting; events = left }
 
     module _ (answers : P → CandidateRecord → ℕ → ℕ → Type 0) where
-      -- packets come one after another; some of what the agent has to send and to tell is taken, and it is controlling behind each
+      -- Packets are received one after another. After each of them the agent is controlling, some of the packets and events are
+      -- polled, and `poll_timeout` may be called.
       abbrev pub Arrives : List Arrival → AgentRecord H P → AgentRecord H P → Type 0
       Arrives [] old new = new ≡ old
       Arrives (x ∷ rest) old new =
@@ -141,23 +144,23 @@ module _ {H P : Type 0} where
           (mid asked next : AgentRecord H P) × Passes old x.now x.emitted mid × MayBeAsked mid asked × Arrives x.arrivals asked next
           × Rounds rest next new
 
-      -- behind one of the packets, which is an accepted success, a path is announced
+      -- After one of the packets, which is an accepted success response, a path is selected.
       abbrev pub AnnouncesBehind : (arrivals : List Arrival) (old new : AgentRecord H P) → Arrives arrivals old new → Type 0
       AnnouncesBehind [] old new came = ⊥
       AnnouncesBehind (x ∷ rest) old new came = (IsSuccess x × HasAnnounced came.0) ⊎ AnnouncesBehind rest came.2 new came.11
 
-      -- so in one of the rounds
+      -- This holds in one of the rounds.
       abbrev pub AnnouncesIn : (rounds : List Round) (old new : AgentRecord H P) → Rounds rounds old new → Type 0
       AnnouncesIn [] old new run = ⊥
       AnnouncesIn (x ∷ rest) old new run = AnnouncesBehind x.arrivals run.1 run.2 run.5 ⊎ AnnouncesIn rest run.2 new run.6
 
--- ---- the laws of wake-ups
+-- ---- the theorems of timeouts
 
--- the wake-up lies behind the last moment
+-- The next timeout is later than the time of the last `handle_timeout` call (`last_moment`).
 abbrev pub LiesAhead : {H P : Type 0} → AgentRecord H P → Option ℕ → Type 0
 LiesAhead old wake = IfSome wake (λ at. (last : ℕ) → old.last_moment ≡ Some last → 0 < old.timing_advance → last < MAX → last < at)
 
--- it does not come behind the moment at which a pair is due, but for the pacing
+-- The next timeout is not later than the due time of any pair, except for pacing.
 abbrev pub ComesInTime : {H P : Type 0} → AgentRecord H P → Option ℕ → Type 0
 ComesInTime old wake =
     IfSome wake (λ at. (last : ℕ) → old.last_moment ≡ Some last → old.lite ≡ false
@@ -169,7 +172,7 @@ WakesAhead H P = (old new : AgentRecord H P) (wake : Option ℕ) → PollsTimeou
 abbrev pub WakesInTime : Type 0 → Type 0 → Type 0
 WakesInTime H P = (old new : AgentRecord H P) (wake : Option ℕ) → PollsTimeout old wake new → ComesInTime old wake
 
--- none is in vain: a moment at it, or later, is of use
+-- Every timeout makes progress: a `handle_timeout` call at this time, or later, does.
 abbrev pub WakesAreOfUse : {H : Type 0} (P : Type 0) → (H → List ℕ → List ℕ → List ℕ) → Type 0
 WakesAreOfUse {H = H} P mac =
     (old asked new : AgentRecord H P) (s t : Stream) (wake now : ℕ) (emitted : Emitted)
@@ -177,9 +180,9 @@ WakesAreOfUse {H = H} P mac =
     → PollsTimeout old (Some wake) asked → wake ≤ now → TimesOut mac now asked s (Ok tt) emitted new t
     → IsOfUse old emitted new
 
--- A pair is checked, or given up, within as many turns as there are pairs that are due no later than it. The turns come at the
--- moment at which it is due, or later. A pair that is nominated goes before all others, unless it was asked before: so the agent is
--- asked before each moment.
+-- Starvation freedom: a pair is checked, or removed after timeout, within as many polling cycles as there are pairs that are due
+-- no later than it. The `handle_timeout` calls come at its due time, or later. A nominated pair goes before all others, unless
+-- its due time was fixed before; so `poll_timeout` is called before each `handle_timeout` call.
 abbrev pub NoPairStarves : {H : Type 0} (P : Type 0) → (H → List ℕ → List ℕ → List ℕ) → Type 0
 NoPairStarves {H = H} P mac =
     (first last : AgentRecord H P) (turns : List (ℕ × Emitted)) (p : PairRecord) (at by : ℕ)
@@ -189,11 +192,11 @@ NoPairStarves {H = H} P mac =
     → length (due_by by at first.timing first.pairs) ≤ length turns
     → ((x : ℕ × Emitted) × Has turns x × ChecksOn first x.1 p) ⊎ IsGone p.number last.pairs
 
--- ---- answers
+-- ---- responses
 
--- A controlling agent has no valid pair yet, and each check that goes out on the path of a pair is answered in its round: then the
--- agent announces a path within as many rounds as there are pairs that are due no later than this one, asked at the first moment.
--- Whatever else comes, and whether or not it is asked for wake-ups.
+-- A controlling agent has no valid pair yet, and each check that is sent on the path of a pair is answered in its round. Then the
+-- agent selects a path within as many rounds as there are pairs that are due no later than this one, with due times computed at
+-- the time of the first round. This holds whatever else it receives, and whether or not `poll_timeout` is called.
 abbrev pub AnsweredAnnounce : {H P : Type 0} → (H → List ℕ → List ℕ → List ℕ) → (P → CandidateRecord → ℕ → ℕ → Type 0) → Type 0
 AnsweredAnnounce {H = H} {P = P} mac answers =
     (first last : AgentRecord H P) (r : Round) (rounds : List Round) (p : PairRecord) (by : ℕ)
@@ -205,14 +208,16 @@ AnsweredAnnounce {H = H} {P = P} mac answers =
     → AnnouncesIn mac answers (r ∷ rounds) first last run
 
 module _ {H P : Type 0} (mac : H → List ℕ → List ℕ → List ℕ) (answers : P → CandidateRecord → ℕ → ℕ → Type 0) where
-  -- behind an accepted success a controlling agent has announced the path of an eligible pair of greatest stored priority
+  -- After an accepted success response a controlling agent has selected the path of an eligible pair with the greatest stored
+  -- priority.
   abbrev pub SuccessesAnnounce : AgentRecord H P → Stream → List (Logged P) → Type 0
   SuccessesAnnounce first s log =
       AtEach mac answers first s log (λ before mid x after. (at : ℕ) (by : Path) (m : Message) → Brings x.call x.entry at by m
       → m.class ≡ class.Success
       → after.controlling ≡ true → IsTopPath mac answers (x ∷ before) after)
 
-  -- and behind a moment that serves no request, where a pair is valid and nominated: so a controlled agent has, too
+  -- The same holds after a `handle_timeout` call that serves no early request, if a pair is valid and nominated: so it holds for
+  -- a controlled agent, too.
   abbrev pub NominationsAnnounce : AgentRecord H P → Stream → List (Logged P) → Type 0
   NominationsAnnounce first s log =
       AtEach mac answers first s log (λ before mid x after. (now : ℕ) → x.call ≡ HandleTimeout now → x.entry.answer ≡ Done → request_at now mid ≡ None

@@ -1,4 +1,4 @@
--- What an agent answers with no change.
+-- What an agent returns without a change.
 use Rattle.std.specs.Prelude.{ℕ, ◌&&◌, Bool, List, filter, Option, option_map}
 use Rattle.std.specs.List.{list_any}
 use Rattle.std.specs.Option.{option_and_then}
@@ -18,7 +18,7 @@ use Rattle.is_rules.specs.Remote.{has_equivalent}
 abbrev pub live : List CandidateRecord → List CandidateRecord
 live cs = filter is_alive cs
 
--- a check on the pair succeeded, and its remote candidate has the address
+-- A check on the pair succeeded, and the pair's remote candidate has this address.
 abbrev pub is_viable_at : List CandidateRecord → SocketAddr → PairRecord → Bool
 is_viable_at remote address p = is_valid p && same_address (candidate_at remote p.remote).addr address
 
@@ -35,7 +35,7 @@ module _ {H P : Type 0} where
   abbrev pub ice_timeout : AgentRecord H P → ℕ
   ice_timeout a = timeout_of a.timing
 
-  -- the pair that was announced last, while it stands
+  -- the pair that was selected last, if it still exists
   abbrev pub nominated_pair : AgentRecord H P → Option PairRecord
   nominated_pair a = pair_selected a.selected_pair a.pairs
 

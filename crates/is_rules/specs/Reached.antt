@@ -1,5 +1,5 @@
--- How soon a pair that is due is checked, in either role and whatever comes: others may go before it, each twice at most. So a controlled
--- agent that is asked for the pair's path announces a path, where the checks on it are answered.
+-- How soon a pair that is due is checked, in either role and whatever the agent receives: other pairs may be checked first, each
+-- at most twice. So a controlled agent selects a path, if the peer nominates the pair's path and the checks on it are answered.
 use Rattle.std.specs.Prelude.{◌≡◌, ℕ, ◌+◌, ◌*◌, ◌<◌, ◌≤◌, ◌⊎◌, true, false, List, [], ◌∷◌, ◌++◌, length, Some, None, is_some}
 use Rattle.rand_core.specs.Stream.{Stream}
 use Rattle.is_proto.specs.Lists.{Has}
@@ -21,7 +21,7 @@ use Rattle.is_rules.specs.Sending.{path_of}
 use Rattle.is_rules.specs.Steps.{HandleTimeout, Done}
 use Rattle.is_rules.specs.Emitted.{issued_as}
 
--- a moment behind this one, and then packets and polls
+-- a round whose `handle_timeout` call is later than `by` and returns Ok, and has only packets and polls after it
 pub record IsPassing {P : Type 0} (by : ℕ) (r : LoggedRound P) : Type 0 where
   pub comes : r.moment.call ≡ HandleTimeout r.now
   pub done : r.moment.entry.answer ≡ Done
@@ -29,18 +29,18 @@ pub record IsPassing {P : Type 0} (by : ℕ) (r : LoggedRound P) : Type 0 where
   pub early : r.now < MAX
   pub between : (x : Logged P) → Has r.behind x → is_between x.call ≡ true
 
--- the moment of one of the rounds sends a check on the path
+-- The `handle_timeout` call of one of the rounds sends a check on the path.
 abbrev pub ChecksIn : {P : Type 0} → List (LoggedRound P) → Path → Type 0
 ChecksIn rounds path =
     (r : LoggedRound _) × (id : List ℕ) × Has rounds r × (r.moment.entry.emitted.issued ≡ Some (issued_as path class.Request id))
 
--- where a check goes out on the path, it is answered on it in the same round
+-- If a check is sent on the path, a success response is received on it in the same round.
 abbrev pub IsMetOn : {P : Type 0} → Path → LoggedRound P → Type 0
 IsMetOn path r = (id : List ℕ) → r.moment.entry.emitted.issued ≡ Some (issued_as path class.Request id) → IsAnsweredIn r.behind path
 
 module _ {H P : Type 0} where
-  -- A pair waits for its check: asked at the moment, it is due by the other one, and it will not be given up before. It is not valid, so that
-  -- nothing nominates it first, or the moment at which it is due stands fixed.
+  -- A pair waits for its check: its due time, computed at time `at`, is at most `by`, and it will not be removed after timeout
+  -- before the check. It is not valid, so nothing nominates it first, or its due time is fixed already.
   pub record IsInLine (at by : ℕ) (a : AgentRecord H P) (p : PairRecord) : Type 0 where
     pub checking : IsChecking a
     pub queue : a.queue ≡ []
@@ -49,8 +49,8 @@ module _ {H P : Type 0} where
     pub settled : (is_valid p ≡ false) ⊎ (is_some p.due ≡ true)
     pub young : unanswered_count p.checks < a.timing.max_retransmits
 
-  -- The rounds suffice for a pair that is due by a moment when they begin: they lie behind it, and are 2n - 1 where there are n pairs, and
-  -- one more for each pair that is added in them.
+  -- The rounds suffice for a pair that is due by the time `by` when they begin: their `handle_timeout` calls are later than `by`.
+  -- For n pairs there are at least 2n - 1 rounds, and one more for each pair that is added in them.
   pub record Suffice (by : ℕ) (start : AgentRecord H P) (rounds : List (LoggedRound P)) (last : AgentRecord H P) (p : PairRecord) : Type 0 where
     pub at : ℕ
     pub began : began_at rounds ≡ Some at
@@ -59,16 +59,17 @@ module _ {H P : Type 0} where
     pub enough : 2 * length start.pairs + last.next_number ≤ length rounds + 1 + start.next_number
 
   module _ (mac : H → List ℕ → List ℕ → List ℕ) (answers : P → CandidateRecord → ℕ → ℕ → Type 0) where
-    -- Wherever rounds in the log suffice for a pair, a check goes out on its path in one of them, unless it was answered in one: in either
-    -- role, and whatever comes and is nominated.
+    -- If rounds in the log suffice for a pair, a check is sent on its path in one of them, unless a success response is received
+    -- on the path in one of them. This holds in either role, whatever the agent receives and nominates.
     abbrev pub RoundsReach : AgentRecord H P → Stream → List (Logged P) → Type 0
     RoundsReach first s log =
         (before : List (Logged P)) (start last : AgentRecord H P) (rounds : List (LoggedRound P)) (p : PairRecord) (by : ℕ)
         → Part mac answers first s log before start (entries_of rounds) last → Suffice by start rounds last p
         → ChecksIn rounds (path_of start p) ⊎ IsAnsweredIn (entries_of rounds) (path_of start p)
 
-    -- And where the checks that go out on its path are answered in their rounds, and a controlled agent is asked for the path in one of
-    -- them, the next moment that serves no request announces a path, where one pair alone joins this one and none that does may have gone.
+    -- Assume also that each check on the pair's path is answered in its round, and that the peer nominates the path to the
+    -- controlled agent in one of them. A `handle_timeout` call that serves no early request follows. If only one pair joins the
+    -- pair's path then, a path is selected by the end of this call, unless a pair that joins the path may have been removed.
     abbrev pub AskedRoundsAnnounceIn : AgentRecord H P → Stream → List (Logged P) → Type 0
     AskedRoundsAnnounceIn first s log =
         (before : List (Logged P)) (start last : AgentRecord H P) (rounds : List (LoggedRound P)) (moment : Logged P) (now : ℕ)

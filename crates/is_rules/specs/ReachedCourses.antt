@@ -1,4 +1,4 @@
--- How soon a pair that is due is checked, for an agent that may share its random source: in a course, as in a log.
+-- How soon a pair that is due is checked, for an agent that may share its random source: in an execution, as in a log.
 use Rattle.std.specs.Prelude.{◌≡◌, ℕ, ◌+◌, ◌*◌, ◌<◌, ◌≤◌, ◌⊎◌, List, [], ◌∷◌, length, Some}
 use Rattle.rand_core.specs.Stream.{Stream}
 use Rattle.is_proto.specs.Lists.{Has}
@@ -17,32 +17,33 @@ use Rattle.is_rules.specs.Sending.{path_of}
 use Rattle.is_rules.specs.Steps.{Call, Entry, HandleTimeout, Done, Step}
 use Rattle.is_rules.specs.Emitted.{issued_as}
 
--- a moment behind this one, and then packets and polls
+-- a round whose `handle_timeout` call is later than `by` and returns Ok, and has only packets and polls after it
 pub record IsPassed {P : Type 0} (by : ℕ) (r : CourseRound P) : Type 0 where
   pub done : r.moment.answer ≡ Done
   pub late : by < r.now
   pub early : r.now < MAX
   pub between : AreBetween r.behind
 
--- the moment of one of the rounds sends a check on the path
+-- The `handle_timeout` call of one of the rounds sends a check on the path.
 abbrev pub ChecksAmong : {P : Type 0} → List (CourseRound P) → Path → Type 0
 ChecksAmong rounds path =
     (r : CourseRound _) × (id : List ℕ) × Has rounds r × (r.moment.emitted.issued ≡ Some (issued_as path class.Request id))
 
--- an accepted success comes back on it in one of them
+-- In one of the rounds an accepted success response is received on the reverse path.
 abbrev pub IsAnsweredAmong : {P : Type 0} → List (CourseRound P) → Path → Type 0
 IsAnsweredAmong rounds path = (r : CourseRound _) × Has rounds r × IsAnsweredAlong r.behind path
 
 module _ {H P : Type 0} (mac : H → List ℕ → List ℕ → List ℕ) (answers : P → CandidateRecord → ℕ → ℕ → Type 0) where
-  -- round after round, in whatever role
+  -- one round after another, in either role
   abbrev pub PassRounds : List (CourseRound P) → AgentRecord H P → AgentRecord H P → Type 0
   PassRounds [] old new = new ≡ old
   PassRounds (r ∷ later) old new =
       (mid next : AgentRecord H P) × (s t : Stream) × Step mac answers old s (HandleTimeout r.now) r.moment mid t
       × Course mac answers r.behind mid next × PassRounds later next new
 
-  -- From a fresh agent, wherever one of n pairs waits for its check, and 2n - 1 rounds come, and one more for each pair that is added in
-  -- them, a check goes out on its path in one of them, unless it was answered in one. In either role, whatever comes and is nominated.
+  -- An execution starts with a newly created agent. One of n pairs waits for its check, and at least 2n - 1 rounds follow, and
+  -- one more for each pair that is added in them. Then a check is sent on the pair's path in one of them, unless a success
+  -- response is received on the path in one of them. This holds in either role, whatever the agent receives and nominates.
   abbrev pub CoursesReach : Type 0
   CoursesReach =
       (first start last : AgentRecord H P) (xs : List (Call P × Entry)) (r : CourseRound P) (rounds : List (CourseRound P)) (p : PairRecord) (by : ℕ)

@@ -13,24 +13,24 @@ use Rattle.is_rules.specs.declared.credentials.IceCreds.{IceCreds}
 use Rattle.is_rules.specs.Agent.{AgentRecord}
 use Rattle.is_rules.specs.Forming.{HasNumbers, partners, remote_combinations, FormsAll}
 
--- it names a user fragment other than the peer's
+-- The candidate has another username fragment than the peer.
 abbrev pub has_other_ufrag : Option IceCreds → Option (List ℕ) → Bool
 has_other_ufrag None ufrag = false
 has_other_ufrag (Some creds) None = false
 has_other_ufrag (Some creds) (Some ufrag) = not (bytes_eq ufrag creds.ufrag)
 
--- the pair's remote candidate is equal to this one
+-- The pair's remote candidate is equal to this one.
 abbrev pub has_equivalent : List CandidateRecord → CandidateRecord → PairRecord → Bool
 has_equivalent remote c p = option_map_or (is_equivalent c) (slice_get remote p.remote) false
 
--- a peer reflexive candidate that a request brought, at the address of the new one
+-- a peer-reflexive candidate that a request added, at the address of the new candidate
 abbrev pub is_placeholder : CandidateRecord → CandidateRecord → Bool
 is_placeholder c other = is_temporary other && same_address other.addr c.addr
 
 abbrev pub as_remote : CandidateRecord → CandidateRecord
 as_remote c = record c { ufrag = None; discarded = false }
 
--- it overwrites what stands at the place, else it is appended
+-- The candidate overwrites the one at the index; without an index it is appended.
 abbrev pub stored : CandidateRecord → Option ℕ → List CandidateRecord → List CandidateRecord
 stored c None cs = cs ++ c ∷ []
 stored c (Some place) cs = slice_set cs place c
@@ -47,16 +47,16 @@ module _ {H P : Type 0} where
   abbrev pub with_remote : CandidateRecord → Option ℕ → AgentRecord H P → AgentRecord H P
   with_remote c place a = record a { remote = stored c place a.remote }
 
-  -- a number for each pair that it may be in
+  -- There is a number for each pair that the candidate may form.
   abbrev pub HasNumbersFor : AgentRecord H P → CandidateRecord → Type 0
   HasNumbersFor a c = HasNumbers a.next_number (length (partners c a.local))
 
-  -- the candidate is stored at the place, and paired with the local ones
+  -- The candidate is stored at the index, and paired with the local ones.
   abbrev pub StoresAt : AgentRecord H P → CandidateRecord → Option ℕ → AgentRecord H P → Type 0
   StoresAt old c place new =
       FormsAll (with_remote c place old) (remote_combinations c (place_or_end place old.remote) old.local) new
 
-  -- numbers are looked at before memory
+  -- Numbers are checked before memory.
   abbrev pub JoinsRemote : AgentRecord H P → CandidateRecord → Result (Unit {0}) IceError → AgentRecord H P → Type 0
   JoinsRemote old c (Ok _) new = HasNumbersFor old c × StoresAt old c (position (is_placeholder c) old.remote) new
   JoinsRemote old c (Err PairIdsExhausted) new = (¬ HasNumbersFor old c) × (new ≡ old)

@@ -5,24 +5,24 @@ use Rattle.is_stun.specs.Message.{Message, split_username}
 use Rattle.is_rules.specs.declared.emitted.Path.{Path}
 
 pub record RequestRecord : Type 0 where
-  -- when it came
+  -- when it was received
   pub moment : ℕ
-  -- from the sender's address to the own one
+  -- from the sender's address to the local one
   pub path : Path
   pub id : List ℕ
   pub priority : ℕ
   pub use_candidate : Bool
-  -- the sender's user fragment
+  -- the sender's username fragment
   pub ufrag : List ℕ
-  -- the tie-breaker behind each claim of a role
+  -- the tie-breaker in each role attribute (ICE-CONTROLLING, ICE-CONTROLLED)
   pub ice_controlling : Option ℕ
   pub ice_controlled : Option ℕ
 
--- what stands behind the first colon of a request's user name: the sender's user fragment (RFC 8445, section 7.2.2)
+-- What follows the first colon of a request's USERNAME: the sender's username fragment (RFC 8445, section 7.2.2).
 abbrev pub sender_ufrag : Message → List ℕ
 sender_ufrag m = option_map_or (λ (name : List ℕ × List ℕ). name.1) (split_username m.attributes) []
 
--- the request that a message is which came at this moment on this way
+-- the request that a message is, if it was received at this time on this path
 abbrev pub request_in : ℕ → Path → Message → RequestRecord
 request_in now path m = record {
   moment = now;
@@ -35,6 +35,7 @@ request_in now path m = record {
   ice_controlled = m.attributes.ice_controlled;
 }
 
--- the tie-breaker of a sender that claims the role too; the attribute of the other role says nothing (RFC 8445, section 7.3.1.1)
+-- The tie-breaker of a sender that claims the agent's role. The attribute of the other role is ignored (RFC 8445, section
+-- 7.3.1.1).
 abbrev pub rival_in : Bool → RequestRecord → Option ℕ
 rival_in controlling q = if controlling then q.ice_controlling else q.ice_controlled

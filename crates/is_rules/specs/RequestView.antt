@@ -1,4 +1,4 @@
--- A request, and how a packet came, without where their parts lie in memory.
+-- A request, and the path of a packet, without their layout in memory.
 use Rattle.is_stun.specs.declared.message.StunPacket.{StunPacket}
 use Rattle.is_rules.specs.declared.request.Request.{Request}
 use Rattle.is_rules.specs.declared.request.Waiting.{Waiting}
@@ -17,7 +17,7 @@ request_view q = record {
   ice_controlled = q.ice_controlled;
 }
 
--- a request that waits
+-- an early request
 abbrev pub waiting_view : Waiting → RequestRecord
 waiting_view q = record {
   moment = q.moment.0;
@@ -30,6 +30,6 @@ waiting_view q = record {
   ice_controlled = q.ice_controlled;
 }
 
--- the way that a packet came
+-- the path on which a packet was received
 abbrev pub packet_path : StunPacket → Path
 packet_path packet = record { proto = packet.proto; source = packet.source; destination = packet.destination }

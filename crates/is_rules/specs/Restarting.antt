@@ -1,4 +1,4 @@
--- Restarts (RFC 8445, section 9), and pairs that are formed anew.
+-- ICE restarts (RFC 8445, section 9), and pairs that are formed again.
 use Rattle.std.specs.Prelude.{◌≡◌, ℕ, ◌++◌, ◌∷◌, Bool, true, false, List, [], length, map, Some, None, Result, Ok, Err}
 use Rattle.is_proto.specs.declared.error.IceError.{IceError}
 use Rattle.is_proto.specs.declared.error.IceError.TheVariants.{OutOfMemory, PairIdsExhausted, CredentialsTooLong}
@@ -14,13 +14,14 @@ use Rattle.is_rules.specs.States.{with_state}
 abbrev pub with_ufrag : List ℕ → CandidateRecord → CandidateRecord
 with_ufrag ufrag c = record c { ufrag = Some ufrag }
 
--- local candidates stay, with their discard marks and under the new user fragment, or go
+-- The local candidates are kept, with their discard marks and the new username fragment, or they are removed.
 abbrev pub kept_local : Bool → List ℕ → List CandidateRecord → List CandidateRecord
 kept_local true ufrag cs = map (with_ufrag ufrag) cs
 kept_local false ufrag cs = []
 
 module _ {H P : Type 0} where
-  -- role, queued requests, the announced number and the pair counter stay, and so do settings and the last moment
+  -- These do not change: the role, the early requests, the selected number, the next pair number, the settings and the time of
+  -- the last call.
   abbrev pub cleared : IceCreds → Bool → AgentRecord H P → AgentRecord H P
   cleared creds keep a = record a {
     local_creds = creds;
@@ -34,7 +35,7 @@ module _ {H P : Type 0} where
     stats = no_stats;
   }
 
-  -- a session begins anew
+  -- the start of the new session: its event, and the state Checking
   abbrev pub begun : IceCreds → AgentRecord H P → AgentRecord H P
   begun creds a = with_state Checking (record a { events = a.events ++ IceRestart creds ∷ [] })
 
@@ -48,7 +49,7 @@ module _ {H P : Type 0} where
   Restarts old creds keep (Err OutOfMemory) new = (are_too_long creds None ≡ false) × (new ≡ old)
   Restarts old creds keep (Err _) new = ⊥
 
-  -- a number for each combination of live candidates
+  -- There is a number for each combination of live candidates.
   abbrev pub HasNumbersForAll : AgentRecord H P → Type 0
   HasNumbersForAll a = HasNumbers a.next_number (length (live_combinations a.local a.remote))
 
@@ -56,7 +57,7 @@ module _ {H P : Type 0} where
   abbrev pub emptied : AgentRecord H P → AgentRecord H P
   emptied a = with_state Checking (record a { pairs = [] })
 
-  -- `recreate_candidate_pairs`: all candidates that are not discarded
+  -- `recreate_candidate_pairs`: pairs of all candidates that are not discarded
   abbrev pub Recreates : AgentRecord H P → Result (Unit {0}) IceError → AgentRecord H P → Type 0
   Recreates old (Ok _) new = HasNumbersForAll old × FormsAll (emptied old) (live_combinations old.local old.remote) new
   Recreates old (Err PairIdsExhausted) new = (¬ HasNumbersForAll old) × (new ≡ old)

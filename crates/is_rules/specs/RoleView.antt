@@ -1,4 +1,4 @@
--- An agent as the agent at the other end meets it, and what a step did.
+-- The external view of an agent, as its peer observes it, and what a transition did.
 use Rattle.std.specs.Prelude.{ℕ, Bool, true, false, not, ◌&&◌, List, [], ◌∷◌, ◌++◌, map, Option, Some, None, is_some, option_map, if◌then◌else◌}
 use Rattle.rand_core.specs.Stream.{Stream}
 use Rattle.is_proto.specs.Packets.{Packet}
@@ -26,7 +26,7 @@ use Rattle.is_rules.specs.Steps.{Call, SetIceLite, SetControlTieBreaker, SetCont
 use Rattle.is_rules.specs.Sound.{IsSound, GivesBased}
 use Rattle.is_rules.specs.Effects.{clears}
 
--- ---- packets, as their bytes read
+-- ---- packets, as what their bytes encode
 
 abbrev pub mail_of : Message → Mail
 mail_of m = record {
@@ -73,7 +73,7 @@ module _ {H P : Type 0} where
     valid = all_valid a a.pairs;
   }
 
--- ---- what a step did
+-- ---- what a transition did
 
 abbrev pub when_accepted : {X : Type 0} → Answer → Option X → Option X
 when_accepted (Flag true) x = x
@@ -83,7 +83,7 @@ abbrev pub when_done : {X : Type 0} → Answer → Option X → Option X
 when_done Done x = x
 when_done _ x = None
 
--- a request is served at once where remote credentials are set
+-- A request is served at once if remote credentials are set.
 abbrev pub request_when : Option ParseFault → Class → Option IceCreds → RequestRecord → Option RequestRecord
 request_when None class.Request (Some peer) q = Some q
 request_when _ _ _ q = None
@@ -132,12 +132,13 @@ module _ {H P : Type 0} where
     makes_lite = sets_lite call;
   }
 
-  -- the law: no premise but soundness
+  -- The theorem: its preconditions are the invariant, and that a local candidate that the call adds is its own base if its kind
+  -- requires it.
   abbrev pub RoleLaw : (H → List ℕ → List ℕ → List ℕ) → (P → CandidateRecord → ℕ → ℕ → Type 0) → Type 0
   RoleLaw mac answers =
       (old new : AgentRecord H P) (s t : Stream) (call : Call P) (e : Entry)
       → IsSound old → GivesBased call → Step mac answers old s call e new t → RoleEffect (standing_of old) (deed_of old call e) (standing_of new)
 
--- a fresh agent is new
+-- A newly created agent has the external view of a new agent.
 abbrev pub FreshIsNew : Type 0 → Type 0 → Type 0
 FreshIsNew H P = (provider : H) (creds : IceCreds) (tie_breaker : ℕ) → IsNew (standing_of {P = P} (fresh provider creds tie_breaker))

@@ -1,4 +1,4 @@
--- Roles, and their conflicts (RFC 8445, section 7.3.1.1).
+-- Roles, and role conflicts (RFC 8445, section 7.3.1.1).
 use Rattle.std.specs.Prelude.{ℕ, not, nat_le, map, Option, Some, None, if◌then◌else◌}
 use Rattle.is_pair.specs.Pairs.{PairRecord}
 use Rattle.is_rules.specs.declared.roles.Conflict.{Conflict}
@@ -7,27 +7,27 @@ use Rattle.is_rules.specs.Request.{RequestRecord, rival_in}
 use Rattle.is_rules.specs.Agent.{AgentRecord}
 use Rattle.is_rules.specs.Forming.{SidesRecord, combined_priority, sides_of}
 
--- two controlled agents settle it as two controlling ones do: the greater tie-breaker keeps its role
+-- Two controlled agents resolve a role conflict as two controlling ones do: the greater tie-breaker keeps its role.
 abbrev pub conflict_by : ℕ → Option ℕ → Conflict
 conflict_by own None = Absent
 conflict_by own (Some rival) = if nat_le rival own then Insists else Yields
 
--- the pair with its priority computed anew
+-- the pair with its priority computed again
 abbrev pub with_priority_in : SidesRecord → PairRecord → PairRecord
 with_priority_in s p = record p { priority = combined_priority s (p.local, p.remote) }
 
 module _ {H P : Type 0} where
-  -- the tie-breaker of a sender that claims the role that the agent has
+  -- the tie-breaker of a sender that claims the agent's role
   abbrev pub rival : AgentRecord H P → RequestRecord → Option ℕ
   rival s q = rival_in s.controlling q
 
   abbrev pub conflict_of : AgentRecord H P → RequestRecord → Conflict
   conflict_of s q = conflict_by s.tie_breaker (rival s q)
 
-  -- the sides under the other role
+  -- the input of pair forming in the other role
   abbrev pub switched_sides : AgentRecord H P → SidesRecord
   switched_sides s = record (sides_of s) { controlling = not s.controlling }
 
-  -- the role switches, and all priorities are computed anew, by the candidates that stand at the places now
+  -- The role switches, and all priorities are computed again, from the candidates that are at the indices now.
   abbrev pub switched : AgentRecord H P → AgentRecord H P
   switched s = record s { controlling = not s.controlling; pairs = map (with_priority_in (switched_sides s)) s.pairs }

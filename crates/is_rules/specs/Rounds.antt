@@ -1,5 +1,6 @@
--- Parts of a log: turns, at which a wake-up is asked for and kept, and rounds, in which packets come behind a moment, and polls. Where
--- the checks of a pair are answered in their rounds, a path is announced in one of them.
+-- Segments of a log. In a polling cycle, `poll_timeout` returns a time and `handle_timeout` is called then or later. In a round,
+-- packets and polls follow a `handle_timeout` call. If the checks of a pair are answered in their rounds, a path is selected in
+-- one of them.
 use Rattle.std.specs.Prelude.{◌≡◌, ℕ, ◌<◌, ◌≤◌, ◌⊎◌, Bool, true, false, List, [], ◌∷◌, ◌++◌, length, Option, Some, None, is_some}
 use Rattle.rand_core.specs.Stream.{Stream}
 use Rattle.is_proto.specs.Lists.{Has, is_empty}
@@ -23,7 +24,7 @@ use Rattle.is_rules.specs.Progress.{IsChecking, IsOfUse, Awaits, IsUnanswered}
 
 -- ---- the entries of a round
 
--- newest first: what came behind a moment, and the moment
+-- newest first: what comes after a `handle_timeout` call, and the call
 pub record LoggedRound (P : Type 0) : Type 0 where
   pub behind : List (Logged P)
   pub moment : Logged P
@@ -34,7 +35,7 @@ abbrev pub entries_of : {P : Type 0} → List (LoggedRound P) → List (Logged P
 entries_of [] = []
 entries_of (r ∷ older) = r.behind ++ r.moment ∷ entries_of older
 
--- the moment of the oldest
+-- the time of the oldest round
 abbrev pub began_at : {P : Type 0} → List (LoggedRound P) → Option ℕ
 began_at [] = None
 began_at (r ∷ []) = Some r.now
@@ -46,22 +47,23 @@ is_poll PollTimeout = true
 is_poll PollEvent = true
 is_poll _ = false
 
--- a poll, or a packet that comes
+-- a poll, or a packet that is received
 abbrev pub is_between : {P : Type 0} → Call P → Bool
 is_between (ReceivePacket now path bytes) = true
 is_between call = is_poll call
 
--- no packet was left to be polled, and nothing but polls came since
+-- `poll_transmit` returned no packet, and only polls came after it.
 abbrev pub AreTaken : {P : Type 0} → List (Logged P) → Type 0
 AreTaken [] = ⊥
 AreTaken (x ∷ before) =
     ((x.call ≡ PollTransmit) × (x.entry.answer ≡ Polled None)) ⊎ ((is_poll x.call ≡ true) × AreTaken before)
 
--- an accepted success came
+-- An accepted success response was received.
 abbrev pub BringsSuccess : {P : Type 0} → Logged P → Type 0
 BringsSuccess x = (at : ℕ) × (by : Path) × (m : Message) × Brings x.call x.entry at by m × (m.class ≡ class.Success)
 
--- a turn behind this log: the packets are taken, the wake-up is asked for, and the moment comes then or later
+-- A polling cycle after this log: all packets are polled, `poll_timeout` returns a time, and `handle_timeout` is called then or
+-- later.
 pub record IsTurn {P : Type 0} (before : List (Logged P)) (asked moment : Logged P) (wake now : ℕ) : Type 0 where
   pub taken : AreTaken before
   pub asks : asked.call ≡ PollTimeout
@@ -70,7 +72,8 @@ pub record IsTurn {P : Type 0} (before : List (Logged P)) (asked moment : Logged
   pub done : moment.entry.answer ≡ Done
   pub kept : wake ≤ now
 
--- A round: a moment, and then packets and polls. Where a check goes out on the path, an accepted success comes in the same round.
+-- A round: a `handle_timeout` call, and then only packets and polls. If a check is sent on the path, an accepted success response
+-- is received in the same round.
 pub record IsRound {P : Type 0} (by : ℕ) (path : Path) (r : LoggedRound P) : Type 0 where
   pub comes : r.moment.call ≡ HandleTimeout r.now
   pub done : r.moment.entry.answer ≡ Done
@@ -81,16 +84,16 @@ pub record IsRound {P : Type 0} (by : ℕ) (path : Path) (r : LoggedRound P) : T
       → (x : Logged P) × Has r.behind x × BringsSuccess x
 
 module _ {H P : Type 0} (mac : H → List ℕ → List ℕ → List ℕ) (answers : P → CandidateRecord → ℕ → ℕ → Type 0) where
-  -- ---- parts of a log
+  -- ---- segments of a log
 
-  -- further entries behind a log and its record, and the record that they leave
+  -- further entries after a log and its state, and the state that they lead to
   abbrev pub RunsOn : List (Logged P) → AgentRecord H P → Stream → List (Logged P) → AgentRecord H P → Stream → Type 0
   RunsOn before start s [] last t = (last ≡ start) × (t ≡ s)
   RunsOn before start s (x ∷ part) last t =
       (mid : AgentRecord H P) × (u : Stream) × RunsOn before start s part mid u
       × (x.number ≡ length (part ++ before)) × GivesBased x.call × Step mac answers mid u x.call x.entry last t
 
-  -- the part stands in the log: the log before it led to start, and the part leads on to last
+  -- The segment is in the log: the log before it led to `start`, and the segment leads from `start` to `last`.
   pub record Part (first : AgentRecord H P) (s : Stream) (log before : List (Logged P)) (start : AgentRecord H P) (part : List (Logged P))
       (last : AgentRecord H P) : Type 0 where
     pub rest : List (Logged P)
@@ -100,29 +103,29 @@ module _ {H P : Type 0} (mac : H → List ℕ → List ℕ → List ℕ) (answer
     pub behind : Stream
     pub run : RunsOn before start at part last behind
 
-  -- controlling in each record that the part passes
+  -- The agent is controlling in each state of the segment.
   abbrev pub IsControllingIn : (before : List (Logged P)) (start : AgentRecord H P) (s : Stream) (part : List (Logged P))
       (last : AgentRecord H P) (t : Stream)
       → RunsOn before start s part last t → Type 0
   IsControllingIn before start s [] last t run = last.controlling ≡ true
   IsControllingIn before start s (x ∷ part) last t run = (last.controlling ≡ true) × IsControllingIn before start s part run.0 run.1 run.2
 
-  -- an accepted success of the part announces a path, which is that of an eligible pair of greatest stored priority
+  -- An accepted success response of the segment selects a path: that of an eligible pair with the greatest stored priority.
   abbrev pub AnnouncesIn : AgentRecord H P → Stream → List (Logged P) → List (Logged P) → Type 0
   AnnouncesIn first s log part =
       (before : List (Logged P)) × (mid after : AgentRecord H P) × (x : Logged P)
       × Point mac answers first s log before mid x after × Has part x × BringsSuccess x
       × (is_some (last_of x.entry.emitted.announced) ≡ true) × IsTopPath mac answers (x ∷ before) after
 
-  -- ---- the laws
+  -- ---- the theorems
 
-  -- each part of the log leads from a record to another
+  -- Each segment of the log leads from one state to another.
   abbrev pub PartsStand : AgentRecord H P → Stream → List (Logged P) → Type 0
   PartsStand first s log =
       (rest part before : List (Logged P)) → log ≡ rest ++ (part ++ before)
       → (start last : AgentRecord H P) × Part first s log before start part last
 
-  -- wherever a turn of an agent that has a pair to check stands in the log, its moment is of use
+  -- For each polling cycle in the log of an agent that has a pair to check, the `handle_timeout` call makes progress.
   abbrev pub MomentsAreOfUse : AgentRecord H P → Stream → List (Logged P) → Type 0
   MomentsAreOfUse first s log =
       (before : List (Logged P)) (start last : AgentRecord H P) (asked moment : Logged P) (wake now : ℕ)
@@ -130,8 +133,9 @@ module _ {H P : Type 0} (mac : H → List ℕ → List ℕ → List ℕ) (answer
       → IsChecking start → is_empty start.pairs ≡ false → wake < MAX
       → IsOfUse start moment.entry.emitted last
 
-  -- Wherever a moment stands in the log at which n pairs are due by an earlier one, and it begins n rounds behind that one in which the
-  -- checks of one of these pairs are answered, a path is announced in one of the rounds. Whatever else comes.
+  -- At a `handle_timeout` call in the log n pairs are due by an earlier time `by`. The call begins n rounds, all later than `by`,
+  -- in which the checks of one of these pairs are answered. Then a path is selected in one of the rounds, whatever else is
+  -- received.
   abbrev pub RoundsAnnounce : AgentRecord H P → Stream → List (Logged P) → Type 0
   RoundsAnnounce first s log =
       (before : List (Logged P)) (start last : AgentRecord H P) (rounds : List (LoggedRound P)) (p : PairRecord) (at by : ℕ)

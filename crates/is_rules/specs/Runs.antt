@@ -1,4 +1,4 @@
--- Runs of one agent from a record, and what holds at each entry of their logs.
+-- Executions of one agent from an abstract state, and what holds at each entry of their logs.
 use Rattle.std.specs.Prelude.{◌≡◌, ℕ, ◌≤◌, ◌⊎◌, true, false, List, [], ◌∷◌, ◌++◌, length, Some}
 use Rattle.rand_core.specs.Stream.{Stream}
 use Rattle.is_proto.specs.Lists.{Has}
@@ -22,21 +22,21 @@ use Rattle.is_rules.specs.Points.{IsNominationPoint}
 use Rattle.is_rules.specs.Effects.{IsTurnedDown}
 use Rattle.is_rules.specs.Logs.{Logged, clears_at, NeverLite, last_announced, requests, replies, IsAnsweredBy, AskedFor}
 
--- an agent as it is made
+-- The agent is newly created.
 abbrev pub IsFresh : {H P : Type 0} → AgentRecord H P → Type 0
 IsFresh a = (creds : IceCreds) × (tie_breaker : ℕ) × (a ≡ fresh a.provider creds tie_breaker)
 
 module _ {H P : Type 0} (mac : H → List ℕ → List ℕ → List ℕ) (answers : P → CandidateRecord → ℕ → ℕ → Type 0) where
-  -- the log may be that of a run from the first record to the last: each call is a step. Entries are numbered from 0
+  -- The log may be that of an execution from the first state to the last: each call is a transition. Entries are numbered from 0.
   abbrev pub Run : AgentRecord H P → Stream → List (Logged P) → AgentRecord H P → Stream → Type 0
   Run first s [] last t = (last ≡ first) × (t ≡ s)
   Run first s (x ∷ before) last t =
       (mid : AgentRecord H P) × (u : Stream) × Run first s before mid u
       × (x.number ≡ length before) × GivesBased x.call × Step mac answers mid u x.call x.entry last t
 
-  -- ---- entries
+  -- ---- log entries
 
-  -- x stands in the log: the log before it led to mid, and x leads on to after
+  -- x is in the log: the log before it led to the state mid, and x leads from mid to after.
   pub record Point (first : AgentRecord H P) (s : Stream) (log before : List (Logged P)) (mid : AgentRecord H P) (x : Logged P)
       (after : AgentRecord H P) : Type 0 where
     pub rest : List (Logged P)
@@ -48,74 +48,75 @@ module _ {H P : Type 0} (mac : H → List ℕ → List ℕ → List ℕ) (answer
     pub behind : Stream
     pub step : Step mac answers mid at x.call x.entry after behind
 
-  -- the run up to an entry
+  -- the execution up to and including an entry
   abbrev pub run_to : (first : AgentRecord H P) (s : Stream) (log before : List (Logged P)) (mid : AgentRecord H P) (x : Logged P)
       (after : AgentRecord H P)
       → (point : Point first s log before mid x after) → Run first s (x ∷ before) after point.behind
   run_to first s log before mid x after point = (mid, point.at, point.led, point.number, point.given, point.step)
 
-  -- wherever an entry stands in the log
+  -- The property holds at each entry of the log.
   abbrev pub AtEach : AgentRecord H P → Stream → List (Logged P) → (List (Logged P) → AgentRecord H P → Logged P → AgentRecord H P → Type 0) → Type 0
   AtEach first s log Holds =
       (before : List (Logged P)) (mid after : AgentRecord H P) (x : Logged P) → Point first s log before mid x after → Holds before mid x after
 
-  -- ---- what holds there
+  -- ---- properties at each entry
 
-  -- each announced path is answered
+  -- Each selected path is answered.
   abbrev pub PathsAreAnswered : AgentRecord H P → Stream → List (Logged P) → Type 0
   PathsAreAnswered first s log =
       AtEach first s log (λ before mid x after. (path : Path) → Has x.entry.emitted.announced (Some path)
       → IsAnsweredBy mac first.provider x before path)
 
-  -- controlled in every record from the last clear, or the start
+  -- The agent is controlled in each state since the last clear, or since the start if there was none.
   abbrev pub IsControlledSince : (first : AgentRecord H P) (s : Stream) (log : List (Logged P)) (last : AgentRecord H P) (t : Stream)
       → Run first s log last t → Type 0
   IsControlledSince first s [] last t run = last.controlling ≡ false
   IsControlledSince first s (x ∷ before) last t run =
       (last.controlling ≡ false) × ((clears_at x ≡ true) ⊎ IsControlledSince first s before run.0 run.1 run.2)
 
-  -- each path that is announced while controlled since is asked for
+  -- Each path that is selected while the agent was controlled since the last clear was nominated by the peer.
   abbrev pub PathsAreAskedFor : AgentRecord H P → Stream → List (Logged P) → Type 0
   PathsAreAskedFor first s log =
       (before : List (Logged P)) (mid after : AgentRecord H P) (x : Logged P) (point : Point first s log before mid x after)
       → IsControlledSince first s (x ∷ before) after point.behind (run_to first s log before mid x after point)
       → (path : Path) → Has x.entry.emitted.announced (Some path) → AskedFor (x ∷ before) path
 
-  -- the path announced last is that of an eligible pair of greatest stored priority
+  -- The path that was selected last is that of an eligible pair with the greatest stored priority.
   abbrev pub IsTopPath : List (Logged P) → AgentRecord H P → Type 0
   IsTopPath log a =
       (top : PairRecord) × Has a.pairs top × (is_eligible a.controlling top ≡ true) × (last_announced log ≡ Some (path_of a top))
       × ((p : PairRecord) → Has a.pairs p → is_eligible a.controlling p ≡ true → p.priority ≤ top.priority)
 
-  -- so at each nomination point at which a pair is eligible
+  -- This holds at each nomination point at which a pair is eligible.
   abbrev pub LastPathsAreTop : AgentRecord H P → Stream → List (Logged P) → Type 0
   LastPathsAreTop first s log =
       AtEach first s log (λ before mid x after. IsNominationPoint mid x.call x.entry
       → (p : PairRecord) → Has after.pairs p → is_eligible after.controlling p ≡ true → IsTopPath (x ∷ before) after)
 
-  -- at an accepted success a pair that keeps the check with its id, on its path, is valid
+  -- After an accepted success response, a pair that has the pending transaction with its ID, on its path, is valid.
   abbrev pub SuccessesMakeValid : AgentRecord H P → Stream → List (Logged P) → Type 0
   SuccessesMakeValid first s log =
       AtEach first s log (λ before mid x after. (at : ℕ) (by : Path) (m : Message) → Brings x.call x.entry at by m → m.class ≡ class.Success
       → (p : PairRecord) × Has after.pairs p × (keeps_check_on after by m.id p ≡ true) × (is_valid p ≡ true))
 
-  -- where a packet brought a request with USE-CANDIDATE that is answered with success, and the agent is controlled behind it, a
-  -- pair of the reply's path is nominated
+  -- If a packet brought a request with USE-CANDIDATE that gets a success response, and the agent is controlled afterwards, a pair
+  -- on the path of the response is nominated.
   abbrev pub RequestsNominate : AgentRecord H P → Stream → List (Logged P) → Type 0
   RequestsNominate first s log =
       AtEach first s log (λ before mid x after. (at : ℕ) (by : Path) (m : Message) (issued : Issued) → Brings x.call x.entry at by m
       → m.attributes.use_candidate ≡ true → x.entry.emitted.issued ≡ Some issued → issued.class ≡ class.Success → after.controlling ≡ false
       → IsNominatedOn after issued.path)
 
-  -- ---- the laws
+  -- ---- the theorems
 
-  -- each entry of a run's log is a point
+  -- Each entry of an execution's log is a point of it.
   abbrev pub EntriesArePoints : Type 0
   EntriesArePoints =
       (first last : AgentRecord H P) (s t : Stream) (rest before : List (Logged P)) (x : Logged P) → Run first s (rest ++ x ∷ before) last t
       → (mid after : AgentRecord H P) × Point first s (rest ++ x ∷ before) before mid x after
 
-  -- a run from a fresh agent leaves a sound one, so that the effects of steps are had at each entry
+  -- An execution from a newly created agent ends in a state that satisfies the invariant. So the effect lemmas apply at each
+  -- entry.
   abbrev pub RunsAreSound : Type 0
   RunsAreSound = (first last : AgentRecord H P) (s t : Stream) (log : List (Logged P)) → IsFresh first → Run first s log last t → IsSound last
 
@@ -125,7 +126,7 @@ module _ {H P : Type 0} (mac : H → List ℕ → List ℕ → List ℕ) (answer
   abbrev pub AnnouncedAreAskedFor : Type 0
   AnnouncedAreAskedFor = (first : AgentRecord H P) (s : Stream) (log : List (Logged P)) → IsFresh first → NeverLite log → PathsAreAskedFor first s log
 
-  -- lite or not
+  -- Whether the agent is lite or not.
   abbrev pub PointsAreTop : Type 0
   PointsAreTop = (first : AgentRecord H P) (s : Stream) (log : List (Logged P)) → IsFresh first → LastPathsAreTop first s log
 
@@ -135,13 +136,13 @@ module _ {H P : Type 0} (mac : H → List ℕ → List ℕ → List ℕ) (answer
   abbrev pub AskedAreNominated : Type 0
   AskedAreNominated = (first : AgentRecord H P) (s : Stream) (log : List (Logged P)) → IsFresh first → RequestsNominate first s log
 
-  -- the responses are, as a bag, among the accepted Binding requests
+  -- The responses are, as a multiset, among the accepted Binding requests.
   abbrev pub RepliesAreAmong : Type 0
   RepliesAreAmong =
       (first last : AgentRecord H P) (s t : Stream) (log : List (Logged P)) → IsFresh first → Run first s log last t
       → AreAmong (replies log) (requests log)
 
-  -- bytes that do not read as a message that is accepted change nothing and tell nothing, and are answered by false or their fault
+  -- Bytes that do not encode an accepted message change nothing and emit nothing. The call returns false or the parse fault.
   abbrev pub UnacceptedChangeNothing : Type 0
   UnacceptedChangeNothing =
       (old new : AgentRecord H P) (s t : Stream) (call : Call P) (e : Entry) → Step mac answers old s call e new t → IsTurnedDown mac old call

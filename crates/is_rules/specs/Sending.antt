@@ -1,4 +1,4 @@
--- Where packets go, and what goes into the queues.
+-- The paths of packets, and the packet queue.
 use Rattle.std.specs.Prelude.{ℕ, List, [], ◌∷◌, ◌++◌}
 use Rattle.std.specs.Net.Socket.{socket_ip, socket_port}
 use Rattle.std.specs.declared.net.socket_addr.SocketAddr.{SocketAddr}
@@ -8,12 +8,12 @@ use Rattle.is_pair.specs.Pairs.{PairRecord}
 use Rattle.is_rules.specs.declared.emitted.Path.{Path}
 use Rattle.is_rules.specs.Agent.{AgentRecord}
 
--- what a message carries of an address: no flow information and no scope
+-- What a message carries of an address: no flow information and no scope.
 abbrev pub carried : SocketAddr → SocketAddr
 carried a = plain_socket (socket_ip a) (socket_port a)
 
 module _ {H P : Type 0} where
-  -- a packet goes out
+  -- A packet is appended to the packet queue.
   abbrev pub with_packet : Path → List ℕ → AgentRecord H P → AgentRecord H P
   with_packet path contents s = record s {
     packets = s.packets ++ record { proto = path.proto; source = path.source; destination = path.destination; contents = contents } ∷ [];

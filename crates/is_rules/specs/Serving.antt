@@ -1,5 +1,5 @@
--- Serving a Binding request (RFC 8445, section 7.3): a definition for each rule, in the order in which they act, each ending
--- in the next one. `s` is the record as the rule finds it; `emitted` and `new` are what serving tells and leaves.
+-- Serving a Binding request (RFC 8445, section 7.3). There is one definition for each rule, in the order in which they act; each
+-- ends in the next one. `s` is the state before the rule. `emitted` and `new` are what serving emits, and the state after it.
 use Rattle.std.specs.Prelude.{◌≡◌, ℕ, ◌==◌, ◌&&◌, Bool, true, false, not, List, [], ◌∷◌, ◌++◌, length, bytes_eq, Option, Some, None}
 use Rattle.std.specs.Prelude.{is_some, MatchBool, MatchOption, if◌then◌else◌}
 use Rattle.std.specs.Option.{option_map_or}
@@ -33,11 +33,12 @@ use Rattle.is_rules.specs.Sending.{carried, path_between, with_packet}
 use Rattle.is_rules.specs.Nominating.{NominatesWhere}
 use Rattle.is_rules.specs.Roles.{conflict_of, switched}
 
--- a lite agent makes no checks of its own: while it is controlled each request makes the pair valid
+-- A lite agent sends no checks of its own: while it is controlled, each request makes the pair valid.
 abbrev pub validated_by_peer : Bool → Bool → PairRecord → PairRecord
 validated_by_peer controlling lite p = if lite && not controlling then validated p else p
 
--- a controlled agent nominates the pair where the peer asks for it and it is not nominated yet (RFC 8445, section 7.3.1.5)
+-- A controlled agent nominates the pair if the request has USE-CANDIDATE and the pair is not nominated yet (RFC 8445, section
+-- 7.3.1.5).
 abbrev pub nominated_by_peer : Bool → Bool → RequestRecord → PairRecord → PairRecord
 nominated_by_peer controlling lite q p = if not controlling && q.use_candidate && not (is_nominated p) then nominated lite p else p
 
@@ -45,17 +46,18 @@ nominated_by_peer controlling lite q p = if not controlling && q.use_candidate &
 abbrev pub served : Bool → Bool → RequestRecord → PairRecord → PairRecord
 served controlling lite q p = nominated_by_peer controlling lite q (validated_by_peer controlling lite (with_request q.moment p))
 
--- the peer nominates while the agent is controlling
+-- The peer sends USE-CANDIDATE while the agent is controlling.
 abbrev pub is_misled : Bool → RequestRecord → Bool
 is_misled controlling q = controlling && q.use_candidate
 
--- serving goes on to its places, by the role before it
+-- Serving continues to the remote candidate: the request passes the rules on role conflicts and on USE-CANDIDATE. `controlling`
+-- is the role before them.
 abbrev pub is_admitted : Conflict → Bool → RequestRecord → Bool
 is_admitted Absent controlling q = not (is_misled controlling q)
 is_admitted Insists controlling q = false
 is_admitted Yields controlling q = not (is_misled (not controlling) q)
 
--- no pair joins the places, and one would be added
+-- There is no pair of the two candidates, and one would be added.
 abbrev pub wants_pair_at : RemotePlace → Option ℕ → Bool → Bool
 wants_pair_at Barred pair discarded = false
 wants_pair_at (Known r) pair discarded = not (is_some pair) && not discarded
@@ -66,20 +68,20 @@ module _ {H P : Type 0} where
   abbrev pub Drops : AgentRecord H P → Emitted → AgentRecord H P → Type 0
   Drops s emitted new = (emitted ≡ nothing_emitted) × (new ≡ s)
 
-  -- the request waits
+  -- The request is queued as an early request.
   abbrev pub Queues : RequestRecord → AgentRecord H P → Emitted → AgentRecord H P → Type 0
   Queues q s emitted new = (emitted ≡ nothing_emitted) × (new ≡ queued q s)
 
-  -- ---- what each rule looks at and changes
+  -- ---- what each rule reads and changes
 
-  -- the request names another peer than the one that is known, or none is known
+  -- The request has another username fragment than the known peer, or no peer is known.
   abbrev pub names_another : AgentRecord H P → RequestRecord → Bool
   names_another s q = option_map_or (λ (peer : IceCreds). not (bytes_eq q.ufrag peer.ufrag)) s.remote_creds true
 
   abbrev pub request_counted : AgentRecord H P → AgentRecord H P
   request_counted s = record s { stats = record s.stats { bind_request_recv = counted s.stats.bind_request_recv } }
 
-  -- the candidate that an unknown sender becomes (RFC 8445, section 7.3.1.3)
+  -- the peer-reflexive candidate that an unknown sender becomes (RFC 8445, section 7.3.1.3)
   abbrev pub sender_candidate : AgentRecord H P → RequestRecord → CandidateRecord
   sender_candidate s q = peer_reflexive_candidate (Some TEMPORARY) q.path.proto q.priority q.path.source q.path.source s.local_creds.ufrag
 
@@ -100,34 +102,34 @@ module _ {H P : Type 0} where
   -- ---- the rules
 
   module _ (mac : H → List ℕ → List ℕ → List ℕ) where
-    -- the success reply, signed with the present local password, tells the address that the request came from, and goes out
-    -- on the pair's path (RFC 8445, section 7.3.1.2)
+    -- The success response is signed with the present local password, and carries the address from which the request came. It is
+    -- sent on the pair's path (RFC 8445, section 7.3.1.2).
     abbrev pub replied : RequestRecord → Path → AgentRecord H P → AgentRecord H P
     replied q path s = with_packet path (written (mac s.provider) (Some s.local_creds.pass) (binding_reply q.id q.path.source)) s
 
-    -- the 487, under the same password, goes back the way that the request came
+    -- The 487 is signed with the same password, and sent on the reverse path of the request.
     abbrev pub role_conflict_sent : RequestRecord → AgentRecord H P → AgentRecord H P
     role_conflict_sent q s = with_packet (reversed q.path) (written (mac s.provider) (Some s.local_creds.pass) (binding_role_conflict_reply q.id)) s
 
-    -- the reply goes out, behind what was announced
+    -- The response is sent, after the path `announced`, if any, was selected.
     abbrev pub Replies : RequestRecord → Path → Option Path → AgentRecord H P → Emitted → AgentRecord H P → Type 0
     Replies q path announced s emitted new =
         IsPut (written (mac s.provider) (Some s.local_creds.pass) (binding_reply q.id q.path.source)) (binding_reply q.id (carried q.path.source))
         × (emitted ≡ emitted_by (Some (issued_as path Success q.id)) announced None) × (new ≡ replied q path s)
 
-    -- the pair takes the request; a controlling agent evaluates nomination where it is valid; and the reply goes out
+    -- The pair records the request. A controlling agent evaluates nomination if the pair is valid. Then the response is sent.
     abbrev pub RecordsAndResponds : RequestRecord → ℕ → ℕ → ℕ → AgentRecord H P → Emitted → AgentRecord H P → Type 0
     RecordsAndResponds q l r number s emitted new =
         (path : Option Path) × (mid : AgentRecord H P)
         × NominatesWhere (s.controlling && is_valid_at number s.pairs) (pair_served q number s) path mid
         × Replies q (path_between s l r) path mid emitted new
 
-    -- a pair is added, without limit or redundancy: a number is left
+    -- A pair is added, without regard to the limit and to redundancy. There is a number left for it.
     abbrev pub AddsPairAndResponds : RequestRecord → ℕ → ℕ → AgentRecord H P → Emitted → AgentRecord H P → Type 0
     AddsPairAndResponds q l r s emitted new = (s.next_number == MAX ≡ false) × RecordsAndResponds q l r s.next_number (with_pair (formed s l r) s) emitted new
 
-    -- a pair of the places takes it; where there is none, one is added, but none at a discarded local place, which drops it
-    -- (RFC 8445, section 7.3.1.4)
+    -- A pair of the two candidates records the request. If there is none, one is added; but if the local candidate is discarded,
+    -- the request is dropped instead (RFC 8445, section 7.3.1.4).
     abbrev pub FindsOrAddsPair : RequestRecord → ℕ → ℕ → Option ℕ → AgentRecord H P → Emitted → AgentRecord H P → Type 0
     FindsOrAddsPair q l r (Some number) s emitted new = RecordsAndResponds q l r number s emitted new
     FindsOrAddsPair q l r None s emitted new =
@@ -136,27 +138,28 @@ module _ {H P : Type 0} where
     abbrev pub Joins : RequestRecord → ℕ → ℕ → AgentRecord H P → Emitted → AgentRecord H P → Type 0
     Joins q l r s emitted new = (pair : Option ℕ) × IsPairBetween s.pairs l r pair × FindsOrAddsPair q l r pair s emitted new
 
-    -- an unknown sender is appended, and discarded candidates alone drop it
+    -- An unknown sender is appended to the remote candidates. If only discarded candidates match the sender, the request is
+    -- dropped.
     abbrev pub AddsUnknownSender : RequestRecord → ℕ → RemotePlace → AgentRecord H P → Emitted → AgentRecord H P → Type 0
     AddsUnknownSender q l (Known r) s emitted new = Joins q l r s emitted new
     AddsUnknownSender q l Barred s emitted new = Drops s emitted new
     AddsUnknownSender q l Unknown s emitted new = Joins q l (length s.remote) (with_sender q s) emitted new
 
-    -- the remote place
+    -- The remote candidate is looked up.
     abbrev pub FindsSender : RequestRecord → ℕ → AgentRecord H P → Emitted → AgentRecord H P → Type 0
     FindsSender q l s emitted new = (place : RemotePlace) × IsRemotePlace s.remote q place × AddsUnknownSender q l place s emitted new
 
-    -- USE-CANDIDATE while controlling is dropped; any other request counts
+    -- A controlling agent drops a request with USE-CANDIDATE, and counts any other request.
     abbrev pub CountsAndServes : RequestRecord → ℕ → AgentRecord H P → Emitted → AgentRecord H P → Type 0
     CountsAndServes q l s emitted new = MatchBool (is_misled s.controlling q) (Drops s emitted new) (FindsSender q l (request_counted s) emitted new)
 
-    -- the 487 goes out, and serving ends
+    -- The 487 is sent, and serving ends.
     abbrev pub SendsRoleConflict : RequestRecord → AgentRecord H P → Emitted → AgentRecord H P → Type 0
     SendsRoleConflict q s emitted new =
         IsPut (written (mac s.provider) (Some s.local_creds.pass) (binding_role_conflict_reply q.id)) (binding_role_conflict_reply q.id)
         × (emitted ≡ issued_only (reversed q.path) Failure q.id) × (new ≡ role_conflict_sent q s)
 
-    -- a sender of the agent's own role: the greater tie-breaker keeps it (RFC 8445, section 7.3.1.1)
+    -- The sender claims the agent's own role: the greater tie-breaker keeps it (RFC 8445, section 7.3.1.1).
     abbrev pub ResolvesRoleConflictBy : Conflict → RequestRecord → ℕ → AgentRecord H P → Emitted → AgentRecord H P → Type 0
     ResolvesRoleConflictBy Absent q l s emitted new = CountsAndServes q l s emitted new
     ResolvesRoleConflictBy Insists q l s emitted new = SendsRoleConflict q s emitted new
@@ -165,28 +168,28 @@ module _ {H P : Type 0} where
     abbrev pub ResolvesRoleConflict : RequestRecord → ℕ → AgentRecord H P → Emitted → AgentRecord H P → Type 0
     ResolvesRoleConflict q l s emitted new = ResolvesRoleConflictBy (conflict_of s q) q l s emitted new
 
-    -- the local place; none drops it
+    -- The local candidate is looked up. Without one the request is dropped.
     abbrev pub ServesHere : RequestRecord → AgentRecord H P → Emitted → AgentRecord H P → Type 0
     ServesHere q s emitted new = MatchOption (local_place s.local q) (Drops s emitted new) (λ l. ResolvesRoleConflict q l s emitted new)
 
-    -- a request that names another peer is dropped
+    -- A request that names another peer is dropped.
     abbrev pub Serves : RequestRecord → AgentRecord H P → Emitted → AgentRecord H P → Type 0
     Serves q s emitted new = MatchBool (names_another s q) (Drops s emitted new) (ServesHere q s emitted new)
 
-    -- where no remote credentials are known the request waits
+    -- If no remote credentials are known, the request is queued.
     abbrev pub TakesRequest : RequestRecord → AgentRecord H P → Emitted → AgentRecord H P → Type 0
     TakesRequest q s emitted new = MatchOption s.remote_creds (Queues q s emitted new) (λ _. Serves q s emitted new)
 
-  -- ---- when a pair is wanted and no number is left
+  -- ---- when a pair is needed and no number is left
 
-  -- the request gets to its local place, and these are places that it can be served at
+  -- These are candidates, and a pair, at which the request can be served. None: the request is dropped before that.
   abbrev pub Chooses : AgentRecord H P → RequestRecord → Option Places → Type 0
   Chooses s q None = MatchBool (names_another s q) (Unit {0}) (local_place s.local q ≡ None)
   Chooses s q (Some at) =
       (names_another s q ≡ false) × (local_place s.local q ≡ Some at.local) × IsRemotePlace s.remote q at.remote
       × IsPairBetween s.pairs at.local (remote_index s.remote at.remote) at.pair
 
-  -- a pair must be added there
+  -- A pair must be added for these candidates.
   abbrev pub wants_pair : AgentRecord H P → RequestRecord → Places → Bool
   wants_pair s q at =
       is_admitted (conflict_of s q) s.controlling q && wants_pair_at at.remote at.pair (candidate_at s.local at.local).discarded
@@ -195,20 +198,20 @@ module _ {H P : Type 0} where
   abbrev pub lacks_number : AgentRecord H P → RequestRecord → Places → Bool
   lacks_number s q at = s.next_number == MAX && wants_pair s q at
 
-  -- at some places a pair must be added, and no number is left
+  -- For a choice of candidates a pair must be added, and no number is left.
   abbrev pub LacksNumber : AgentRecord H P → RequestRecord → Type 0
   LacksNumber s q = (at : Places) × Chooses s q (Some at) × (lacks_number s q at ≡ true)
 
-  -- wherever it may be served
+  -- This is so for every possible choice.
   abbrev pub AlwaysLacksNumber : AgentRecord H P → RequestRecord → Type 0
   AlwaysLacksNumber s q = LacksNumber s q × ((at : Places) → Chooses s q (Some at) → lacks_number s q at ≡ true)
 
-  -- why a request is not served: numbers are looked at before memory
+  -- Why serving a request may fail: numbers are checked before memory.
   abbrev pub MayRefuseRequest : AgentRecord H P → RequestRecord → IceError → Type 0
   MayRefuseRequest s q PairIdsExhausted = LacksNumber s q
   MayRefuseRequest s q OutOfMemory = ¬ AlwaysLacksNumber s q
   MayRefuseRequest s q _ = ⊥
 
-  -- a request that waits is refused for want of memory alone
+  -- Why the arrival of a request may fail: queueing it fails only for an allocation failure, and serving it as above.
   abbrev pub MayRefuseArrival : AgentRecord H P → RequestRecord → IceError → Type 0
   MayRefuseArrival s q error = MatchOption s.remote_creds (error ≡ OutOfMemory) (λ _. MayRefuseRequest s q error)

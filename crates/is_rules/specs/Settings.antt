@@ -7,23 +7,23 @@ use Rattle.is_rules.specs.Fitting.{MTU_FLOOR}
 use Rattle.is_rules.specs.Agent.{AgentRecord}
 
 module _ {H P : Type 0} where
-  -- `set_mtu`: each check has to fit
+  -- `set_mtu`: the longest check must fit into the target MTU.
   abbrev pub SetsMtu : AgentRecord H P → ℕ → ℕ → Result (Unit {0}) IceError → AgentRecord H P → Type 0
   SetsMtu old target warn (Ok _) new = (nat_lt target MTU_FLOOR ≡ false) × (new ≡ record old { mtu = target; mtu_warn = warn })
   SetsMtu old target warn (Err MtuTooSmall) new = (nat_lt target MTU_FLOOR ≡ true) × (new ≡ old)
   SetsMtu old target warn (Err _) new = ⊥
 
-  -- `set_initial_stun_rto` and `set_max_stun_rto`: each pair is asked anew for its due moment, where one of them changes
+  -- `set_initial_stun_rto` and `set_max_stun_rto`: if one of the two changes, the due time of each pair is computed again.
   abbrev pub with_rtos : ℕ → ℕ → AgentRecord H P → AgentRecord H P
   with_rtos initial greatest a = record a {
     timing = record a.timing { initial_rto = record { 0 = initial }; max_rto = record { 0 = greatest } };
     pairs = if a.timing.initial_rto.0 == initial && a.timing.max_rto.0 == greatest then a.pairs else map undue a.pairs;
   }
 
-  -- `set_max_stun_retransmits`: the kept checks are cut when the next one is made
+  -- `set_max_stun_retransmits`: the list of pending transactions is cut when the next check is added.
   abbrev pub with_retransmits : ℕ → AgentRecord H P → AgentRecord H P
   with_retransmits n a = record a { timing = record a.timing { max_retransmits = n } }
 
-  -- `skip_pair_ids`: only upwards, so that no number is given twice
+  -- `skip_pair_ids`: the next number only increases, so no number is used twice.
   abbrev pub numbers_skipped : ℕ → AgentRecord H P → AgentRecord H P
   numbers_skipped n a = record a { next_number = max a.next_number n }

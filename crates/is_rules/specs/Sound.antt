@@ -1,4 +1,4 @@
--- What records have to meet for the effects of steps.
+-- The invariant of abstract states on which the effect lemmas rest.
 use Rattle.std.specs.Prelude.{◌≡◌, ℕ, ◌<◌, ◌≤◌, Bool, true, false, List, length, Option, IfSome}
 use Rattle.is_proto.specs.Lists.{Has}
 use Rattle.is_stun.specs.declared.timing.StunTiming.{StunTiming}
@@ -13,18 +13,18 @@ use Rattle.is_rules.specs.Agent.{AgentRecord, fresh}
 use Rattle.is_rules.specs.Queue.{QUEUE_LIMIT}
 use Rattle.is_rules.specs.Steps.{Call, AddLocalCandidate}
 
--- the announced number stays below the counter, as all numbers do: so it never names another pair
+-- The selected number is below the next number, as all numbers are. So it never becomes the number of another pair.
 abbrev pub IsBelow : ℕ → Option ℕ → Type 0
 IsBelow next_number number = IfSome number (λ n. n < next_number)
 
--- the places of a pair stand in the lists
+-- The indices of a pair are within the candidate lists.
 abbrev pub IsPlaced : List CandidateRecord → List CandidateRecord → PairRecord → Type 0
 IsPlaced local remote p = (p.local < length local) × (p.remote < length remote)
 
 abbrev pub ArePlaced : List CandidateRecord → List CandidateRecord → List PairRecord → Type 0
 ArePlaced local remote pairs = (p : PairRecord) → Has pairs p → IsPlaced local remote p
 
--- a pair keeps at least its last check
+-- A pair stores at least its last check.
 abbrev pub KeepsChecks : StunTiming → Type 0
 KeepsChecks timing = 0 < timing.max_retransmits
 
@@ -33,27 +33,28 @@ is_started_state Waiting = false
 is_started_state InProgress = true
 is_started_state Succeeded = true
 
--- Without it a candidate that is appended gives a pair past the end another path, and a change at a number changes two pairs.
+-- Without the invariant, a new candidate could give another path to a pair whose index is past the end, and a change of the pair
+-- with a given number could change two pairs.
 pub record IsSound {H P : Type 0} (a : AgentRecord H P) : Type 0 where
   pub placed : ArePlaced a.local a.remote a.pairs
   pub rising : rises a.pairs ≡ true
   pub below : are_below a.next_number a.pairs ≡ true
-  -- the announced number never names another pair
+  -- The selected number never becomes the number of another pair.
   pub announced : IsBelow a.next_number a.selected_pair
-  -- a pair that keeps a check left Waiting: so an answer makes it valid
+  -- A pair with a pending transaction is no longer Waiting, so a success response makes it valid.
   pub started : (p : PairRecord) (c : Check) → Has a.pairs p → Has p.checks c → is_started_state p.state ≡ true
-  -- a check that is sent is kept
+  -- A check that is sent stays as a pending transaction.
   pub checks : KeepsChecks a.timing
-  -- at most as many requests as may wait
+  -- There are at most `QUEUE_LIMIT` early requests.
   pub queued : length a.queue ≤ QUEUE_LIMIT
-  -- host and relayed local candidates are their own base
+  -- Host and relayed local candidates are their own base.
   pub based : (c : CandidateRecord) → Has a.local c → IsBased c
 
--- a local candidate that is given is its own base, where it has to be
+-- A local candidate that the call adds is its own base, if its kind requires it.
 abbrev pub GivesBased : {P : Type 0} → Call P → Type 0
 GivesBased (AddLocalCandidate c) = IsBased c
 GivesBased _ = Unit {0}
 
--- a fresh agent is sound
+-- A newly created agent satisfies the invariant.
 abbrev pub FreshIsSound : Type 0 → Type 0 → Type 0
 FreshIsSound H P = (provider : H) (creds : IceCreds) (tie_breaker : ℕ) → IsSound {P = P} (fresh provider creds tie_breaker)

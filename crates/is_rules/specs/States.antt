@@ -1,4 +1,4 @@
--- How far an agent has come in connecting.
+-- The connection state of an agent.
 use Rattle.std.specs.Prelude.{ℕ, ◌&&◌, ◌||◌, ◌==◌, Bool, true, false, not, [], ◌∷◌, ◌++◌, if◌then◌else◌}
 use Rattle.std.specs.List.{list_any}
 use Rattle.is_proto.specs.Lists.{is_empty}
@@ -20,15 +20,15 @@ state_number Disconnected = 4
 abbrev pub same_state : IceConnectionState → IceConnectionState → Bool
 same_state a b = state_number a == state_number b
 
--- a pair that media goes on
+-- a pair on which media can be sent
 abbrev pub is_nominated_and_valid : PairRecord → Bool
 is_nominated_and_valid p = is_valid p && is_nominated p
 
--- one that is possible, and not selected
+-- a pair that is still possible, and not selected
 abbrev pub is_possible_beside : ℕ → StunTiming → PairRecord → Bool
 is_possible_beside now t p = not (is_nominated_and_valid p) && is_possible now t p
 
--- by the state, whether a pair is selected, whether another one is possible, and lite
+-- The next state, by the current state, whether a pair is selected, whether another one is still possible, and lite.
 abbrev pub next_state : IceConnectionState → Bool → Bool → Bool → IceConnectionState
 next_state New selected possible lite = Checking
 next_state state false possible lite = if possible then Checking else Disconnected
@@ -38,18 +38,18 @@ module _ {H P : Type 0} where
   abbrev pub has_nominated : AgentRecord H P → Bool
   has_nominated a = list_any is_nominated_and_valid a.pairs
 
-  -- a pair that is not selected is possible, or a list of candidates is empty
+  -- A pair that is not selected is still possible, or a list of candidates is empty.
   abbrev pub has_possible : ℕ → AgentRecord H P → Bool
   has_possible now a =
       list_any (is_possible_beside now a.timing) a.pairs || is_empty a.local || is_empty a.remote
 
-  -- a state event is issued only where the state changes
+  -- A state event is emitted only if the state changes.
   abbrev pub with_state : IceConnectionState → AgentRecord H P → AgentRecord H P
   with_state state a = record a {
     state = state;
     events = if same_state a.state state then a.events else a.events ++ IceConnectionStateChange state ∷ [];
   }
 
-  -- the state is evaluated
+  -- The state is evaluated.
   abbrev pub evaluated : ℕ → AgentRecord H P → AgentRecord H P
   evaluated now a = with_state (next_state a.state (has_nominated a) (has_possible now a) a.lite) a

@@ -1,4 +1,4 @@
--- How long a pair stands: valid, it stays valid, and nominated, it stays nominated, until it goes.
+-- How long a pair exists: a valid pair stays valid, and a nominated pair stays nominated, until it is removed.
 use Rattle.std.specs.Prelude.{◌≡◌, ℕ, ◌⊎◌, true, List, Some, None}
 use Rattle.rand_core.specs.Stream.{Stream}
 use Rattle.is_proto.specs.Lists.{Has}
@@ -17,7 +17,7 @@ use Rattle.is_rules.specs.Steps.{Call, AddLocalCandidate, AddRemoteCandidate, In
 use Rattle.is_rules.specs.Timeouts.{is_given_up}
 
 module _ {H P : Type 0} where
-  -- the pair stands, on its path, and is as valid and as nominated as it was
+  -- The pair still exists, on its path. It is valid if it was valid, and nominated if it was nominated.
   pub record Stays (old : AgentRecord H P) (p : PairRecord) (new : AgentRecord H P) : Type 0 where
     pub pair : PairRecord
     pub there : Has new.pairs pair
@@ -26,13 +26,13 @@ module _ {H P : Type 0} where
     pub valid : is_valid p ≡ true → is_valid pair ≡ true
     pub nominated : is_nominated p ≡ true → is_nominated pair ≡ true
 
-  -- its local candidate is discarded, or its remote one
+  -- The pair's local candidate is discarded, or its remote one.
   abbrev pub IsOfDiscarded : AgentRecord H P → CandidateRecord → PairRecord → Type 0
   IsOfDiscarded old c p =
       (place_to_discard c old.local ≡ Some p.local) ⊎ ((place_to_discard c old.local ≡ None) × (place_to_discard c old.remote ≡ Some p.remote))
 
-  -- The step may take it away: a pair of another candidate is formed, which may replace or evict it, its candidate is discarded,
-  -- a clear comes, or its checks were not answered in time (RFC 7675).
+  -- The transition may remove the pair: pairs of an added candidate are formed, which may replace or evict it; its candidate is
+  -- discarded; the pairs are cleared; or its checks were not answered in time (RFC 7675).
   abbrev pub MayEnd : AgentRecord H P → Call P → Entry → PairRecord → Type 0
   MayEnd old (AddLocalCandidate c) e p = e.answer ≡ Added
   MayEnd old (AddRemoteCandidate c) e p = e.answer ≡ Done
@@ -43,7 +43,7 @@ module _ {H P : Type 0} where
   MayEnd old _ e p = ⊥
 
   module _ (mac : H → List ℕ → List ℕ → List ℕ) (answers : P → CandidateRecord → ℕ → ℕ → Type 0) where
-    -- whatever else the step does: requests, answers, role conflicts, and settings leave each pair
+    -- All other transitions leave each pair: requests, responses, role conflicts, and settings.
     abbrev pub PairsStay : Type 0
     PairsStay =
         (old new : AgentRecord H P) (s t : Stream) (call : Call P) (e : Entry) (p : PairRecord)
@@ -51,14 +51,14 @@ module _ {H P : Type 0} where
 
     -- ---- in a log
 
-    -- at an entry of the part the pair of the number, which is on the path, may go
+    -- At an entry of the segment the pair with this number, which is on the path, may be removed.
     abbrev pub EndsIn : AgentRecord H P → Stream → List (Logged P) → List (Logged P) → ℕ → Path → Type 0
     EndsIn first s log part number path =
         (before : List (Logged P)) × (mid after : AgentRecord H P) × (x : Logged P) × (p : PairRecord)
         × Point mac answers first s log before mid x after × Has part x × Has mid.pairs p × (p.number ≡ number) × (path_of mid p ≡ path)
         × MayEnd mid x.call x.entry p
 
-    -- so over each part of the log
+    -- The same over each segment of the log.
     abbrev pub PairsStayIn : AgentRecord H P → Stream → List (Logged P) → Type 0
     PairsStayIn first s log =
         (before : List (Logged P)) (start last : AgentRecord H P) (part : List (Logged P)) (p : PairRecord)

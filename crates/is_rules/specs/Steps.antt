@@ -1,4 +1,5 @@
--- One step of the agent: from the old record and stream the call may give this entry and leave the new ones. A case a call.
+-- The transition relation of the agent. From the state and the random stream before it, the call may give this log entry, and the
+-- state and the stream after it. There is one case for each call.
 use Rattle.std.specs.Prelude.{◌≡◌, ℕ, ◌==◌, Bool, true, false, not, List, Option, Some, None, MatchBool, Result, Ok, Err, ◌⊎◌}
 use Rattle.rand_core.specs.Stream.{Stream}
 use Rattle.is_proto.specs.Packets.{Packet}
@@ -26,7 +27,7 @@ use Rattle.is_rules.specs.Polls.{PollsTransmit, PollsEvent, PollsTimeout}
 -- ---- calls: each call that can change an agent
 
 pub data Call (P : Type 0) : Type 0 where
-  -- settings; the MTU's target and the length from which on packets are warned of
+  -- settings; the target MTU, and the packet length from which a warning is due
   SetMtu : ℕ → ℕ → Call P
   SetControlTieBreaker : ℕ → Call P
   SetMaxCandidatePairs : ℕ → Call P
@@ -46,14 +47,14 @@ pub data Call (P : Type 0) : Type 0 where
   InvalidateCandidate : CandidateRecord → Call P
   RestartIce : IceCreds → Bool → Call P
   RecreateCandidatePairs : Call P
-  -- work. The moment, the way that it came, and raw bytes
+  -- packets, timeouts and polls; of a packet: the time, the path on which it was received, and its raw bytes
   ReceivePacket : ℕ → Path → List ℕ → Call P
   HandleTimeout : ℕ → Call P
   PollTransmit : Call P
   PollTimeout : Call P
   PollEvent : Call P
 
--- ---- what is seen of them
+-- ---- what the caller observes
 
 pub data Answer : Type 0 where
   Done : Answer
@@ -65,21 +66,21 @@ pub data Answer : Type 0 where
   Wake : Option ℕ → Answer
   Unparsed : ParseFault → Answer
   Refused : IceError → Answer
-  -- of calls that were not made
+  -- results of calls that were not made
   NotCalled : Answer
   NotInWorld : Answer
   NoSuchPacket : Answer
 
--- the answer, and what was told
+-- a log entry: the call's recorded result, and what the call emitted
 pub record Entry : Type 0 where
   pub answer : Answer
   pub emitted : Emitted
 
--- nothing issued and nothing announced
+-- nothing issued and no path selected
 abbrev pub quiet : Answer → Entry
 quiet answer = record { answer = answer; emitted = nothing_emitted }
 
--- what a call answers by its result
+-- the recorded result of a call
 
 abbrev pub answer_by : {A : Type 0} → (A → Answer) → Result A IceError → Answer
 answer_by to_answer (Ok x) = to_answer x
@@ -100,36 +101,37 @@ abbrev pub is_refusal : Answer → Bool
 is_refusal (Refused error) = true
 is_refusal _ = false
 
--- the bytes do not read, or are not accepted
+-- The bytes are not a STUN message, or are not accepted.
 abbrev pub is_turned_down : Answer → Bool
 is_turned_down (Flag accepted) = not accepted
 is_turned_down (Unparsed fault) = true
 is_turned_down _ = false
 
--- ---- the step
+-- ---- the transition relation
 
--- a call that is done, and draws nothing
+-- The call succeeds, and draws no random words.
 abbrev pub Becomes : {A : Type 0} → A → Stream → Entry → A → Stream → Type 0
 Becomes wanted s e new t = (e ≡ quiet Done) × (new ≡ wanted) × (t ≡ s)
 
--- a call that is done or refused, and draws nothing
+-- The call succeeds or fails, and draws no random words.
 abbrev pub MayDo : {A : Type 0} → (Result (Unit {0}) IceError → A → Type 0) → Stream → Entry → A → Stream → Type 0
 MayDo Does s e new t = (r : Result (Unit {0}) IceError) × (e ≡ quiet (answer_by done r)) × Does r new × (t ≡ s)
 
 module _ {H P : Type 0} (mac : H → List ℕ → List ℕ → List ℕ) (answers : P → CandidateRecord → ℕ → ℕ → Type 0) where
-  -- a packet is the step of what its bytes read as; bytes that do not read change nothing
+  -- A received packet makes the transition of the message that its bytes encode. Bytes that are not a STUN message change
+  -- nothing.
   abbrev pub Receives : ℕ → AgentRecord H P → Path → List ℕ → Entry → AgentRecord H P → Type 0
   Receives now old path bytes e new =
       ((fault : ParseFault) × Fault bytes fault × (e ≡ quiet (Unparsed fault)) × (new ≡ old))
       ⊎ ((m : Message) × Reads bytes m × ((r : Result Bool IceError) × (emitted : Emitted)
       × (e ≡ record { answer = answer_by Flag r; emitted = emitted }) × HandlesPacket mac now old path m r emitted new))
 
-  -- a limit of no retransmits breaks a condition of the agent: the call is not made
+  -- A limit of no retransmits violates a precondition of the agent, so the call is not made.
   abbrev pub SetsRetransmits : ℕ → AgentRecord H P → Stream → Entry → AgentRecord H P → Stream → Type 0
   SetsRetransmits n old s e new t =
       MatchBool (n == 0) ((e ≡ quiet NotCalled) × (new ≡ old) × (t ≡ s)) (Becomes (with_retransmits n old) s e new t)
 
-  -- no call but a moment takes words of the stream
+  -- Only `handle_timeout` draws random words.
   abbrev pub Step : AgentRecord H P → Stream → Call P → Entry → AgentRecord H P → Stream → Type 0
   Step old s (SetMtu target warn) e new t = MayDo (SetsMtu old target warn) s e new t
   Step old s (SetControlTieBreaker tie_breaker) e new t = Becomes (record old { tie_breaker = tie_breaker }) s e new t

@@ -1,4 +1,5 @@
--- What a moment brings: the state, a queued request, nomination, pairs given up, and a check.
+-- What a `handle_timeout` call does. It evaluates the state. Then it serves an early request, if there is one; otherwise it
+-- nominates, removes failed pairs and sends a check.
 use Rattle.std.specs.Prelude.{◌≡◌, ℕ, Bool, List, [], ◌∷◌, ◌++◌, Option, Some, None, MatchBool, MatchOption, Result, Ok, Err, if◌then◌else◌}
 use Rattle.std.specs.List.{list_any}
 use Rattle.rand_core.specs.Stream.{Stream}
@@ -22,26 +23,26 @@ use Rattle.is_rules.specs.Queue.{queue_cleared, first_taken, request_at}
 use Rattle.is_rules.specs.Checking.{MayCheck}
 
 module _ {H P : Type 0} where
-  -- ---- waking
+  -- ---- the start of the call
 
-  -- in New the start is told of
+  -- In the state New, the start event is emitted.
   abbrev pub start_emitted : AgentRecord H P → AgentRecord H P
   start_emitted a = record a { events = if same_state a.state New then a.events ++ IceRestart a.local_creds ∷ [] else a.events }
 
-  -- then the state is evaluated, and outdated requests go
+  -- Then the state is evaluated, and outdated early requests are removed.
   abbrev pub timeout_begun : ℕ → AgentRecord H P → AgentRecord H P
   timeout_begun now a = queue_cleared now (evaluated now (start_emitted a))
 
-  -- ---- pairs given up
+  -- ---- pairs that are removed after timeout
 
-  -- consent is lost (RFC 7675); under lite the peer was not heard of
+  -- Consent expired (RFC 7675). Under lite: the last request on the pair is too old.
   abbrev pub is_given_up : ℕ → AgentRecord H P → PairRecord → Bool
   is_given_up now a p = due.is_given_up a.lite now a.timing p
 
   abbrev pub given_up_gone : ℕ → AgentRecord H P → AgentRecord H P
   given_up_gone now a = record a { pairs = without (is_given_up now a) a.pairs }
 
-  -- where any goes, nomination and state are evaluated
+  -- If a pair is removed, nomination and state are evaluated.
   abbrev pub GivesUp : ℕ → AgentRecord H P → Option Path → AgentRecord H P → Type 0
   GivesUp now old path new =
       MatchBool (list_any (is_given_up now old) old.pairs)
@@ -53,17 +54,18 @@ module _ {H P : Type 0} where
   abbrev pub at_moment : ℕ → AgentRecord H P → AgentRecord H P
   at_moment now a = record a { last_moment = Some now }
 
-  -- why a moment is refused: as the queued request is that it serves, else for want of memory alone
+  -- Why a `handle_timeout` call may fail: for a reason for which the early request that it serves may fail, and without one only
+  -- for an allocation failure.
   abbrev pub MayRefuseMoment : ℕ → AgentRecord H P → IceError → Type 0
   MayRefuseMoment now a error =
       MatchOption (request_at now a) (error ≡ OutOfMemory) (λ q. MayRefuseRequest (first_taken (timeout_begun now a)) q error)
 
   module _ (mac : H → List ℕ → List ℕ → List ℕ) where
-    -- a queued request is served, and the call ends: the last moment stays
+    -- An early request is served, and the call ends. The time of the last call does not change.
     abbrev pub ServesQueued : RequestRecord → AgentRecord H P → Stream → Emitted → AgentRecord H P → Stream → Type 0
     ServesQueued q old s emitted new t = Serves mac q (first_taken old) emitted new × (t ≡ s)
 
-    -- nomination, pairs given up, and a check
+    -- nomination, removal of failed pairs, and a check
     abbrev pub MaintainsPairs : ℕ → AgentRecord H P → Stream → Emitted → AgentRecord H P → Stream → Type 0
     MaintainsPairs now old s emitted new t =
         (first second : Option Path) × (issued : Option Issued) × (named kept : AgentRecord H P)

@@ -1,4 +1,4 @@
-//! Sources of packets that were seen before, and texts that must be equal; the agent's part: `is_agent::accepting`.
+//! Discovered sources of packets, and texts that must be equal; the agent's part: `is_agent::accepting`.
 
 ghost use Rattle.std.specs.Prelude.{◌≡◌, ◌↔◌, IsTrue};
 ghost use Rattle.std.specs.List.{list_any};
@@ -9,7 +9,7 @@ use is_candidate::candidate::address::{same_address, same_protocol};
 use is_proto::Protocol;
 use std::net::SocketAddr;
 
-/// A protocol and an address from which authentic packets came.
+/// A protocol and an address from which authentic packets were received.
 #[derive(Clone, Copy, Debug, PartialEq, Eq)]
 pub struct Source {
     /// The protocol.
@@ -24,7 +24,7 @@ fn is_source(source: &Source, path: &Path) -> bool
     same_address(source.address, path.source) && same_protocol(source.proto, path.proto)
 }
 
-/// Packets from this source were told of.
+/// This source was discovered before.
 pub fn is_discovered(seen: &[Source], path: &Path) -> bool
     ensures { result ≡ list_any (is_source path.now) seen.now }
 {

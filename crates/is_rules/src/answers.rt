@@ -1,6 +1,6 @@
 //! Responses to the agent's checks (RFC 8445, section 7.2.5); the agent's part: `is_agent::answers`.
 //!
-//! A response counts only on the path that its check went.
+//! A response counts only if it is received on the reverse of its check's path.
 
 ghost use Rattle.std.specs.Prelude.{◌≡◌, ◌<◌, IsTrue, IfSome, true, is_some, vec_len, vec_capacity};
 ghost use Rattle.std.specs.List.{list_any};
@@ -30,7 +30,7 @@ use std::net::SocketAddr;
 /// The code of a role conflict (RFC 8445, section 7.3.1.1).
 const ROLE_CONFLICT: u16 = 487;
 
-// ---- which answers are awaited
+// ---- which responses are expected
 
 /// Any pair passes.
 #[derive(Clone, Copy)]
@@ -46,21 +46,21 @@ impl PairTest for Any {
     }
 }
 
-/// A pair keeps a check of the id.
+/// A pair has a pending transaction with this ID.
 pub fn keeps_any(pairs: &Checklist, id: TransId) -> bool
     ensures { result ≡ list_any (keeps_check id.0) (bag_of pairs.now) }
 {
     pairs.has_awaiting(id, &Any)
 }
 
-/// A packet that went the first way goes back on this path. Protocols are not compared.
+/// The first path is the reverse of the second one in its addresses. Protocols are not compared.
 fn goes_back(via: &Path, path: &Path) -> bool
     ensures { result ≡ goes_back via.now path.now }
 {
     same_address(via.source, path.destination) && same_address(via.destination, path.source)
 }
 
-/// Whether a packet came back on a pair's path.
+/// Whether a packet was received on the reverse of a pair's path.
 #[derive(Clone, Copy)]
 struct GoesBack<'a> {
     sides: Sides<'a>,
@@ -79,7 +79,7 @@ impl PairTest for GoesBack<'_> {
     }
 }
 
-/// The number of a pair that keeps a check of the id and on whose path the packet came back.
+/// The number of a pair that has a pending transaction with this ID, and on the reverse of whose path the packet was received.
 pub fn pair_awaiting(pairs: &Checklist, sides: Sides<'_>, via: &Path, id: TransId) -> Option<u64>
     ensures any { list_any (is_awaiting id.0 (λ p. goes_back via.now (path_in (sides_view sides.entry) p))) (bag_of pairs.now) ≡ is_some result }
     ensures kept { IfSome result (λ number. (p : PairRecord) × (pair_numbered number (bag_of pairs.now) ≡ Some p)
@@ -92,16 +92,16 @@ pub fn pair_awaiting(pairs: &Checklist, sides: Sides<'_>, via: &Path, id: TransI
     }
 }
 
-// ---- success
+// ---- success responses
 
-/// A local candidate has the address, discarded ones too.
+/// A local candidate has this address, possibly a discarded one.
 pub fn is_known_address(local: &[Candidate], address: SocketAddr) -> bool
     ensures { result ≡ is_known_address local.now address }
 {
     local.iter().any(|c| same_address(c.addr(), address))
 }
 
-/// Appends the candidate, where there is one, within the room that there is.
+/// Appends the candidate, if there is one, within the reserved capacity.
 pub fn join(local: &mut Vec<Candidate>, mapped: Option<Candidate>)
     requires room { vec_len local.old < vec_capacity local.old }
     requires all_low { NoneTooHigh local.old.items }
@@ -114,9 +114,9 @@ pub fn join(local: &mut Vec<Candidate>, mapped: Option<Candidate>)
     }
 }
 
-// ---- failure
+// ---- error responses
 
-/// A failure of code 487.
+/// An error response with code 487.
 pub fn is_role_conflict(message: &StunMessage<'_>) -> bool
     ensures { result ≡ is_role_conflict (message_view message.now) }
 {
@@ -126,7 +126,7 @@ pub fn is_role_conflict(message: &StunMessage<'_>) -> bool
     }
 }
 
-/// The pair's check of the id was sent under this role.
+/// The pair's check with this ID was sent in this role.
 pub fn is_of_role(pair: &CandidatePair, id: TransId, controlling: bool) -> bool
     requires kept { IsTrue (is_kept id.0 pair.now.checks) }
     ensures { IsSentUnder pair.now id.0 controlling result }

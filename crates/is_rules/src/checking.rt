@@ -7,7 +7,7 @@ use crate::credentials::IceCreds;
 use crate::emitted::Path;
 use std::alloc::AllocError;
 
-/// Writes the peer's user fragment, a colon and the own one over the name.
+/// Writes the peer's username fragment, a colon and the agent's own username fragment to the string.
 pub fn write_username(name: &mut String, peer: &IceCreds, own: &IceCreds) -> Result<(), AllocError>
     ensures { OnOk result (string_bytes name.new ≡ username_between peer.now own.now) }
 {
@@ -17,12 +17,12 @@ pub fn write_username(name: &mut String, peer: &IceCreds, own: &IceCreds) -> Res
     name.push_str(own.ufrag.as_str())
 }
 
-/// What a check says of its pair, and where it goes.
+/// What a check contains of its pair, and its path.
 #[derive(Clone, Copy)]
 pub struct Draft {
-    /// The way that it goes.
+    /// The path on which it is sent.
     pub path: Path,
-    /// The priority that it names.
+    /// The value of its PRIORITY.
     pub priority: u32,
     /// The pair is nominated.
     pub nominated: bool,

@@ -1,4 +1,4 @@
-//! User fragments and passwords of both agents (RFC 8445, section 5.3); the agent's part: `is_agent::credentials`.
+//! Username fragments and passwords of both agents (RFC 8445, section 5.3); the agent's part: `is_agent::credentials`.
 
 ghost use Rattle.std.specs.Prelude.{◌≡◌, ◌≤◌, ◌<◌, [], length, vec_capacity};
 ghost use Rattle.is_rules.specs.Fitting.{are_too_long};
@@ -8,19 +8,19 @@ use is_proto::{IceError, Text};
 use rand_core::Rng;
 use std::alloc::Global;
 
-/// The bytes that a check's user name may have: both user fragments and the colon between them.
+/// The greatest length of a check's USERNAME in bytes: both username fragments and the colon between them.
 pub const USERNAME_LIMIT: usize = 508;
 
-/// The user fragment and the password of an agent. The password signs the packets that go to this agent.
+/// The username fragment and the password of an agent. The password signs the requests to this agent, and its responses to them.
 #[derive(Clone, Debug, PartialEq, Eq, Hash, Drop)]
 pub struct IceCreds {
-    /// The user fragment.
+    /// The username fragment.
     pub ufrag: Text,
     /// The password.
     pub pass: Text,
 }
 
-/// The character that a number below 64 stands for.
+/// The character for a number below 64.
 fn ice_char(number: u8) -> u8
     requires { number < 64 }
     ensures char { result ≡ ice_char number }
@@ -35,7 +35,7 @@ fn ice_char(number: u8) -> u8
     }
 }
 
-/// The text of the characters that the low six bits of each byte choose, in room that was taken before.
+/// The text of the characters that the low six bits of each byte select, in a buffer that was allocated before.
 fn ice_text(mut room: Vec<u8>, bytes: &[u8]) -> Text
     requires empty { room.items ≡ [] }
     requires room { length bytes.now ≤ vec_capacity room }
@@ -51,13 +51,13 @@ fn ice_text(mut room: Vec<u8>, bytes: &[u8]) -> Text
 }
 
 impl IceCreds {
-    /// Random credentials: 16 characters of the user fragment and 22 of the password, of the 64 that may stand there
-    /// (RFC 8839, section 5.4). The low six bits of each byte that is drawn choose one.
+    /// Random credentials: a username fragment of 16 characters and a password of 22, of the 64 characters that are allowed (RFC
+    /// 8839, section 5.4). The low six bits of each random byte select one.
     ///
-    /// The random source must be unpredictable: who foresees it knows the password, and signs as the peer does. One such is
-    /// `ChaCha20Rng` of the kit's `rand_chacha`, seeded from the system (`std::random`).
+    /// The random source must be unpredictable: whoever predicts it knows the password, and can sign as the peer does. One such
+    /// source is `ChaCha20Rng` of the kit's `rand_chacha`, seeded from the system (`std::random`).
     ///
-    /// Refused with `OutOfMemory` where there is no room; then nothing is drawn.
+    /// Fails with `OutOfMemory` if the allocation fails; then no random words are drawn.
     pub fn new<R: Rng>(alloc: Global, rng: &mut R) -> Result<IceCreds, IceError>
         ensures { DrawsCreds (R.stream rng.old) result (R.stream rng.new) }
     {
@@ -73,7 +73,7 @@ impl IceCreds {
     }
 }
 
-/// Whether the user name of a check between these agents is longer than 508 bytes.
+/// Whether the USERNAME of a check between these agents is longer than 508 bytes.
 pub fn are_too_long(local: &IceCreds, remote: &Option<IceCreds>) -> bool
     ensures { result ≡ are_too_long local.now remote.now }
 {

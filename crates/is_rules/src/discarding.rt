@@ -1,4 +1,4 @@
-//! Candidates that are discarded: each keeps its place, its pairs go; the agent's part: `is_agent::discarding`.
+//! Discarded candidates: each keeps its index, and its pairs are removed; the agent's part: `is_agent::discarding`.
 
 ghost use Rattle.std.specs.Prelude.{◌≡◌, ◌<◌, length, position, IfSome, vec_len, vec_capacity};
 ghost use Rattle.is_candidate.specs.Equality.{is_equivalent};
@@ -12,7 +12,7 @@ use is_candidate::candidate::internals::{discard, is_discarded};
 use is_pair::checklist::PairTest;
 use is_pair::pair::CandidatePair;
 
-/// Marks the candidate at the place as discarded.
+/// Marks the candidate at the index as discarded.
 pub fn discard_at(candidates: &mut Vec<Candidate>, place: usize)
     requires { place < length candidates.old.items }
     ensures items { candidates.new.items ≡ change_place place discarded candidates.old.items }
@@ -23,10 +23,10 @@ pub fn discard_at(candidates: &mut Vec<Candidate>, place: usize)
     discard(&mut candidates[place]);
 }
 
-/// Whether a pair is of the local candidate at a place.
+/// Whether a pair has the local candidate at an index.
 #[derive(Clone, Copy)]
 pub struct LocalAt {
-    /// The candidate's place in its list.
+    /// The candidate's index in its list.
     pub place: usize,
 }
 
@@ -40,10 +40,10 @@ impl PairTest for LocalAt {
     }
 }
 
-/// Whether a pair is of the remote candidate at a place.
+/// Whether a pair has the remote candidate at an index.
 #[derive(Clone, Copy)]
 pub struct RemoteAt {
-    /// The candidate's place in its list.
+    /// The candidate's index in its list.
     pub place: usize,
 }
 
@@ -66,7 +66,7 @@ fn position_of(candidates: &[Candidate], candidate: &Candidate) -> Option<usize>
         .position(|other| is_equivalent(candidate, other))
 }
 
-/// The first candidate that is equivalent, where that one is not discarded.
+/// The index of the first equivalent candidate, if that one is not discarded.
 pub fn place_to_discard(candidates: &[Candidate], candidate: &Candidate) -> Option<usize>
     ensures place { result ≡ place_to_discard candidate.now candidates.now }
     ensures within { IfSome result (λ place. place < length candidates.now) }

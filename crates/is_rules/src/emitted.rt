@@ -1,4 +1,4 @@
-//! What a call issued and announced: at most one packet, and up to two paths; the agent's part: `is_agent::emitted`.
+//! What a call emits: at most one packet, and up to two selected paths; the agent's part: `is_agent::emitted`.
 
 ghost use Rattle.std.specs.Prelude.{◌≡◌};
 ghost use Rattle.is_rules.specs.Emitted.{nothing_emitted, issued_only, announced_only, issued_as, emitted_by, reversed};
@@ -56,12 +56,12 @@ impl Path {
 pub struct Emitted {
     /// The packet that the call issued.
     pub issued: Option<Issued>,
-    /// The paths that it announced by `NominatedSend`, in order.
+    /// The paths that it selected (`NominatedSend`), in order.
     pub announced: [Option<Path>; 2],
 }
 
 impl Emitted {
-    /// Nothing issued, and nothing announced.
+    /// Nothing issued, and no path selected.
     pub fn nothing() -> Emitted
         ensures { result ≡ nothing_emitted }
     {
@@ -71,7 +71,7 @@ impl Emitted {
         }
     }
 
-    /// Nothing issued, and this path announced, where there is one.
+    /// Nothing issued, and this path selected if there is one.
     pub fn announced_only(path: Option<Path>) -> Emitted
         ensures { result ≡ announced_only path }
     {
@@ -81,7 +81,7 @@ impl Emitted {
         }
     }
 
-    /// This packet issued, where there is one, and these paths announced.
+    /// This packet issued if there is one, and these paths selected.
     pub fn by(issued: Option<Issued>, first: Option<Path>, second: Option<Path>) -> Emitted
         ensures { result ≡ emitted_by issued first second }
     {
@@ -99,7 +99,7 @@ impl Emitted {
         Emitted { issued, announced }
     }
 
-    /// This packet issued, and nothing announced.
+    /// This packet issued, and no path selected.
     pub fn issued_only(path: Path, class: Class, id: TransId) -> Emitted
         ensures { result ≡ issued_only path class id.0 }
     {

@@ -1,4 +1,4 @@
-//! What an agent tells its user: events, statistics and the connection state.
+//! What an agent reports to its user: events, statistics and the connection state.
 
 ghost use Rattle.std.specs.Prelude.{◌≡◌};
 ghost use Rattle.is_rules.specs.Connecting.{is_connected, is_disconnected};
@@ -7,21 +7,21 @@ use crate::credentials::IceCreds;
 use is_proto::Protocol;
 use std::net::SocketAddr;
 
-/// Something that happened to an agent, as `poll_event` hands it out.
+/// Something that happened to an agent, as `poll_event` returns it.
 #[derive(Debug, PartialEq, Eq, Drop)]
 pub enum IceAgentEvent {
-    /// A session begins, or begins anew, under these local credentials (RFC 8445, section 9).
+    /// A session starts, or restarts, with these local credentials (RFC 8445, section 9).
     IceRestart(IceCreds),
-    /// The connection state is another one now.
+    /// The connection state changed to this one.
     IceConnectionStateChange(IceConnectionState),
-    /// An authentic packet came from a source that was not seen since the last restart.
+    /// An authentic packet was received from a source that was not seen since the last ICE restart.
     DiscoveredRecv {
         /// The protocol of the packet.
         proto: Protocol,
         /// Where it came from.
         source: SocketAddr,
     },
-    /// Media goes this way from now on, until the next such event (RFC 8445, section 8.1.1).
+    /// Media is sent on this path from now on, until the next such event (RFC 8445, section 8.1.1).
     NominatedSend {
         /// The protocol of the socket to send on.
         proto: Protocol,
@@ -32,10 +32,10 @@ pub enum IceAgentEvent {
     },
 }
 
-/// How far an agent has come in connecting.
+/// How far an agent is in connecting.
 #[derive(Clone, Copy, Debug, PartialEq, Eq)]
 pub enum IceConnectionState {
-    /// No moment was told yet.
+    /// `handle_timeout` was not called yet.
     New,
     /// Paths are checked, and none is nominated.
     Checking,
@@ -48,7 +48,7 @@ pub enum IceConnectionState {
 }
 
 impl IceConnectionState {
-    /// Whether media can go: Connected or Completed.
+    /// Whether media can be sent: Connected or Completed.
     pub fn is_connected(&self) -> bool
         ensures { result ≡ is_connected self.now }
     {
@@ -66,12 +66,12 @@ impl IceConnectionState {
     }
 }
 
-/// How often things happened since the last restart. Each figure stays at 18446744073709551615 once it is there.
+/// Counters since the last ICE restart. Each counter stays at 18446744073709551615 once it is there.
 #[derive(Clone, Copy, Debug, Default, PartialEq, Eq)]
 pub struct IceAgentStats {
     /// Checks that were sent.
     pub bind_request_sent: u64,
-    /// Success answers to checks.
+    /// Success responses to checks.
     pub bind_success_recv: u64,
     /// Requests that were served.
     pub bind_request_recv: u64,

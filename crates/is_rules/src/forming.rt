@@ -1,6 +1,6 @@
 //! Forming candidate pairs (RFC 8445, section 6.1.2).
 //!
-//! The combinations are counted and listed, and room for as many pairs is made; what follows can't be refused.
+//! The combinations are counted and listed, and capacity for as many pairs is reserved. What follows can't fail.
 
 ghost use Rattle.std.specs.Prelude.{◌≡◌, ℕ, ◌≤◌, ◌<◌, ◌+◌, ◌++◌, ◌∷◌, [], ◌↔◌, true, IsTrue, IfOk, filter, length, map};
 ghost use Rattle.std.specs.Option.{option_copied};
@@ -27,7 +27,7 @@ use std::alloc::{AllocError, Global};
 
 // ---- one combination
 
-/// Whether a pair takes the same path as a combination.
+/// Whether a pair has the same path as a combination.
 #[derive(Clone, Copy)]
 struct Redundant<'a> {
     sides: Sides<'a>,
@@ -85,7 +85,7 @@ pub fn pair_of(alloc: Global, sides: Sides<'_>, at: (usize, usize), number: u64)
     )
 }
 
-/// The pair of the next number comes within the room that there is.
+/// Adds the pair with the next number, within the reserved capacity.
 fn add(pairs: &mut Checklist, next_number: &mut u64, pair: CandidatePair)
     requires room { HasRoom 1 pairs.old }
     requires number { next_number.old < 18446744073709551615 }
@@ -101,7 +101,8 @@ fn add(pairs: &mut Checklist, next_number: &mut u64, pair: CandidatePair)
     *next_number += 1;
 }
 
-/// A combination becomes a pair, against the redundant pair of greatest priority.
+/// A combination becomes a pair, if no redundant pair has at least its priority. It replaces the redundant pair of greatest
+/// priority.
 fn try_one(
     alloc: Global,
     sides: Sides<'_>,
@@ -132,7 +133,7 @@ fn try_one(
     }
 }
 
-/// Each combination in turn.
+/// Tries each combination in turn.
 fn try_each(
     alloc: Global,
     sides: Sides<'_>,
@@ -152,12 +153,12 @@ fn try_each(
     }
 }
 
-/// As many pairs stay as the limit lets, and none that went is above one that stays.
+/// As many pairs stay as the limit allows, and no removed pair has a higher priority than one that stays.
 pub fn eviction_cuts()
     ensures { EvictionCuts }
 {}
 
-/// The combinations become pairs, and then the limit holds.
+/// The combinations become pairs, and then the limit is applied.
 pub fn form_each(
     alloc: Global,
     sides: Sides<'_>,
@@ -195,7 +196,7 @@ fn is_partner(candidate: &Candidate, other: &Candidate) -> bool
         && same_version(other.addr(), candidate.addr())
 }
 
-/// How many live candidates may be paired with this one.
+/// The number of live candidates that may be paired with this one.
 fn count_partners(candidate: &Candidate, others: &[Candidate]) -> usize
     ensures { result ≡ length (partners candidate.now others.now) }
 {
@@ -231,7 +232,7 @@ fn push_partner(
     Ok(())
 }
 
-/// The combinations of a remote candidate, which is to stand at the place.
+/// The combinations of a remote candidate that is to be stored at this index.
 pub fn remote_combinations(
     alloc: Global,
     candidate: &Candidate,
@@ -277,7 +278,7 @@ fn push_own_row(
     Ok(())
 }
 
-/// The combinations of a local candidate, which is to stand at the place.
+/// The combinations of a local candidate that is to be stored at this index.
 pub fn local_combinations(
     alloc: Global,
     candidate: &Candidate,
@@ -309,7 +310,7 @@ fn push_live_row(
     Ok(())
 }
 
-/// The combinations of all live candidates, local places outermost.
+/// The combinations of all live candidates, by local index first.
 pub fn live_combinations(
     alloc: Global,
     local: &[Candidate],
@@ -324,7 +325,7 @@ pub fn live_combinations(
     Ok(all)
 }
 
-/// How many combinations the local place has.
+/// The number of combinations of the local candidate at this index.
 fn count_live_row(local: &[Candidate], remote: &[Candidate], l: usize) -> usize
     requires { l < length local.now }
     ensures { result ≡ length (flat_map (live_row local.now remote.now) (filter (is_alive_at local.now) (l ∷ []))) }
@@ -337,7 +338,7 @@ fn count_live_row(local: &[Candidate], remote: &[Candidate], l: usize) -> usize
     }
 }
 
-/// There is a number for each combination of live candidates. Takes no memory.
+/// There is a number for each combination of live candidates. Does not allocate.
 pub fn has_numbers_for_all(next_number: u64, local: &[Candidate], remote: &[Candidate]) -> bool
     ensures { IsTrue result ↔ HasNumbers next_number (length (live_combinations local.now remote.now)) }
 {

@@ -1,4 +1,4 @@
-//! Local candidates: preference, equal ones, list (RFC 8445, section 5.1); the agent's part: `is_agent::local`.
+//! Local candidates: preference, equal candidates, list (RFC 8445, section 5.1); the agent's part: `is_agent::local`.
 
 ghost use Rattle.std.specs.Prelude.{◌≡◌, ◌≤◌, ◌<◌, ◌++◌, ◌∷◌, [], length, position, Some, IfOk, IfSome, vec_len, vec_capacity};
 ghost use Rattle.is_candidate.specs.Priorities.{candidate_priority};
@@ -16,14 +16,14 @@ use is_candidate::{Candidate, LocalPreference, default_local_preference};
 use is_proto::{IceError, Text};
 use std::alloc::{AllocError, Global};
 
-/// Why `add_local_candidate` refuses, in a form that owns no memory.
+/// Why `add_local_candidate` fails, in a form that owns no memory.
 #[derive(Clone, Copy, Debug, PartialEq, Eq)]
 pub enum Refusal {
     /// The priority of the candidate is 4294967295.
     PriorityTooHigh,
     /// Fewer pair numbers are left than the candidate has combinations.
     PairIdsExhausted,
-    /// A growth was refused.
+    /// An allocation failed.
     OutOfMemory,
 }
 
@@ -58,7 +58,7 @@ fn count_alike(candidate: &Candidate, local: &[Candidate]) -> usize
         .count()
 }
 
-/// What the object answers, or the default where none is set.
+/// What the object returns, or the default if no object is set.
 pub fn preference_for<P: LocalPreference>(
     object: &Option<P>,
     candidate: &Candidate,
@@ -74,7 +74,7 @@ pub fn preference_for<P: LocalPreference>(
     }
 }
 
-/// Whether two candidates are equal in address, base and protocol, by their ports first.
+/// Whether two candidates are equal in address, base and protocol. The ports are compared first.
 #[inline(always)]
 fn is_same(candidate: &Candidate, other: &Candidate) -> bool
     ensures { result ≡ is_same_place candidate.now other.now }
@@ -82,7 +82,7 @@ fn is_same(candidate: &Candidate, other: &Candidate) -> bool
     same_version_and_port(candidate.addr(), other.addr()) && is_same_place(candidate, other)
 }
 
-/// The first place of a candidate of equal address, base and protocol.
+/// The first index of a candidate with the same address, base and protocol.
 pub fn place_of_same(local: &[Candidate], candidate: &Candidate) -> Option<usize>
     ensures place { result ≡ position (is_same_place candidate.now) local.now }
     ensures within { IfSome result (λ place. place < length local.now) }
@@ -90,14 +90,14 @@ pub fn place_of_same(local: &[Candidate], candidate: &Candidate) -> Option<usize
     local.iter().position(|other| is_same(candidate, other))
 }
 
-/// The candidate that stands at the place, where there is one.
+/// The candidate at the index, if there is one.
 pub fn lent_at(local: &[Candidate], place: Option<usize>) -> Option<&Candidate>
     ensures { option_copied result ≡ option_and_then (slice_get local.now) place }
 {
     local.get(place?)
 }
 
-/// The candidate under this preference.
+/// The candidate with this preference.
 pub fn preferred(mut candidate: Candidate, preference: u32) -> Candidate
     requires bounded { preference ≤ 65535 }
     ensures { result ≡ preferred preference candidate }
@@ -106,7 +106,7 @@ pub fn preferred(mut candidate: Candidate, preference: u32) -> Candidate
     candidate
 }
 
-/// The candidate under this user fragment.
+/// The candidate with this username fragment.
 pub fn as_own(
     mut candidate: Candidate,
     ufrag: &Text,
@@ -121,7 +121,7 @@ pub fn as_own(
     }
 }
 
-/// Takes the discard mark from the candidate at the place.
+/// Removes the discard mark of the candidate at the index.
 pub fn enable_at(candidates: &mut Vec<Candidate>, place: usize)
     requires { place < length candidates.old.items }
     ensures items { candidates.new.items ≡ change_place place enabled candidates.old.items }
@@ -130,14 +130,14 @@ pub fn enable_at(candidates: &mut Vec<Candidate>, place: usize)
     enable(&mut candidates[place]);
 }
 
-/// A discarded candidate that comes again.
+/// A discarded candidate that is added again.
 pub fn comes_again(candidate: &Candidate, other: &Candidate) -> bool
     ensures { result ≡ comes_again candidate.now other.now }
 {
     is_discarded(other) && is_same_origin(candidate, other)
 }
 
-/// Appends the candidate within the room that there is, and tells its place.
+/// Appends the candidate within the reserved capacity, and returns its index.
 pub fn append(local: &mut Vec<Candidate>, candidate: Candidate) -> usize
     requires room { vec_len local.old < vec_capacity local.old }
     requires all_low { NoneTooHigh local.old.items }

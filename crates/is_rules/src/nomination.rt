@@ -1,6 +1,6 @@
-//! Nomination (RFC 8445, section 8.1.1): which pair is announced; the agent's part: `is_agent::nomination`.
+//! Nomination (RFC 8445, section 8.1.1): which pair is selected; the agent's part: `is_agent::nomination`.
 //!
-//! Of the eligible pairs, one of greatest priority is announced.
+//! Of the eligible pairs, one with the greatest priority is selected.
 
 ghost use Rattle.std.specs.Prelude.{◌≡◌, ℕ, true};
 ghost use Rattle.std.specs.Option.{option_copied};
@@ -19,7 +19,7 @@ use crate::sides::Sides;
 use is_pair::checklist::{Checklist, PairChange, PairTest};
 use is_pair::pair::{CandidatePair, CheckState};
 
-/// Whether a pair may be announced.
+/// Whether a pair may be selected.
 #[derive(Clone, Copy)]
 struct Eligible {
     controlling: bool,
@@ -35,14 +35,14 @@ impl PairTest for Eligible {
     }
 }
 
-/// Of the pairs that may be announced, one of greatest priority.
+/// Of the pairs that may be selected, one with the greatest priority.
 fn top_eligible(pairs: &Checklist, controlling: bool) -> Option<&CandidatePair>
     ensures { IsGreatest (is_eligible controlling) (bag_of pairs.now) (option_copied result) }
 {
     pairs.greatest(&Eligible { controlling })
 }
 
-/// The pair that was announced last, while it stands.
+/// The pair that was selected last, if it still exists.
 pub fn pair_selected(selected: Option<u64>, pairs: &Checklist) -> Option<&CandidatePair>
     ensures { option_copied result ≡ pair_selected selected (bag_of pairs.now) }
 {
@@ -52,7 +52,7 @@ pub fn pair_selected(selected: Option<u64>, pairs: &Checklist) -> Option<&Candid
     }
 }
 
-/// It stands, with this priority.
+/// The pair that was selected last still exists, with this priority.
 fn stands_at(selected: Option<u64>, priority: u64, pairs: &Checklist) -> bool
     ensures { result ≡ stands_at selected priority (bag_of pairs.now) }
 {
@@ -62,7 +62,7 @@ fn stands_at(selected: Option<u64>, priority: u64, pairs: &Checklist) -> bool
     }
 }
 
-/// Nominates a pair that is not nominated: only while controlling, or under lite.
+/// Nominates a pair that is not nominated: only if the agent is controlling or lite.
 #[derive(Clone, Copy)]
 struct NominatesBySelf {
     controlling: bool,
@@ -81,7 +81,7 @@ impl PairChange for NominatesBySelf {
     }
 }
 
-/// The pair of the number is nominated by the agent itself, where it was not.
+/// The agent itself nominates the pair with this number, if it is not nominated.
 fn nominate_pair(pairs: &mut Checklist, number: u64, controlling: bool, lite: bool)
     ensures nominated { bag_of pairs.new ≡ change_pair number (nominated_by_self controlling lite) (bag_of pairs.old) }
     ensures room { (n : ℕ) → HasRoom n pairs.old → HasRoom n pairs.new }
@@ -101,7 +101,7 @@ pub(crate) fn path_in(sides: Sides<'_>, pair: &CandidatePair) -> Path
     }
 }
 
-/// An eligible pair of greatest priority is announced, unless the announced one has that priority.
+/// Selects an eligible pair with the greatest priority, unless the pair that was selected last has that priority.
 pub fn select_pair(
     sides: Sides<'_>,
     pairs: &mut Checklist,

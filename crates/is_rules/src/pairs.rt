@@ -10,7 +10,7 @@ use crate::request::Request;
 use is_pair::checklist::{Checklist, PairChange, PairTest};
 use is_pair::pair::{CandidatePair, CheckState};
 
-/// Whether a pair is of two places.
+/// Whether a pair has these two candidates.
 #[derive(Clone, Copy)]
 struct Between {
     l: usize,
@@ -27,7 +27,7 @@ impl PairTest for Between {
     }
 }
 
-/// The number of a pair of the two places.
+/// The number of a pair of the two candidates.
 pub fn pair_between(pairs: &Checklist, l: usize, r: usize) -> Option<u64>
     ensures { IsPairBetween (bag_of pairs.now) l r result }
 {
@@ -51,23 +51,23 @@ impl PairTest for Valid {
     }
 }
 
-/// The pair of the number is valid.
+/// The pair with this number is valid.
 pub fn is_valid_at(pairs: &Checklist, number: u64) -> bool
     ensures { result ≡ is_valid_at number (bag_of pairs.now) }
 {
     pairs.passes(number, &Valid)
 }
 
-/// By what a request changes its pair.
+/// What determines how a request changes its pair.
 #[derive(Clone, Copy)]
 pub struct Standing {
     /// The agent is controlling.
     pub controlling: bool,
-    /// The agent is ice-lite.
+    /// The agent is ICE-lite.
     pub lite: bool,
 }
 
-/// While a lite agent is controlled each request makes the pair valid.
+/// While a lite agent is controlled, each request makes the pair valid.
 fn validate_by_peer(pair: &mut CandidatePair, standing: Standing)
     ensures { pair.new ≡ validated_by_peer standing.controlling standing.lite pair.old }
 {
@@ -76,7 +76,7 @@ fn validate_by_peer(pair: &mut CandidatePair, standing: Standing)
     }
 }
 
-/// On a controlled agent the pair is nominated where the peer asks for it and it is not yet.
+/// On a controlled agent, a request with USE-CANDIDATE nominates the pair if it is not nominated yet.
 fn nominate_by_peer(pair: &mut CandidatePair, request: &Request<'_>, standing: Standing)
     ensures { pair.new ≡ nominated_by_peer standing.controlling standing.lite (request_view request.now) pair.old }
 {
@@ -105,7 +105,7 @@ impl PairChange for Serves<'_> {
     }
 }
 
-/// The pair of the number takes the request.
+/// The pair with this number records the request.
 pub fn serve_pair(pairs: &mut Checklist, number: u64, request: &Request<'_>, standing: Standing)
     ensures served { bag_of pairs.new ≡ change_pair number (served standing.controlling standing.lite (request_view request.now)) (bag_of pairs.old) }
     ensures room { (n : ℕ) → HasRoom n pairs.old → HasRoom n pairs.new }

@@ -1,4 +1,4 @@
-//! Which candidates a Binding request is served at: the local one that it reached, and the remote one that sent it.
+//! The candidates at which a Binding request is served: the local one that received it, and the remote one that sent it.
 
 ghost use Rattle.std.specs.Prelude.{◌≡◌, ◌==◌, ◌&&◌, ◌+◌, ◌<◌, ◌≤◌, length, position, true, false, None, IfSome};
 ghost use Rattle.std.specs.Net.Socket.{socket_port};
@@ -20,18 +20,18 @@ use is_candidate::{Candidate, CandidateKind};
 use is_proto::Protocol;
 use std::net::{Ipv4Addr, SocketAddr, SocketAddrV4};
 
-/// Where the remote candidate of a request stands.
+/// Where the remote candidate of a request is in its list.
 #[derive(Clone, Copy, Debug, PartialEq, Eq)]
 pub enum RemotePlace {
-    /// At this place.
+    /// At this index.
     Known(usize),
-    /// Discarded candidates alone have the address and the protocol.
+    /// Only discarded candidates have the address and the protocol.
     Barred,
     /// No candidate has them.
     Unknown,
 }
 
-/// The candidate at a place.
+/// The candidate at an index.
 pub fn candidate_at(candidates: &[Candidate], place: usize) -> &Candidate
     requires { place < length candidates.now }
     ensures { result.now ≡ candidate_at candidates.now place }
@@ -39,14 +39,14 @@ pub fn candidate_at(candidates: &[Candidate], place: usize) -> &Candidate
     &candidates[place]
 }
 
-/// What a place past the end reads as, where no pair stands.
+/// What an index past the end reads as; no pair has such an index.
 fn nowhere() -> SocketAddr
     ensures { result ≡ nowhere.addr }
 {
     SocketAddr::V4(SocketAddrV4::new(Ipv4Addr::UNSPECIFIED, 0))
 }
 
-/// The address of the candidate at a place.
+/// The address of the candidate at an index.
 pub fn address_at(candidates: &[Candidate], place: usize) -> SocketAddr
     ensures { result ≡ (candidate_at candidates.now place).addr }
 {
@@ -56,7 +56,7 @@ pub fn address_at(candidates: &[Candidate], place: usize) -> SocketAddr
     }
 }
 
-/// The base of the candidate at a place.
+/// The base of the candidate at an index.
 pub fn base_at(candidates: &[Candidate], place: usize) -> SocketAddr
     ensures { result ≡ base_of (candidate_at candidates.now place) }
 {
@@ -66,7 +66,7 @@ pub fn base_at(candidates: &[Candidate], place: usize) -> SocketAddr
     }
 }
 
-/// The protocol of the candidate at a place.
+/// The protocol of the candidate at an index.
 pub fn proto_at(candidates: &[Candidate], place: usize) -> Protocol
     ensures { result ≡ (candidate_at candidates.now place).proto }
 {
@@ -76,7 +76,7 @@ pub fn proto_at(candidates: &[Candidate], place: usize) -> Protocol
     }
 }
 
-/// The kind of the candidate at a place.
+/// The kind of the candidate at an index.
 pub(crate) fn kind_at(candidates: &[Candidate], place: usize) -> CandidateKind
     ensures { result ≡ (candidate_at candidates.now place).kind }
 {
@@ -86,7 +86,7 @@ pub(crate) fn kind_at(candidates: &[Candidate], place: usize) -> CandidateKind
     }
 }
 
-/// Whether the candidate at a place is discarded.
+/// Whether the candidate at an index is discarded.
 pub fn is_discarded_at(candidates: &[Candidate], place: usize) -> bool
     ensures { result ≡ (candidate_at candidates.now place).discarded }
 {
@@ -96,7 +96,7 @@ pub fn is_discarded_at(candidates: &[Candidate], place: usize) -> bool
     }
 }
 
-/// The priority of the candidate at a place.
+/// The priority of the candidate at an index.
 pub fn priority_at(candidates: &[Candidate], place: usize) -> u32
     ensures priority { result ≡ candidate_priority (candidate_at candidates.now place) }
     ensures low { NoneTooHigh candidates.now → result < TOO_HIGH }
@@ -107,7 +107,7 @@ pub fn priority_at(candidates: &[Candidate], place: usize) -> u32
     }
 }
 
-/// What PRIORITY says in a check from the candidate at a place.
+/// The PRIORITY of a check from the candidate at an index.
 pub fn check_priority_at(candidates: &[Candidate], place: usize) -> u32
     ensures priority { result ≡ check_priority (candidate_at candidates.now place) }
     ensures low { NoneTooHigh candidates.now → result < TOO_HIGH }
@@ -118,13 +118,14 @@ pub fn check_priority_at(candidates: &[Candidate], place: usize) -> u32
     }
 }
 
-/// The priority of what a place past the end reads as: a host candidate over UDP.
+/// The priority that an index past the end reads as: that of a host candidate over UDP.
 const NOWHERE_PRIORITY: u32 = 126 * 0x100_0000 + 65534 * 0x100 + 255;
 
-/// The same, were it peer reflexive.
+/// The same for a peer-reflexive candidate.
 const NOWHERE_CHECK_PRIORITY: u32 = 110 * 0x100_0000 + 65534 * 0x100 + 255;
 
-/// Whether two addresses have one IP version and one port: most that differ do so in these, the quickest to compare.
+/// Whether two addresses have the same IP version and port. Most addresses that differ do so in these, which are the fastest to
+/// compare.
 #[inline(always)]
 pub(crate) fn same_version_and_port(a: SocketAddr, b: SocketAddr) -> bool
     ensures test { result ≡ (same_version a b && socket_port a == socket_port b) }
@@ -172,8 +173,8 @@ fn any_local_place(local: &[Candidate], request: &Request<'_>) -> Option<usize>
     local.iter().position(|c| is_reached(request, c))
 }
 
-/// The first place of a host or relayed candidate with the request's destination and protocol; a live one before
-/// discarded ones.
+/// The first index of a host or relayed candidate with the request's destination and protocol; live ones go before discarded
+/// ones.
 pub fn local_place(local: &[Candidate], request: &Request<'_>) -> Option<usize>
     ensures place { result ≡ local_place local.now (request_view request.now) }
     ensures within { IfSome result (λ place. place < length local.now) }
@@ -198,7 +199,7 @@ fn is_live_sender(request: &Request<'_>, candidate: &Candidate) -> bool
     is_sender(request, candidate) && !is_discarded(candidate)
 }
 
-/// The better of the best place so far and the next one.
+/// The better of the best index so far and the next one.
 fn better_sender(
     remote: &[Candidate],
     request: &Request<'_>,
@@ -225,8 +226,8 @@ fn better_sender(
     }
 }
 
-/// The first place of a live candidate with the request's source and protocol, or the end: mostly it is the only one, and to
-/// find it takes a shorter loop than to compare priorities does.
+/// The first index of a live candidate with the request's source and protocol, or the end. Mostly it is the only one, and this
+/// loop is shorter than one that compares priorities.
 fn first_sender(remote: &[Candidate], request: &Request<'_>) -> usize
     ensures none { IsGreatestBelow result (is_live (is_sender (request_view request.now))) remote.now None }
     ensures within { result ≤ length remote.now }
@@ -237,7 +238,7 @@ fn first_sender(remote: &[Candidate], request: &Request<'_>) -> usize
     }
 }
 
-/// Of the live candidates with the request's source and protocol, the place of one of greatest priority.
+/// Of the live candidates with the request's source and protocol, the index of one with the greatest priority.
 fn live_remote_place(remote: &[Candidate], request: &Request<'_>) -> Option<usize>
     ensures { IsGreatestPlace (is_live (is_sender (request_view request.now))) remote.now result }
 {
@@ -254,7 +255,7 @@ fn knows_sender(remote: &[Candidate], request: &Request<'_>) -> bool
     remote.iter().any(|c| is_sender(request, c))
 }
 
-/// Where the request's sender stands among the remote candidates.
+/// Where the request's sender is among the remote candidates.
 pub fn remote_place(remote: &[Candidate], request: &Request<'_>) -> RemotePlace
     ensures { IsRemotePlace remote.now (request_view request.now) result }
 {
@@ -265,7 +266,7 @@ pub fn remote_place(remote: &[Candidate], request: &Request<'_>) -> RemotePlace
     }
 }
 
-/// The place of the remote candidate, where an unknown one is appended.
+/// The index of the remote candidate; an unknown one is appended.
 pub fn remote_index(remote: &[Candidate], place: RemotePlace) -> usize
     ensures { result ≡ remote_index remote.now place }
 {

@@ -1,4 +1,4 @@
-//! Requests that wait until the remote credentials are known; the agent's part: `is_agent::queue`.
+//! Early requests, until the remote credentials are known; the agent's part: `is_agent::queue`.
 
 ghost use Rattle.std.specs.Prelude.{◌≡◌, ◌<◌, ◌+◌, ◌++◌, ◌∷◌, [], drop, map, length, take_while};
 ghost use Rattle.std.specs.VecDeque.{deque_len, deque_capacity};
@@ -10,10 +10,10 @@ use is_proto::Instant;
 use is_stun::stun::StunTiming;
 use std::collections::VecDeque;
 
-/// How many requests wait at most.
+/// The greatest number of early requests.
 const QUEUE_LIMIT: usize = 100;
 
-/// So many go from the front.
+/// Removes this many requests from the front.
 pub fn drop_first(queue: &mut VecDeque<Waiting>, count: usize)
     ensures items { queue.new.items ≡ drop count queue.old.items }
 {
@@ -22,7 +22,7 @@ pub fn drop_first(queue: &mut VecDeque<Waiting>, count: usize)
     }
 }
 
-/// The request waits behind the others, within the room that there is; past the limit the oldest go.
+/// Appends the request within the reserved capacity. Beyond the limit the oldest ones are removed.
 pub fn enqueue(queue: &mut VecDeque<Waiting>, waiting: Waiting)
     requires { deque_len queue.old < deque_capacity queue.old }
     ensures { map waiting_view queue.new.items ≡ queued_last (map waiting_view queue.old.items ++ waiting_view waiting ∷ []) }
@@ -32,14 +32,14 @@ pub fn enqueue(queue: &mut VecDeque<Waiting>, waiting: Waiting)
     drop_first(queue, beyond);
 }
 
-/// The request is as old as a whole run of checks.
+/// The request is as old as a whole series of unanswered checks takes.
 fn is_outdated(waiting: &Waiting, now: Instant, timing: &StunTiming) -> bool
     ensures { result ≡ is_outdated now.0 timing.now (waiting_view waiting.now) }
 {
     now - waiting.moment >= timing.timeout()
 }
 
-/// How many requests at the front are outdated.
+/// The number of outdated requests at the front.
 pub fn count_outdated(queue: &VecDeque<Waiting>, now: Instant, timing: &StunTiming) -> usize
     ensures { result ≡ length (take_while (λ q. is_outdated now.0 timing.now (waiting_view q)) queue.now.items) }
 {

@@ -1,4 +1,4 @@
-//! Remote candidates: equal ones, placeholders, list (RFC 8445, section 5.4); the agent's part: `is_agent::remote`.
+//! Remote candidates: equal candidates, placeholders, list (RFC 8445, section 5.4); the agent's part: `is_agent::remote`.
 
 ghost use Rattle.std.specs.Prelude.{◌≡◌, ◌<◌, IfSome, position, length, vec_len, vec_capacity};
 ghost use Rattle.is_rules.specs.Remote.{has_equivalent, is_placeholder, as_remote, stored, place_or_end};
@@ -26,7 +26,7 @@ pub(crate) fn has_equivalent(
 /// Whether a pair's remote candidate equals a candidate.
 #[derive(Clone, Copy)]
 pub struct Equivalent<'a> {
-    /// The remote candidates, among which the pair's stands.
+    /// The remote candidates, the pair's own one among them.
     pub remote: &'a [Candidate],
     /// The candidate that is compared.
     pub candidate: &'a Candidate,
@@ -48,7 +48,7 @@ fn is_placeholder(candidate: &Candidate, other: &Candidate) -> bool
     is_temporary(other) && same_address(other.addr(), candidate.addr())
 }
 
-/// The first place of a candidate that a request brought, at the address of this one.
+/// The first index of a candidate that a request added, at the address of this one.
 pub fn place_of_placeholder(remote: &[Candidate], candidate: &Candidate) -> Option<usize>
     ensures place { result ≡ position (is_placeholder candidate.now) remote.now }
     ensures within { IfSome result (λ place. place < length remote.now) }
@@ -58,7 +58,7 @@ pub fn place_of_placeholder(remote: &[Candidate], candidate: &Candidate) -> Opti
         .position(|other| is_placeholder(candidate, other))
 }
 
-/// The place, or the one behind all others.
+/// The index, or the end of the list.
 pub fn place_or_end(place: Option<usize>, remote: &[Candidate]) -> usize
     ensures { result ≡ place_or_end place remote.now }
 {
@@ -68,7 +68,7 @@ pub fn place_or_end(place: Option<usize>, remote: &[Candidate]) -> usize
     }
 }
 
-/// The candidate as one of the peer's: no user fragment, no discard mark.
+/// The candidate as a remote one: without username fragment and without discard mark.
 pub fn as_remote(mut candidate: Candidate) -> Candidate
     ensures { result ≡ as_remote candidate }
 {
@@ -77,7 +77,7 @@ pub fn as_remote(mut candidate: Candidate) -> Candidate
     candidate
 }
 
-/// Overwrites what stands at the place, or appends within the room that there is.
+/// Overwrites the candidate at the index, or appends within the reserved capacity.
 pub fn store(remote: &mut Vec<Candidate>, place: Option<usize>, candidate: Candidate)
     requires room { vec_len remote.old < vec_capacity remote.old }
     requires within { IfSome place (λ place. place < length remote.old.items) }

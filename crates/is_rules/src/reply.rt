@@ -12,10 +12,10 @@ use is_stun::laws::replies_fit;
 use is_stun::stun::{StunMessage, TransId};
 use std::net::SocketAddr;
 
-/// The length of the longest reply: header, address of IPv6, integrity and fingerprint.
+/// The length of the longest response: header, an IPv6 address, MESSAGE-INTEGRITY and FINGERPRINT.
 pub const REPLY_LEN: usize = 20 + 24 + 24 + 8;
 
-/// Writes a message, signed with the password, over the front of the bytes, and cuts them to its length.
+/// Writes a message, signed with the password, to the start of the buffer, and cuts the buffer to its length.
 pub fn write_signed<H: Sha1HmacProvider>(
     contents: &mut Vec<u8>,
     message: StunMessage<'_>,
@@ -34,7 +34,7 @@ pub fn write_signed<H: Sha1HmacProvider>(
     }
 }
 
-/// Writes a success reply, signed with the password, over the front of the bytes, and cuts them to its length.
+/// Writes a success response, signed with the password, to the start of the buffer, and cuts the buffer to its length.
 pub fn write_reply<H: Sha1HmacProvider>(
     reply: &mut Vec<u8>,
     id: TransId,
@@ -52,7 +52,7 @@ pub fn write_reply<H: Sha1HmacProvider>(
     write_signed(reply, message, password, provider);
 }
 
-/// Writes the 487, signed with the password, over the front of the bytes, and cuts them to its length.
+/// Writes the 487, signed with the password, to the start of the buffer, and cuts the buffer to its length.
 pub fn write_conflict<H: Sha1HmacProvider>(
     reply: &mut Vec<u8>,
     id: TransId,

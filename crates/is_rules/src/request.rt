@@ -1,4 +1,4 @@
-//! A Binding request, as the agent serves it, and as it waits in the queue.
+//! A Binding request, as the agent serves it, and as an early request in the queue.
 
 ghost use Rattle.std.specs.Prelude.{◌≡◌, IfOk};
 ghost use Rattle.is_stun.specs.MessageView.{message_view};
@@ -10,28 +10,28 @@ use is_proto::{Instant, Text};
 use is_stun::stun::{StunMessage, StunPacket, TransId};
 use std::alloc::{AllocError, Global};
 
-/// A Binding request that came to the agent (RFC 8445, section 7.3).
+/// A Binding request that the agent received (RFC 8445, section 7.3).
 #[derive(Clone, Copy)]
 pub struct Request<'a> {
-    /// When it came.
+    /// When it was received.
     pub moment: Instant,
-    /// How it came: from the sender's address to the own one.
+    /// The path on which it was received: from the sender's address to the local one.
     pub path: Path,
     /// Its transaction id.
     pub id: TransId,
-    /// The priority that it names.
+    /// The value of its PRIORITY.
     pub priority: u32,
-    /// It asks for nomination.
+    /// It has USE-CANDIDATE.
     pub use_candidate: bool,
-    /// The sender's user fragment.
+    /// The sender's username fragment.
     pub ufrag: &'a str,
-    /// The sender's tie-breaker, where it claims to be controlling.
+    /// The sender's tie-breaker, if it claims to be controlling.
     pub ice_controlling: Option<u64>,
-    /// The sender's tie-breaker, where it claims to be controlled.
+    /// The sender's tie-breaker, if it claims to be controlled.
     pub ice_controlled: Option<u64>,
 }
 
-/// The way that a packet came.
+/// The path on which a packet was received.
 pub fn packet_path(packet: &StunPacket<'_>) -> Path
     ensures { result ≡ packet_path packet.now }
 {
@@ -42,7 +42,7 @@ pub fn packet_path(packet: &StunPacket<'_>) -> Path
     }
 }
 
-/// The sender's user fragment, behind the first colon of the user name.
+/// The sender's username fragment: what follows the first colon of USERNAME.
 fn sender_ufrag<'a>(message: &StunMessage<'a>) -> &'a str
     ensures { result.now ≡ sender_ufrag (message_view message.now) }
 {
@@ -53,7 +53,7 @@ fn sender_ufrag<'a>(message: &StunMessage<'a>) -> &'a str
 }
 
 impl<'a> Request<'a> {
-    /// The request that the packet is, which came at this moment.
+    /// The request that the packet is, received at this time.
     pub fn new(now: Instant, packet: &StunPacket<'a>) -> Request<'a>
         ensures { request_view result ≡ request_in now.0 (packet_path packet.now) (message_view packet.now.message) }
     {
@@ -71,29 +71,29 @@ impl<'a> Request<'a> {
     }
 }
 
-/// A request that waits for remote credentials.
+/// An early request: received before the remote credentials.
 #[derive(Drop)]
 pub struct Waiting {
-    /// When it came.
+    /// When it was received.
     pub moment: Instant,
-    /// How it came: from the sender's address to the own one.
+    /// The path on which it was received: from the sender's address to the local one.
     pub path: Path,
     /// Its transaction id.
     pub id: TransId,
-    /// The priority that it names.
+    /// The value of its PRIORITY.
     pub priority: u32,
-    /// It asks for nomination.
+    /// It has USE-CANDIDATE.
     pub use_candidate: bool,
-    /// The sender's user fragment.
+    /// The sender's username fragment.
     pub ufrag: Text,
-    /// The sender's tie-breaker, where it claims to be controlling.
+    /// The sender's tie-breaker, if it claims to be controlling.
     pub ice_controlling: Option<u64>,
-    /// The sender's tie-breaker, where it claims to be controlled.
+    /// The sender's tie-breaker, if it claims to be controlled.
     pub ice_controlled: Option<u64>,
 }
 
 impl Waiting {
-    /// The request, with a user fragment of its own.
+    /// The request, with an owned username fragment.
     pub fn new(alloc: Global, request: &Request<'_>) -> Result<Waiting, AllocError>
         ensures { IfOk result (λ waiting. waiting_view waiting ≡ request_view request.now) }
     {
@@ -109,7 +109,7 @@ impl Waiting {
         })
     }
 
-    /// The request as it came.
+    /// The request as it was received.
     pub fn request(&self) -> Request<'_>
         ensures { request_view result ≡ waiting_view self.now }
     {

@@ -8,7 +8,7 @@ use is_candidate::Candidate;
 use is_proto::Text;
 use std::alloc::{AllocError, Global};
 
-/// A copy of the candidate under this user fragment.
+/// A copy of the candidate with this username fragment.
 fn renamed(candidate: &Candidate, ufrag: &Text, alloc: Global) -> Result<Candidate, AllocError>
     ensures { IfOk result (λ c. c ≡ with_ufrag ufrag.now candidate.now) }
 {
@@ -19,7 +19,7 @@ fn renamed(candidate: &Candidate, ufrag: &Text, alloc: Global) -> Result<Candida
     }
 }
 
-/// Copies of the candidates under this user fragment.
+/// Copies of the candidates with this username fragment.
 fn all_renamed(
     alloc: Global,
     local: &[Candidate],
@@ -34,7 +34,7 @@ fn all_renamed(
     Ok(kept)
 }
 
-/// What is left of the local candidates.
+/// The local candidates that are kept.
 pub fn kept_local(
     alloc: Global,
     keep: bool,

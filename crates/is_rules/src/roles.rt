@@ -1,4 +1,5 @@
-//! Role conflicts (RFC 8445, section 7.3.1.1): who yields, new priorities; the agent's part: `is_agent::roles`.
+//! Role conflicts (RFC 8445, section 7.3.1.1): which agent switches its role, and the new priorities; the agent's part:
+//! `is_agent::roles`.
 
 ghost use Rattle.std.specs.Prelude.{◌≡◌, ℕ, true, map};
 ghost use Rattle.is_pair.specs.Bag.{are_below};
@@ -11,18 +12,18 @@ use crate::sides::Sides;
 use is_pair::checklist::{Checklist, PairPriority};
 use is_pair::pair::CandidatePair;
 
-/// What becomes of the agent's role at a request.
+/// What happens to the agent's role at a request.
 #[derive(Clone, Copy, Debug, PartialEq, Eq)]
 pub enum Conflict {
     /// The sender does not claim the agent's role.
     Absent,
-    /// It does, with no greater tie-breaker: the agent keeps its role and says so.
+    /// It does, with no greater tie-breaker: the agent keeps its role and sends a 487.
     Insists,
-    /// It does, with a greater tie-breaker: the agent takes the other role.
+    /// It does, with a greater tie-breaker: the agent switches its role.
     Yields,
 }
 
-/// By the own tie-breaker and that of a sender that claims the same role.
+/// The conflict, by the agent's own tie-breaker and that of a sender that claims the same role.
 pub fn conflict_by(own: u64, rival: Option<u64>) -> Conflict
     ensures { result ≡ conflict_by own rival }
 {
@@ -50,7 +51,7 @@ impl PairPriority for Combined<'_> {
     }
 }
 
-/// All priorities are computed anew.
+/// Computes all priorities again.
 pub fn reprioritize_all(pairs: &mut Checklist, sides: Sides<'_>)
     ensures set { bag_of pairs.new ≡ map (with_priority_in (sides_view sides.entry)) (bag_of pairs.old) }
     ensures room { (n : ℕ) → HasRoom n pairs.old → HasRoom n pairs.new }

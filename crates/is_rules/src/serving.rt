@@ -9,34 +9,35 @@ use crate::request::Request;
 use crate::roles::Conflict;
 use is_candidate::Candidate;
 
-/// Where a request can be served.
+/// The candidates and the pair at which a request can be served.
 #[derive(Clone, Copy, Debug, PartialEq, Eq)]
 pub struct Places {
-    /// The place of the local candidate that it came to.
+    /// The index of the local candidate that received it.
     pub local: usize,
-    /// Where its sender stands among the remote candidates.
+    /// Where its sender is among the remote candidates.
     pub remote: RemotePlace,
     /// The number of the pair of both.
     pub pair: Option<u64>,
 }
 
-/// What serving a request takes, made before anything changes.
+/// What serving a request needs, prepared before anything changes.
 #[derive(Drop)]
 pub struct Supplies {
-    /// Room for the reply.
+    /// The buffer of the response.
     pub reply: Vec<u8>,
     /// The candidate that an unknown sender becomes.
     pub sender: Option<Candidate>,
 }
 
-/// The peer nominates while the agent is controlling.
+/// The peer sends USE-CANDIDATE while the agent is controlling.
 pub fn is_misled(controlling: bool, request: &Request<'_>) -> bool
     ensures { result ≡ is_misled controlling (request_view request.now) }
 {
     controlling && request.use_candidate
 }
 
-/// Serving goes on to its places, by the role before it.
+/// Serving continues to the remote candidate: the request passes the rules on role conflicts and on USE-CANDIDATE. `controlling`
+/// is the role before them.
 pub fn is_admitted(conflict: Conflict, controlling: bool, request: &Request<'_>) -> bool
     ensures { result ≡ is_admitted conflict controlling (request_view request.now) }
 {
@@ -47,7 +48,7 @@ pub fn is_admitted(conflict: Conflict, controlling: bool, request: &Request<'_>)
     }
 }
 
-/// No pair joins the places, and one would be added.
+/// There is no pair of the two candidates, and one would be added.
 pub fn wants_pair_at(remote: RemotePlace, pair: Option<u64>, discarded: bool) -> bool
     ensures { result ≡ wants_pair_at remote pair discarded }
 {

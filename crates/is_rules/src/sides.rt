@@ -4,7 +4,7 @@ ghost use Rattle.is_rules.specs.Kept.{NoneTooHigh};
 
 use is_candidate::Candidate;
 
-/// The candidates between which pairs are formed, and the role that their priorities go by.
+/// The candidates from which pairs are formed, and the role that determines their priorities.
 #[derive(Clone, Copy)]
 pub struct Sides<'a> {
     /// The local candidates.
@@ -13,8 +13,8 @@ pub struct Sides<'a> {
     pub remote: &'a [Candidate],
     /// The agent is controlling.
     pub controlling: bool,
-    /// The agent is ice-lite.
+    /// The agent is ICE-lite.
     pub lite: bool,
-    // no pair priority is too great
+    // so that each pair priority fits into 64 bits
     ghost low: { NoneTooHigh local.now },
 }

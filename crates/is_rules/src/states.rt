@@ -1,4 +1,4 @@
-//! The connection state: how it follows from the pairs, and events of it; the agent's part: `is_agent::states`.
+//! The connection state: how it follows from the pairs, and its events; the agent's part: `is_agent::states`.
 
 ghost use Rattle.std.specs.Prelude.{◌≡◌, ◌<◌, ◌≤◌, ◌+◌, ◌++◌, ◌∷◌, [], if◌then◌else◌};
 ghost use Rattle.std.specs.VecDeque.{deque_len, deque_capacity};
@@ -31,7 +31,7 @@ pub fn same_state(a: IceConnectionState, b: IceConnectionState) -> bool
     state_number(a) == state_number(b)
 }
 
-/// The state is this one now, and told of where it is another one.
+/// Sets the state, and emits an event if it changes.
 pub fn emit_state(
     state: &mut IceConnectionState,
     events: &mut VecDeque<IceAgentEvent>,
@@ -50,14 +50,14 @@ pub fn emit_state(
     *state = next;
 }
 
-/// A pair that media goes on.
+/// A pair on which media can be sent.
 fn is_nominated_and_valid(pair: &CandidatePair) -> bool
     ensures { result ≡ is_nominated_and_valid pair.now }
 {
     pair.state() == CheckState::Succeeded && pair.is_nominated()
 }
 
-/// Whether media goes on a pair.
+/// Whether media can be sent on a pair.
 #[derive(Clone, Copy)]
 pub struct Selected;
 
@@ -71,10 +71,10 @@ impl PairTest for Selected {
     }
 }
 
-/// Whether media may yet go on a pair on which none goes.
+/// Whether a pair is still possible, and not selected.
 #[derive(Clone, Copy)]
 pub struct PossibleBeside<'a> {
-    /// The moment at which it is asked.
+    /// The time at which this is evaluated.
     pub now: Instant,
     /// The timing of checks.
     pub timing: &'a StunTiming,
@@ -91,7 +91,7 @@ impl PairTest for PossibleBeside<'_> {
     }
 }
 
-/// The state behind this one, by whether a pair is selected, whether another one is possible, and lite.
+/// The next state, by the current state, whether a pair is selected, whether another one is still possible, and lite.
 pub fn next_state(
     state: IceConnectionState,
     selected: bool,

@@ -9,12 +9,12 @@ use is_pair::{due_moment, is_asked};
 use is_proto::Instant;
 use is_stun::stun::StunTiming;
 
-/// Whether a pair is due at a moment, or is due once the agent nominates it at it.
+/// Whether a pair is due at a time, or is due once the agent nominates it at that time.
 #[derive(Clone, Copy)]
 pub struct FallsDue<'a> {
     /// The agent is controlling.
     pub controlling: bool,
-    /// The moment.
+    /// The time.
     pub now: Instant,
     /// The timing of checks.
     pub timing: &'a StunTiming,
@@ -31,7 +31,7 @@ impl PairTest for FallsDue<'_> {
     }
 }
 
-/// The agent may nominate the pair by itself.
+/// The agent may nominate the pair itself.
 fn awaits_nomination(pair: &CandidatePair, controlling: bool) -> bool
     ensures { result ≡ awaits_nomination controlling pair.now }
 {

@@ -1,4 +1,4 @@
-//! How `handle_timeout` begins: the event of the start, queued requests; the agent's part: `is_agent::timeout_start`.
+//! How a `handle_timeout` call starts: the start event, early requests; the agent's part: `is_agent::timeout_start`.
 
 ghost use Rattle.std.specs.Prelude.{◌≡◌, ◌<◌, ◌≤◌, ◌+◌, slice_get};
 ghost use Rattle.std.specs.VecDeque.{deque_len, deque_capacity};
@@ -9,14 +9,14 @@ use crate::event::IceAgentEvent;
 use crate::request::Waiting;
 use std::collections::VecDeque;
 
-/// The request at a place of the queue.
+/// The early request at an index of the queue.
 pub fn waiting_at(queue: &VecDeque<Waiting>, place: usize) -> Option<&Waiting>
     ensures { option_copied result ≡ slice_get queue.now.items place }
 {
     queue.get(place)
 }
 
-/// The start is told of, where there is one.
+/// Emits the start event, if there is one.
 pub fn emit_start(events: &mut VecDeque<IceAgentEvent>, start: Option<IceAgentEvent>)
     requires room { deque_len events.old < deque_capacity events.old }
     ensures items { events.new.items ≡ with_start start events.old.items }
