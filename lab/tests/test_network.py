@@ -121,15 +121,15 @@ class Routing(unittest.TestCase):
         Server(STUN.ip, self.internet)
         client, peer, stranger = (self.interface(f"192.0.2.{n}", self.internet) for n in (1, 2, 3))
         self.send(client, 1, STUN, AllocateRequest())
-        lent = self.heard.pop()[1].payload.address  # type: ignore[attr-defined]
-        self.assertIn("not permitted", self.send(peer, 2, lent).fates[0][1])
-        word = Relayed(lent, SocketAddress(peer.ip, 2), Datagram(0, "a", 0, lent, STUN, b""))
+        relayed = self.heard.pop()[1].payload.address  # type: ignore[attr-defined]
+        self.assertIn("not permitted", self.send(peer, 2, relayed).fates[0][1])
+        word = Relayed(relayed, SocketAddress(peer.ip, 2), Datagram(0, "a", 0, relayed, STUN, b""))
         self.send(client, 1, STUN, word)
-        self.assertEqual(self.heard.pop()[1].source, lent)
-        self.send(peer, 2, lent)
+        self.assertEqual(self.heard.pop()[1].source, relayed)
+        self.send(peer, 2, relayed)
         back = self.heard.pop()
         self.assertEqual((back[0], back[1].payload.peer), (client.ip, SocketAddress(peer.ip, 2)))  # type: ignore[attr-defined]
-        self.assertIn("not permitted", self.send(stranger, 2, lent).fates[0][1])
+        self.assertIn("not permitted", self.send(stranger, 2, relayed).fates[0][1])
 
 
 if __name__ == "__main__":

@@ -171,10 +171,10 @@ class Values(unittest.TestCase):
 
     def test_candidates_of_each_kind(self) -> None:
         agent = IceAgent()
-        seen, lent = SocketAddress("203.0.113.1", 3000), SocketAddress("198.51.100.1", 4000)
+        seen, relayed = SocketAddress("203.0.113.1", 3000), SocketAddress("198.51.100.1", 4000)
         six = SocketAddress("2001:db8::1", 1000)
         lines = [agent.add_local_candidate(c) for c in (Candidate.host(HERE), Candidate.server_reflexive(seen, HERE),
-                                                        Candidate.relayed(lent, HERE), Candidate.host(six))]
+                                                        Candidate.relayed(relayed, HERE), Candidate.host(six))]
         self.assertEqual([line.split(" typ ")[1].split()[0] for line in lines if line], ["host", "srflx", "relay", "host"])
         self.assertEqual(agent.local_candidates(), lines)
         self.assertIsNone(agent.add_local_candidate(Candidate.host(HERE)))

@@ -92,7 +92,7 @@ fn checks_go_out_by_the_schedule() {
         agent.handle_timeout(when);
         let check = agent.poll_transmit().expect("a check");
         assert_eq!((check.destination, check.contents.len()), (at("10.0.0.2:2000"), 88));
-        when = agent.poll_timeout().expect("a wake-up");
+        when = agent.poll_timeout().expect("a next timeout");
         assert_eq!(when - began, ms(after));
     }
     agent.handle_timeout(when);

@@ -82,7 +82,7 @@ fn a_lite_agent_disconnects_15_seconds_after_the_last_check() {
     world.pass(Duration::from_secs(5));
     world.lost = Box::new(|_, _| true);
     let cut = world.now;
-    world.pass_until("given up", |world| world.right().state().is_disconnected());
+    world.pass_until("disconnected", |world| world.right().state().is_disconnected());
     let took = world.now - cut;
     assert!(took > Duration::from_secs(11) && took < Duration::from_secs(19), "{took:?}");
     // and connects again when its peer is back

@@ -206,8 +206,8 @@ fn an_address_that_a_router_gives_is_learnt() {
     assert_eq!(world.sides[0].path(), Some((at(LEFT), at(RIGHT))));
     assert_eq!(world.sides[1].path(), Some((at(RIGHT), at("192.0.2.9:9000"))));
     assert_eq!(world.sides[0].local_addresses(), [at(LEFT), at("192.0.2.9:9000")]);
-    let learnt = world.left().local_candidates().last().unwrap();
-    assert_eq!(learnt.kind(), is::CandidateKind::PeerReflexive);
+    let discovered = world.left().local_candidates().last().unwrap();
+    assert_eq!(discovered.kind(), is::CandidateKind::PeerReflexive);
     let heard_of = world.right().remote_candidates().next().unwrap();
     assert_eq!((heard_of.kind(), heard_of.addr()), (is::CandidateKind::PeerReflexive, at("192.0.2.9:9000")));
 }
