@@ -281,13 +281,13 @@ IS_ICE_QUIET_CALL int32_t is_ice_set_max_pairs(is_ice_agent *agent, size_t limit
  * packet. IS_ICE_OK. Value: 50 ms. */
 IS_ICE_QUIET_CALL int32_t is_ice_set_timing_advance(is_ice_agent *agent, uint64_t nanoseconds);
 
-/* is_ice_set_initial_rto - sets the time from a pair's first check to its second one. It doubles with each further
- * check, up to the limit of is_ice_set_max_rto. If a check has had no response for longer than half that limit, only
- * the checks without a response count, so that checks become more frequent again. IS_ICE_OK. Value: 250 ms. */
+/* is_ice_set_initial_rto - sets the time from a pair's first check until the second one is due. It doubles with each
+ * further check, up to the limit of is_ice_set_max_rto. If a check has had no response for longer than half that limit,
+ * only the checks without a response count, so that checks become more frequent again. IS_ICE_OK. Value: 250 ms. */
 IS_ICE_QUIET_CALL int32_t is_ice_set_initial_rto(is_ice_agent *agent, uint64_t nanoseconds);
 
-/* is_ice_set_max_rto - sets the longest time from one check of a pair to the next. A pair that works is checked at this
- * interval, which keeps consent (RFC 7675). IS_ICE_OK. Value: 3 s. */
+/* is_ice_set_max_rto - sets the longest time from one check of a pair until the next one is due. A pair that works is
+ * checked at this interval, which keeps consent (RFC 7675). IS_ICE_OK. Value: 3 s. */
 IS_ICE_QUIET_CALL int32_t is_ice_set_max_rto(is_ice_agent *agent, uint64_t nanoseconds);
 
 /* is_ice_set_max_retransmits - sets after how many checks in a row without a response a pair is removed. It is not

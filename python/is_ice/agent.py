@@ -135,11 +135,11 @@ class IceAgent:
         done(self._c.is_ice_set_timing_advance(self._at, in_range(nanoseconds, 64, "a time")))
 
     def set_initial_stun_rto(self, nanoseconds: int) -> None:
-        """Sets the time from a pair's first check to its second one; it doubles with each further check. Default: 250 ms."""
+        """Sets the time from a pair's first check until the second one is due; it doubles with each further check. Default: 250 ms."""
         done(self._c.is_ice_set_initial_rto(self._at, in_range(nanoseconds, 64, "a time")))
 
     def set_max_stun_rto(self, nanoseconds: int) -> None:
-        """Sets the longest time from one check of a pair to the next. Default: 3 s."""
+        """Sets the longest time from one check of a pair until the next one is due. Default: 3 s."""
         done(self._c.is_ice_set_max_rto(self._at, in_range(nanoseconds, 64, "a time")))
 
     def set_max_stun_retransmits(self, limit: int) -> None:

@@ -55,12 +55,12 @@ impl IceAgent {
         self.tell("pacing interval", |agent| ffi::is_ice_set_timing_advance(agent, nanoseconds(duration)));
     }
 
-    /// Sets the time from a pair's first check to its second one; it doubles with each further check. Default: 250 ms.
+    /// Sets the time from a pair's first check until the second one is due; it doubles with each further check. Default: 250 ms.
     pub fn set_initial_stun_rto(&mut self, timeout: Duration) {
         self.tell("initial RTO", |agent| ffi::is_ice_set_initial_rto(agent, nanoseconds(timeout)));
     }
 
-    /// Sets the longest time from one check of a pair to the next. Default: 3 s.
+    /// Sets the longest time from one check of a pair until the next one is due. Default: 3 s.
     pub fn set_max_stun_rto(&mut self, timeout: Duration) {
         self.tell("maximal RTO", |agent| ffi::is_ice_set_max_rto(agent, nanoseconds(timeout)));
     }
