@@ -1,1 +1,1 @@
-"""A laboratory: two agents over a network that is made up, in simulated time."""
+"""A simulator: two agents over a simulated network, in simulated time."""

@@ -1,4 +1,4 @@
-"""Settings beside each other: three questions, each with its plot and its table."""
+"""Compares settings: three questions, each with its plot and its table."""
 
 from __future__ import annotations
 
@@ -13,7 +13,7 @@ from .scenario import AgentSettings, Scenario
 
 @dataclass(frozen=True)
 class Setting:
-    """The scenario under a name of its own, and how its curve is drawn."""
+    """A setting: a scenario with its own name, and the style of its curve."""
 
     label: str
     scenario: Scenario
@@ -24,17 +24,17 @@ class Setting:
 
 @dataclass(frozen=True)
 class Question:
-    """What is compared, and which time of a session is looked at."""
+    """What is compared, and by which time of a session."""
 
     title: str
     x: str
     y: str
     settings: Callable[[], list[Setting]]
     times: Callable[[Figures], Sequence[float]]
-    shift: float = 0.0  # milliseconds that are no part of what is asked
+    shift: float = 0.0  # milliseconds to subtract from the times
 
 
-# Of the same question's parameter one colour, of the other's a shade of it.
+# One colour for each value of the first parameter, one shade for each value of the second.
 SHADES = (("#9ecae1", "#4292c6", "#2171b5", "#08306b"), ("#fdae6b", "#f16913", "#d94801", "#7f2704"),
           ("#a1d99b", "#41ab5d", "#238b45", "#00441b"))
 LOSSES = (0, 5, 20)
@@ -48,7 +48,7 @@ def _first_retransmit() -> list[Setting]:
 
 
 def _retransmit(loss: int, rto: int) -> Setting:
-    by_link = round(1 - (1 - LOSSES[loss] / 100) ** 0.5, 6)  # two links lie on the way
+    by_link = round(1 - (1 - LOSSES[loss] / 100) ** 0.5, 6)  # a packet passes two links
     changes = (f"link.home.loss={by_link}", f"a.initial_rto_ms={RETRANSMITS[rto]}",
                f"b.initial_rto_ms={RETRANSMITS[rto]}", 'connects="sometimes"')
     label = f"{RETRANSMITS[rto]} ms, {LOSSES[loss]} % lost"
@@ -84,17 +84,17 @@ def _consent() -> list[Setting]:
 
 
 QUESTIONS = {
-    "first-retransmit": Question("Time to connect, by initial RTO and loss on the way", "seconds from the first signal",
+    "first-retransmit": Question("Time to connect, by initial RTO and loss on the path", "seconds from the first signal",
                                  "sessions connected, %", _first_retransmit, lambda f: f.first),
-    "pairs": Question("Time to connect where only the last pair works", "seconds from the first signal",
+    "pairs": Question("Time to connect if only the last pair works", "seconds from the first signal",
                       "sessions connected, %", _pairs, lambda f: f.first),
-    "consent": Question("How long consent takes to be lost", "seconds behind the last packet that came through",
-                        "sessions that were told, %", _consent, lambda f: f.lost, 10000.0),
+    "consent": Question("How long consent takes to expire", "seconds after the last packet that arrived",
+                        "sessions disconnected, %", _consent, lambda f: f.lost, 10000.0),
 }
 
 
 def run(name: str, count: int, seed: int, processes: int, quiet: bool, path: Path, own: bool) -> None:
-    """Plays each setting, prints the table, and writes the plot."""
+    """Runs the sessions of each setting, prints the table, and writes the plot."""
     question = QUESTIONS[name]
     settings = question.settings()
     told = figures.gather(pool.run([s.scenario for s in settings], count, seed, processes, quiet))

@@ -8,23 +8,23 @@ from pathlib import Path
 
 from . import mermaid, scenario, svg
 from .picture import Picture, of_session
-from .promises import Broken
+from .guarantees import Broken
 from .script import of_script
 from .session import Session, Trace
 
 
 def _arguments() -> argparse.Namespace:
     parser = argparse.ArgumentParser(prog="lab/draw", description="Draws one session, or a script of ice_run.")
-    parser.add_argument("scenario", nargs="?", help="a name of lab/scenarios, or a TOML file")
+    parser.add_argument("scenario", nargs="?", help="a name in lab/scenarios, or a TOML file")
     parser.add_argument("--seed", type=int, default=0)
     parser.add_argument("--set", action="append", default=[], metavar="KEY=VALUE", help="changes the scenario")
-    parser.add_argument("--script", type=Path, metavar="FILE", help="a script of ice_run; FILE.out is what it printed")
-    parser.add_argument("--output", type=Path, metavar="FILE", help="what it printed, where that is another file")
-    parser.add_argument("--begin", type=float, default=0.0, metavar="SECONDS", help="draws from here")
-    parser.add_argument("--end", type=float, default=1e9, metavar="SECONDS", help="draws up to here")
+    parser.add_argument("--script", type=Path, metavar="FILE", help="draws a script of ice_run; FILE.out is its output")
+    parser.add_argument("--output", type=Path, metavar="FILE", help="the output of the script, if it is another file")
+    parser.add_argument("--begin", type=float, default=0.0, metavar="SECONDS", help="the start of the picture")
+    parser.add_argument("--end", type=float, default=1e9, metavar="SECONDS", help="the end of the picture")
     parser.add_argument("--title")
     parser.add_argument("--svg", type=Path, metavar="FILE")
-    parser.add_argument("--mermaid", type=Path, metavar="FILE", help="without any file: Mermaid text is printed")
+    parser.add_argument("--mermaid", type=Path, metavar="FILE", help="without any file Mermaid text is printed")
     return parser.parse_args()
 
 
@@ -32,17 +32,17 @@ def _picture(options: argparse.Namespace) -> Picture:
     if options.script:
         return of_script(options.script, options.output or options.script.with_name(options.script.name + ".out"))
     if not options.scenario:
-        raise ValueError("a scenario or --script is wanted")
+        raise ValueError("needs a scenario or --script")
     chosen, trace = scenario.load(options.scenario, tuple(options.set)), Trace()
     try:
         Session(chosen, options.seed, trace).run()
     except Broken as broken:
-        print(f"lab: BROKEN PROMISE: {broken}", file=sys.stderr)
+        print(f"lab: BROKEN GUARANTEE: {broken}", file=sys.stderr)
     return of_session(chosen, trace)
 
 
 def main() -> int:
-    """The exit status: 0, or 2 where something does not read."""
+    """Returns the exit status: 0, or 2 if a file has an error."""
     options = _arguments()
     try:
         picture = _picture(options).between(round(options.begin * 1e9), round(options.end * 1e9))

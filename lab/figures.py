@@ -1,4 +1,4 @@
-"""What many sessions come to: a table, CSV."""
+"""Statistics of many sessions: a table, and CSV."""
 
 from __future__ import annotations
 
@@ -16,29 +16,29 @@ from .session import Outcome
 
 @dataclass
 class Figures:
-    """Of the sessions of one scenario, or of one setting of it. Times are milliseconds."""
+    """The statistics of one scenario, or of one setting of it. Times are milliseconds."""
 
     label: str
     sessions: int = 0
     connected: int = 0
-    mirrored: int = 0
+    symmetric: int = 0
     role_changes: int = 0
-    first: list[float] = field(default_factory=list)  # when both had announced a path
+    first: list[float] = field(default_factory=list)  # when both had selected a pair
     last: list[float] = field(default_factory=list)
-    lost: list[float] = field(default_factory=list)  # when side A told that no path is left
+    lost: list[float] = field(default_factory=list)  # when side A disconnected
     packets: dict[str, list[int]] = field(default_factory=lambda: {side: [] for side in SIDES})
     bytes: dict[str, list[int]] = field(default_factory=lambda: {side: [] for side in SIDES})
     kinds: Counter[str] = field(default_factory=Counter)
 
     def add(self, outcome: Outcome) -> None:
-        """One more session."""
+        """Adds a session."""
         self.sessions += 1
         self.connected += outcome.connected
-        self.mirrored += outcome.mirrored
+        self.symmetric += outcome.symmetric
         self.role_changes += any(side.role_changes for side in outcome.sides.values())
-        for times, moment in ((self.first, outcome.first), (self.last, outcome.last), (self.lost, outcome.sides["a"].lost_at)):
-            if moment is not None:
-                times.append(moment / MILLISECOND)
+        for times, time in ((self.first, outcome.first), (self.last, outcome.last), (self.lost, outcome.sides["a"].lost_at)):
+            if time is not None:
+                times.append(time / MILLISECOND)
         for name, side in outcome.sides.items():
             self.packets[name].append(side.packets)
             self.bytes[name].append(side.bytes)
@@ -47,7 +47,7 @@ class Figures:
 
 
 def quantile(values: Sequence[float], share: float) -> float | None:
-    """The least value that so large a share of the values does not pass."""
+    """Returns a quantile: the least value that this share of the values does not exceed."""
     if not values:
         return None
     ordered = sorted(values)
@@ -55,19 +55,19 @@ def quantile(values: Sequence[float], share: float) -> float | None:
 
 
 def gather(outcomes: Iterable[Outcome], into: dict[str, Figures] | None = None) -> dict[str, Figures]:
-    """Figures by scenario."""
+    """Collects statistics by scenario."""
     figures = {} if into is None else into
     for outcome in outcomes:
         figures.setdefault(outcome.scenario, Figures(outcome.scenario)).add(outcome)
     return figures
 
 
-COLUMNS = ("scenario", "sessions", "connected %", "mirrored %", "first: median ms", "95 %", "99 %", "last: median ms", "95 %", "99 %",
+COLUMNS = ("scenario", "sessions", "connected %", "symmetric %", "first: median ms", "95 %", "99 %", "last: median ms", "95 %", "99 %",
            "packets A", "packets B", "bytes A", "bytes B", "role changed %", "paths")
 
 
 def row(f: Figures) -> list[str]:
-    """The row of a table; packets and bytes are medians, per side, until the last announced path."""
+    """Returns a row of the table. Packets and bytes are medians of a side, up to its last selected pair."""
     def share(count: int) -> str:
         return f"{100 * count / f.sessions:.1f}" if f.sessions else "-"
 
@@ -78,11 +78,11 @@ def row(f: Figures) -> list[str]:
     times = [told(values, at) for values in (f.first, f.last) for at in (0.5, 0.95, 0.99)]
     work = [told(values[side], 0.5) for values in (f.packets, f.bytes) for side in SIDES]
     kinds = ", ".join(f"{kind} {100 * count / f.connected:.0f} %" for kind, count in f.kinds.most_common()) or "-"
-    return [f.label, str(f.sessions), share(f.connected), share(f.mirrored), *times, *work, share(f.role_changes), kinds]
+    return [f.label, str(f.sessions), share(f.connected), share(f.symmetric), *times, *work, share(f.role_changes), kinds]
 
 
 def table(figures: Iterable[Figures]) -> str:
-    """A Markdown table."""
+    """Returns a Markdown table."""
     rows = [list(COLUMNS), *(row(f) for f in figures)]
     widths = [max(len(r[i]) for r in rows) for i in range(len(COLUMNS))]
     lines = ["| " + " | ".join(cell.ljust(width) for cell, width in zip(r, widths)) + " |" for r in rows]
@@ -90,17 +90,17 @@ def table(figures: Iterable[Figures]) -> str:
     return "\n".join(lines)
 
 
-CSV_COLUMNS = ("scenario", "seed", "connected", "mirrored", "seconds", *(
+CSV_COLUMNS = ("scenario", "seed", "connected", "symmetric", "seconds", *(
     f"{side}_{what}" for side in SIDES
     for what in ("first_ns", "last_ns", "packets", "bytes", "kind", "controlling", "role_changes", "lost_ns")))
 
 
 def write_csv(outcomes: Iterable[Outcome], stream: IO[str]) -> Iterable[Outcome]:
-    """Writes a row for each session as it goes by."""
+    """Writes a row for each session, and passes the session on."""
     writer = csv.writer(stream, lineterminator="\n")
     writer.writerow(CSV_COLUMNS)
     for o in outcomes:
-        cells: list[object] = [o.scenario, o.seed, int(o.connected), int(o.mirrored), f"{o.seconds:.3f}"]
+        cells: list[object] = [o.scenario, o.seed, int(o.connected), int(o.symmetric), f"{o.seconds:.3f}"]
         for side in SIDES:
             s = o.sides[side]
             cells += [s.first, s.last, s.packets, s.bytes, s.kind, int(s.controlling), s.role_changes, s.lost_at]

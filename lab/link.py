@@ -1,4 +1,4 @@
-"""One direction of a link: when a packet arrives, how often, or that it is lost."""
+"""One direction of a link: it delays, duplicates, reorders and loses packets."""
 
 from __future__ import annotations
 
@@ -12,33 +12,33 @@ NEVER = 1 << 63
 
 @dataclass(frozen=True)
 class LinkSettings:
-    """What a scenario says of a link. Times are milliseconds, shares lie between 0 and 1."""
+    """The settings of a link. Times are milliseconds; probabilities are from 0 to 1."""
 
     delay_ms: float = 5.0
-    jitter_ms: float = 0.0  # added, evenly from 0 to this
-    loss: float = 0.0  # each packet by itself
-    burst_every_s: float = 0.0  # how long it is good on average between two bursts, in which all is lost; 0: there are none
-    burst_ms: float = 200.0  # how long a burst takes, on average
+    jitter_ms: float = 0.0  # added, uniformly from 0 to this
+    loss: float = 0.0  # the probability for each packet, independently
+    burst_every_s: float = 0.0  # mean time between two bursts, in which every packet is lost; 0: no bursts
+    burst_ms: float = 200.0  # mean length of a burst
     duplicate: float = 0.0
-    reorder: float = 0.0  # how likely a packet is held back, and overtaken
-    reorder_ms: float = 20.0  # for how long
-    rate_kbit: float = 0.0  # 0: any
-    queue_ms: float = 200.0  # a packet that would wait longer for its turn is lost
+    reorder: float = 0.0  # the probability that a packet is delayed and overtaken
+    reorder_ms: float = 20.0  # by how much
+    rate_kbit: float = 0.0  # 0: unlimited
+    queue_ms: float = 200.0  # a packet that would be queued longer is lost
 
 
 class Link:
-    """Keeps packets in order, but for those that are held back."""
+    """One direction of a link. It keeps packets in order, except for those that it reorders."""
 
     def __init__(self, settings: LinkSettings, random: Random) -> None:
         self.settings = settings
         self._random = random
         self._is_bursting = False
-        self._turns = self._later(BEGINNING, settings.burst_every_s * 1000)  # when a burst begins, or ends
-        self._free = 0  # when the packet before has gone out
-        self._last = 0  # when the packet before arrives
+        self._turns = self._later(BEGINNING, settings.burst_every_s * 1000)  # the next start or end of a burst
+        self._free = 0  # when the previous packet is sent completely
+        self._last = 0  # when the previous packet arrives
 
     def carry(self, now: int, size: int) -> list[int]:
-        """The moments at which a packet of so many bytes arrives: none where it is lost, two where it is duplicated."""
+        """Returns the times at which a packet of this size arrives: none if it is lost, two if it is duplicated."""
         if self._is_lost(now):
             return []
         gone = self._sent(now, size)
@@ -49,8 +49,8 @@ class Link:
             arrivals.append(self._arrival(gone))
         return arrivals
 
-    def _later(self, moment: int, mean_ms: float) -> int:
-        return moment + nanoseconds(self._random.expovariate(1 / mean_ms)) if mean_ms else NEVER
+    def _later(self, time: int, mean_ms: float) -> int:
+        return time + nanoseconds(self._random.expovariate(1 / mean_ms)) if mean_ms else NEVER
 
     def _is_lost(self, now: int) -> bool:
         s = self.settings

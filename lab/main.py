@@ -9,29 +9,29 @@ from contextlib import ExitStack
 from pathlib import Path
 
 from . import compare, figures, plot, pool, scenario
-from .promises import Broken
+from .guarantees import Broken
 from .scenario import BadScenario, Scenario
 
 
 def _arguments() -> argparse.Namespace:
-    parser = argparse.ArgumentParser(prog="lab/run", description="Plays sessions of two agents over networks that are made up.")
+    parser = argparse.ArgumentParser(prog="lab/run", description="Simulates sessions of two agents over networks with NATs, delays and loss.")
     words = parser.add_subparsers(dest="word", required=True)
-    words.add_parser("list", help="the scenarios")
-    measure = words.add_parser("measure", help="plays sessions of scenarios and tells what came of them")
-    measure.add_argument("scenario", nargs="*", help="names of lab/scenarios, or TOML files; without any: all of lab/scenarios")
-    measure.add_argument("-n", "--sessions", type=int, default=200, help="of each scenario (200)")
+    words.add_parser("list", help="lists the scenarios")
+    measure = words.add_parser("measure", help="runs sessions of scenarios and prints statistics")
+    measure.add_argument("scenario", nargs="*", help="names in lab/scenarios, or TOML files; default: all of lab/scenarios")
+    measure.add_argument("-n", "--sessions", type=int, default=200, help="sessions of each scenario (200)")
     measure.add_argument("--set", action="append", default=[], metavar="KEY=VALUE", help="changes a scenario: a.initial_rto_ms=100")
-    measure.add_argument("--csv", type=Path, metavar="FILE", help="a row for each session")
-    measure.add_argument("--plot", type=Path, metavar="FILE", help="the share connected over time, .svg or (by matplotlib) .png")
-    comparing = words.add_parser("compare", help="plays settings beside each other, and plots them")
+    measure.add_argument("--csv", type=Path, metavar="FILE", help="writes a row for each session")
+    measure.add_argument("--plot", type=Path, metavar="FILE", help="plots the share of connected sessions over time, as .svg or (by matplotlib) .png")
+    comparing = words.add_parser("compare", help="compares settings, and plots them")
     comparing.add_argument("question", choices=sorted(compare.QUESTIONS))
-    comparing.add_argument("-n", "--sessions", type=int, default=1000, help="of each setting (1000)")
+    comparing.add_argument("-n", "--sessions", type=int, default=1000, help="sessions of each setting (1000)")
     comparing.add_argument("--plot", type=Path, metavar="FILE", required=True)
     for command in (measure, comparing):
         command.add_argument("--seed", type=int, default=0, help="the first seed (0)")
-        command.add_argument("-j", "--processes", type=int, default=1)
+        command.add_argument("-j", "--processes", type=int, default=1, help="number of processes (1)")
         command.add_argument("-q", "--quiet", action="store_true", help="no progress bar")
-        command.add_argument("--own-svg", action="store_true", help="plots without matplotlib, also where that is installed")
+        command.add_argument("--own-svg", action="store_true", help="plots without matplotlib, even if that is installed")
     return parser.parse_args()
 
 
@@ -46,7 +46,7 @@ def _measure(options: argparse.Namespace) -> None:
         told = figures.gather(outcomes)
     print(figures.table(told[s.name] for s in scenarios))
     total = sum(f.sessions for f in told.values())
-    print(f"{total} sessions in {time.monotonic() - begun:.0f} s, no promise broken")
+    print(f"{total} sessions in {time.monotonic() - begun:.0f} s, no guarantee broken")
     if options.plot:
         _plot(options, scenarios, told)
 
@@ -59,7 +59,7 @@ def _plot(options: argparse.Namespace, scenarios: list[Scenario], told: dict[str
 
 
 def main() -> int:
-    """The exit status: 0; 1 where a promise is broken; 2 where a scenario or a file does not read."""
+    """Returns the exit status: 0; 1 if a guarantee does not hold; 2 if a scenario or a file has an error."""
     options = _arguments()
     try:
         if options.word == "list":
@@ -71,7 +71,7 @@ def main() -> int:
             compare.run(options.question, options.sessions, options.seed, options.processes, options.quiet, options.plot, options.own_svg)
         return 0
     except Broken as broken:
-        print(f"lab: BROKEN PROMISE: {broken}", file=sys.stderr)
+        print(f"lab: BROKEN GUARANTEE: {broken}", file=sys.stderr)
         return 1
     except (BadScenario, OSError, ValueError) as fault:
         print(f"lab: {fault}", file=sys.stderr)

@@ -1,4 +1,4 @@
-"""A NAT by RFC 4787: how it maps, what it lets in, and when it forgets."""
+"""A NAT (RFC 4787): its mapping, its filtering and its timeout."""
 
 from __future__ import annotations
 
@@ -12,14 +12,14 @@ from .clock import SECOND
 
 
 class Behaviour(enum.Enum):
-    """Of mapping (RFC 4787, 4.1) and of filtering (RFC 4787, 5)."""
+    """The behaviour of mapping (RFC 4787, section 4.1) and of filtering (section 5)."""
 
     ENDPOINT = "endpoint-independent"
     ADDRESS = "address-dependent"
     ADDRESS_AND_PORT = "address-and-port-dependent"
 
     def key(self, remote: SocketAddress) -> tuple[object, ...]:
-        """What of the remote end it looks at."""
+        """Returns the part of the remote address that the behaviour depends on."""
         if self is Behaviour.ENDPOINT:
             return ()
         return (remote.ip,) if self is Behaviour.ADDRESS else (remote.ip, remote.port)
@@ -27,15 +27,15 @@ class Behaviour(enum.Enum):
 
 @dataclass(frozen=True)
 class NatSettings:
-    """What a scenario says of a NAT. `outside` is its address in the network that it leads to."""
+    """The settings of a NAT. `outside` is its address in the outer network."""
 
     outside: str
     mapping: Behaviour = Behaviour.ENDPOINT
     filtering: Behaviour = Behaviour.ADDRESS_AND_PORT
     hairpinning: bool = True
-    timeout_s: float = 120.0  # for how long a mapping stays without an outgoing packet (RFC 4787, 4.3)
-    inbound_refresh: bool = False  # incoming packets keep it too
-    preserves_ports: bool = True  # the outside port is the inside one where that is free (RFC 4787, 4.2.1)
+    timeout_s: float = 120.0  # how long a mapping stays without an outgoing packet (section 4.3)
+    inbound_refresh: bool = False  # incoming packets refresh a mapping too
+    preserves_ports: bool = True  # the outside port is the inside one if that is free (section 4.2.1)
 
 
 @dataclass
@@ -43,11 +43,11 @@ class _Mapping:
     inside: SocketAddress
     port: int
     used: int
-    remotes: dict[tuple[object, ...], int] = field(default_factory=dict)  # what it lets in, and since when
+    remotes: dict[tuple[object, ...], int] = field(default_factory=dict)  # the remotes that pass the filter, with the time of the last packet
 
 
 class Nat:
-    """Turns the source of what goes out, and the destination of what comes in."""
+    """Translates the source of outgoing packets and the destination of incoming ones."""
 
     def __init__(self, settings: NatSettings, random: Random) -> None:
         self.settings = settings
@@ -57,7 +57,7 @@ class Nat:
         self._ports: dict[int, _Mapping] = {}
 
     def outgoing(self, now: int, source: SocketAddress, destination: SocketAddress) -> SocketAddress:
-        """The outside source of a packet that goes out."""
+        """Returns the outside source of an outgoing packet."""
         key = (source, *self.settings.mapping.key(destination))
         mapping = self._mappings.get(key)
         if mapping is None or now - mapping.used > self._timeout:
@@ -67,7 +67,7 @@ class Nat:
         return SocketAddress(self.settings.outside, mapping.port)
 
     def incoming(self, now: int, source: SocketAddress, destination: SocketAddress) -> SocketAddress | None:
-        """The inside destination of a packet that comes in, or None: nothing is mapped there, or it is not let in."""
+        """Returns the inside destination of an incoming packet, or None if there is no mapping or the packet is filtered."""
         mapping = self._ports.get(destination.port)
         if mapping is None or now - mapping.used > self._timeout:
             return None

@@ -1,4 +1,4 @@
-"""Networks, what is attached to them, and the way of a packet between them."""
+"""Networks, their nodes, and the routing of packets."""
 
 from __future__ import annotations
 
@@ -13,17 +13,17 @@ from .clock import Clock
 from .link import Link, LinkSettings
 from .nat import Nat, NatSettings
 
-# IPv4 or IPv6 and UDP headers, which a link carries too.
+# The bytes of the IP header, by version, and of the UDP header.
 HEADERS = {4: 28, 6: 48}
 
 
 @dataclass
 class Datagram:
-    """What an agent sent, and what became of it. `source` and `destination` are as the agent named them."""
+    """A packet of an agent, with where it went. `source` and `destination` are those that the agent named."""
 
     number: int
     side: str
-    moment: int
+    time: int
     source: SocketAddress
     destination: SocketAddress
     contents: bytes
@@ -33,7 +33,7 @@ class Datagram:
 
 @dataclass
 class Packet:
-    """A datagram, or a word between a caller and a server, on its way."""
+    """An in-flight datagram, or an in-flight message between an endpoint and a server."""
 
     source: SocketAddress
     destination: SocketAddress
@@ -42,19 +42,19 @@ class Packet:
     datagram: Datagram | None = None
 
     def copy(self) -> Packet:
-        """The same, to be turned apart."""
+        """Returns a copy, whose addresses are translated separately."""
         return Packet(self.source, self.destination, self.payload, self.size, self.datagram)
 
 
 class Node(Interface_):
-    """What can be attached to a network."""
+    """Something with an address in a network."""
 
     def arrive(self, packet: Packet) -> None:
-        """Takes a packet for its address."""
+        """Receives a packet for its address."""
 
 
 class Network:
-    """Addresses that reach each other, and perhaps a gateway to another network."""
+    """Nodes that reach each other, and perhaps a gateway to another network."""
 
     def __init__(self, name: str, clock: Clock, delay: int = 0) -> None:
         self.name = name
@@ -64,13 +64,13 @@ class Network:
         self.gateway: Gateway | None = None
 
     def attach(self, ip: str, node: Node) -> None:
-        """Gives a node an address. ValueError where it is taken."""
+        """Gives a node an address. ValueError if the address is in use."""
         if ip in self.nodes:
             raise ValueError(f"{ip} is attached to {self.name} twice")
         self.nodes[ip] = node
 
     def route(self, packet: Packet) -> None:
-        """Takes a packet to the node of its destination, or out."""
+        """Delivers a packet to the node of its destination, or to the gateway."""
         node = self.nodes.get(packet.destination.ip)
         if node is not None:
             self.clock.at(self.clock.now + self.delay, node.arrive, packet)
@@ -91,22 +91,22 @@ class Gateway:
         outer.attach(settings.outside, self)
 
     def leave(self, packet: Packet) -> None:
-        """Takes a packet from inside."""
+        """Forwards a packet from inside."""
         now = self.inner.clock.now
         settings = self.nat.settings
         hop(packet, now, self.name)
-        turns_back = packet.destination.ip == settings.outside
-        if turns_back and not settings.hairpinning:
+        is_hairpin = packet.destination.ip == settings.outside
+        if is_hairpin and not settings.hairpinning:
             lose(packet, now, f"no hairpin at {self.name}")
             return
         packet.source = self.nat.outgoing(now, packet.source, packet.destination)
-        if turns_back:
+        if is_hairpin:
             self.arrive(packet)
         else:
             self.outer.route(packet)
 
     def arrive(self, packet: Packet) -> None:
-        """Takes a packet from outside."""
+        """Forwards a packet from outside."""
         now = self.inner.clock.now
         hop(packet, now, self.name)
         inside = self.nat.incoming(now, packet.source, packet.destination)
@@ -118,7 +118,7 @@ class Gateway:
 
 
 class Interface:
-    """An address of a side, with a link to its network and one from there."""
+    """A network interface of a side, with a link to its network and one back."""
 
     def __init__(self, name: str, ip: str, network: Network, up: LinkSettings, down: LinkSettings, random: Random) -> None:
         self.name, self.ip, self.network = name, ip, network
@@ -136,7 +136,7 @@ class Interface:
         self._carry(self.up, packet, self.network.route)
 
     def arrive(self, packet: Packet) -> None:
-        """Takes a packet from the network to the side."""
+        """Carries a packet from the network to the side."""
         self._carry(self.down, packet, self._deliver)
 
     def _carry(self, link: Link, packet: Packet, then: Callable[[Packet], None]) -> None:
@@ -155,12 +155,12 @@ class Interface:
 
 
 def hop(packet: Packet, now: int, place: str) -> None:
-    """Notes that a datagram came by a place."""
+    """Records that a datagram passed a gateway."""
     if packet.datagram is not None:
         packet.datagram.hops.append((now, place))
 
 
 def lose(packet: Packet, now: int, why: str) -> None:
-    """Notes that a datagram came to an end."""
+    """Records why a datagram was lost."""
     if packet.datagram is not None:
         packet.datagram.fates.append((now, why))

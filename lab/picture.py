@@ -1,4 +1,4 @@
-"""What a picture of a session shows: lanes, ways of packets, flags, states."""
+"""What a picture of a session shows: lanes, arrows of packets, flags, states."""
 
 from __future__ import annotations
 
@@ -14,11 +14,11 @@ from .stun import message_of
 
 
 @dataclass
-class Way:
-    """A packet: the places that it came by, each with its moment. `end` is empty, or why it went no further."""
+class Arrow:
+    """A packet: the lanes that it passed, each with its time. `end` is why it went no further, or empty."""
 
     label: str
-    kind: str  # check, asking, answer, failure
+    kind: str  # check, nomination, response, failure
     stops: list[tuple[int, str]]
     end: str = ""
     toward: str = ""  # the lane that it did not reach
@@ -26,56 +26,56 @@ class Way:
 
 @dataclass
 class Picture:
-    """Moments are nanoseconds from the beginning of the session."""
+    """A picture. Times are nanoseconds from the start of the session."""
 
     title: str
     lanes: list[str]
-    ways: list[Way] = field(default_factory=list)
-    flags: list[tuple[int, str, str]] = field(default_factory=list)  # moment, lane, text
-    states: list[tuple[int, str, str]] = field(default_factory=list)  # moment, lane, name of the state
+    arrows: list[Arrow] = field(default_factory=list)
+    flags: list[tuple[int, str, str]] = field(default_factory=list)  # time, lane, text
+    states: list[tuple[int, str, str]] = field(default_factory=list)  # time, lane, name of the state
 
     def between(self, begin: int, end: int) -> Picture:
-        """What happens in a part of the session."""
-        ways = [way for way in self.ways if begin <= way.stops[0][0] < end]
+        """Returns the picture of a part of the session."""
+        arrows = [arrow for arrow in self.arrows if begin <= arrow.stops[0][0] < end]
         flags = [flag for flag in self.flags if begin <= flag[0] < end]
         before: dict[str, str] = {}
-        for moment, lane, name in self.states:
-            if moment < begin:
+        for time, lane, name in self.states:
+            if time < begin:
                 before[lane] = name
         states = [(begin, lane, name) for lane, name in before.items()] + [s for s in self.states if begin <= s[0] < end]
-        return Picture(self.title, self.lanes, ways, flags, states)
+        return Picture(self.title, self.lanes, arrows, flags, states)
 
 
 class Transactions:
-    """Numbers transactions in the order in which they are first seen."""
+    """Numbers the transactions in the order of their requests."""
 
     def __init__(self) -> None:
         self._numbers: dict[bytes, int] = {}
 
     def label(self, contents: bytes) -> tuple[str, str]:
-        """The label of a message, and its kind."""
+        """Returns the label of a message, and its kind."""
         message = message_of(contents)
         number = self._numbers.setdefault(message.transaction, len(self._numbers) + 1)
         if message.kind == "request":
-            return (f"check {number}, use it", "asking") if message.asks_for_path else (f"check {number}", "check")
+            return (f"check {number}, USE-CANDIDATE", "nomination") if message.use_candidate else (f"check {number}", "check")
         if message.kind == "success":
-            return f"answer {number}", "answer"
+            return f"response {number}", "response"
         return f"{message.code or 'failure'} to {number}", "failure"
 
 
 def flag_of(event: IceAgentEvent) -> str:
-    """The text of an event."""
+    """Returns the text of an event."""
     if isinstance(event, NominatedSend):
         return f"path {event.source} to {event.destination}"
     if isinstance(event, DiscoveredRecv):
-        return f"hears {event.source}"
+        return f"discovers {event.source}"
     if isinstance(event, IceRestart):
-        return "session begins"
+        return "session starts"
     return event.state.name.capitalize()
 
 
 def of_session(scenario: Scenario, trace: Trace) -> Picture:
-    """The picture of a session that was traced."""
+    """Returns the picture of a traced session."""
     inner = {i.network: side for side in "ab" for i in scenario.side(side).interface}
     near = {side: [g.name for g in scenario.nat if inner.get(g.inner) == side] for side in "ab"}
     rest = [g.name for g in scenario.nat if g.name not in near["a"] + near["b"]]
@@ -84,38 +84,38 @@ def of_session(scenario: Scenario, trace: Trace) -> Picture:
     picture = Picture(scenario.title, lanes)
     transactions = Transactions()
     for datagram in trace.datagrams:
-        picture.ways.append(_way(datagram, lanes, transactions))
-    for moment, side, event in trace.events:
-        _note(picture, moment - BEGINNING, side.upper(), event)
-    for moment, side, text in trace.deeds:
-        picture.flags.append((moment - BEGINNING, side.upper(), f"[{text}]"))
+        picture.arrows.append(_arrow(datagram, lanes, transactions))
+    for time, side, event in trace.events:
+        _note(picture, time - BEGINNING, side.upper(), event)
+    for time, side, text in trace.scenario_events:
+        picture.flags.append((time - BEGINNING, side.upper(), f"[{text}]"))
     picture.flags.sort(key=lambda flag: flag[0])
     return picture
 
 
-def _note(picture: Picture, moment: int, lane: str, event: IceAgentEvent) -> None:
-    picture.flags.append((moment, lane, flag_of(event)))
+def _note(picture: Picture, time: int, lane: str, event: IceAgentEvent) -> None:
+    picture.flags.append((time, lane, flag_of(event)))
     if isinstance(event, IceConnectionStateChange):
-        picture.states.append((moment, lane, event.state.name.capitalize()))
+        picture.states.append((time, lane, event.state.name.capitalize()))
     elif isinstance(event, IceRestart):
-        picture.states.append((moment, lane, IceConnectionState.CHECKING.name.capitalize()))
+        picture.states.append((time, lane, IceConnectionState.CHECKING.name.capitalize()))
 
 
-def _way(datagram: Datagram, lanes: list[str], transactions: Transactions) -> Way:
+def _arrow(datagram: Datagram, lanes: list[str], transactions: Transactions) -> Arrow:
     label, kind = transactions.label(datagram.contents)
     start = datagram.side.upper()
     goal = "B" if start == "A" else "A"
-    stops = [(datagram.moment - BEGINNING, start)]
-    for moment, place in datagram.hops:
+    stops = [(datagram.time - BEGINNING, start)]
+    for time, place in datagram.hops:
         if place in lanes and place not in [stop for _, stop in stops]:
-            stops.append((moment - BEGINNING, place))
-    taken = [moment for moment, fate in datagram.fates if fate in ("taken", "refused")]
+            stops.append((time - BEGINNING, place))
+    taken = [time for time, fate in datagram.fates if fate in ("taken", "refused")]
     if taken:
         is_refused = all(fate != "taken" for _, fate in datagram.fates)
         times = " (twice)" if len(taken) > 1 else ""
-        return Way(label + times, kind, [*stops, (taken[0] - BEGINNING, goal)], "refused" if is_refused else "")
-    why = datagram.fates[-1][1] if datagram.fates else "still on its way"
+        return Arrow(label + times, kind, [*stops, (taken[0] - BEGINNING, goal)], "refused" if is_refused else "")
+    why = datagram.fates[-1][1] if datagram.fates else "in flight"
     place = stops[-1][1]
     step = 1 if start == "A" else -1
     ahead = lanes[lanes.index(place) + step] if place not in why and place != goal else ""
-    return Way(label, kind, stops, why, ahead)
+    return Arrow(label, kind, stops, why, ahead)

@@ -1,4 +1,4 @@
-"""Plots: matplotlib where it is installed, else an SVG of a few lines."""
+"""Plots by matplotlib if that is installed, else as plain SVG."""
 
 from __future__ import annotations
 
@@ -11,14 +11,14 @@ COLOURS = ("#1f77b4", "#d62728", "#2ca02c", "#9467bd", "#ff7f0e", "#17becf", "#8
            "#393b79", "#637939", "#843c39", "#7b4173")
 WIDTH, HEIGHT = 860, 440
 LEFT, TOP, BOTTOM = 62, 40, 52
-# What a letter of the legend takes, about.
+# About the width of a letter of the legend.
 LETTER = 6.7
 PLOT = 570
 
 
 @dataclass(frozen=True)
 class Curve:
-    """Points of a curve, from left to right. `dashed` tells it apart from another one of its colour."""
+    """A curve, with its points from left to right. `dashed` distinguishes it from another one of its colour."""
 
     label: str
     points: Sequence[tuple[float, float]]
@@ -28,7 +28,7 @@ class Curve:
 
 def share_over_time(label: str, times: Sequence[float], sessions: int, end: float, dashed: bool = False,
                     colour: str | None = None) -> Curve:
-    """The share of the sessions, in per cent, for which a time (milliseconds) has come, over seconds."""
+    """Returns the curve over seconds of the share of sessions, in per cent, whose time (in milliseconds) has passed."""
     points = [(0.0, 0.0)]
     for count, time in enumerate(sorted(times), 1):
         points += [(time / 1000, points[-1][1]), (time / 1000, 100 * count / sessions)]
@@ -37,7 +37,7 @@ def share_over_time(label: str, times: Sequence[float], sessions: int, end: floa
 
 
 def write(path: Path, title: str, x: str, y: str, curves: Sequence[Curve], own: bool = False) -> None:
-    """Writes a plot; one whose name ends with .svg is the own SVG where that is wanted, or matplotlib is missing."""
+    """Writes a plot. It is plain SVG if `own` is true or matplotlib is not installed."""
     curves = [Curve(c.label, c.points, c.dashed or n >= len(COLOURS), c.colour or COLOURS[n % len(COLOURS)]) for n, c in enumerate(curves)]
     if not own:
         try:
@@ -46,7 +46,7 @@ def write(path: Path, title: str, x: str, y: str, curves: Sequence[Curve], own: 
         except ImportError:
             pass
     if path.suffix != ".svg":
-        raise ValueError(f"{path}: without matplotlib plots are .svg alone")
+        raise ValueError(f"{path}: without matplotlib a plot has to be .svg")
     path.write_text(svg(title, x, y, curves), encoding="utf-8")
 
 
@@ -69,10 +69,10 @@ def _write_by_matplotlib(path: Path, title: str, x: str, y: str, curves: Sequenc
     pyplot.close(figure)
 
 
-# ---- the own SVG
+# ---- plain SVG
 
 def ticks(top: float) -> list[float]:
-    """Round numbers from 0 to about this one, from five to ten of them."""
+    """Returns five to ten round numbers from 0 to about this one."""
     if top <= 0:
         return [0.0, 1.0]
     step = 1.0
@@ -88,7 +88,7 @@ def ticks(top: float) -> list[float]:
 
 
 def svg(title: str, x: str, y: str, curves: Sequence[Curve]) -> str:
-    """A plot from 0 on, with its legend at the right."""
+    """Returns a plot that starts at 0, with its legend at the right."""
     right = max((p[0] for c in curves for p in c.points), default=1.0) or 1.0
     top = max((p[1] for c in curves for p in c.points), default=1.0) or 1.0
     wide, high = PLOT, max(HEIGHT - TOP - BOTTOM, 18 * len(curves) + 10)

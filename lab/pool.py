@@ -1,4 +1,4 @@
-"""Many sessions, in several processes, with a bar that tells how far it is."""
+"""Runs many sessions in several processes, with a progress bar."""
 
 from __future__ import annotations
 
@@ -8,17 +8,17 @@ import time
 from collections.abc import Iterable, Iterator
 from dataclasses import dataclass
 
-from .promises import Broken
+from .guarantees import Broken
 from .scenario import Scenario
 from .session import Outcome, Session
 
-# How many sessions a process takes at once.
+# The number of sessions that a process takes at once.
 PORTION = 20
 
 
 @dataclass(frozen=True)
 class Fault:
-    """A session in which a promise was broken."""
+    """A session in which a guarantee did not hold."""
 
     scenario: str
     seed: int
@@ -29,7 +29,7 @@ Portion = tuple[Scenario, range]
 
 
 def play(portion: Portion) -> list[Outcome] | Fault:
-    """Plays a portion of sessions, up to the first broken promise."""
+    """Runs a portion of sessions, up to the first broken guarantee."""
     scenario, seeds = portion
     outcomes = []
     for seed in seeds:
@@ -41,13 +41,13 @@ def play(portion: Portion) -> list[Outcome] | Fault:
 
 
 def portions(scenarios: Iterable[Scenario], count: int, seed: int) -> list[Portion]:
-    """So many sessions of each scenario, seeds from `seed` on, the scenarios by turns."""
+    """Divides `count` sessions of each scenario, with seeds from `seed` on, into portions that alternate between the scenarios."""
     parts = [range(first, min(first + PORTION, seed + count)) for first in range(seed, seed + count, PORTION)]
     return [(scenario, part) for part in parts for scenario in scenarios]
 
 
 def run(scenarios: list[Scenario], count: int, seed: int = 0, processes: int = 1, quiet: bool = False) -> Iterator[Outcome]:
-    """The outcomes, in an order of which nothing hangs. Broken, with scenario and seed, at the first broken promise."""
+    """Returns the outcomes in any order. Raises Broken, with scenario and seed, at the first broken guarantee."""
     work = portions(scenarios, count, seed)
     bar = Bar(count * len(scenarios), quiet)
     for result in _results(work, processes):
@@ -68,10 +68,10 @@ def _results(work: list[Portion], processes: int) -> Iterator[list[Outcome] | Fa
 
 
 class Bar:
-    """A progress bar on standard error, where that is a terminal; else a line now and then."""
+    """A progress bar on standard error if that is a terminal, else a line from time to time."""
 
     WIDTH = 40
-    EVERY = 20.0  # seconds between lines, where there is no terminal
+    EVERY = 20.0  # seconds between lines without a terminal
 
     def __init__(self, total: int, quiet: bool) -> None:
         self._total, self._quiet = total, quiet
@@ -79,7 +79,7 @@ class Bar:
         self._is_terminal = sys.stderr.isatty()
 
     def add(self, count: int) -> None:
-        """So many more are done."""
+        """Counts completed sessions."""
         self._done += count
         if self._quiet or time.monotonic() - self._shown < (0.1 if self._is_terminal else self.EVERY):
             return
@@ -88,7 +88,7 @@ class Bar:
         print(f"\r{text}" if self._is_terminal else text, end="" if self._is_terminal else "\n", file=sys.stderr, flush=True)
 
     def end(self) -> None:
-        """Leaves the line."""
+        """Ends the line of the bar."""
         if not self._quiet and self._is_terminal:
             print(f"\r{self._text()}", file=sys.stderr)
 

@@ -1,4 +1,4 @@
-"""Scenarios: what a TOML file says, in dataclasses."""
+"""Scenarios: the contents of a TOML file as dataclasses."""
 
 from __future__ import annotations
 
@@ -13,18 +13,18 @@ from .nat import Behaviour, NatSettings
 
 FOLDER = Path(__file__).resolve().parent / "scenarios"
 SIDES = ("a", "b")
-DEEDS = ("on", "off", "silent", "restart")
+EVENTS = ("on", "off", "silent", "restart")
 
 T = TypeVar("T")
 
 
 class BadScenario(ValueError):
-    """A scenario that does not read."""
+    """A scenario with an error."""
 
 
 @dataclass(frozen=True)
 class InterfaceSettings:
-    """An address of a side. `up` and `down` name links; `is_on` is false for one that comes later, by an event."""
+    """A network interface of a side. `up` and `down` name links. `is_on` is false if an event turns it on later."""
 
     name: str
     ip: str
@@ -36,7 +36,7 @@ class InterfaceSettings:
 
 @dataclass(frozen=True)
 class AgentSettings:
-    """Settings of the agent; those that are None stay as the agent has them."""
+    """The settings of an agent. None: the agent's default."""
 
     controlling: bool = False
     lite: bool = False
@@ -45,19 +45,19 @@ class AgentSettings:
     advance_ms: float | None = None
     retransmits: int | None = None
     max_pairs: int | None = None
-    stun: bool = True  # asks a STUN server of its address
-    relay: bool = False  # asks a TURN server for an address
+    stun: bool = True  # gathers server-reflexive candidates
+    relay: bool = False  # gathers relayed candidates
     interface: tuple[InterfaceSettings, ...] = ()
 
 
 @dataclass(frozen=True)
 class SignallingSettings:
-    """The channel between the sides, which keeps order and loses nothing."""
+    """The signaling channel, which keeps order and loses nothing."""
 
     delay_ms: float = 50.0
     jitter_ms: float = 30.0
-    trickle: bool = True  # each candidate as it is found, and not all at the end
-    credentials_late_ms: float = 0.0  # by how much side B's credentials come behind its candidates
+    trickle: bool = True  # each candidate when it is gathered, not all at the end
+    credentials_late_ms: float = 0.0  # how much later than its candidates side B's credentials are signaled
 
 
 @dataclass(frozen=True)
@@ -71,8 +71,8 @@ class GatewaySettings:
 
 
 @dataclass(frozen=True)
-class Deed:
-    """What befalls a side: an interface is turned on or off, or falls silent (nobody tells the agent); or it restarts."""
+class ScenarioEvent:
+    """What happens to a side: an interface is turned on or off, its link fails without notification (silent), or an ICE restart."""
 
     at_s: float
     side: str
@@ -82,35 +82,35 @@ class Deed:
 
 @dataclass(frozen=True)
 class Scenario:
-    """All that a session is made of, but for the seed."""
+    """Everything that determines a session, except for the seed."""
 
     name: str
     title: str
-    seconds: float = 40.0  # a session ends here at the latest
-    settle_s: float = 4.0  # it ends so long behind the last announced path and the last event, once both have a path
-    begin_s: float = 0.0  # side B begins with the first signal, or here where that is later
-    mirrored: bool = True  # the last announced paths of both must be each other's turned
+    seconds: float = 40.0  # the longest duration of a session
+    settle_s: float = 4.0  # the session ends this long after the last selected pair and the last event, if both have a path
+    begin_s: float = 0.0  # side B starts with the first signal, or at this time if that is later
+    symmetric: bool = True  # the last paths of both sides must be the reverse of each other
     connects: str = "always"  # always, sometimes or never
-    network: dict[str, float] = field(default_factory=dict)  # how long a packet takes in it, in milliseconds
+    network: dict[str, float] = field(default_factory=dict)  # the delay of each network, in milliseconds
     link: dict[str, LinkSettings] = field(default_factory=dict)
     nat: tuple[GatewaySettings, ...] = ()
     signalling: SignallingSettings = SignallingSettings()
     a: AgentSettings = AgentSettings()
     b: AgentSettings = AgentSettings()
-    event: tuple[Deed, ...] = ()
+    event: tuple[ScenarioEvent, ...] = ()
 
     def side(self, name: str) -> AgentSettings:
-        """The settings of a side."""
+        """Returns the settings of a side."""
         return self.a if name == "a" else self.b
 
 
 def names() -> list[str]:
-    """The scenarios of lab/scenarios."""
+    """Returns the names of the scenarios in lab/scenarios."""
     return sorted(path.stem for path in FOLDER.glob("*.toml"))
 
 
 def load(name: str, changes: tuple[str, ...] = ()) -> Scenario:
-    """The scenario of a file in lab/scenarios, or of another file; with changes like `a.initial_rto_ms=100`."""
+    """Loads a scenario of lab/scenarios, or another file, with changes like `a.initial_rto_ms=100`."""
     path = Path(name) if name.endswith(".toml") else FOLDER / f"{name}.toml"
     try:
         table = tomllib.loads(path.read_text(encoding="utf-8"))
@@ -124,7 +124,7 @@ def load(name: str, changes: tuple[str, ...] = ()) -> Scenario:
 
 
 def scenario_of(name: str, table: dict[str, Any]) -> Scenario:
-    """The scenario of a table that was read. BadScenario says what is wrong with it, and where."""
+    """Builds the scenario of a TOML table. BadScenario says what is wrong, and where."""
     table = dict(table)
     table["network"] = {n: float(_known(t, ("delay_ms",), f"network.{n}").get("delay_ms", 0)) for n, t in table.get("network", {}).items()}
     table["network"].setdefault("internet", 20.0)
@@ -136,7 +136,7 @@ def scenario_of(name: str, table: dict[str, Any]) -> Scenario:
         own = dict(table.get(side, {}))
         own["interface"] = tuple(_build(InterfaceSettings, t, f"{side}.interface") for t in own.get("interface", ()))
         table[side] = _build(AgentSettings, own, side)
-    table["event"] = tuple(_build(Deed, t, "event") for t in table.get("event", ()))
+    table["event"] = tuple(_build(ScenarioEvent, t, "event") for t in table.get("event", ()))
     scenario = _build(Scenario, {"name": name, "title": name, **table}, name)
     _test(scenario)
     return scenario
@@ -152,12 +152,12 @@ def _test(scenario: Scenario) -> None:
             for link in (interface.up, interface.down):
                 if link not in links:
                     raise BadScenario(f"{scenario.name}: there is no link {link}")
-    for deed in scenario.event:
-        if deed.do not in DEEDS or deed.side not in SIDES:
-            raise BadScenario(f"{scenario.name}: an event does one of {', '.join(DEEDS)}, to a or b")
-        known = [interface.name for interface in scenario.side(deed.side).interface]
-        if deed.do != "restart" and deed.interface not in known:
-            raise BadScenario(f"{scenario.name}: side {deed.side} has no interface {deed.interface!r}")
+    for event in scenario.event:
+        if event.do not in EVENTS or event.side not in SIDES:
+            raise BadScenario(f"{scenario.name}: an event does one of {', '.join(EVENTS)}, to a or b")
+        known = [interface.name for interface in scenario.side(event.side).interface]
+        if event.do != "restart" and event.interface not in known:
+            raise BadScenario(f"{scenario.name}: side {event.side} has no interface {event.interface!r}")
     if scenario.connects not in ("always", "sometimes", "never"):
         raise BadScenario(f"{scenario.name}: connects is always, sometimes or never")
 
@@ -179,8 +179,8 @@ def _build(kind: type[T], table: dict[str, Any], where: str) -> T:
     fields = {f.name: f for f in dataclasses.fields(kind)}  # type: ignore[arg-type]
     _known(table, tuple(fields), where)
     for name, f in fields.items():
-        is_wanted = f.default is dataclasses.MISSING and f.default_factory is dataclasses.MISSING
-        if is_wanted and name not in table:
+        is_required = f.default is dataclasses.MISSING and f.default_factory is dataclasses.MISSING
+        if is_required and name not in table:
             raise BadScenario(f"{where}: {name} is missing")
     return kind(**table)
 

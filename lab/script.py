@@ -1,4 +1,4 @@
-"""The picture of a script of `ice_run`: of its lines, and of what it printed."""
+"""The picture of a script of `ice_run`, from its calls and their output."""
 
 from __future__ import annotations
 
@@ -6,39 +6,39 @@ import json
 from collections.abc import Iterator
 from pathlib import Path
 
-from .picture import Picture, Transactions, Way
+from .picture import Picture, Transactions, Arrow
 
 
 class BadScript(ValueError):
-    """Lines and output do not belong together."""
+    """Script and output do not belong together."""
 
 
 def of_script(lines: Path, output: Path) -> Picture:
-    """Reads a script, and what `ice_run` printed of it. BadScript where they do not belong together."""
+    """Reads a script and the output of `ice_run`. BadScript if they do not belong together."""
     calls = [json.loads(line) for line in lines.read_text(encoding="utf-8").split("\n") if line]
     picture = Picture(lines.name, ["A", "B"])
-    transactions, again = Transactions(), list[Way]()
-    moments = {"A": 0, "B": 0}
+    transactions, again = Transactions(), list[Arrow]()
+    times = {"A": 0, "B": 0}
     for call, block in zip(calls, _blocks(output, len(calls))):
         lane = call.get("on", "A")
-        moments[lane] = call.get("now", moments[lane])
+        times[lane] = call.get("now", times[lane])
         if not block or not block[0].startswith(f"{lane} {call['call']} "):
-            raise BadScript(f"{output}: {block[:1]} is not of {call}")
+            raise BadScript(f"{output}: {block[:1]} is not the output of {call}")
         if call["call"] == "deliver":
-            _deliver(picture, again, call["packet"], moments[lane], lane, block[0].split(" ", 2)[2])
+            _deliver(picture, again, call["packet"], times[lane], lane, block[0].split(" ", 2)[2])
         elif call["call"] == "restart":
-            picture.flags.append((moments[lane], lane, "[restart]"))
+            picture.flags.append((times[lane], lane, "[restart]"))
         for line in block[1:]:
-            _take(picture, transactions, moments[lane], lane, line)
-    for way in picture.ways:
-        if len(way.stops) == 1:
-            way.end, way.toward = "lost", "B" if way.stops[0][1] == "A" else "A"
-    picture.ways += again
+            _take(picture, transactions, times[lane], lane, line)
+    for arrow in picture.arrows:
+        if len(arrow.stops) == 1:
+            arrow.end, arrow.toward = "lost", "B" if arrow.stops[0][1] == "A" else "A"
+    picture.arrows += again
     return picture
 
 
 def _blocks(output: Path, count: int) -> Iterator[list[str]]:
-    """What was printed of each call: its last line tells the wake-up."""
+    """Returns the output of each call, whose last line is the next timeout."""
     block: list[str] = []
     told = 0
     for line in output.read_text(encoding="utf-8").splitlines():
@@ -47,30 +47,30 @@ def _blocks(output: Path, count: int) -> Iterator[list[str]]:
             yield block
             block, told = [], told + 1
     if told < count:
-        raise BadScript(f"{output}: tells of {told} calls, and the script has {count}")
+        raise BadScript(f"{output}: has {told} calls, but the script has {count}")
 
 
-def _take(picture: Picture, transactions: Transactions, moment: int, lane: str, line: str) -> None:
+def _take(picture: Picture, transactions: Transactions, time: int, lane: str, line: str) -> None:
     words = line.split(" ")
     if words[1] == "send":
         label, kind = transactions.label(bytes.fromhex(words[6]))
-        picture.ways.append(Way(label, kind, [(moment, lane)]))
+        picture.arrows.append(Arrow(label, kind, [(time, lane)]))
     elif words[1:3] == ["event", "state"]:
-        picture.flags.append((moment, lane, words[3]))
-        picture.states.append((moment, lane, words[3]))
+        picture.flags.append((time, lane, words[3]))
+        picture.states.append((time, lane, words[3]))
     elif words[1:3] == ["event", "restart"]:
-        picture.flags.append((moment, lane, "session begins"))
-        picture.states.append((moment, lane, "Checking"))
+        picture.flags.append((time, lane, "session starts"))
+        picture.states.append((time, lane, "Checking"))
     elif words[1:3] == ["event", "discovered"]:
-        picture.flags.append((moment, lane, f"hears {words[4]}"))
+        picture.flags.append((time, lane, f"discovers {words[4]}"))
     elif words[1:3] == ["event", "nominated"]:
-        picture.flags.append((moment, lane, f"path {words[4]} to {words[5]}"))
+        picture.flags.append((time, lane, f"path {words[4]} to {words[5]}"))
 
 
-def _deliver(picture: Picture, again: list[Way], number: int, moment: int, lane: str, answer: str) -> None:
-    way = picture.ways[number]
-    if len(way.stops) == 1:
-        way.stops.append((moment, lane))
-        way.end = "" if answer == "true" else "refused"
+def _deliver(picture: Picture, again: list[Arrow], number: int, time: int, lane: str, answer: str) -> None:
+    arrow = picture.arrows[number]
+    if len(arrow.stops) == 1:
+        arrow.stops.append((time, lane))
+        arrow.end = "" if answer == "true" else "refused"
     else:
-        again.append(Way(way.label + " again", way.kind, [way.stops[0], (moment, lane)], "" if answer == "true" else "refused"))
+        again.append(Arrow(arrow.label + " again", arrow.kind, [arrow.stops[0], (time, lane)], "" if answer == "true" else "refused"))

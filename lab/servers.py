@@ -1,4 +1,4 @@
-"""A STUN server and a TURN server, as far as a caller sees them. Their words are no bytes: they are simulated."""
+"""A STUN and TURN server. Its messages are simulated: they are objects, not bytes."""
 
 from __future__ import annotations
 
@@ -8,33 +8,33 @@ from is_ice import SocketAddress
 
 from .network import Datagram, Network, Packet, lose
 
-# The bytes that such words take on a link, about.
+# The approximate size of such a message on a link.
 SMALL = 60
-# What a relay adds to a datagram on its way to or from its client (RFC 8656, 11: Send and Data indications).
+# The bytes that a relay adds to a datagram to or from its client (RFC 8656, section 11: Send and Data indications).
 WRAPPED = 36
 
 
 @dataclass(frozen=True)
-class AskAddress:
+class BindingRequest:
     """A Binding request to a STUN server."""
 
 
 @dataclass(frozen=True)
-class AskRelay:
+class AllocateRequest:
     """An Allocate request to a TURN server."""
 
 
 @dataclass(frozen=True)
-class Permit:
-    """A CreatePermission request: what comes from this IP address is let in (RFC 8656, 9)."""
+class CreatePermission:
+    """A CreatePermission request: the relay accepts packets from this IP address (RFC 8656, section 9)."""
 
     relay: SocketAddress
     ip: str
 
 
 @dataclass(frozen=True)
-class Told:
-    """An answer: the address that was seen, or lent."""
+class SuccessResponse:
+    """A success response with the mapped address, or with the relayed one."""
 
     server: SocketAddress
     address: SocketAddress
@@ -43,7 +43,7 @@ class Told:
 
 @dataclass(frozen=True)
 class Relayed:
-    """A datagram between a client and its relay, with the peer that it goes to or came from."""
+    """A datagram between a client and its relay, with the peer that it is to or from."""
 
     relay: SocketAddress
     peer: SocketAddress
@@ -51,7 +51,7 @@ class Relayed:
 
 
 class Server:
-    """Tells who asks of the address that it sees, and lends addresses of its own."""
+    """Returns the mapped addresses of its clients, and allocates relayed addresses."""
 
     def __init__(self, ip: str, network: Network) -> None:
         self.address = SocketAddress(ip, 3478)
@@ -62,15 +62,15 @@ class Server:
         network.attach(ip, self)
 
     def arrive(self, packet: Packet) -> None:
-        """Takes a word of a client, or a datagram for a relay."""
+        """Receives a message of a client, or a datagram to a relayed address."""
         word = packet.payload
         if packet.destination.port != self.address.port:
             self._to_client(packet)
-        elif isinstance(word, AskAddress):
-            self._answer(packet.source, Told(self.address, packet.source, False))
-        elif isinstance(word, AskRelay):
-            self._answer(packet.source, Told(self.address, self._lend(packet.source), True))
-        elif isinstance(word, Permit) and self._clients.get(word.relay.port) == packet.source:
+        elif isinstance(word, BindingRequest):
+            self._answer(packet.source, SuccessResponse(self.address, packet.source, False))
+        elif isinstance(word, AllocateRequest):
+            self._answer(packet.source, SuccessResponse(self.address, self._lend(packet.source), True))
+        elif isinstance(word, CreatePermission) and self._clients.get(word.relay.port) == packet.source:
             self._permitted.add((word.relay.port, word.ip))
         elif isinstance(word, Relayed) and self._clients.get(word.relay.port) == packet.source:
             self._to_peer(word)
@@ -82,7 +82,7 @@ class Server:
         self._clients[port] = client
         return SocketAddress(self.address.ip, port)
 
-    def _answer(self, to: SocketAddress, told: Told) -> None:
+    def _answer(self, to: SocketAddress, told: SuccessResponse) -> None:
         self._network.route(Packet(self.address, to, told, SMALL))
 
     def _to_peer(self, word: Relayed) -> None:

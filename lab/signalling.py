@@ -1,4 +1,4 @@
-"""The channel between the two callers: it keeps order, loses nothing, and takes its time."""
+"""The signaling channel between the endpoints: it keeps order, loses nothing and has a delay."""
 
 from __future__ import annotations
 
@@ -14,7 +14,7 @@ from .scenario import SignallingSettings
 
 @dataclass(frozen=True)
 class Signal:
-    """What one caller tells the other. `generation` counts restarts; `gone` are lines of candidates that went."""
+    """A signaling message. `generation` counts ICE restarts; `gone` are candidates that were removed."""
 
     generation: int
     creds: IceCreds | None = None
@@ -23,7 +23,7 @@ class Signal:
 
 
 class Channel:
-    """One direction."""
+    """One direction of signaling."""
 
     def __init__(self, settings: SignallingSettings, clock: Clock, random: Random) -> None:
         self._settings, self._clock, self._random = settings, clock, random
@@ -31,7 +31,7 @@ class Channel:
         self.take: Callable[[Signal], None] = lambda signal: None
 
     def tell(self, signal: Signal, extra: int = 0) -> None:
-        """Sends a signal; one that is kept back by `extra` may be overtaken."""
+        """Sends a message. With `extra` delay it may be overtaken."""
         delay = self._settings.delay_ms + self._random.random() * self._settings.jitter_ms
         arrival = max(self._clock.now + nanoseconds(delay), self._last)
         if not extra:

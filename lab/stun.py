@@ -1,4 +1,4 @@
-"""What a drawing and a check of promises want to know of a STUN message: no more is read, and nothing is verified."""
+"""Reads what pictures and guarantees need of a STUN message, and verifies nothing."""
 
 from __future__ import annotations
 
@@ -11,17 +11,17 @@ ERROR_CODE = 0x0009
 
 @dataclass(frozen=True)
 class Message:
-    """`kind` is request, success or failure; `code` that of a failure, 0 else."""
+    """A Binding message. `kind` is request, success, failure or indication; `code` is that of a failure, else 0."""
 
     kind: str
     transaction: bytes
-    asks_for_path: bool
+    use_candidate: bool
     code: int
 
 
 @lru_cache(maxsize=256)
 def message_of(contents: bytes) -> Message:
-    """Reads a Binding message (RFC 8489, 5): its class, its transaction, and two of its attributes."""
+    """Reads a Binding message (RFC 8489, section 5): its class, its transaction ID, and two of its attributes."""
     first = int.from_bytes(contents[:2], "big")
     kind = {0x0000: "request", 0x0100: "success", 0x0110: "failure"}.get(first & 0x0110, "indication")
     asks, code, at = False, 0, 20

@@ -1,44 +1,44 @@
-"""A picture as SVG: time goes down, and long waits are drawn short."""
+"""Draws a picture as SVG: time goes down, and long waits are shortened."""
 
 from __future__ import annotations
 
 import math
 from xml.sax.saxutils import escape
 
-from .picture import Picture, Way
+from .picture import Picture, Arrow
 
-COLOURS = {"check": "#1f77b4", "asking": "#6a3d9a", "answer": "#2ca02c", "failure": "#d62728"}
+COLOURS = {"check": "#1f77b4", "nomination": "#6a3d9a", "response": "#2ca02c", "failure": "#d62728"}
 STATES = {"New": "#bdbdbd", "Checking": "#f0b429", "Connected": "#7bc96f", "Completed": "#1b8a3a", "Disconnected": "#d62728"}
 TOP, LANE, FLAG = 78, 250, 13
-# What the moments at the left take, and a letter of a flag, about.
+# The width of the times at the left, and about that of a letter of a flag.
 TIMES, LETTER = 72, 6.9
 
 
 class Scale:
-    """Where a moment lies. Between two moments at which something happens the gap counts by its logarithm."""
+    """Maps times to heights. The gap between two times at which something happens counts by its logarithm."""
 
     def __init__(self, picture: Picture) -> None:
         stacked: dict[int, dict[str, int]] = {}
-        for moment, lane, _ in picture.flags:
-            lanes = stacked.setdefault(moment, {})
+        for time, lane, _ in picture.flags:
+            lanes = stacked.setdefault(time, {})
             lanes[lane] = lanes.get(lane, 0) + 1
-        moments = {moment for way in picture.ways for moment, _ in way.stops} | set(stacked) | {s[0] for s in picture.states}
-        self.moments = sorted(moments) or [0]
+        times = {time for arrow in picture.arrows for time, _ in arrow.stops} | set(stacked) | {s[0] for s in picture.states}
+        self.times = sorted(times) or [0]
         self._places = [TOP + 14.0]
-        for before, after in zip(self.moments, self.moments[1:]):
+        for before, after in zip(self.times, self.times[1:]):
             room = FLAG * max(stacked.get(before, {"": 0}).values())
             gap = 3 + 9 * math.log10(1 + (after - before) / 1e6)
             self._places.append(self._places[-1] + max(room + 2 if room else 0, gap))
-        self.bottom = self._places[-1] + FLAG * max(stacked.get(self.moments[-1], {"": 0}).values()) + 26
-        self._by_moment = dict(zip(self.moments, self._places))
+        self.bottom = self._places[-1] + FLAG * max(stacked.get(self.times[-1], {"": 0}).values()) + 26
+        self._by_time = dict(zip(self.times, self._places))
 
-    def at(self, moment: int) -> float:
-        """The height of one of the moments."""
-        return self._by_moment[moment]
+    def at(self, time: int) -> float:
+        """Returns the height of a time."""
+        return self._by_time[time]
 
 
 def draw(picture: Picture) -> str:
-    """The SVG."""
+    """Returns the SVG of a picture."""
     scale = Scale(picture)
     left, right = TIMES + _room(picture, picture.lanes[0]), max(_room(picture, lane) for lane in picture.lanes[1:])
     places = {lane: left + LANE * n for n, lane in enumerate(picture.lanes)}
@@ -50,8 +50,8 @@ def draw(picture: Picture) -> str:
     lines += _times(scale, width)
     for lane, x in places.items():
         lines += _lane(picture, scale, lane, x)
-    for way in picture.ways:
-        lines += _way(way, scale, places)
+    for arrow in picture.arrows:
+        lines += _arrow(arrow, scale, places)
     lines += _flags(picture, scale, places)
     lines += _legend(width, height)
     return "\n".join([*lines, "</svg>", ""])
@@ -61,18 +61,18 @@ def _room(picture: Picture, lane: str) -> float:
     return 24 + LETTER * max((len(text) for _, of, text in picture.flags if of == lane), default=10)
 
 
-def told(moment: int) -> str:
-    """A moment, as it is printed."""
-    return f"{moment / 1e6:.1f} ms" if moment < 10**9 else f"{moment / 1e9:.3f} s"
+def time_text(time: int) -> str:
+    """Returns a time as text."""
+    return f"{time / 1e6:.1f} ms" if time < 10**9 else f"{time / 1e9:.3f} s"
 
 
 def _times(scale: Scale, width: float) -> list[str]:
     lines, last = [], 0.0
-    for moment in scale.moments:
-        y = scale.at(moment)
+    for time in scale.times:
+        y = scale.at(time)
         if y - last >= 12:
             last = y
-            lines.append(_text(8, y + 4, told(moment), "start", "#777777"))
+            lines.append(_text(8, y + 4, time_text(time), "start", "#777777"))
             lines.append(f'<line x1="66" y1="{y:.1f}" x2="{width - 8}" y2="{y:.1f}" stroke="#f1f1f1"/>')
     return lines
 
@@ -80,33 +80,33 @@ def _times(scale: Scale, width: float) -> list[str]:
 def _lane(picture: Picture, scale: Scale, lane: str, x: float) -> list[str]:
     lines = [_text(x, TOP - 22, lane, "middle", "#222222", 'font-size="13" font-weight="bold"')]
     lines.append(f'<line x1="{x}" y1="{TOP - 10}" x2="{x}" y2="{scale.bottom:.1f}" stroke="#999999" stroke-dasharray="2 3"/>')
-    states = [(moment, name) for moment, of, name in picture.states if of == lane]
-    ends = [scale.at(moment) for moment, _ in states[1:]] + [scale.bottom]
-    for (moment, name), end in zip(states, ends):
-        y = scale.at(moment)
+    states = [(time, name) for time, of, name in picture.states if of == lane]
+    ends = [scale.at(time) for time, _ in states[1:]] + [scale.bottom]
+    for (time, name), end in zip(states, ends):
+        y = scale.at(time)
         lines.append(f'<rect x="{x - 4}" y="{y:.1f}" width="8" height="{max(0.0, end - y):.1f}" fill="{STATES.get(name, "#bdbdbd")}"/>')
     return lines
 
 
-def _way(way: Way, scale: Scale, places: dict[str, float]) -> list[str]:
-    points = [(places[lane], scale.at(moment)) for moment, lane in way.stops]
-    colour = COLOURS[way.kind]
-    is_cut = bool(way.end) and way.end != "refused"
-    if is_cut and way.toward:
+def _arrow(arrow: Arrow, scale: Scale, places: dict[str, float]) -> list[str]:
+    points = [(places[lane], scale.at(time)) for time, lane in arrow.stops]
+    colour = COLOURS[arrow.kind]
+    is_cut = bool(arrow.end) and arrow.end != "refused"
+    if is_cut and arrow.toward:
         x, y = points[-1]
-        points.append((x + (places[way.toward] - x) * 0.42, y + 7))
+        points.append((x + (places[arrow.toward] - x) * 0.42, y + 7))
     if len(points) == 1:
         return []
-    dash = ' stroke-dasharray="5 3"' if way.end else ""
+    dash = ' stroke-dasharray="5 3"' if arrow.end else ""
     path = " ".join(f"{x:.1f},{y:.1f}" for x, y in points)
     lines = [f'<polyline points="{path}" fill="none" stroke="{colour}" stroke-width="1.5"{dash}/>']
     lines.append(_cross(*points[-1]) if is_cut else _head(points[-2], points[-1], colour))
     if is_cut:
         x, y = points[-1]
         is_right = points[-1][0] > points[-2][0]
-        lines.append(_text(x + (8 if is_right else -8), y + 4, way.end, "start" if is_right else "end", "#d62728", 'font-size="9"'))
+        lines.append(_text(x + (8 if is_right else -8), y + 4, arrow.end, "start" if is_right else "end", "#d62728", 'font-size="9"'))
     (x1, y1), (x2, y2) = points[0], points[1]
-    lines.append(_text((x1 + x2) / 2, (y1 + y2) / 2 - 3, way.label, "middle", colour, 'font-size="10"'))
+    lines.append(_text((x1 + x2) / 2, (y1 + y2) / 2 - 3, arrow.label, "middle", colour, 'font-size="10"'))
     return lines
 
 
@@ -124,20 +124,20 @@ def _cross(x: float, y: float) -> str:
 def _flags(picture: Picture, scale: Scale, places: dict[str, float]) -> list[str]:
     lines: list[str] = []
     stacked: dict[tuple[int, str], int] = {}
-    for moment, lane, text in picture.flags:
-        row = stacked.get((moment, lane), 0)
-        stacked[moment, lane] = row + 1
+    for time, lane, text in picture.flags:
+        row = stacked.get((time, lane), 0)
+        stacked[time, lane] = row + 1
         is_left = lane == picture.lanes[0]
         x = places[lane] + (-10 if is_left else 10)
         colour = STATES.get(text, "#111111")
         weight = ' font-weight="bold"' if text in STATES or text.startswith(("path", "[")) else ""
-        lines.append(_text(x, scale.at(moment) + 4 + FLAG * row, text, "end" if is_left else "start", colour, weight))
+        lines.append(_text(x, scale.at(time) + 4 + FLAG * row, text, "end" if is_left else "start", colour, weight))
     return lines
 
 
 def _legend(width: float, height: float) -> list[str]:
     lines, x = [], 20.0
-    for name, colour in (("check", COLOURS["check"]), ("check with USE-CANDIDATE", COLOURS["asking"]), ("answer", COLOURS["answer"]),
+    for name, colour in (("check", COLOURS["check"]), ("check with USE-CANDIDATE", COLOURS["nomination"]), ("response", COLOURS["response"]),
                          ("487", COLOURS["failure"]), *STATES.items()):
         lines.append(f'<rect x="{x:.0f}" y="{height - 20:.0f}" width="11" height="8" fill="{colour}"/>')
         lines.append(_text(x + 15, height - 12, name, "start", "#555555", 'font-size="10"'))

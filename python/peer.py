@@ -1,17 +1,17 @@
-"""Connects to another peer over UDP, and lets both talk.
+"""Connects to another peer over UDP, and lets both users chat.
 
     python3 python/peer.py [-a ADDRESS ..] [-m TEXT] [-t SECONDS] controlling|controlled
 
-It binds a socket at each address (127.0.0.1 without -a) and prints its signal as a line: standard output is what the other
-peer's standard input is to read. What happens is told on standard error. It reads from standard input:
+It prints its signal as one line: the other peer reads this standard output as its standard input. It reports what happens on
+standard error. From standard input it reads:
 
-    signal UFRAG PASSWORD LINE,LINE,..   the other peer's signal
-    candidate:..                         a candidate that comes later
+    signal UFRAG PASSWORD CANDIDATE,CANDIDATE,..   the other peer's signal
+    candidate:..                                   a later candidate of the other peer
     /restart, /stats, /quit
 
-Any other line goes to the other peer once there is a path. -m: says this text until something was heard, and ends a second
-later with status 0. -t: ends with status 1 where it did not end before. These are the lines of c/examples/peer.c, so
-either end may be the C program. What is said goes as plain text.
+It sends any other line to the other peer as chat, once there is a path. A line that begins as one of the above but is malformed
+is an error, and is not sent. The lines are those of c/examples/peer.c, so either end may be the C program. Chat is sent as plain
+text.
 """
 
 from __future__ import annotations
@@ -29,13 +29,14 @@ from is_ice import (
     IceError,
     NominatedSend,
     SocketAddress,
+    has_mdns_name,
     new_creds,
 )
 from is_ice.loop import IceLoop
 
 
 class Peer:
-    """A session, what it says and what it hears."""
+    """A session with its chat."""
 
     def __init__(self, controlling: bool, message: str | None) -> None:
         self.agent = IceAgent()
@@ -47,12 +48,12 @@ class Peer:
         self.ended = asyncio.Event()
 
     def signal(self) -> str:
-        """What the other peer is to read."""
+        """Returns the signal for the other peer."""
         creds = self.agent.local_credentials
         return f"signal {creds.ufrag} {creds.pass_} {','.join(self.agent.local_candidates())}"
 
     def note(self, event: IceAgentEvent) -> None:
-        """Prints an event, and keeps the path."""
+        """Prints an event, and stores the path."""
         if isinstance(event, IceConnectionStateChange):
             tell(f"state {event.state.name.capitalize()}")
         elif isinstance(event, DiscoveredRecv):
@@ -62,21 +63,21 @@ class Peer:
             tell(f"nominated {event.source} {event.destination}")
 
     def hear(self, source: SocketAddress, local: SocketAddress, data: bytes) -> None:
-        """Prints what the other peer said."""
+        """Prints chat from the far end of the path, or from the remote candidate of a valid pair."""
+        if not (self.path and source == self.path.destination) and not self.agent.has_viable_remote_candidate(source):
+            return  # a discovered source is not enough: anybody can replay a request from another address
         tell("heard " + data.decode(errors="replace"))
         self.heard.set()
 
     def read(self, line: str) -> None:
-        """Takes a line of standard input."""
-        word, _, rest = line.partition(" ")
+        """Takes a line of standard input: signaling, a command or chat."""
+        word = (line.split() or [""])[0]
         if word == "signal":
-            ufrag, pass_, lines = (rest.split(" ", 2) + [""])[:3]
-            self.agent.set_remote_credentials(IceCreds(ufrag, pass_))
-            for candidate in filter(None, lines.split(",")):
-                self.add(candidate)
-            self.loop.begin()
-        elif line.startswith("candidate:"):
+            self.take_signal(line.split(maxsplit=3))
+        elif line.startswith("candidate:") or word == "candidate":
             self.add(line)
+        elif line.startswith("a="):
+            tell(f"peer: {line}: not sent; candidates begin with candidate:, without a=")
         elif word == "/restart":
             self.agent.ice_restart(new_creds(), True)
             say(self.signal())
@@ -84,16 +85,37 @@ class Peer:
             tell(f"{self.agent.stats} {self.agent.nominated_pair}")
         elif word == "/quit":
             self.ended.set()
+        elif word.startswith("/"):
+            tell(f"peer: {word}: unknown command; there are /restart, /stats and /quit")
         elif self.path:
             self.loop.send(self.path.source, self.path.destination, line.encode())
+        elif line:
+            tell("peer: there is no path yet: not sent")
         self.loop.wake()
 
+    def take_signal(self, words: list[str]) -> None:
+        """Takes the other peer's credentials and candidates, and starts the session."""
+        if len(words) < 3:
+            tell("peer: malformed signal; it is: signal UFRAG PASSWORD CANDIDATE,CANDIDATE,..")
+            return
+        try:
+            self.agent.set_remote_credentials(IceCreds(words[1], words[2]))
+        except IceError as error:
+            tell(f"peer: signal: {error}")
+            return
+        for candidate in filter(None, "".join(words[3:]).split(",")):
+            self.add(candidate)
+        self.loop.begin()
+
     def add(self, line: str) -> None:
-        """Adds a candidate; one that is refused, as of a name in place of an address, is left out."""
+        """Adds a candidate. One with an mDNS name, or a malformed one, is reported and left out."""
+        if has_mdns_name(line):
+            tell(f"peer: left out a candidate with an mDNS name: {line}")
+            return
         try:
             self.agent.add_remote_candidate(line)
-        except IceError as refusal:
-            tell(f"peer: {refusal}")
+        except IceError as error:
+            tell(f"peer: {error}")
 
     async def read_all(self) -> None:
         """Reads lines until standard input ends."""
@@ -103,7 +125,7 @@ class Peer:
             self.read(text.decode().rstrip("\r\n"))
 
     async def say_until_heard(self, message: str) -> None:
-        """Says a text on the path five times a second; ends a second behind the first that was heard."""
+        """Sends a text on the path five times a second. Ends a second after the first chat was received."""
         deadline = None
         while deadline is None or asyncio.get_running_loop().time() < deadline:
             if self.path:
@@ -114,7 +136,7 @@ class Peer:
         self.ended.set()
 
     async def run(self, addresses: list[str], patience: float | None) -> int:
-        """The whole session; the exit status."""
+        """Runs the session, and returns the exit status."""
         for ip in addresses:
             await self.loop.bind(ip)
         say(self.signal())
@@ -138,19 +160,22 @@ def say(line: str) -> None:
 
 
 def tell(line: str) -> None:
-    """Prints a line for who looks on."""
+    """Prints a line for the user."""
     print(line, file=sys.stderr, flush=True)
 
 
 def main() -> int:
-    parser = argparse.ArgumentParser(description="Connects to another peer over UDP.")
-    parser.add_argument("-a", "--address", action="append", metavar="ADDRESS")
-    parser.add_argument("-m", "--message", metavar="TEXT")
-    parser.add_argument("-t", "--time", type=float, metavar="SECONDS")
-    parser.add_argument("role", choices=("controlling", "controlled"))
+    """The program: returns its exit status."""
+    parser = argparse.ArgumentParser(description="Connects to another peer over UDP, and lets both users chat.")
+    parser.add_argument("-a", "--address", action="append", metavar="ADDRESS",
+                        help="binds a socket at this IP address of the machine; may be repeated; without -a: 127.0.0.1")
+    parser.add_argument("-m", "--message", metavar="TEXT", help="sends TEXT until chat was received, and ends a second later")
+    parser.add_argument("-t", "--time", type=float, metavar="SECONDS", help="ends with status 1 after this time")
+    parser.add_argument("role", choices=("controlling", "controlled"), help="controlling: the side that begins, as with an offer")
     options = parser.parse_args()
 
     async def run() -> int:
+        """Creates the peer inside the event loop, and runs it."""
         peer = Peer(options.role == "controlling", options.message)
         return await peer.run(options.address or ["127.0.0.1"], options.time)
 

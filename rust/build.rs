@@ -1,16 +1,23 @@
-//! Links the library: the archive that IS_ICE_LIB names, or that of `pkg-config is_ice`.
+//! Links the library: the archive that IS_ICE_LIB names, else that of `pkg-config is_ice`.
 
 use std::path::{Path, PathBuf};
-use std::process::Command;
+use std::process::{Command, exit};
 
-/// The folder that is_ice.pc names, where `c/run install` was run and PKG_CONFIG_PATH says where.
+/// The archive that `c/run install` installed, if PKG_CONFIG_PATH has the folder of its is_ice.pc.
 fn installed() -> Option<PathBuf> {
-    let told = Command::new("pkg-config").args(["--variable=libdir", "is_ice"]).output().ok()?;
-    let folder = String::from_utf8(told.stdout).ok()?;
-    told.status.success().then(|| Path::new(folder.trim()).join("libis_ice.a"))
+    let output = Command::new("pkg-config").args(["--variable=libdir", "is_ice"]).output().ok()?;
+    let folder = String::from_utf8(output.stdout).ok()?;
+    output.status.success().then(|| Path::new(folder.trim()).join("libis_ice.a"))
 }
 
-/// The name that a linker knows an archive by: that of the file, less "lib" and ".a".
+/// Ends the build with what is wrong, and with what to do.
+fn stop(why: &str) -> ! {
+    println!("cargo::error=the ICE library is missing: {why}");
+    println!("cargo::error=run `c/run install ~/ice`, and build with IS_ICE_LIB=$HOME/ice/lib/libis_ice.a");
+    exit(1)
+}
+
+/// The name of an archive for the linker: its file name without "lib" and ".a".
 fn link_name(archive: &Path) -> Option<&str> {
     archive.file_name()?.to_str()?.strip_prefix("lib")?.strip_suffix(".a")
 }
@@ -18,18 +25,19 @@ fn link_name(archive: &Path) -> Option<&str> {
 fn main() {
     println!("cargo:rerun-if-env-changed=IS_ICE_LIB");
     println!("cargo:rerun-if-env-changed=PKG_CONFIG_PATH");
-    let archive = std::env::var_os("IS_ICE_LIB")
-        .map(PathBuf::from)
-        .or_else(installed)
-        .expect("IS_ICE_LIB=/path/libis_ice.a, as `c/run install` writes it");
-    let archive = archive.canonicalize().expect("the archive of IS_ICE_LIB");
-    let folder = archive.parent().expect("an archive lies in a folder");
-    let name = link_name(&archive).expect("IS_ICE_LIB names a file libNAME.a");
-    println!("cargo:rerun-if-changed={}", archive.display());
+    let archive = std::env::var_os("IS_ICE_LIB").map(PathBuf::from).or_else(installed);
+    let archive = archive.unwrap_or_else(|| stop("IS_ICE_LIB is not set, and pkg-config does not find is_ice"));
+    let Ok(path) = archive.canonicalize() else {
+        stop(&format!("{} does not exist", archive.display()));
+    };
+    let (Some(folder), Some(name)) = (path.parent(), link_name(&path)) else {
+        stop(&format!("{} is not a file libNAME.a", archive.display()));
+    };
+    println!("cargo:rerun-if-changed={}", path.display());
     println!("cargo:rustc-link-search=native={}", folder.display());
     println!("cargo:rustc-link-lib=static={name}");
     if name == "is_c" {
-        // as the kit builds it, malloc, realloc and free stand in an archive of their own, which must lie beside it
+        // the kit builds this archive without malloc, realloc and free, which are in libc_c next to it
         println!("cargo:rustc-link-lib=static=libc_c");
     }
 }

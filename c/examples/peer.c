@@ -1,20 +1,18 @@
-/* Connects to another peer over UDP, and lets both talk: a whole program round the agent.
+/* Connects to another peer over UDP, and lets both users chat: a complete program around the agent. `peer -h` explains its
+ * options.
  *
- *     peer [-l] [-a ADDRESS].. [-s SERVER[:PORT]] [-L] [-m TEXT] [-t SECONDS] controlling|controlled
+ * It binds a socket at each address of the machine's interfaces and queries the STUN server, if there is one. It prints its
+ * signal as one line, and each later candidate as a line of its own: the other peer reads this standard output as its
+ * standard input. It reports what happens on standard error. From standard input it reads:
  *
- * It binds a socket at each address of the machine's interfaces (-a: at these addresses alone; -l: at loopback ones too),
- * asks the STUN server what addresses it sees, and prints its signal as a line, and candidates that come later as lines of
- * their own: standard output is what the other peer's standard input is to read. What happens is told on standard error. It
- * reads from standard input:
- *
- *     signal UFRAG PASSWORD LINE,LINE,..   the other peer's signal
- *     candidate:..                         a candidate of the other peer's
+ *     signal UFRAG PASSWORD CANDIDATE,CANDIDATE,..   the other peer's signal
+ *     candidate:..                                   a later candidate of the other peer
  *     /restart, /stats, /quit
  *
- * Any other line goes to the other peer once there is a path. -L: is ice-lite. -m: says this text until something was heard,
- * and ends a second later with status 0. -t: ends with status 1 where it did not end before. Status 2: it could not begin.
+ * It sends any other line to the other peer as chat, once there is a path. A line that begins as one of the above but is
+ * malformed is an error, and is not sent.
  *
- * What is said goes as plain text, so this is no program for secrets: real media would be encrypted (DTLS). */
+ * Chat is sent as plain text, so do not send secrets: real media is encrypted (DTLS). */
 #define _DEFAULT_SOURCE
 #include "peer.h"
 #include <errno.h>
@@ -25,7 +23,7 @@
 #include <string.h>
 #include <unistd.h>
 
-enum { SOURCES = 32, INPUT = 16384, BURST = 64 };
+enum { INPUT = 16384, BURST = 64, LONGEST = 86400 };
 
 struct options {
     const char *addresses[NET_SOCKETS], *server, *message;
@@ -43,14 +41,12 @@ struct session {
     int32_t state;
     bool has_path, has_heard, is_over, is_late;
     is_ice_address path_from, path_to;
-    is_ice_address sources[SOURCES]; /* where authentic packets came from */
-    size_t source_count;
     char input[INPUT];
     size_t input_length;
     bool input_is_over, input_is_too_long;
 };
 
-/* Tells of a refusal on standard error; the agent is as it was, and the program goes on. */
+/* Reports an error on standard error. The agent is unchanged, and the program goes on. */
 static int32_t warn(const char *what, int32_t code)
 {
     if (code < 0) fprintf(stderr, "peer: %s: %s\n", what, is_ice_code_text(code));
@@ -63,21 +59,27 @@ static void stop(const char *what, const char *why)
     exit(2);
 }
 
-/* ---- what the agent wants */
+static void stop_option(char option, const char *value, const char *why)
+{
+    fprintf(stderr, "peer: -%c %s: %s\n", option, value, why);
+    exit(2);
+}
 
-/* Tells the agent of the moment. A refused call is made again a little later. */
-static void tell_moment(struct session *s, uint64_t now)
+/* ---- timeouts, packets and events of the agent */
+
+/* Passes the current time to the agent. If the call fails, it is repeated a little later. */
+static void handle_timeout(struct session *s, uint64_t now)
 {
     uint8_t random[IS_ICE_TIMEOUT_RANDOM];
     if (!net_random(random, sizeof random)) stop("no random bytes", strerror(errno));
-    if (warn("moment", is_ice_handle_timeout(&s->agent, now, random, sizeof random)) < 0) s->not_before = now + 50 * MILLISECOND;
+    if (warn("timeout", is_ice_handle_timeout(&s->agent, now, random, sizeof random)) < 0) s->not_before = now + 50 * MILLISECOND;
 }
 
-/* When the agent wants to be told next. */
-static uint64_t wake_up(struct session *s)
+/* When to call handle_timeout next. */
+static uint64_t next_timeout(struct session *s)
 {
     uint64_t at;
-    if (warn("wake-up", is_ice_poll_timeout(&s->agent, &at)) != IS_ICE_OK) at = UINT64_MAX;
+    if (warn("next timeout", is_ice_poll_timeout(&s->agent, &at)) != IS_ICE_OK) at = UINT64_MAX;
     return at > s->not_before ? at : s->not_before;
 }
 
@@ -115,7 +117,6 @@ static void note_all(struct session *s)
         case IS_ICE_RESTARTED: fprintf(stderr, "session begins\n"); break;
         case IS_ICE_STATE_CHANGED: note_state(s, event.state); break;
         case IS_ICE_DISCOVERED_RECV:
-            s->sources[s->source_count++ % SOURCES] = event.source;
             fprintf(stderr, "source %s\n", net_text(&event.source, text));
             break;
         case IS_ICE_NOMINATED_SEND: note_path(s, &event); break;
@@ -124,21 +125,27 @@ static void note_all(struct session *s)
     }
 }
 
-/* ---- what comes by the sockets */
+/* ---- datagrams from the sockets */
 
-/* Prints what the other peer says, where it comes from an address that authentic packets came from. */
+/* Whether chat is taken from this address: the far end of the path, or the remote candidate of a valid pair. A discovered
+ * source is not enough, since anybody can replay a request of the other peer from another address. */
+static bool is_trusted(struct session *s, const is_ice_address *from)
+{
+    if (s->has_path && net_equal(from, &s->path_to)) return true;
+    return warn("address", is_ice_has_viable_remote(&s->agent, from)) == IS_ICE_OK;
+}
+
+/* Prints what the other peer says. */
 static void hear(struct session *s, const is_ice_address *from, uint8_t *bytes, size_t length)
 {
-    bool is_known = false;
-    for (size_t i = 0; i < SOURCES && i < s->source_count; i++) is_known = is_known || net_equal(from, &s->sources[i]);
-    if (!is_known) return;
+    if (!is_trusted(s, from)) return;
     for (size_t i = 0; i < length; i++)
         if (bytes[i] < ' ' || bytes[i] == 127) bytes[i] = '?';
     fprintf(stderr, "heard %.*s\n", (int)length, (const char *)bytes);
     s->has_heard = true;
 }
 
-/* The STUN server saw the socket at this address: a candidate that comes later than the signal. */
+/* Adds the address at which the STUN server saw the socket: a candidate that is found after the signal was printed. */
 static void gathered(struct session *s, size_t index, const is_ice_address *mapped)
 {
     is_ice_candidate candidate = {0};
@@ -146,7 +153,7 @@ static void gathered(struct session *s, size_t index, const is_ice_address *mapp
     candidate.protocol = IS_ICE_UDP;
     candidate.address = *mapped;
     candidate.base = s->net.addresses[index];
-    if (warn("server reflexive candidate", is_ice_add_local(&s->agent, &candidate)) == IS_ICE_OK)
+    if (warn("server-reflexive candidate", is_ice_add_local(&s->agent, &candidate)) == IS_ICE_OK)
         warn("candidate", signal_print_last(&s->agent));
 }
 
@@ -168,12 +175,12 @@ static void receive(struct session *s, size_t index)
     }
 }
 
-/* ---- what comes by standard input */
+/* ---- lines from standard input */
 
 static void say(struct session *s, const char *text)
 {
     if (s->has_path) net_send(&s->net, &s->path_from, &s->path_to, text, strlen(text));
-    else fprintf(stderr, "peer: there is no path to say it on\n");
+    else fprintf(stderr, "peer: there is no path yet: not sent\n");
 }
 
 static void print_stats(struct session *s)
@@ -188,19 +195,35 @@ static void print_stats(struct session *s)
     fprintf(stderr, "\n");
 }
 
-static void take_line(struct session *s, char *line)
+static void take_command(struct session *s, const char *line)
 {
-    line[strcspn(line, "\r")] = '\0';
-    if (strncmp(line, "signal ", 7) == 0) warn("signal", signal_take(&s->agent, line + 7));
-    else if (strncmp(line, "candidate:", 10) == 0) warn("candidate", signal_take_candidate(&s->agent, line));
-    else if (strcmp(line, "/quit") == 0) s->is_over = true;
+    if (strcmp(line, "/quit") == 0) s->is_over = true;
     else if (strcmp(line, "/stats") == 0) print_stats(s);
     else if (strcmp(line, "/restart") == 0) {
         if (warn("restart", signal_restart(&s->agent)) == IS_ICE_OK) warn("signal", signal_print(&s->agent));
-    } else if (*line) say(s, line);
+    } else fprintf(stderr, "peer: %s: unknown command; there are /restart, /stats and /quit\n", line);
 }
 
-/* Takes each line of what was read; the rest waits for its end. One that is too long is left out. */
+/* Whether the line's first word, which ends with a blank or the line, is this one. */
+static bool begins_with_word(const char *line, const char *word)
+{
+    size_t length = strlen(word);
+    return strncmp(line, word, length) == 0 && strchr(" \t", line[length]) != NULL;
+}
+
+/* Neither signaling nor a command is sent as chat, also when it is malformed: credentials and addresses do not leak. */
+static void take_line(struct session *s, char *line)
+{
+    line[strcspn(line, "\r")] = '\0';
+    if (begins_with_word(line, "signal")) warn("signal", signal_take(&s->agent, line + 6));
+    else if (strncmp(line, "candidate:", 10) == 0 || begins_with_word(line, "candidate"))
+        warn("candidate", signal_take_candidate(&s->agent, line));
+    else if (strncmp(line, "a=", 2) == 0) fprintf(stderr, "peer: %s: not sent; candidates begin with candidate:, without a=\n", line);
+    else if (*line == '/') take_command(s, line);
+    else if (*line) say(s, line);
+}
+
+/* Takes each complete line of the input. The rest stays until its end is read. A line that is too long is ignored. */
 static void take_lines(struct session *s)
 {
     char *begin = s->input, *end;
@@ -225,7 +248,7 @@ static void read_input(struct session *s)
     if (got > 0) {
         s->input_length += (size_t)got;
     } else {
-        s->input[s->input_length++] = '\n'; /* the last line may lack its end */
+        s->input[s->input_length++] = '\n'; /* the last line may have no line end */
         s->input_is_over = true;
         if (!s->message) s->is_over = true;
     }
@@ -234,7 +257,7 @@ static void read_input(struct session *s)
 
 /* ---- the loop */
 
-/* Says the message until something was heard, and for a second more, so that the other peer hears it too. */
+/* Sends the message until chat was received, and for one more second, so that the other peer receives it too. */
 static void say_message(struct session *s, uint64_t now)
 {
     if (!s->message || !s->has_path || now < s->next_message) return;
@@ -248,7 +271,7 @@ static uint64_t least(uint64_t a, uint64_t b)
     return a < b ? a : b;
 }
 
-/* Waits for a datagram or a line, or until this moment. */
+/* Waits for a datagram or a line, until this time at the latest. */
 static void wait_until(struct session *s, uint64_t until)
 {
     struct pollfd waits[NET_SOCKETS + 1];
@@ -265,37 +288,37 @@ static void wait_until(struct session *s, uint64_t until)
 
 static void run(struct session *s)
 {
-    tell_moment(s, net_now());
+    handle_timeout(s, net_now());
     while (!s->is_over) {
-        uint64_t now = net_now(), wake = wake_up(s); /* before packets are polled: see is_ice_poll_timeout */
+        uint64_t now = net_now(), timeout = next_timeout(s); /* before packets are polled: see is_ice_poll_timeout */
         unsigned closed = stun_send(&s->stun, &s->net, now);
-        if (closed > 0) fprintf(stderr, "peer: the STUN server did not answer %u socket%s\n", closed, closed == 1 ? "" : "s");
+        if (closed > 0) fprintf(stderr, "peer: the STUN server did not respond to %u socket%s\n", closed, closed == 1 ? "" : "s");
         send_all(s);
         note_all(s);
         say_message(s, now);
-        uint64_t until = least(least(wake, s->end), stun_due(&s->stun));
+        uint64_t until = least(least(timeout, s->end), stun_due(&s->stun));
         wait_until(s, s->message && s->has_path ? least(until, s->next_message) : until);
         now = net_now();
-        if (now >= wake) tell_moment(s, now);
+        if (now >= timeout) handle_timeout(s, now);
         if (now < s->end) continue;
         s->is_over = true;
         s->is_late = !(s->message && s->has_heard && s->has_path);
     }
 }
 
-/* ---- the beginning */
+/* ---- starting */
 
 static void begin_sockets(struct session *s, const struct options *o)
 {
+    const char *why;
     for (size_t i = 0; i < o->address_count; i++)
-        if (!net_bind(&s->net, o->addresses[i])) stop(o->addresses[i], strerror(errno));
+        if (!net_bind(&s->net, o->addresses[i], &why)) stop_option('a', o->addresses[i], why);
     if (o->address_count == 0) net_bind_all(&s->net, o->loopback);
-    if (s->net.count == 0) stop("no interface has an address (-l takes loopback ones too)", NULL);
+    if (s->net.count == 0) stop("no interface has an address (-l also takes loopback addresses)", NULL);
     if (o->server) {
         is_ice_address servers[2];
-        const char *why;
         size_t count = net_resolve(o->server, "3478", servers, &why);
-        if (count == 0) stop(o->server, why);
+        if (count == 0) stop_option('s', o->server, why);
         if (!stun_begin(&s->stun, &s->net, servers, count, net_now())) stop("no random bytes", strerror(errno));
     }
 }
@@ -316,14 +339,42 @@ static void begin_agent(struct session *s, const struct options *o)
     if (code < 0) stop("agent", is_ice_code_text(code));
 }
 
-static const char usage[] = "peer [-l] [-a ADDRESS].. [-s SERVER[:PORT]] [-L] [-m TEXT] [-t SECONDS] controlling|controlled";
+static const char usage[] =
+    "peer [-h] [-l] [-a ADDRESS].. [-s SERVER[:PORT]] [-L] [-m TEXT] [-t SECONDS] controlling|controlled";
 
-/* A whole number of seconds, of which a day is the most. */
+static const char help[] =
+    "Connects to another peer over UDP, and lets both users chat.\n"
+    "\n"
+    "usage: %s\n"
+    "\n"
+    "  controlling         the side that begins, as with an offer; it nominates the path\n"
+    "  controlled          the other side\n"
+    "  -a ADDRESS          binds a socket at this IP address of the machine, at most %d times;\n"
+    "                      without -a: at each address of its interfaces\n"
+    "  -l                  without -a: at loopback addresses too\n"
+    "  -s SERVER[:PORT]    queries this STUN server for the sockets' public addresses; port 3478\n"
+    "  -L                  runs as a lite agent, which has to be controlled\n"
+    "  -m TEXT             sends TEXT until chat was received, and ends a second later\n"
+    "  -t SECONDS          ends with status 1 after this time, at most %d\n"
+    "  -h                  prints this text\n"
+    "\n"
+    "Standard output is for the other peer's standard input. Standard input takes these lines:\n"
+    "\n"
+    "  signal UFRAG PASSWORD CANDIDATE,CANDIDATE,..    the other peer's signal\n"
+    "  candidate:..                                    a later candidate of the other peer\n"
+    "  /restart, /stats, /quit\n"
+    "  any other line                                  chat, sent as plain text\n"
+    "\n"
+    "Status: 0 done, 1 out of time, 2 not started.\n";
+
+/* A whole number of seconds, at most a day. */
 static uint64_t seconds(const char *text)
 {
     char *end;
+    errno = 0;
     unsigned long number = strtoul(text, &end, 10);
-    if (*text < '0' || *text > '9' || *end || number > 86400) stop("no number of seconds", text);
+    if (*text < '0' || *text > '9' || *end) stop_option('t', text, "not a whole number of seconds");
+    if (errno != 0 || number > LONGEST) stop_option('t', text, "more than 86400 seconds, which is a day");
     return number * SECOND;
 }
 
@@ -331,11 +382,12 @@ static void read_options(struct options *o, int count, char **words)
 {
     int option;
     o->patience = UINT64_MAX;
-    while ((option = getopt(count, words, "la:s:Lm:t:")) != -1) {
+    while ((option = getopt(count, words, "hla:s:Lm:t:")) != -1) {
         switch (option) {
+        case 'h': printf(help, usage, (int)NET_SOCKETS, (int)LONGEST); exit(0);
         case 'l': o->loopback = true; break;
         case 'a':
-            if (o->address_count == NET_SOCKETS) stop("too many addresses", NULL);
+            if (o->address_count == NET_SOCKETS) stop_option('a', optarg, "too many addresses");
             o->addresses[o->address_count++] = optarg;
             break;
         case 's': o->server = optarg; break;
@@ -348,11 +400,12 @@ static void read_options(struct options *o, int count, char **words)
     if (optind + 1 != count) stop("usage", usage);
     o->controlling = strcmp(words[optind], "controlling") == 0;
     if (!o->controlling && strcmp(words[optind], "controlled") != 0) stop("usage", usage);
+    if (o->lite && o->controlling) stop("-L controlling", "a lite agent has to be controlled, since it sends no checks");
 }
 
 int main(int count, char **words)
 {
-    static struct session session; /* all zero; too long for some stacks */
+    static struct session session; /* all zero; too large for some stacks */
     struct options options = {0};
     if (is_ice_version() != IS_ICE_VERSION) stop("is_ice.h belongs to another library", NULL);
     read_options(&options, count, words);

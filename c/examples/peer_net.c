@@ -1,4 +1,4 @@
-/* Clock, random bytes, sockets and addresses of this machine. */
+/* Clock, random bytes, sockets and addresses of the machine. */
 #define _DEFAULT_SOURCE
 #include "peer.h"
 #include <arpa/inet.h>
@@ -9,6 +9,7 @@
 #include <netdb.h>
 #include <netinet/in.h>
 #include <stdio.h>
+#include <stdlib.h>
 #include <string.h>
 #include <sys/socket.h>
 #include <time.h>
@@ -26,7 +27,7 @@ bool net_random(void *bytes, size_t length)
     return getentropy(bytes, length) == 0;
 }
 
-/* ---- addresses, ours and the system's */
+/* ---- conversion of addresses */
 
 static bool address_of(const struct sockaddr *from, is_ice_address *address)
 {
@@ -86,24 +87,39 @@ const char *net_text(const is_ice_address *address, char text[NET_TEXT])
     return text;
 }
 
+/* A port from 1 to 65535, in decimal digits. getaddrinfo would cut a greater one. */
+static bool is_port(const char *text)
+{
+    size_t length = strlen(text);
+    return length >= 1 && length <= 5 && strspn(text, "0123456789") == length && atoi(text) >= 1 && atoi(text) <= 65535;
+}
+
+/* Splits "HOST", "HOST:PORT", "[IPV6]" or "[IPV6]:PORT". An IPv6 address without brackets is a host. */
+static bool split_server(const char *server, char *host, size_t size, const char **port, const char **why)
+{
+    const char *end = strchr(server, ':');
+    if (server[0] == '[') {
+        end = strchr(server++, ']');
+        *why = "not [IPV6] or [IPV6]:PORT";
+        if (!end || (end[1] && end[1] != ':')) return false;
+    } else if (!end || strchr(end + 1, ':')) {
+        end = server + strlen(server);
+    }
+    size_t length = (size_t)(end - server);
+    *why = "the name is empty or too long";
+    if (length == 0 || length >= size) return false;
+    memcpy(host, server, length);
+    host[length] = '\0';
+    if (*end == ']') end++;
+    if (*end == ':') *port = end + 1;
+    *why = "the port is not a number from 1 to 65535";
+    return is_port(*port);
+}
+
 size_t net_resolve(const char *server, const char *port, is_ice_address found[2], const char **why)
 {
     char host[256];
-    const char *behind = strchr(server, ':');
-    size_t length = strlen(server);
-    if (server[0] == '[' && (behind = strchr(server, ']')) != NULL) {
-        length = (size_t)(behind - ++server);
-        behind++;
-    } else if (behind && !strchr(behind + 1, ':')) {
-        length = (size_t)(behind - server);
-    } else {
-        behind = NULL;
-    }
-    if (behind && *behind == ':') port = behind + 1;
-    *why = "the name is too long";
-    if (length >= sizeof host) return 0;
-    memcpy(host, server, length);
-    host[length] = '\0';
+    if (!split_server(server, host, sizeof host, &port, why)) return 0;
 
     struct addrinfo hints = {0}, *list = NULL;
     hints.ai_socktype = SOCK_DGRAM;
@@ -114,12 +130,13 @@ size_t net_resolve(const char *server, const char *port, is_ice_address found[2]
     for (const struct addrinfo *at = list; at && count < 2; at = at->ai_next)
         if (address_of(at->ai_addr, &found[count]) && (count == 0 || found[0].family != found[1].family)) count++;
     freeaddrinfo(list);
+    *why = "it has neither an IPv4 nor an IPv6 address";
     return count;
 }
 
 /* ---- sockets */
 
-/* Binds a socket at this address, whose port is 0. */
+/* Binds a socket at this address; the system chooses the port. */
 static bool bind_at(struct net *net, const is_ice_address *address)
 {
     struct sockaddr_storage own;
@@ -141,22 +158,32 @@ static bool bind_at(struct net *net, const is_ice_address *address)
     return true;
 }
 
-bool net_bind(struct net *net, const char *address)
+/* 0.0.0.0 or ::, which stands for all addresses and so is none that the other peer can reach. */
+static bool is_unspecified(const is_ice_address *a)
+{
+    static const uint8_t zeros[16];
+    return memcmp(a->bytes, zeros, a->family == 4 ? 4 : 16) == 0;
+}
+
+bool net_bind(struct net *net, const char *address, const char **why)
 {
     struct addrinfo hints = {0}, *list = NULL;
     is_ice_address own;
     hints.ai_socktype = SOCK_DGRAM;
     hints.ai_flags = AI_NUMERICHOST;
-    if (getaddrinfo(address, "0", &hints, &list) != 0) {
-        errno = EINVAL;
-        return false;
-    }
-    bool ok = address_of(list->ai_addr, &own) && bind_at(net, &own);
+    *why = "not an IP address; names are not resolved";
+    if (getaddrinfo(address, "0", &hints, &list) != 0) return false;
+    bool ok = address_of(list->ai_addr, &own);
     freeaddrinfo(list);
+    if (!ok) return false;
+    *why = "the unspecified address cannot be a candidate; without -a each interface's address is used";
+    if (is_unspecified(&own)) return false;
+    ok = bind_at(net, &own);
+    *why = strerror(errno);
     return ok;
 }
 
-/* A link-local address means nothing to the other peer. */
+/* The other peer cannot use a link-local address. */
 static bool is_link_local(const is_ice_address *a)
 {
     return a->family == 4 ? a->bytes[0] == 169 && a->bytes[1] == 254 : a->bytes[0] == 0xfe && (a->bytes[1] & 0xc0) == 0x80;

@@ -1,4 +1,4 @@
-/* Signalling: what is told to the other peer, and what is told by it, a line each. */
+/* Signaling: one line for each message to the other peer and from it. */
 #include "peer.h"
 #include <stdio.h>
 #include <string.h>
@@ -36,7 +36,7 @@ int32_t signal_restart(is_ice_agent *agent)
     return is_ice_restart(agent, creds.ufrag, sizeof creds.ufrag, creds.pass, sizeof creds.pass, true);
 }
 
-/* ---- told */
+/* ---- printing */
 
 int32_t signal_print(is_ice_agent *agent)
 {
@@ -67,9 +67,9 @@ int32_t signal_print_last(is_ice_agent *agent)
     return code;
 }
 
-/* ---- taken */
+/* ---- taking */
 
-/* The text up to the next of these characters, which ends there; *rest is what follows. NULL where there is none. */
+/* The text before the next of these characters, zero-terminated; *rest is the text after it. NULL if it is empty. */
 static char *word(char **rest, const char *ends)
 {
     char *begin = *rest + strspn(*rest, ends);
@@ -80,8 +80,24 @@ static char *word(char **rest, const char *ends)
     return begin;
 }
 
+/* Whether the candidate has an mDNS name, which ends with .local, instead of an address: its fifth word. */
+static bool has_mdns_name(const char *line)
+{
+    static const char suffix[] = ".local";
+    for (int i = 0; i < 4; i++) {
+        line += strcspn(line, " ");
+        line += strspn(line, " ");
+    }
+    size_t length = strcspn(line, " "), end = sizeof suffix - 1;
+    return length > end && strncmp(line + length - end, suffix, end) == 0;
+}
+
 int32_t signal_take_candidate(is_ice_agent *agent, const char *line)
 {
+    if (has_mdns_name(line)) {
+        fprintf(stderr, "peer: left out a candidate with an mDNS name: %s\n", line);
+        return IS_ICE_NOTHING;
+    }
     uint8_t why[LINE];
     size_t length;
     const uint8_t *text = (const uint8_t *)line;
@@ -95,8 +111,8 @@ int32_t signal_take_candidate(is_ice_agent *agent, const char *line)
     return IS_ICE_NOTHING;
 }
 
-/* Whether the other peer's user fragment is known: IS_ICE_OK where it is this one, IS_ICE_NOTHING where none is known, else
- * IS_ICE_HAS_AGENT, for another one. */
+/* Compares the other peer's username fragment with the known one: IS_ICE_OK if they are equal, IS_ICE_NOTHING if none is
+ * known, and IS_ICE_HAS_AGENT if another one is known. */
 static int32_t known(is_ice_agent *agent, const char *ufrag)
 {
     uint8_t before[LINE];
@@ -108,9 +124,9 @@ static int32_t known(is_ice_agent *agent, const char *ufrag)
 
 int32_t signal_take(is_ice_agent *agent, char *text)
 {
-    const char *ufrag = word(&text, " "), *pass = ufrag ? word(&text, " ") : NULL, *line;
+    const char *ufrag = word(&text, " \t"), *pass = ufrag ? word(&text, " \t") : NULL, *line;
     if (!pass) {
-        fprintf(stderr, "peer: no signal, which is a user fragment, a password and candidates\n");
+        fprintf(stderr, "peer: malformed signal; it is: signal UFRAG PASSWORD CANDIDATE,CANDIDATE,..\n");
         return IS_ICE_NOTHING;
     }
     int32_t code = known(agent, ufrag);

@@ -1,11 +1,11 @@
-/* Asks a STUN server for the address that it sees a socket at: RFC 8489, a Binding request without credentials. */
+/* A STUN client: finds the public address of a socket by a Binding request without credentials (RFC 8489). */
 #include "peer.h"
 #include <string.h>
 
 enum { HEADER = 20, BINDING_REQUEST = 0x0001, BINDING_SUCCESS = 0x0101, MAPPED = 0x0001, XOR_MAPPED = 0x0020 };
 
-/* RFC 8489, section 6.2.1: the first wait, which doubles, and how often a request is sent. */
-#define FIRST_WAIT (500 * MILLISECOND)
+/* RFC 8489, section 6.2.1: the first RTO, which doubles after each request, and the number of requests (Rc). */
+#define FIRST_RTO (500 * MILLISECOND)
 enum { SENT_AT_MOST = 7 };
 
 static const uint8_t cookie[4] = {0x21, 0x12, 0xa4, 0x42};
@@ -19,13 +19,13 @@ bool stun_begin(struct stun *stun, const struct net *net, const is_ice_address *
 {
     memset(stun, 0, sizeof *stun);
     for (size_t i = 0; i < net->count; i++) {
-        struct stun_question *q = &stun->questions[i];
+        struct stun_transaction *t = &stun->transactions[i];
         for (size_t j = 0; j < count; j++) {
             if (servers[j].family != net->addresses[i].family) continue;
-            if (!net_random(q->id, sizeof q->id)) return false;
-            q->server = servers[j];
-            q->due = now;
-            q->is_open = true;
+            if (!net_random(t->id, sizeof t->id)) return false;
+            t->server = servers[j];
+            t->due = now;
+            t->is_open = true;
         }
     }
     return true;
@@ -35,18 +35,18 @@ unsigned stun_send(struct stun *stun, struct net *net, uint64_t now)
 {
     unsigned closed = 0;
     for (size_t i = 0; i < net->count; i++) {
-        struct stun_question *q = &stun->questions[i];
-        if (!q->is_open || q->due > now) continue;
-        if (q->sent == SENT_AT_MOST) {
-            q->is_open = false;
+        struct stun_transaction *t = &stun->transactions[i];
+        if (!t->is_open || t->due > now) continue;
+        if (t->sent == SENT_AT_MOST) {
+            t->is_open = false;
             closed++;
             continue;
         }
         uint8_t request[HEADER] = {0, BINDING_REQUEST, 0, 0};
         memcpy(request + 4, cookie, 4);
-        memcpy(request + 8, q->id, 12);
-        net_send(net, &net->addresses[i], &q->server, request, sizeof request);
-        q->due = now + (FIRST_WAIT << q->sent++);
+        memcpy(request + 8, t->id, 12);
+        net_send(net, &net->addresses[i], &t->server, request, sizeof request);
+        t->due = now + (FIRST_RTO << t->sent++);
     }
     return closed;
 }
@@ -55,13 +55,13 @@ uint64_t stun_due(const struct stun *stun)
 {
     uint64_t due = UINT64_MAX;
     for (size_t i = 0; i < NET_SOCKETS; i++) {
-        const struct stun_question *q = &stun->questions[i];
-        if (q->is_open && q->due < due) due = q->due;
+        const struct stun_transaction *t = &stun->transactions[i];
+        if (t->is_open && t->due < due) due = t->due;
     }
     return due;
 }
 
-/* Reads a mapped address, or one that is XORed with the cookie and the id (RFC 8489, section 14.2). */
+/* Reads MAPPED-ADDRESS, or XOR-MAPPED-ADDRESS by its mask: magic cookie and transaction ID (RFC 8489, section 14.2). */
 static bool read_address(const uint8_t *value, size_t length, const uint8_t mask[16], is_ice_address *address)
 {
     if (length < 4) return false;
@@ -74,13 +74,13 @@ static bool read_address(const uint8_t *value, size_t length, const uint8_t mask
     return true;
 }
 
-/* Goes through the attributes: the XORed address counts, and before it the plain one of older servers. */
+/* Searches the attributes for XOR-MAPPED-ADDRESS, else for MAPPED-ADDRESS, which older servers send. */
 static bool read_reply(const uint8_t *bytes, size_t length, is_ice_address *mapped)
 {
     static const uint8_t plain[16] = {0};
     uint8_t mask[16];
     bool found = false;
-    memcpy(mask, bytes + 4, 16); /* the cookie, and behind it the id */
+    memcpy(mask, bytes + 4, 16); /* the magic cookie and the transaction ID */
     for (size_t at = HEADER; at + 4 <= length;) {
         unsigned kind = word(bytes + at);
         size_t size = word(bytes + at + 2);
@@ -95,11 +95,11 @@ static bool read_reply(const uint8_t *bytes, size_t length, is_ice_address *mapp
 
 bool stun_take(struct stun *stun, size_t index, const is_ice_address *from, const uint8_t *bytes, size_t length, is_ice_address *mapped)
 {
-    struct stun_question *q = &stun->questions[index];
-    if (!q->is_open || !net_equal(from, &q->server)) return false;
+    struct stun_transaction *t = &stun->transactions[index];
+    if (!t->is_open || !net_equal(from, &t->server)) return false;
     if (length < HEADER || word(bytes) != BINDING_SUCCESS || word(bytes + 2) != length - HEADER) return false;
-    if (memcmp(bytes + 4, cookie, 4) != 0 || memcmp(bytes + 8, q->id, 12) != 0) return false;
+    if (memcmp(bytes + 4, cookie, 4) != 0 || memcmp(bytes + 8, t->id, 12) != 0) return false;
     if (!read_reply(bytes, length, mapped)) return false;
-    q->is_open = false;
+    t->is_open = false;
     return true;
 }

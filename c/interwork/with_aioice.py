@@ -1,4 +1,4 @@
-"""The C program peer against aioice (Debian's python3-aioice), over loopback.
+"""Tests the C program peer with aioice (Debian's python3-aioice), over loopback.
 
 Usage: with_aioice.py PEER [ROUNDS]. Prints a line for each case, and 'N passed, M failed'.
 """
@@ -12,7 +12,7 @@ aioice.ice.get_host_addresses = lambda use_ipv4, use_ipv6: ["127.0.0.1"]
 
 
 async def talk(theirs):
-    """Connects, hears, and answers twice. Returns what was heard."""
+    """Connects, receives chat and sends two lines back. Returns what it received."""
     await theirs.connect()
     heard = await theirs.recv()
     await theirs.send(b"hello")
@@ -21,7 +21,7 @@ async def talk(theirs):
 
 
 async def introduce(theirs, ours):
-    """Carries both signals."""
+    """Carries the signaling both ways."""
     word, ufrag, password, lines = (await ours.stdout.readline()).decode().rstrip("\n").split(" ", 3)
     assert word == "signal", word
     theirs.remote_username, theirs.remote_password = ufrag, password
@@ -56,7 +56,7 @@ async def main():
         for role, they_control in (("controlling", False), ("controlled", True), ("controlling", True), ("controlled", False)):
             ok, told = await case(peer, role, they_control)
             passed, failed = passed + ok, failed + (not ok)
-            print("ok  " if ok else "FAIL", role, "beside", "controlling" if they_control else "controlled", "-", told)
+            print("ok  " if ok else "FAIL", role, "with", "controlling" if they_control else "controlled", "-", told)
     print(f"{passed} passed, {failed} failed")
     return 1 if failed else 0
 

@@ -1,4 +1,4 @@
-"""The C program peer against libnice (Debian's gir1.2-nice-0.1 and python3-gi), over loopback.
+"""Tests the C program peer with libnice (Debian's gir1.2-nice-0.1 and python3-gi), over loopback.
 
 Usage: with_libnice.py PEER [ROUNDS]. Prints a line for each case, and 'N passed, M failed'.
 """
@@ -22,7 +22,7 @@ LIBNICE.nice_agent_send.argtypes = [ctypes.c_void_p, ctypes.c_uint, ctypes.c_uin
 
 
 class Other:
-    """An agent of libnice, which answers what it hears."""
+    """An agent of libnice, which sends back what it receives."""
 
     def __init__(self, context, is_controlling):
         self.gathered, self.ready, self.heard = threading.Event(), threading.Event(), threading.Event()
@@ -89,7 +89,7 @@ def main():
             except Exception as why:
                 ok, told = False, repr(why)
             passed, failed = passed + ok, failed + (not ok)
-            print("ok  " if ok else "FAIL", role, "beside", "controlling" if they_control else "controlled", "-", told, flush=True)
+            print("ok  " if ok else "FAIL", role, "with", "controlling" if they_control else "controlled", "-", told, flush=True)
     print(f"{passed} passed, {failed} failed")
     loop.quit()
     return 1 if failed else 0

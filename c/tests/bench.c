@@ -1,4 +1,4 @@
-/* What calls cost, in nanoseconds of the processor: the least of sixty rounds. */
+/* Measures what calls cost, in nanoseconds of processor time: the least of sixty rounds. */
 #define _POSIX_C_SOURCE 199309L
 #include "is_ice.h"
 #include <stdio.h>
@@ -18,7 +18,7 @@ struct bench {
     uint8_t bytes[100];
 };
 
-/* One call, or a few that belong together. */
+/* A call, or two that belong together. */
 typedef int32_t work(struct bench *b);
 
 static int32_t poll_timeout(struct bench *b)
@@ -42,8 +42,8 @@ static int32_t poll_transmit(struct bench *b)
 
 static int32_t status(struct bench *b)
 {
-    is_ice_agent_status told;
-    return is_ice_status(&b->agent, &told);
+    is_ice_agent_status now;
+    return is_ice_status(&b->agent, &now);
 }
 
 static int32_t unparsed(struct bench *b)
@@ -77,9 +77,9 @@ static const struct row rows[] = {
     {"poll_event, none", poll_event, IS_ICE_NOTHING, MANY},
     {"poll_transmit, none", poll_transmit, IS_ICE_NOTHING, MANY},
     {"status", status, IS_ICE_OK, MANY},
-    {"handle_packet, no STUN message", unparsed, IS_ICE_UNPARSED, MANY},
+    {"handle_packet, not a STUN message", unparsed, IS_ICE_UNPARSED, MANY},
     {"handle_packet, a forged request", unauthentic, IS_ICE_NOTHING, SOME},
-    {"handle_packet, a request, and poll_transmit, its reply", served, IS_ICE_OK, SOME},
+    {"handle_packet, a request, and poll_transmit, its response", served, IS_ICE_OK, SOME},
 };
 
 static double now(void)
@@ -96,7 +96,7 @@ static double measured(struct bench *b, const struct row *row)
         double begin = now();
         for (long i = 0; i < row->count; i++)
             if (row->work(b) != row->wanted) {
-                printf("%s: another answer\n", row->name);
+                printf("%s: unexpected code\n", row->name);
                 exit(1);
             }
         double took = (now() - begin) / (double)row->count;

@@ -1,6 +1,6 @@
-"""Two peers over loopback: plays the signalling between two runs of the program peer.
+"""Tests two runs of the program peer over loopback, and carries the signaling between them.
 
-Usage: connect.py PEER [CASE ..]. Prints a line for each case, and 'N passed, M failed'; the status is 0 where all passed.
+Usage: connect.py PEER [CASE ..]. Prints a line for each case, and 'N passed, M failed'. The status is 0 if all passed.
 """
 import queue
 import socket
@@ -19,7 +19,7 @@ class Failed(Exception):
 
 
 class Peer:
-    """A run of the program, whose lines are read as they come."""
+    """A run of the program, whose lines are read as they arrive."""
 
     runs = []
 
@@ -36,7 +36,7 @@ class Peer:
         self.lines.put(None)
 
     def says(self, begins, patience=PATIENCE):
-        """The rest of the first line that begins so, of those that were not asked for yet."""
+        """Waits for a line with this beginning, removes it and returns its rest."""
         end = time.monotonic() + patience
         while True:
             for place, line in enumerate(self.told):
@@ -47,7 +47,7 @@ class Peer:
             except queue.Empty:
                 raise Failed(f"no line {begins!r} among {self.told}") from None
             if line is None:
-                raise Failed(f"ended before {begins!r}, behind {self.told}")
+                raise Failed(f"ended before {begins!r}, after {self.told}")
             self.told.append(line)
 
     def hears(self, line):
@@ -55,11 +55,11 @@ class Peer:
         self.run.stdin.flush()
 
     def ends(self, status=0):
-        """Waits for the end, and returns the lines that were not asked for."""
+        """Waits for the end, and returns the lines that no `says` removed."""
         try:
             got = self.run.wait(PATIENCE)
         except subprocess.TimeoutExpired:
-            raise Failed(f"no end behind {self.told}") from None
+            raise Failed(f"no end after {self.told}") from None
         self.told += iter(self.lines.get, None)
         if got != status:
             raise Failed(f"status {got}: {self.told}")
@@ -76,7 +76,7 @@ def introduce(a, b):
 
 
 def connected(a, b):
-    """Both were told of a path, and it is the same one from both ends. Returns it."""
+    """Waits until both report a path. It must be the same one from both ends; returns it."""
     ends = [tuple(side.says("path ").split()) for side in (a, b)]
     if ends[0] != ends[1][::-1]:
         raise Failed(f"the paths differ: {ends}")
@@ -84,7 +84,7 @@ def connected(a, b):
 
 
 def talk(a, b):
-    """A line of chat each way: on loopback none is lost, but the other end may be announced a little later."""
+    """Sends a line of chat each way. Loopback loses none, but the other end may select the path a little later."""
     for one, other in ((a, b), (b, a)):
         one.hears("good morning")
         if other.says("heard ") != "good morning":
@@ -97,7 +97,7 @@ def talk(a, b):
 # ---- cases
 
 def roles():
-    """A message each way, in each constellation of roles: conflicts are settled."""
+    """A message each way, for each combination of roles: role conflicts are resolved."""
     for both in (ROLES, ROLES[::-1], ROLES[:1] * 2, ROLES[1:] * 2):
         peers = pair("-a", "127.0.0.1", "-m", "hello", roles=both)
         introduce(*peers)
@@ -108,7 +108,7 @@ def roles():
 
 
 def families():
-    """IPv6; and several addresses, of which IPv6 is the better one."""
+    """IPv6; and several addresses, of which IPv6 has the highest priority."""
     for words in (("-a", "::1"), ("-a", "127.0.0.1", "-a", "::1", "-a", "127.0.0.2")):
         a, b = pair(*words)
         introduce(a, b)
@@ -116,7 +116,7 @@ def families():
 
 
 def talk_over(a, b, begins):
-    """Until the path begins so at both ends."""
+    """Waits until the path has addresses with this beginning at both ends, and talks."""
     for side in (a, b):
         while not all(end.startswith(begins) for end in side.says("path ").split()):
             pass
@@ -124,7 +124,7 @@ def talk_over(a, b, begins):
 
 
 def interfaces():
-    """All addresses of the machine's interfaces, loopback ones too."""
+    """All addresses of the machine's interfaces, also loopback addresses."""
     a, b = pair("-l")
     introduce(a, b)
     for side in (a, b):
@@ -134,7 +134,7 @@ def interfaces():
 
 
 def trickle():
-    """Candidates that come one by one behind the signal; and a better one, which is announced in place of the first."""
+    """Candidates that arrive one by one after the signal; a better one replaces the selected pair."""
     a, b = pair("-a", "127.0.0.1", "-a", "::1")
     signals = [side.says("signal ").split(" ", 2) for side in (a, b)]
     for side, (ufrag, password, _) in zip((b, a), signals):
@@ -151,7 +151,7 @@ def trickle():
 
 
 def restart():
-    """A restart on request of one side, which the other one follows: both are told of the path anew, and talk."""
+    """One side restarts and the other follows: both report the path again, and talk."""
     a, b = pair("-a", "127.0.0.1")
     introduce(a, b)
     before = connected(a, b)
@@ -166,15 +166,15 @@ def restart():
 
 
 def lite():
-    """An ice-lite agent, which is controlled, beside a full one."""
+    """A lite agent, which is controlled, with a full one."""
     a, b = Peer("-t", "30", "-a", "127.0.0.1", "controlling"), Peer("-t", "30", "-a", "127.0.0.1", "-L", "controlled")
     introduce(a, b)
     connected(a, b)
     talk(a, b)
 
 
-def answer(server):
-    """Answers STUN requests, of which the first is lost: the client is at 192.0.2.9, at its port."""
+def serve(server):
+    """A STUN server that loses the first request of each client: it sees the client at 192.0.2.9 and its port."""
     seen = set()
     while True:
         bytes_, source = server.recvfrom(2048)
@@ -190,10 +190,10 @@ def answer(server):
 
 
 def reflexive():
-    """An address that a STUN server sees comes as a line of its own, behind the signal."""
+    """A server-reflexive candidate is printed as a line of its own, after the signal."""
     server = socket.socket(socket.AF_INET, socket.SOCK_DGRAM)
     server.bind(("127.0.0.1", 0))
-    thread = threading.Thread(target=answer, args=(server,), daemon=True)
+    thread = threading.Thread(target=serve, args=(server,), daemon=True)
     thread.start()
     a = Peer("-t", "30", "-a", "127.0.0.1", "-s", f"127.0.0.1:{server.getsockname()[1]}", "controlling")
     b = Peer("-t", "30", "-a", "127.0.0.1", "controlled")
@@ -210,7 +210,7 @@ def reflexive():
 
 
 def silent_server():
-    """A STUN server that does not answer is given up, and the peers connect all the same."""
+    """The peers connect although their STUN server does not respond."""
     silent = socket.socket(socket.AF_INET, socket.SOCK_DGRAM)
     silent.bind(("127.0.0.1", 0))
     a, b = pair("-a", "127.0.0.1", "-s", f"127.0.0.1:{silent.getsockname()[1]}")
@@ -220,38 +220,104 @@ def silent_server():
     silent.close()
 
 
-def errors():
-    """What can't be done is said on standard error, and stops nothing that can."""
-    for words, error in (("nobody", "usage"), ("-a example controlled", "example: "), ("-a 203.0.113.1 controlled", "203.0.113.1: "),
-                         ("-t x controlled", "no number of seconds: x"), ("-s [::1 controlled", "[::1: ")):
-        if error not in Peer(*words.split()).ends(2):
-            raise Failed(words)
+def mdns():
+    """A candidate with an mDNS name is left out; the other peer's checks bring its address."""
     a, b = pair("-a", "127.0.0.1")
-    a.hears("nobody hears this")
-    a.hears("signal alone")
-    a.hears("candidate:12344 bad value")
-    a.hears("x" * 20000)
+    ufrag, password, candidate = b.says("signal ").split(" ", 2)
+    hidden = candidate.replace(" 127.0.0.1 ", " 3f2b8c1e-5c1e-4b0a-9f5e-1f2e3d4c5b6a.local ")
+    a.hears(f"signal {ufrag} {password} {hidden}")
+    b.hears("signal " + a.says("signal "))
+    if hidden not in a.says("peer: left out "):
+        raise Failed(hidden)
+    connected(a, b)
+    talk(a, b)
+
+
+def replay():
+    """Replayed requests are discovered sources, and keep nobody from being heard; the one who replays is not heard."""
+    tap = socket.socket(socket.AF_INET, socket.SOCK_DGRAM)
+    tap.bind(("127.0.0.1", 0))
+    tap.settimeout(PATIENCE)
+    a, b = pair("-a", "127.0.0.1")
+    introduce(a, b)
+    path = connected(a, b)
+    b.says("source ")
+    a.hears(f"candidate:9 1 udp 7 127.0.0.1 {tap.getsockname()[1]} typ host")
+    request = tap.recv(2048)
+    host, port = path[1].rsplit(":", 1)
+    others = [socket.socket(socket.AF_INET, socket.SOCK_DGRAM) for _ in range(40)]
+    for other in others:
+        other.sendto(request, (host, int(port)))
+        b.says("source ")
+    others[0].sendto(b"good evening", (host, int(port)))
+    a.hears("good morning")
+    if b.says("heard ") != "good morning":
+        raise Failed(f"{b.told}")
+    for each in (tap, *others):
+        each.close()
+    talk(a, b)
+
+
+HELP = ("-h", "-a ADDRESS", "-l", "-s SERVER[:PORT]", "-L", "-m TEXT", "-t SECONDS", "controlling", "controlled")
+BAD_OPTIONS = (
+    ("nobody", "usage"), ("-a example controlled", "-a example: not an IP address"),
+    ("-a localhost controlled", "-a localhost: not an IP address"), ("-a 0.0.0.0 controlled", "-a 0.0.0.0: the unspecified address"),
+    ("-a :: controlled", "-a ::: the unspecified address"), ("-a 203.0.113.1 controlled", "-a 203.0.113.1: "),
+    ("-t x controlled", "-t x: not a whole number"), ("-t 90000 controlled", "-t 90000: more than 86400"),
+    ("-a 127.0.0.1 -s [::1 controlled", "-s [::1: "), ("-a 127.0.0.1 -s 127.0.0.1:99999 controlled", "-s 127.0.0.1:99999: the port"),
+    ("-a 127.0.0.1 -s 127.0.0.1: controlled", "the port"), ("-L controlling", "a lite agent has to be controlled"),
+)
+BAD_LINES = (
+    ("too early", "there is no path"), ("signal", "malformed signal"), ("signal alone", "malformed signal"),
+    ("candidate:12344 bad value", "candidate:12344 bad value: "), ("candidate 1 1 udp", "candidate 1 1 udp: "),
+    ("a=candidate:1 1 udp 7 127.0.0.1 9 typ host", "without a="), ("a=ice-pwd:secret", "a=ice-pwd:secret: not sent"),
+    ("/quite", "/quite: unknown command"), ("x" * 20000, "a line is too long"),
+)
+
+
+def options():
+    """-h explains each option, and an error names the option and what is wrong."""
+    text = Peer("-h").ends()
+    for word in HELP:
+        if word not in text:
+            raise Failed(f"{word!r} is not in {text!r}")
+    for words, error in BAD_OPTIONS:
+        said = Peer(*words.split()).ends(2)
+        if error not in said:
+            raise Failed(f"{words}: {said}")
+
+
+def errors():
+    """A line with an error is reported on standard error, is not sent as chat, and stops nothing else."""
+    a, b = pair("-a", "127.0.0.1")
+    for line, _ in BAD_LINES:
+        a.hears(line)
     introduce(a, b)
     connected(a, b)
+    for line, _ in BAD_LINES[1:]:
+        a.hears(line)
     for side in (a, b):
         side.hears("/stats")
         side.says("stats sent ")
+    a.hears("good morning")
+    if b.says("heard ") != "good morning":
+        raise Failed(f"{b.told}")
     a.hears("/quit")
     b.hears("/quit")
     b.ends()
     error = a.ends()
-    for text in ("there is no path", "no signal", "candidate:12344 bad value: ", "a line is too long"):
-        if text not in error:
-            raise Failed(f"{text!r} is not in {error!r}")
+    for line, text in BAD_LINES:
+        if error.count(text) < 1 + (line != "too early"):
+            raise Failed(f"{text!r} is not in {error!r} for each {line[:40]!r}")
 
 
 def late():
-    """A peer that nobody answers ends with status 1."""
+    """A peer without a response ends with status 1."""
     a = Peer("-a", "127.0.0.1", "-t", "1", "controlling")
     a.ends(1)
 
 
-CASES = [roles, families, interfaces, trickle, restart, lite, reflexive, silent_server, errors, late]
+CASES = [roles, families, interfaces, trickle, restart, lite, reflexive, silent_server, mdns, replay, options, errors, late]
 
 
 def main():

@@ -1,5 +1,5 @@
-/* Each field of each struct crosses: what one side writes is what the other one reads. And the structs have the offsets that
- * the library's own have, where C's rules of layout give another one no room. */
+/* Tests each field of each struct: what the program writes, the library reads, and the reverse. On 64-bit targets the offsets
+ * of the fields are those of the library. */
 #include "is_ice.h"
 #include <stdio.h>
 #include <stdlib.h>
@@ -68,8 +68,8 @@ static void settings(void)
     is_ice_agent_free(&agent);
 }
 
-/* The candidate is added, and its line begins with a foundation and has this behind it. */
-static void has_line(is_ice_agent *agent, size_t index, const is_ice_candidate *candidate, const char *behind)
+/* Adds the candidate: its text has this after the foundation. */
+static void has_line(is_ice_agent *agent, size_t index, const is_ice_candidate *candidate, const char *rest)
 {
     uint8_t line[256];
     size_t length = 0;
@@ -77,12 +77,12 @@ static void has_line(is_ice_agent *agent, size_t index, const is_ice_candidate *
     HOLD(is_ice_local_candidate(agent, index, line, sizeof line - 1, &length) == IS_ICE_OK);
     line[length] = '\0';
     const char *blank = strchr((const char *)line, ' ');
-    if (blank && strncmp(blank, behind, strlen(behind)) == 0) return;
-    printf("%s, and not %s\n", (const char *)line, behind);
+    if (blank && strncmp(blank, rest, strlen(rest)) == 0) return;
+    printf("%s: expected %s\n", (const char *)line, rest);
     exit(1);
 }
 
-/* is_ice_candidate, of each kind and family, and is_ice_preference_table, whose number is the third byte of the priority. */
+/* is_ice_candidate, of each kind and family, and is_ice_preference_table, whose values are in the middle of the priority. */
 static void candidates(void)
 {
     static const is_ice_preference_table table = {{1, 2, 3, 4}, {5, 6, 7, 8}};
@@ -124,7 +124,7 @@ static bool same(const is_ice_address *a, const is_ice_address *b)
     return a->family == b->family && memcmp(a->bytes, b->bytes, 16) == 0 && a->port == b->port && a->flow == b->flow && a->scope == b->scope;
 }
 
-/* Carries a packet: from there to there, of so many bytes. */
+/* Delivers a packet, and tests its addresses and its length. */
 static void carry(
     is_ice_agent *from, is_ice_agent *to, const is_ice_address *source, const is_ice_address *destination, size_t length, uint64_t now)
 {
@@ -167,7 +167,7 @@ static void session(void)
     is_ice_agent_free(&b);
 }
 
-/* Flow and scope of is_ice_address: the reply goes back to the address that the request came from, with both. */
+/* Flow and scope of is_ice_address: the response has both of the address that the request came from. */
 static void flow_and_scope(void)
 {
     const is_ice_address at_b = scoped, at_a = v6;

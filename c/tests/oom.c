@@ -1,16 +1,16 @@
-/* Each request for memory is refused in turn, from the first on, while two agents connect, restart and lose candidates: the
- * call that made the request says so, the same call made again succeeds, all later packets, events and figures are those of
- * ample memory, and nothing is lost.
+/* Makes each allocation fail in turn, while two agents connect, restart and lose candidates. The call that needed the memory
+ * returns IS_ICE_OUT_OF_MEMORY and succeeds when it is repeated. All later packets, events and statistics are the same as
+ * without a failure, and no memory leaks.
  *
- * To be linked with -Wl,--wrap=malloc,--wrap=realloc,--wrap=free. */
+ * Link with -Wl,--wrap=malloc,--wrap=realloc,--wrap=free. */
 #include "is_ice.h"
 #include <stdio.h>
 #include <stdlib.h>
 #include <string.h>
 
-/* ---- memory: of the library alone, since nothing else here asks for any between two counts */
+/* ---- memory: only the library's, since nothing else here allocates between two counts */
 
-static long left = -1; /* requests until the one that is refused; below 0: none is */
+static long left = -1; /* allocations before the one that fails; below 0: none fails */
 static long asked, live;
 
 void *__real_malloc(size_t size);
@@ -46,13 +46,13 @@ void __wrap_free(void *at)
     __real_free(at);
 }
 
-/* ---- a story */
+/* ---- a session */
 
 #define TEXT(text) (const uint8_t *)text, sizeof text - 1
 
 struct story {
     is_ice_agent a, b;
-    uint64_t sum; /* what came of it all */
+    uint64_t sum; /* a hash of all results */
     int refused;
     uint8_t random[IS_ICE_CREDENTIALS_RANDOM];
 };
@@ -71,7 +71,7 @@ static void fail(int line, const char *what, long number)
     exit(1);
 }
 
-/* Makes a call once more where memory was refused to it, and wants this answer. */
+/* Repeats a call that ran out of memory, and expects this code. */
 #define CALL(s, wanted, call)                                                           \
     do {                                                                                \
         int32_t code_ = (call);                                                         \
@@ -82,13 +82,13 @@ static void fail(int line, const char *what, long number)
         if (code_ != (wanted)) fail(__LINE__, "code", code_);                           \
     } while (0)
 
-/* Makes a call that takes no memory. */
+/* Makes a call that does not allocate. */
 #define QUIET(wanted, call)                                                             \
     do {                                                                                \
         long asked_ = asked;                                                            \
         int32_t code_ = (call);                                                         \
         if (code_ != (wanted)) fail(__LINE__, "code", code_);                           \
-        if (asked != asked_) fail(__LINE__, "requests for memory", asked - asked_);     \
+        if (asked != asked_) fail(__LINE__, "allocations", asked - asked_);             \
     } while (0)
 
 static void make(struct story *s)
@@ -204,17 +204,17 @@ static struct story played(long refused)
 
 int main(void)
 {
-    setvbuf(stdout, NULL, _IONBF, 0); /* so that printing asks for no memory */
+    setvbuf(stdout, NULL, _IONBF, 0); /* so that printing does not allocate */
     const long before = live;
     const struct story ample = played(-1);
     const long requests = asked;
-    if (live != before) fail(__LINE__, "lost", live - before);
+    if (live != before) fail(__LINE__, "leaked", live - before);
     for (long n = 0; n < requests; n++) {
         const struct story story = played(n);
-        if (story.refused != 1) fail(__LINE__, "calls that told of refused request", n);
-        if (live != before) fail(__LINE__, "memory was lost at request", n);
-        if (story.sum != ample.sum) fail(__LINE__, "another story at request", n);
+        if (story.refused != 1) fail(__LINE__, "not one call reported failed allocation", n);
+        if (live != before) fail(__LINE__, "memory leaked after failed allocation", n);
+        if (story.sum != ample.sum) fail(__LINE__, "other results after failed allocation", n);
     }
-    printf("each of %ld requests for memory was refused once: ok\n", requests);
+    printf("each of %ld allocations failed once: ok\n", requests);
     return 0;
 }

@@ -1,4 +1,4 @@
-"""NATs by RFC 4787, without any agent."""
+"""Tests the NATs (RFC 4787), without agents."""
 
 import itertools
 import unittest
@@ -20,7 +20,7 @@ def nat(mapping: Behaviour = Behaviour.ENDPOINT, filtering: Behaviour = Behaviou
 
 
 class Mapping(unittest.TestCase):
-    """RFC 4787, 4.1: which destinations share an outside port."""
+    """RFC 4787, section 4.1: which destinations share an outside port."""
 
     def ports(self, behaviour: Behaviour) -> tuple[bool, bool]:
         box = nat(behaviour)
@@ -48,7 +48,7 @@ class Mapping(unittest.TestCase):
 
 
 class Filtering(unittest.TestCase):
-    """RFC 4787, 5: what comes in behind a packet to SERVER."""
+    """RFC 4787, section 5: what passes the filter after a packet to SERVER."""
 
     def let_in(self, mapping: Behaviour, filtering: Behaviour) -> list[bool]:
         box = nat(mapping, filtering)
@@ -62,28 +62,28 @@ class Filtering(unittest.TestCase):
             with self.subTest(mapping=mapping, filtering=filtering):
                 self.assertEqual(self.let_in(mapping, filtering), wanted[filtering])
 
-    def test_nothing_comes_in_unasked(self) -> None:
+    def test_nothing_comes_in_without_a_mapping(self) -> None:
         self.assertIsNone(nat().incoming(0, SERVER, SocketAddress(OUTSIDE, 5000)))
 
 
-class Forgetting(unittest.TestCase):
-    """RFC 4787, 4.3: outgoing packets keep a mapping; incoming ones where the scenario says so."""
+class Timeouts(unittest.TestCase):
+    """RFC 4787, section 4.3: outgoing packets refresh a mapping; incoming ones if the scenario says so."""
 
-    def test_outgoing_packets_keep_it(self) -> None:
+    def test_outgoing_packets_refresh_a_mapping(self) -> None:
         box = nat(timeout_s=30)
         outside = box.outgoing(0, INSIDE, SERVER)
         self.assertEqual(box.outgoing(30 * SECOND, INSIDE, SERVER), outside)
         self.assertEqual(box.incoming(60 * SECOND, SERVER, outside), INSIDE)
         self.assertIsNone(box.incoming(60 * SECOND + 1, SERVER, outside))
 
-    def test_incoming_packets_keep_it_where_told(self) -> None:
+    def test_incoming_packets_refresh_it_if_configured(self) -> None:
         for refreshes, seen in ((True, INSIDE), (False, None)):
             box = nat(timeout_s=30, inbound_refresh=refreshes)
             outside = box.outgoing(0, INSIDE, SERVER)
             self.assertEqual(box.incoming(20 * SECOND, SERVER, outside), INSIDE)
             self.assertEqual(box.incoming(40 * SECOND, SERVER, outside), seen)
 
-    def test_permissions_are_forgotten_one_by_one(self) -> None:
+    def test_permissions_time_out_separately(self) -> None:
         box = nat(filtering=Behaviour.ADDRESS, timeout_s=30)
         outside = box.outgoing(0, INSIDE, SERVER)
         box.outgoing(20 * SECOND, INSIDE, OTHER)

@@ -1,4 +1,4 @@
-"""Links, ways between networks, hairpinning, servers: without any agent."""
+"""Tests links, routing between networks, hairpinning and servers, without agents."""
 
 import unittest
 from random import Random
@@ -8,7 +8,7 @@ from lab.clock import BEGINNING, MILLISECOND, Clock
 from lab.link import Link, LinkSettings
 from lab.nat import NatSettings
 from lab.network import Datagram, Gateway, Interface, Network, Packet
-from lab.servers import AskAddress, AskRelay, Relayed, Server, Told
+from lab.servers import BindingRequest, AllocateRequest, Relayed, Server, SuccessResponse
 
 OUTSIDE = "203.0.113.1"
 STUN = SocketAddress("198.51.100.10", 3478)
@@ -22,7 +22,7 @@ class Links(unittest.TestCase):
     def test_a_plain_link_only_delays(self) -> None:
         self.assertEqual(self.carried(LinkSettings(delay_ms=3), 2), [[BEGINNING + 3 * MILLISECOND], [BEGINNING + 4 * MILLISECOND]])
 
-    def test_loss_is_as_told(self) -> None:
+    def test_loss_is_as_configured(self) -> None:
         lost = sum(not arrivals for arrivals in self.carried(LinkSettings(loss=0.2)))
         self.assertAlmostEqual(lost / 10000, 0.2, delta=0.02)
 
@@ -32,7 +32,7 @@ class Links(unittest.TestCase):
         self.assertAlmostEqual(sum(fates) / bursts, 20, delta=2)
         self.assertAlmostEqual(100000 / bursts, 120, delta=12)
 
-    def test_duplicates_are_as_told(self) -> None:
+    def test_duplicates_are_as_configured(self) -> None:
         twice = sum(len(arrivals) == 2 for arrivals in self.carried(LinkSettings(duplicate=0.1)))
         self.assertAlmostEqual(twice / 10000, 0.1, delta=0.02)
 
@@ -46,7 +46,7 @@ class Links(unittest.TestCase):
         self.assertEqual([a[0] - BEGINNING for a in arrivals if a], [10 * MILLISECOND * n for n in (1, 2, 3)])
 
 
-class Ways(unittest.TestCase):
+class Routing(unittest.TestCase):
     def setUp(self) -> None:
         self.clock = Clock()
         self.internet = Network("internet", self.clock, 20 * MILLISECOND)
@@ -70,14 +70,14 @@ class Ways(unittest.TestCase):
             pass
         return datagram
 
-    def test_a_lan_is_left_by_nobody(self) -> None:
+    def test_packets_in_a_lan_stay_there(self) -> None:
         self.gateway()
         here, there = self.interface("10.0.0.1", self.home), self.interface("10.0.0.2", self.home)
         self.send(here, 1, SocketAddress(there.ip, 2))
         self.assertEqual([(ip, p.source) for ip, p in self.heard], [(there.ip, SocketAddress(here.ip, 1))])
         self.assertEqual(self.clock.now, BEGINNING + 2 * MILLISECOND)
 
-    def test_a_gateway_turns_the_source_and_back(self) -> None:
+    def test_a_gateway_translates_both_ways(self) -> None:
         self.gateway()
         here, there = self.interface("10.0.0.1", self.home), self.interface("192.0.2.1", self.internet)
         self.send(here, 1, SocketAddress(there.ip, 2))
@@ -99,37 +99,37 @@ class Ways(unittest.TestCase):
             else:
                 self.assertIn("no hairpin", fates[0][1])
 
-    def test_no_way_and_no_interface(self) -> None:
+    def test_no_route_and_no_interface(self) -> None:
         six = self.interface("2001:db8::1", self.internet)
         self.assertEqual(self.send(six, 1, SocketAddress("2001:db8::9", 1)).fates[0][1], "no route")
         six.is_on = False
         self.assertIn("is off", self.send(six, 1, STUN).fates[0][1])
 
-    def test_private_addresses_do_not_leave_the_internet(self) -> None:
+    def test_private_addresses_have_no_route_in_the_internet(self) -> None:
         self.gateway()
         here = self.interface("10.0.0.1", self.home)
         self.assertEqual(self.send(here, 1, SocketAddress("192.168.7.7", 1)).fates[0][1], "no route")
 
-    def test_a_server_tells_what_it_sees(self) -> None:
+    def test_a_server_returns_the_mapped_address(self) -> None:
         self.gateway()
         Server(STUN.ip, self.internet)
         here = self.interface("10.0.0.1", self.home)
-        self.send(here, 77, STUN, AskAddress())
-        self.assertEqual(self.heard[0][1].payload, Told(STUN, SocketAddress(OUTSIDE, 77), False))
+        self.send(here, 77, STUN, BindingRequest())
+        self.assertEqual(self.heard[0][1].payload, SuccessResponse(STUN, SocketAddress(OUTSIDE, 77), False))
 
-    def test_a_relay_takes_back_and_forth_who_is_permitted(self) -> None:
+    def test_a_relay_needs_permissions(self) -> None:
         Server(STUN.ip, self.internet)
         client, peer, stranger = (self.interface(f"192.0.2.{n}", self.internet) for n in (1, 2, 3))
-        self.send(client, 1, STUN, AskRelay())
-        lent = self.heard.pop()[1].payload.address  # type: ignore[attr-defined]
-        self.assertIn("not permitted", self.send(peer, 2, lent).fates[0][1])
-        word = Relayed(lent, SocketAddress(peer.ip, 2), Datagram(0, "a", 0, lent, STUN, b""))
+        self.send(client, 1, STUN, AllocateRequest())
+        relayed = self.heard.pop()[1].payload.address  # type: ignore[attr-defined]
+        self.assertIn("not permitted", self.send(peer, 2, relayed).fates[0][1])
+        word = Relayed(relayed, SocketAddress(peer.ip, 2), Datagram(0, "a", 0, relayed, STUN, b""))
         self.send(client, 1, STUN, word)
-        self.assertEqual(self.heard.pop()[1].source, lent)
-        self.send(peer, 2, lent)
+        self.assertEqual(self.heard.pop()[1].source, relayed)
+        self.send(peer, 2, relayed)
         back = self.heard.pop()
         self.assertEqual((back[0], back[1].payload.peer), (client.ip, SocketAddress(peer.ip, 2)))  # type: ignore[attr-defined]
-        self.assertIn("not permitted", self.send(stranger, 2, lent).fates[0][1])
+        self.assertIn("not permitted", self.send(stranger, 2, relayed).fates[0][1])
 
 
 if __name__ == "__main__":

@@ -1,12 +1,13 @@
-"""An ICE agent (RFC 8445) that is proved, from Python: a class over the C interface.
+"""A proved ICE agent (RFC 8445) for Python: a class over the C interface.
 
-The agent has no sockets, threads or clocks. Moments, candidates, datagrams and random bytes go in; packets, events and
-the next moment come out. `python/README.md` shows the loop, and `python/peer.py` a program over UDP sockets.
+The agent has no sockets, threads or clocks. The caller passes in the time, candidates and datagrams. The agent returns
+packets to send, events, and the time of its next timeout. `python/README.md` shows the loop, and `python/peer.py` is a program
+over UDP sockets.
 """
 
 from .address import Protocol, SocketAddress
 from .agent import IceAgent, line_refusal, new_creds
-from .candidate import Candidate, CandidateKind, KindPreferences
+from .candidate import Candidate, CandidateKind, KindPreferences, has_mdns_name
 from .errors import (
     BadAddress,
     BadCandidate,
@@ -22,6 +23,7 @@ from .errors import (
     PriorityTooHigh,
     TooFewRandomBytes,
     Unparsed,
+    WrongThread,
 )
 from .events import (
     DiscoveredRecv,
@@ -41,5 +43,5 @@ __all__ = [
     "HasAgent", "IceAgent", "IceAgentEvent", "IceAgentStats", "IceConnectionState", "IceConnectionStateChange",
     "IceCreds", "IceError", "IceRestart", "KindPreferences", "MtuTooSmall", "NoAgent", "NominatedPair", "NominatedSend",
     "NotUtf8", "OutOfMemory", "PairIdsExhausted", "PriorityTooHigh", "Protocol", "SocketAddress", "TooFewRandomBytes",
-    "Transmit", "Unparsed", "line_refusal", "new_creds",
+    "Transmit", "Unparsed", "WrongThread", "has_mdns_name", "line_refusal", "new_creds",
 ]

@@ -1,4 +1,4 @@
-"""The C interface (c/is_ice.h) as ctypes sees it: structs, prototypes, and the shared library that has them."""
+"""The C interface (c/is_ice.h) for ctypes: structs, prototypes, and the shared library."""
 
 from __future__ import annotations
 
@@ -8,6 +8,7 @@ from ctypes import POINTER, c_bool, c_char_p, c_int32, c_size_t, c_uint8, c_uint
 from pathlib import Path
 
 VERSION = 1
+NAME = "libis_ice.so"
 CREDENTIALS_RANDOM = 38
 TIMEOUT_RANDOM = 12
 UFRAG_LENGTH = 16
@@ -15,28 +16,38 @@ PASS_LENGTH = 22
 
 
 class Agent(ctypes.Structure):
-    """Where an agent is held. All zero: there is none. Its fields are the library's."""
+    """Refers to an agent. All zero: there is none. Only the library reads and writes its fields."""
 
     _fields_ = [("is_held", c_bool), ("at", c_void_p)]
 
 
 class Address(ctypes.Structure):
+    """is_ice_address."""
+
     _fields_ = [("family", c_uint8), ("bytes", c_uint8 * 16), ("port", c_uint16), ("flow", c_uint32), ("scope", c_uint32)]
 
 
 class Candidate(ctypes.Structure):
+    """is_ice_candidate."""
+
     _fields_ = [("address", Address), ("base", Address), ("kind", c_uint8), ("protocol", c_uint8)]
 
 
 class Packet(ctypes.Structure):
+    """is_ice_packet."""
+
     _fields_ = [("source", Address), ("destination", Address), ("length", c_size_t), ("protocol", c_uint8)]
 
 
 class Event(ctypes.Structure):
+    """is_ice_event."""
+
     _fields_ = [("source", Address), ("destination", Address), ("kind", c_int32), ("state", c_int32), ("protocol", c_uint8)]
 
 
 class Status(ctypes.Structure):
+    """is_ice_agent_status."""
+
     _fields_ = [
         ("state", c_int32),
         ("controlling", c_bool),
@@ -48,6 +59,8 @@ class Status(ctypes.Structure):
 
 
 class Stats(ctypes.Structure):
+    """is_ice_agent_stats."""
+
     _fields_ = [
         ("bind_request_sent", c_uint64),
         ("bind_success_recv", c_uint64),
@@ -58,31 +71,37 @@ class Stats(ctypes.Structure):
 
 
 class Nominated(ctypes.Structure):
+    """is_ice_nominated_pair."""
+
     _fields_ = [("total_rtt", c_uint64), ("responses", c_uint64), ("rtt", c_uint64), ("has_rtt", c_bool)]
 
 
 class KindPreferences(ctypes.Structure):
+    """is_ice_kind_preferences."""
+
     _fields_ = [("host", c_uint16), ("peer_reflexive", c_uint16), ("server_reflexive", c_uint16), ("relayed", c_uint16)]
 
 
 class PreferenceTable(ctypes.Structure):
+    """is_ice_preference_table."""
+
     _fields_ = [("v4", KindPreferences), ("v6", KindPreferences)]
 
 
-# What c/is_ice.h says that the structs take.
+# The sizes of the structs that c/is_ice.h asserts.
 SIZES = {Agent: 16, Address: 28, Candidate: 60, Packet: 72, Event: 68, Status: 32, Stats: 40, Nominated: 32, KindPreferences: 8,
          PreferenceTable: 16}
 
 _AGENT = POINTER(Agent)
 _BYTES = [c_char_p, c_size_t]
-_WAY = [c_uint8, POINTER(Address), POINTER(Address)]
-_TOLD = [c_void_p, c_size_t, POINTER(c_size_t)]
+_PATH = [c_uint8, POINTER(Address), POINTER(Address)]
+_TEXT = [c_void_p, c_size_t, POINTER(c_size_t)]
 
-# Behind each name the arguments; all answer a code but the two below.
+# The arguments of each call. All return a code, except for is_ice_version and is_ice_agent_free.
 PROTOTYPES: dict[str, list[object]] = {
     "is_ice_make_credentials": [*_BYTES, c_void_p, c_size_t, c_void_p, c_size_t],
-    "is_ice_line_refusal": [*_BYTES, *_TOLD],
-    "is_ice_candidate_refusal": [POINTER(Candidate), *_TOLD],
+    "is_ice_line_refusal": [*_BYTES, *_TEXT],
+    "is_ice_candidate_refusal": [POINTER(Candidate), *_TEXT],
     "is_ice_agent_new": [_AGENT, *_BYTES, *_BYTES, c_uint64],
     "is_ice_set_controlling": [_AGENT, c_bool],
     "is_ice_set_lite": [_AGENT, c_bool],
@@ -103,11 +122,11 @@ PROTOTYPES: dict[str, list[object]] = {
     "is_ice_add_remote": [_AGENT, *_BYTES],
     "is_ice_invalidate_local": [_AGENT, POINTER(Candidate)],
     "is_ice_invalidate": [_AGENT, *_BYTES],
-    "is_ice_local_candidate": [_AGENT, c_size_t, *_TOLD],
-    "is_ice_remote_candidate": [_AGENT, c_size_t, *_TOLD],
-    "is_ice_handle_packet": [_AGENT, c_uint64, *_WAY, *_BYTES],
+    "is_ice_local_candidate": [_AGENT, c_size_t, *_TEXT],
+    "is_ice_remote_candidate": [_AGENT, c_size_t, *_TEXT],
+    "is_ice_handle_packet": [_AGENT, c_uint64, *_PATH, *_BYTES],
     "is_ice_handle_timeout": [_AGENT, c_uint64, *_BYTES],
-    "is_ice_accepts_packet": [_AGENT, *_WAY, *_BYTES],
+    "is_ice_accepts_packet": [_AGENT, *_PATH, *_BYTES],
     "is_ice_accepts_message": [_AGENT, *_BYTES],
     "is_ice_poll_transmit": [_AGENT, c_void_p, c_size_t, POINTER(Packet)],
     "is_ice_poll_event": [_AGENT, POINTER(Event)],
@@ -118,28 +137,31 @@ PROTOTYPES: dict[str, list[object]] = {
     "is_ice_stats": [_AGENT, POINTER(Stats)],
     "is_ice_nominated": [_AGENT, POINTER(Nominated)],
     "is_ice_has_viable_remote": [_AGENT, POINTER(Address)],
-    "is_ice_local_ufrag": [_AGENT, *_TOLD],
-    "is_ice_local_pass": [_AGENT, *_TOLD],
-    "is_ice_remote_ufrag": [_AGENT, *_TOLD],
-    "is_ice_remote_pass": [_AGENT, *_TOLD],
+    "is_ice_local_ufrag": [_AGENT, *_TEXT],
+    "is_ice_local_pass": [_AGENT, *_TEXT],
+    "is_ice_remote_ufrag": [_AGENT, *_TEXT],
+    "is_ice_remote_pass": [_AGENT, *_TEXT],
 }
 
 
 def library_path() -> Path:
-    """The shared library: what IS_ICE_LIBRARY names, else what python/build makes."""
-    told = os.environ.get("IS_ICE_LIBRARY")
-    return Path(told) if told else Path(__file__).resolve().parent.parent / "out" / "libis_ice.so"
+    """The shared library: the one next to this module, else that of IS_ICE_LIBRARY, else that of python/build in a clone."""
+    folder = Path(__file__).resolve().parent
+    installed, named = folder / NAME, os.environ.get("IS_ICE_LIBRARY")
+    if installed.exists():
+        return installed
+    return Path(named) if named else folder.parent / "out" / NAME
 
 
 def load(path: Path | None = None) -> ctypes.CDLL:
-    """The library with its prototypes set. OSError where there is none, or where it is of another version."""
+    """Loads the library and sets its prototypes. OSError if it does not exist or has another version."""
     path = path or library_path()
     if not path.exists():
-        raise OSError(f"{path} is not there: run python/build, or name another one by IS_ICE_LIBRARY")
+        raise OSError(f"{path} does not exist: run python/build, or set IS_ICE_LIBRARY to a shared library")
     library = ctypes.CDLL(str(path))
     library.is_ice_version.restype, library.is_ice_version.argtypes = c_uint32, []
     if library.is_ice_version() != VERSION:
-        raise OSError(f"{path} has version {library.is_ice_version()} of the interface, and {VERSION} is wanted")
+        raise OSError(f"{path} has version {library.is_ice_version()} of the interface; this module needs {VERSION}")
     library.is_ice_agent_free.restype, library.is_ice_agent_free.argtypes = None, [_AGENT]
     for name, arguments in PROTOTYPES.items():
         function = getattr(library, name)

@@ -1,4 +1,4 @@
-"""Socket addresses and protocols, as Python has them and as the library has them."""
+"""Transport addresses and protocols, and their conversion to and from the library's structs."""
 
 from __future__ import annotations
 
@@ -11,7 +11,7 @@ from . import _abi
 
 
 class Protocol(enum.IntEnum):
-    """What carries a candidate's packets."""
+    """The transport protocol of a candidate's packets."""
 
     UDP = 0
     TCP = 1
@@ -20,7 +20,7 @@ class Protocol(enum.IntEnum):
 
 
 class SocketAddress(NamedTuple):
-    """An IP address and a port, as the `socket` module has them; `flow` and `scope` are those of IPv6."""
+    """An IP address and a port, as in the `socket` module. `flow` and `scope` are the flow information and scope ID of IPv6."""
 
     ip: str
     port: int
@@ -29,7 +29,7 @@ class SocketAddress(NamedTuple):
 
     @property
     def version(self) -> int:
-        """4 or 6."""
+        """The IP version: 4 or 6."""
         return 6 if ":" in self.ip else 4
 
     def __str__(self) -> str:
@@ -37,15 +37,15 @@ class SocketAddress(NamedTuple):
 
 
 def in_range(value: int, bits: int, what: str) -> int:
-    """The value, where it is a whole number of so many bits: ctypes would cut it silently."""
+    """Returns the value if it fits into this number of bits, which ctypes does not check. ValueError otherwise."""
     if not 0 <= value < 1 << bits:
-        raise ValueError(f"{what} must be from 0 to {(1 << bits) - 1}, and is {value}")
+        raise ValueError(f"{what} must be from 0 to {(1 << bits) - 1}, not {value}")
     return value
 
 
 @lru_cache(maxsize=1 << 14)
 def address_of(socket: SocketAddress) -> _abi.Address:
-    """The library's form, which is read and never written, so that it can be kept. ValueError for what is no IP address."""
+    """Converts to the library's struct, which is cached because no call writes it. ValueError if it is not an IP address."""
     ip = ipaddress.ip_address(socket.ip.split("%")[0])
     address = _abi.Address()
     address.family = ip.version
@@ -57,7 +57,7 @@ def address_of(socket: SocketAddress) -> _abi.Address:
 
 
 def socket_of(address: _abi.Address) -> SocketAddress:
-    """The address that the library told."""
+    """Converts from the library's struct."""
     return _socket_of_bytes(bytes(address))
 
 

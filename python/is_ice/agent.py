@@ -13,7 +13,7 @@ from types import TracebackType
 from . import _abi
 from .address import Protocol, SocketAddress, address_of, in_range, socket_of
 from .candidate import Candidate, KindPreferences, struct_of, table_of
-from .errors import BUFFER_TOO_SHORT, BadCandidate, NoAgent, done, error_of
+from .errors import BUFFER_TOO_SHORT, BadCandidate, NoAgent, WrongThread, done, error_of
 from .events import (
     DiscoveredRecv,
     IceAgentEvent,
@@ -29,10 +29,11 @@ from .events import (
 
 
 class _Library:
-    """The shared library, loaded where the first call wants it."""
+    """The shared library, loaded by the first call that needs it."""
 
     @cached_property
     def calls(self) -> ctypes.CDLL:
+        """The library with its prototypes."""
         return _abi.load()
 
 
@@ -40,15 +41,15 @@ _library = _Library()
 
 
 def new_creds(random: bytes | None = None) -> IceCreds:
-    """Credentials made of 38 random bytes, those of the system where none are given: who foresees them knows the password."""
+    """Creates credentials from 38 random bytes, by default those of the system. Who predicts them knows the password."""
     random = os.urandom(_abi.CREDENTIALS_RANDOM) if random is None else random
     ufrag, pass_ = create_string_buffer(_abi.UFRAG_LENGTH), create_string_buffer(_abi.PASS_LENGTH)
     done(_library.calls.is_ice_make_credentials(random, len(random), ufrag, _abi.UFRAG_LENGTH, pass_, _abi.PASS_LENGTH))
     return IceCreds(ufrag.raw.decode(), pass_.raw.decode())
 
 
-def _told(call: Callable[..., int]) -> str | None:
-    """A text that a call writes to a buffer, which grows until it is long enough; None where there is nothing to tell."""
+def _text(call: Callable[..., int]) -> str | None:
+    """Returns the text that a call writes to a buffer, which grows until it is long enough, or None if there is no text."""
     size, length = 256, c_size_t()
     while True:
         buffer = create_string_buffer(size)
@@ -60,32 +61,40 @@ def _told(call: Callable[..., int]) -> str | None:
 
 
 def line_refusal(line: str) -> str | None:
-    """Why a candidate line is refused; None where it reads as a candidate."""
+    """Returns why a text is not a candidate, or None if it is one."""
     text = line.encode()
-    return _told(lambda *into: _library.calls.is_ice_line_refusal(text, len(text), *into))
+    return _text(lambda *into: _library.calls.is_ice_line_refusal(text, len(text), *into))
 
 
 class IceAgent:
-    """One side of a session. Names are those of the Rust crate `is`; times and moments are whole nanoseconds.
+    """One side of a session. Its names are those of the Rust crate `is`. Times and durations are whole nanoseconds.
 
-    It stays on the thread that made it, and is freed by `close`, at the end of a `with`, or once nothing refers to it.
+    Use it only on the thread that created it: on another thread each method raises WrongThread. It is freed by `close`, at the end
+    of a `with` statement, or when nothing refers to it any more.
     """
 
     def __init__(self, creds: IceCreds | None = None, tie_breaker: int | None = None) -> None:
-        """A controlled agent. Credentials and tie-breaker are drawn from the system's random source where none are given."""
+        """Creates a controlled agent. By default credentials and tie-breaker come from the system's random source."""
         self._slot = _abi.Agent()
-        self._at = byref(self._slot)
+        self._pointer = byref(self._slot)
         self._thread = threading.get_ident()
         self._c = _library.calls
         self._buffer = create_string_buffer(2048)
-        self._packet, self._event, self._moment = _abi.Packet(), _abi.Event(), c_uint64()
+        self._packet, self._event, self._time = _abi.Packet(), _abi.Event(), c_uint64()
         creds = creds or new_creds()
         tie = int.from_bytes(os.urandom(8), "little") if tie_breaker is None else in_range(tie_breaker, 64, "a tie-breaker")
         ufrag, pass_ = creds.ufrag.encode(), creds.pass_.encode()
         done(self._c.is_ice_agent_new(self._at, ufrag, len(ufrag), pass_, len(pass_), tie))
 
+    @property
+    def _at(self) -> object:
+        """The agent's address for a call of the library, which only one thread may use."""
+        if threading.get_ident() != self._thread:
+            raise WrongThread("an agent is used only on the thread that created it")
+        return self._pointer
+
     def close(self) -> None:
-        """Frees the agent; any later call raises NoAgent."""
+        """Frees the agent. Every later call raises NoAgent, except for another `close`."""
         self._c.is_ice_agent_free(self._at)
 
     def __enter__(self) -> IceAgent:
@@ -95,63 +104,75 @@ class IceAgent:
         self.close()
 
     def __del__(self) -> None:
-        # one that is dropped on another thread is left alone, since it may not be touched there
+        # on another thread the agent is not freed, since only its own thread may use it
         if getattr(self, "_c", None) is not None and self._thread == threading.get_ident():
             self.close()
 
     # ---- settings: at any time
 
     def set_controlling(self, controlling: bool) -> None:
-        """On the side that made the offer."""
+        """Makes the agent controlling or controlled: controlling on the side that made the offer."""
         done(self._c.is_ice_set_controlling(self._at, controlling))
 
     def set_ice_lite(self, enabled: bool) -> None:
-        """A lite agent takes host candidates, answers checks and sends none (RFC 8445, 2.5)."""
+        """Makes the agent a lite agent, which has only host candidates and sends no checks, or a full one (RFC 8445, section 2.5).
+
+        A lite agent has to be controlled, and its peer a full agent. One that stays controlling never finds a path, and no call
+        reports it.
+        """
         done(self._c.is_ice_set_lite(self._at, enabled))
 
     def set_control_tie_breaker(self, tie_breaker: int) -> None:
+        """Sets the number that decides role conflicts: the agent with the greater one keeps its role."""
         done(self._c.is_ice_set_tie_breaker(self._at, in_range(tie_breaker, 64, "a tie-breaker")))
 
     def set_max_candidate_pairs(self, limit: int) -> None:
-        """100 at the beginning. Acts where pairs are next formed."""
+        """Limits the number of pairs, when pairs are next formed. Default: 100."""
         done(self._c.is_ice_set_max_pairs(self._at, in_range(limit, 64, "a limit")))
 
     def set_timing_advance(self, nanoseconds: int) -> None:
-        """How far wake-ups lie apart at least: 50 ms at the beginning."""
+        """Sets the pacing interval Ta: the least time between two timeouts, each of which sends at most one packet. Default: 50 ms."""
         done(self._c.is_ice_set_timing_advance(self._at, in_range(nanoseconds, 64, "a time")))
 
     def set_initial_stun_rto(self, nanoseconds: int) -> None:
-        """How long the first answer is waited for: 250 ms at the beginning."""
+        """Sets the time from a pair's first check until the second one is due; it doubles with each further check. Default: 250 ms."""
         done(self._c.is_ice_set_initial_rto(self._at, in_range(nanoseconds, 64, "a time")))
 
     def set_max_stun_rto(self, nanoseconds: int) -> None:
-        """How far the checks of a pair lie apart at most: 3 s at the beginning."""
+        """Sets the longest time from one check of a pair until the next one is due. Default: 3 s."""
         done(self._c.is_ice_set_max_rto(self._at, in_range(nanoseconds, 64, "a time")))
 
     def set_max_stun_retransmits(self, limit: int) -> None:
-        """How many checks in a row go unanswered before a pair is given up: 9 at the beginning. BadLimit for 0."""
+        """Sets after how many checks in a row without a response a pair is removed. BadLimit for 0. Default: 9.
+
+        A pair is not removed while the last check may still be answered in time, nor within 15 s of a check of the peer on it.
+        """
         done(self._c.is_ice_set_max_retransmits(self._at, in_range(limit, 64, "a limit")))
 
     def set_mtu(self, mtu: int, warn: int) -> None:
-        """MtuTooSmall below 588 bytes, the length of the longest check."""
+        """Stores how long a packet may be, and the length to warn about. MtuTooSmall below 588 bytes. Default: 1150 and 1280."""
         done(self._c.is_ice_set_mtu(self._at, in_range(mtu, 64, "an MTU"), in_range(warn, 64, "an MTU")))
 
     def set_local_preference(self, preference: int | None) -> None:
-        """The local preference of local candidates that are added from now on; None: the default one again."""
+        """Sets the local preference of local candidates that are added after this call. None: the default one again."""
         if preference is None:
             done(self._c.is_ice_reset_local_preference(self._at))
         else:
             done(self._c.is_ice_set_local_preference(self._at, in_range(preference, 16, "a preference")))
 
     def set_preference_table(self, v4: KindPreferences, v6: KindPreferences) -> None:
-        """Local candidates that are added from now on are preferred by kind and IP version, less one for each that came before."""
+        """Sets the local preference of local candidates that are added after this call, by kind and IP version.
+
+        It is less by one for each earlier local candidate of the same kind and version, and at least 0.
+        """
         done(self._c.is_ice_set_preference_table(self._at, byref(table_of(v4, v6))))
 
     def set_local_credentials(self, creds: IceCreds) -> None:
+        """Sets the local credentials without an ICE restart: for use before they are signaled."""
         self._with_creds(self._c.is_ice_set_local_credentials, creds)
 
     def set_remote_credentials(self, creds: IceCreds) -> None:
-        """What signalling told of the peer."""
+        """Sets the peer's credentials, which signaling brings. Before this call no check is sent."""
         self._with_creds(self._c.is_ice_set_remote_credentials, creds)
 
     def _with_creds(self, call: Callable[..., int], creds: IceCreds, *more: bool) -> None:
@@ -161,19 +182,22 @@ class IceAgent:
     # ---- candidates
 
     def add_local_candidate(self, candidate: Candidate) -> str | None:
-        """Adds a candidate that was gathered, and returns its line for signalling; None where it is redundant."""
+        """Adds a candidate that was gathered, and returns its text for signaling, or None if it is redundant."""
         before = self.local_candidates()
         struct = struct_of(candidate)
         code = self._c.is_ice_add_local(self._at, byref(struct))
         if code == BadCandidate.code:
-            raise error_of(code, _told(lambda *into: self._c.is_ice_candidate_refusal(byref(struct), *into)) or "")
+            raise error_of(code, _text(lambda *into: self._c.is_ice_candidate_refusal(byref(struct), *into)) or "")
         if not done(code):
             return None
         after = self.local_candidates()
         return next((line for line in after if line not in before), after[-1])
 
     def add_remote_candidate(self, line: str) -> None:
-        """Adds a candidate of the peer's, by its line ("candidate:.."). BadCandidate says what is wrong with it."""
+        """Adds a candidate of the peer, by its text ("candidate:.."). BadCandidate says what is wrong with it.
+
+        A candidate with an mDNS name is a BadCandidate too; `has_mdns_name` says what to do with it.
+        """
         text = line.encode()
         code = self._c.is_ice_add_remote(self._at, text, len(text))
         if code == BadCandidate.code:
@@ -181,57 +205,59 @@ class IceAgent:
         done(code)
 
     def invalidate_candidate(self, candidate: Candidate | str) -> bool:
-        """Takes a candidate away with its pairs, as of an interface that went; False where there is none."""
+        """Removes a candidate and its pairs, as when an interface is gone. Returns False if there is no such candidate."""
         if isinstance(candidate, Candidate):
             return done(self._c.is_ice_invalidate_local(self._at, byref(struct_of(candidate))))
         text = candidate.encode()
         return done(self._c.is_ice_invalidate(self._at, text, len(text)))
 
     def local_candidates(self) -> list[str]:
-        """The lines of the local candidates, those that were learnt from answers too."""
+        """Returns the local candidates for signaling, with the peer-reflexive ones that responses brought."""
         return self._lines(self._c.is_ice_local_candidate)
 
     def remote_candidates(self) -> list[str]:
-        """The lines of the remote candidates, those that were learnt from requests too."""
+        """Returns the remote candidates, with the peer-reflexive ones that requests brought."""
         return self._lines(self._c.is_ice_remote_candidate)
 
     def _lines(self, call: Callable[..., int]) -> list[str]:
         lines: list[str] = []
-        while (line := _told(lambda *into: call(self._at, len(lines), *into))) is not None:
+        while (line := _text(lambda *into: call(self._at, len(lines), *into))) is not None:
             lines.append(line)
         return lines
 
-    # ---- work
+    # ---- packets, events and timeouts
 
     def handle_packet(self, now: int, source: SocketAddress, destination: SocketAddress, contents: bytes,
                       protocol: Protocol = Protocol.UDP) -> bool:
-        """Takes a datagram that came to the local address `destination`. False: it was not for this agent, and nothing
-        changed. Unparsed: it is no STUN message."""
+        """Passes a datagram to the agent that arrived at the local address `destination`.
+
+        Returns False if it is not for this agent, which is then unchanged. Unparsed: it is not a STUN message.
+        """
         return done(self._c.is_ice_handle_packet(
-            self._at, in_range(now, 64, "a moment"), protocol, address_of(source), address_of(destination), contents,
+            self._at, in_range(now, 64, "a time"), protocol, address_of(source), address_of(destination), contents,
             len(contents)))
 
     def accepts_packet(self, source: SocketAddress, destination: SocketAddress, contents: bytes,
                        protocol: Protocol = Protocol.UDP) -> bool:
-        """Whether `handle_packet` would take it."""
+        """Returns whether `handle_packet` would accept it, and changes nothing."""
         return done(self._c.is_ice_accepts_packet(self._at, protocol, address_of(source), address_of(destination), contents,
                                                     len(contents)))
 
     def accepts_message(self, contents: bytes) -> bool:
-        """Whether it is a message for this agent, wherever it came from."""
+        """Returns whether it is a message for this agent, from any source, and changes nothing."""
         return done(self._c.is_ice_accepts_message(self._at, contents, len(contents)))
 
     def handle_timeout(self, now: int, random: bytes | None = None) -> None:
-        """Tells of a moment. `random`: 12 fresh random bytes, those of the system where none are given."""
+        """Passes the current time to the agent; the first call starts the session. `random`: 12 new bytes, by default the system's."""
         random = os.urandom(_abi.TIMEOUT_RANDOM) if random is None else random
-        done(self._c.is_ice_handle_timeout(self._at, in_range(now, 64, "a moment"), random, len(random)))
+        done(self._c.is_ice_handle_timeout(self._at, in_range(now, 64, "a time"), random, len(random)))
 
     def poll_timeout(self) -> int | None:
-        """The moment at which to call `handle_timeout` next: to be asked before packets are polled."""
-        return self._moment.value if done(self._c.is_ice_poll_timeout(self._at, byref(self._moment))) else None
+        """Returns the time at which to call `handle_timeout` next, or None before the session. Call it before packets are polled."""
+        return self._time.value if done(self._c.is_ice_poll_timeout(self._at, byref(self._time))) else None
 
     def poll_transmit(self) -> Transmit | None:
-        """The next packet to send."""
+        """Returns the next packet to send and removes it from the agent, or None if there is none."""
         packet = self._packet
         code = self._c.is_ice_poll_transmit(self._at, self._buffer, len(self._buffer), byref(packet))
         if code == BUFFER_TOO_SHORT:
@@ -243,7 +269,7 @@ class IceAgent:
                         string_at(self._buffer, packet.length))
 
     def poll_event(self) -> IceAgentEvent | None:
-        """The next event."""
+        """Returns the next event and removes it from the agent, or None if there is none."""
         event = self._event
         if not done(self._c.is_ice_poll_event(self._at, byref(event))):
             return None
@@ -256,14 +282,14 @@ class IceAgent:
         return NominatedSend(Protocol(event.protocol), socket_of(event.source), socket_of(event.destination))
 
     def ice_restart(self, creds: IceCreds, keep_local_candidates: bool) -> None:
-        """Begins the session anew under other credentials; what signalling tells of the peer then is set again."""
+        """Makes an ICE restart with new local credentials. Then set the peer's new credentials and candidates."""
         self._with_creds(self._c.is_ice_restart, creds, keep_local_candidates)
 
     def recreate_candidate_pairs(self) -> None:
-        """Forms the pairs anew."""
+        """Removes all pairs, and forms pairs of all candidates again."""
         done(self._c.is_ice_recreate_pairs(self._at))
 
-    # ---- asking: the agent stays as it was
+    # ---- queries: they change nothing
 
     @property
     def _status(self) -> _abi.Status:
@@ -273,49 +299,56 @@ class IceAgent:
 
     @property
     def state(self) -> IceConnectionState:
+        """The state of the connection. It prints as `State.Checking`."""
         return IceConnectionState(self._status.state)
 
     @property
     def controlling(self) -> bool:
+        """Whether the agent is controlling."""
         return bool(self._status.controlling)
 
     @property
     def ice_lite(self) -> bool:
+        """Whether the agent is a lite agent."""
         return bool(self._status.lite)
 
     @property
     def mtu(self) -> int:
+        """How long a packet may be."""
         return int(self._status.mtu)
 
     @property
     def mtu_warn(self) -> int:
+        """The length of a packet to warn about."""
         return int(self._status.mtu_warn)
 
     @property
     def ice_timeout(self) -> int:
-        """How long a pair is checked in vain before it is given up."""
+        """How long a pair's checks go on without a response, before the pair is removed."""
         return int(self._status.ice_timeout)
 
     @property
     def stats(self) -> IceAgentStats:
+        """Counters since the last restart."""
         stats = _abi.Stats()
         done(self._c.is_ice_stats(self._at, byref(stats)))
         return IceAgentStats(*(getattr(stats, name) for name, _ in _abi.Stats._fields_))
 
     @property
     def nominated_pair(self) -> NominatedPair | None:
-        """Figures of the pair that was announced last, while it stands."""
-        told = _abi.Nominated()
-        if not done(self._c.is_ice_nominated(self._at, byref(told))):
+        """Figures of the selected pair, or None if no pair was selected or it was removed."""
+        pair = _abi.Nominated()
+        if not done(self._c.is_ice_nominated(self._at, byref(pair))):
             return None
-        return NominatedPair(told.total_rtt, told.responses, told.rtt if told.has_rtt else None)
+        return NominatedPair(pair.total_rtt, pair.responses, pair.rtt if pair.has_rtt else None)
 
     def has_viable_remote_candidate(self, address: SocketAddress) -> bool:
-        """Whether a check succeeded on a pair whose remote candidate has this address."""
+        """Returns whether there is a valid pair whose remote candidate has this address."""
         return done(self._c.is_ice_has_viable_remote(self._at, address_of(address)))
 
     @property
     def local_credentials(self) -> IceCreds:
+        """The local credentials."""
         creds = self._creds(self._c.is_ice_local_ufrag, self._c.is_ice_local_pass)
         if creds is None:
             raise NoAgent
@@ -323,10 +356,10 @@ class IceAgent:
 
     @property
     def remote_credentials(self) -> IceCreds | None:
-        """None while they are unknown."""
+        """The peer's credentials, or None if they are not known."""
         return self._creds(self._c.is_ice_remote_ufrag, self._c.is_ice_remote_pass)
 
     def _creds(self, ufrag_of: Callable[..., int], pass_of: Callable[..., int]) -> IceCreds | None:
-        ufrag = _told(lambda *into: ufrag_of(self._at, *into))
-        pass_ = _told(lambda *into: pass_of(self._at, *into))
+        ufrag = _text(lambda *into: ufrag_of(self._at, *into))
+        pass_ = _text(lambda *into: pass_of(self._at, *into))
         return None if ufrag is None or pass_ is None else IceCreds(ufrag, pass_)

@@ -1,4 +1,4 @@
-"""Candidates that the caller gathered. Those of the peer come as lines."""
+"""Candidates that the caller gathered. The peer's candidates are texts, the candidate attributes of RFC 8839."""
 
 from __future__ import annotations
 
@@ -11,7 +11,7 @@ from .address import Protocol, SocketAddress, address_of, in_range
 
 
 class CandidateKind(enum.IntEnum):
-    """Kinds that a caller can gather (RFC 8445, 5.1.1)."""
+    """The kinds of candidates that a caller gathers (RFC 8445, section 5.1.1)."""
 
     HOST = 0
     SERVER_REFLEXIVE = 1
@@ -20,7 +20,7 @@ class CandidateKind(enum.IntEnum):
 
 @dataclass(frozen=True)
 class Candidate:
-    """A local candidate. `base`: the local socket of a server reflexive one, the local address of a relayed one."""
+    """A local candidate. `base` is the local socket of a server-reflexive candidate, the local address of a relayed one."""
 
     kind: CandidateKind
     address: SocketAddress
@@ -29,23 +29,23 @@ class Candidate:
 
     @staticmethod
     def host(address: SocketAddress, protocol: Protocol = Protocol.UDP) -> Candidate:
-        """A socket of one's own."""
+        """Creates a host candidate: the address of a local socket."""
         return Candidate(CandidateKind.HOST, address, address, protocol)
 
     @staticmethod
     def server_reflexive(address: SocketAddress, base: SocketAddress, protocol: Protocol = Protocol.UDP) -> Candidate:
-        """The address that a STUN server saw of the socket `base`."""
+        """Creates a server-reflexive candidate: the address at which a STUN server saw the socket `base`."""
         return Candidate(CandidateKind.SERVER_REFLEXIVE, address, base, protocol)
 
     @staticmethod
     def relayed(address: SocketAddress, local: SocketAddress, protocol: Protocol = Protocol.UDP) -> Candidate:
-        """The address that a TURN server lent to the socket `local`."""
+        """Creates a relayed candidate: the address that a TURN server allocated for the socket `local`."""
         return Candidate(CandidateKind.RELAYED, address, local, protocol)
 
 
 @dataclass(frozen=True)
 class KindPreferences:
-    """Local preferences by kind, for one IP version: numbers up to 65535."""
+    """Local preferences by kind, for one IP version: numbers up to 65535 (RFC 8445, section 5.1.2.1)."""
 
     host: int
     peer_reflexive: int
@@ -53,8 +53,18 @@ class KindPreferences:
     relayed: int
 
 
+def has_mdns_name(line: str) -> bool:
+    """Returns whether a candidate has an mDNS name, as `3f2b8c1e.local`, instead of an address, to hide it from the peer.
+
+    `IceAgent.add_remote_candidate` raises BadCandidate for it. Resolve the name by mDNS and put the address in its place, or leave
+    the candidate out: the peer's checks bring its address as a peer-reflexive candidate.
+    """
+    words = line.split()
+    return len(words) > 4 and words[4].lower().endswith(".local")
+
+
 def table_of(v4: KindPreferences, v6: KindPreferences) -> _abi.PreferenceTable:
-    """The library's form of two."""
+    """Converts to the library's struct."""
     table = _abi.PreferenceTable()
     for name, preferences in (("v4", v4), ("v6", v6)):
         for kind, _ in _abi.KindPreferences._fields_:
@@ -63,7 +73,7 @@ def table_of(v4: KindPreferences, v6: KindPreferences) -> _abi.PreferenceTable:
 
 
 def struct_of(candidate: Candidate) -> _abi.Candidate:
-    """The library's form."""
+    """Converts to the library's struct."""
     struct = _abi.Candidate()
     ctypes.memmove(ctypes.byref(struct, _abi.Candidate.address.offset), ctypes.byref(address_of(candidate.address)), 28)
     ctypes.memmove(ctypes.byref(struct, _abi.Candidate.base.offset), ctypes.byref(address_of(candidate.base)), 28)

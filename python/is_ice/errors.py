@@ -1,4 +1,4 @@
-"""Refusals as exceptions. A refused call leaves the agent as it was, and can be made again."""
+"""The errors of calls as exceptions. A call that fails leaves the agent unchanged and can be repeated."""
 
 from __future__ import annotations
 
@@ -9,7 +9,7 @@ BUFFER_TOO_SHORT = -6
 
 
 class IceError(Exception):
-    """A call was refused. `code` is that of c/is_ice.h."""
+    """A call failed. `code` is its return code in c/is_ice.h."""
 
     code = 0
     text = "unknown code"
@@ -19,76 +19,104 @@ class IceError(Exception):
 
 
 class NoAgent(IceError):
+    """The agent was closed."""
+
     code, text = -1, "no agent"
 
 
 class HasAgent(IceError):
+    """An agent was created in the place of another one."""
+
     code, text = -2, "there is an agent already"
 
 
 class NotUtf8(IceError):
+    """A text is not UTF-8."""
+
     code, text = -3, "text is not UTF-8"
 
 
 class BadAddress(IceError):
+    """An unknown IP version, protocol or kind of candidate."""
+
     code, text = -4, "bad address family, protocol or kind"
 
 
 class Unparsed(IceError):
-    """The bytes are no STUN message: media, most likely."""
+    """The bytes are not a STUN message: media, most likely."""
 
     code, text = UNPARSED, "no STUN message"
 
 
 class BufferTooShort(IceError):
+    """A buffer is too short. The module enlarges its buffers, so no call raises this."""
+
     code, text = BUFFER_TOO_SHORT, "buffer too short"
 
 
 class OutOfMemory(IceError):
+    """An allocation failed."""
+
     code, text = -7, "out of memory"
 
 
 class BadCandidate(IceError):
-    """An address that no candidate may have, or a line that does not read as one."""
+    """An address that no candidate may have, or a text that is not a candidate. The message says what is wrong."""
 
     code, text = -8, "bad candidate"
 
 
 class PairIdsExhausted(IceError):
+    """The call may form more pairs than there are pair numbers left."""
+
     code, text = -9, "pair ids exhausted"
 
 
 class MtuTooSmall(IceError):
+    """An MTU below 588 bytes, the length of the longest connectivity check."""
+
     code, text = -10, "MTU target too small"
 
 
 class CredentialsTooLong(IceError):
+    """Both username fragments and a colon are longer than 508 bytes."""
+
     code, text = -11, "ICE credentials too long"
 
 
 class PriorityTooHigh(IceError):
+    """A local candidate of priority 4294967295."""
+
     code, text = -12, "candidate priority too high"
 
 
 class BadLimit(IceError):
+    """A limit of 0 retransmits."""
+
     code, text = -13, "bad limit"
 
 
 class TooFewRandomBytes(IceError):
+    """Fewer random bytes than the call needs."""
+
     code, text = -14, "too few random bytes"
+
+
+class WrongThread(RuntimeError):
+    """An agent was used on another thread than the one that created it. The call was not made."""
 
 
 _BY_CODE: dict[int, type[IceError]] = {kind.code: kind for kind in IceError.__subclasses__()}
 
 
 def error_of(code: int, detail: str = "") -> IceError:
-    """The exception of a code below 0."""
+    """Returns the exception for a code below 0."""
     kind = _BY_CODE.get(code)
     return kind(detail) if kind else IceError(f"{code}")
 
 
 def done(code: int) -> bool:
-    """True for done, False for nothing to do or to give; a refusal is raised."""
+    """Returns True for IS_ICE_OK and False for IS_ICE_NOTHING; raises the exception of any other code."""
     if code >= 0:
         return code == OK
     raise error_of(code)

@@ -1,4 +1,4 @@
-"""What an agent tells: events, packets, states, figures."""
+"""What an agent returns: events, packets, states and statistics."""
 
 from __future__ import annotations
 
@@ -10,7 +10,12 @@ from .address import Protocol, SocketAddress
 
 
 class IceConnectionState(enum.IntEnum):
-    """States of the connection. None is final."""
+    """States of the connection. None is final.
+
+    NEW: the session has not started. CHECKING: no valid pair is nominated, and one may yet be. CONNECTED: a valid pair is
+    nominated, and another one may yet be found. COMPLETED: a valid pair is nominated, and no other one may be found, or the agent
+    is lite. DISCONNECTED: no valid pair is nominated, and none may be; new candidates or checks of the peer may change that.
+    """
 
     NEW = 0
     CHECKING = 1
@@ -18,18 +23,24 @@ class IceConnectionState(enum.IntEnum):
     COMPLETED = 3
     DISCONNECTED = 4
 
+    def __str__(self) -> str:
+        return f"State.{self.name.capitalize()}"
+
+    def __format__(self, spec: str) -> str:
+        return format(str(self), spec)
+
     def is_connected(self) -> bool:
-        """A path is nominated."""
+        """Returns whether a valid pair is nominated."""
         return self in (IceConnectionState.CONNECTED, IceConnectionState.COMPLETED)
 
     def is_disconnected(self) -> bool:
-        """No path is nominated, and none is possible."""
+        """Returns whether no valid pair is nominated and none may be."""
         return self is IceConnectionState.DISCONNECTED
 
 
 @dataclass(frozen=True)
 class IceCreds:
-    """A user fragment and a password, which signalling carries to the peer."""
+    """A username fragment and a password, which signaling brings to the peer."""
 
     ufrag: str
     pass_: str
@@ -37,21 +48,21 @@ class IceCreds:
 
 @dataclass(frozen=True)
 class IceRestart:
-    """A session begins, or begins anew, under these credentials."""
+    """A session starts or restarts with these local credentials."""
 
     creds: IceCreds
 
 
 @dataclass(frozen=True)
 class IceConnectionStateChange:
-    """The state is another one than before."""
+    """The state changed."""
 
     state: IceConnectionState
 
 
 @dataclass(frozen=True)
 class DiscoveredRecv:
-    """An authentic packet came from `source`, over `protocol`, for the first time since the last restart."""
+    """The first authentic packet from `source` over `protocol` since the last restart."""
 
     protocol: Protocol
     source: SocketAddress
@@ -59,7 +70,7 @@ class DiscoveredRecv:
 
 @dataclass(frozen=True)
 class NominatedSend:
-    """Media goes from `source` to `destination` over `protocol`, until the next such event."""
+    """Send media from `source` to `destination` over `protocol`, until the next such event."""
 
     protocol: Protocol
     source: SocketAddress
@@ -71,7 +82,7 @@ IceAgentEvent = Union[IceRestart, IceConnectionStateChange, DiscoveredRecv, Nomi
 
 @dataclass(frozen=True)
 class Transmit:
-    """A packet to be sent from `source`, the address of a local socket or a relayed one."""
+    """A packet to send from `source`, which is the address of a local socket or a relayed address."""
 
     protocol: Protocol
     source: SocketAddress
@@ -81,7 +92,7 @@ class Transmit:
 
 @dataclass(frozen=True)
 class IceAgentStats:
-    """How often things happened since the last restart."""
+    """Counters since the last restart: checks sent, success responses received, requests served, and events of two kinds."""
 
     bind_request_sent: int
     bind_success_recv: int
@@ -92,7 +103,7 @@ class IceAgentStats:
 
 @dataclass(frozen=True)
 class NominatedPair:
-    """Figures of the pair that was announced last. Times are nanoseconds; `rtt` is None where no kept check was answered."""
+    """Figures of the selected pair. Times are nanoseconds. `rtt` is the last round-trip time, or None if there is none."""
 
     total_rtt: int
     responses: int

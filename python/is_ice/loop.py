@@ -1,4 +1,4 @@
-"""The loop of an agent over UDP sockets of asyncio."""
+"""Runs an agent over UDP sockets of asyncio."""
 
 from __future__ import annotations
 
@@ -12,7 +12,7 @@ from .candidate import Candidate
 from .errors import IceError, Unparsed
 from .events import IceAgentEvent
 
-# Moments are counted from 60 s on: a path that was just nominated is put 60 s ahead of the others.
+# Time starts at 60 s: the agent gives a newly nominated pair a due time 60 s in the past.
 _BEGINNING = 60_000_000_000
 
 
@@ -22,14 +22,16 @@ class _Socket(asyncio.DatagramProtocol):
         self.local = SocketAddress("", 0)
 
     def connection_made(self, transport: asyncio.BaseTransport) -> None:
+        """Stores the local address."""
         self.local = SocketAddress(*transport.get_extra_info("sockname"))
 
     def datagram_received(self, data: bytes, addr: tuple[str, int]) -> None:
+        """Passes a datagram on with both addresses."""
         self._took(SocketAddress(*addr), self.local, data)
 
 
 class IceLoop:
-    """An agent, its sockets and its timer. `on_event` is told of events; `on_media` of datagrams that are no STUN."""
+    """An agent, its sockets and its timer. Calls `on_event` with events, and `on_media` with datagrams that are not STUN messages."""
 
     def __init__(self, agent: IceAgent, on_event: Callable[[IceAgentEvent], None],
                  on_media: Callable[[SocketAddress, SocketAddress, bytes], None]) -> None:
@@ -41,28 +43,28 @@ class IceLoop:
         self._began = False
 
     def now(self) -> int:
-        """The moment."""
+        """The current time for the agent, in nanoseconds."""
         return time.monotonic_ns() - self._start + _BEGINNING
 
     async def bind(self, ip: str) -> str | None:
-        """Binds a socket at a local address and adds it as a host candidate, whose line is for signalling."""
+        """Binds a socket at a local address, adds it as a host candidate, and returns that for signaling."""
         loop = asyncio.get_running_loop()
         transport, socket = await loop.create_datagram_endpoint(lambda: _Socket(self._took), local_addr=(ip, 0))
         self._sockets[socket.local] = transport
         return self.agent.add_local_candidate(Candidate.host(socket.local))
 
     def begin(self) -> None:
-        """Tells the agent of its first moment; from then on it is told of each that it asks for."""
+        """Starts the session: calls `handle_timeout` now, and at each later time that the agent asks for."""
         self._began = True
         self._told()
 
     def wake(self) -> None:
-        """To be called behind each call of one's own on the agent: what it wants sent and told may have changed."""
+        """Sends packets, reports events and sets the timer. Call it after each call of yours on the agent."""
         if self._began:
             self._turn()
 
     def send(self, source: SocketAddress, destination: SocketAddress, data: bytes) -> None:
-        """Sends a datagram from the socket at a local address; without such a socket it is lost."""
+        """Sends a datagram from the socket at a local address. Without such a socket the datagram is lost."""
         if transport := self._sockets.get(source):
             transport.sendto(data, tuple(destination)[:2] if destination.version == 4 else tuple(destination))
 
@@ -78,7 +80,7 @@ class IceLoop:
         try:
             self.agent.handle_timeout(self.now())
         except IceError:
-            pass  # refused for now, as for want of memory: it is told again at the next wake-up
+            pass  # as when out of memory: it is repeated at the next timeout
         self._turn()
 
     def _took(self, source: SocketAddress, local: SocketAddress, data: bytes) -> None:
@@ -90,7 +92,7 @@ class IceLoop:
             self._on_media(source, local, data)
             return
         except IceError:
-            return  # refused, and nothing changed: as if the datagram had been lost
+            return  # the agent is unchanged, as if the datagram had been lost
         self._turn()
 
     def _turn(self) -> None:

@@ -1,11 +1,17 @@
-"""The module over the library: two agents connect, calls are refused as they should be, texts and addresses come back."""
+"""Tests the module with the library: two agents connect, calls fail with their errors, texts and addresses round-trip."""
 
 import ctypes
+import inspect
+import os
 import re
+import tempfile
 import threading
 import unittest
+from concurrent.futures import ThreadPoolExecutor
 from pathlib import Path
+from unittest import mock
 
+import is_ice
 from is_ice import _abi
 from is_ice import (
     BadAddress,
@@ -25,6 +31,8 @@ from is_ice import (
     SocketAddress,
     TooFewRandomBytes,
     Unparsed,
+    WrongThread,
+    has_mdns_name,
     line_refusal,
     new_creds,
 )
@@ -37,7 +45,7 @@ LINE_OF_THERE = "candidate:1 1 udp 2130706175 10.0.0.2 2000 typ host"
 
 
 def two_agents() -> tuple[IceAgent, IceAgent]:
-    """Two that know each other."""
+    """Returns two agents with each other's credentials and candidates."""
     a = IceAgent(IceCreds("AAAA", "P" * 22), tie_breaker=10)
     b = IceAgent(IceCreds("BBBB", "Q" * 22), tie_breaker=5)
     a.set_controlling(True)
@@ -50,10 +58,10 @@ def two_agents() -> tuple[IceAgent, IceAgent]:
     return a, b
 
 
-def play(agents: tuple[IceAgent, IceAgent], moments: int = 10) -> tuple[list[object], list[object]]:
-    """Gives both so many moments, 50 ms apart, and delivers what they send at once."""
+def play(agents: tuple[IceAgent, IceAgent], rounds: int = 10) -> tuple[list[object], list[object]]:
+    """Calls `handle_timeout` of both in rounds 50 ms apart, and delivers what they send at once."""
     events: tuple[list[object], list[object]] = ([], [])
-    for count in range(moments):
+    for count in range(rounds):
         now = BEGINNING + count * SECOND // 20
         for agent in agents:
             agent.handle_timeout(now, bytes([count, agents.index(agent)]) * 6)
@@ -64,9 +72,9 @@ def play(agents: tuple[IceAgent, IceAgent], moments: int = 10) -> tuple[list[obj
                 while packet := agent.poll_transmit():
                     other.handle_packet(now, packet.source, packet.destination, packet.contents)
                     moved = True
-    for agent, told in zip(agents, events):
+    for agent, polled in zip(agents, events):
         while event := agent.poll_event():
-            told.append(event)
+            polled.append(event)
     return events
 
 
@@ -87,7 +95,7 @@ class Sessions(unittest.TestCase):
         self.assertEqual(pair.rtt, 0)
         self.assertTrue(a.has_viable_remote_candidate(THERE))
 
-    def test_a_restart_begins_anew(self) -> None:
+    def test_a_restart(self) -> None:
         a, b = two_agents()
         play((a, b))
         a.ice_restart(IceCreds("CCCC", "R" * 22), True)
@@ -96,22 +104,35 @@ class Sessions(unittest.TestCase):
         self.assertEqual(len(a.local_candidates()), 1)
         self.assertIn("ufrag CCCC", a.local_candidates()[0])
 
-    def test_a_wake_up_is_told_behind_the_first_moment(self) -> None:
+    def test_the_next_timeout_is_known_after_the_first(self) -> None:
         a, _ = two_agents()
         self.assertIsNone(a.poll_timeout())
         a.handle_timeout(BEGINNING)
         self.assertEqual(a.poll_timeout(), BEGINNING + SECOND // 20)
 
 
-class Refusals(unittest.TestCase):
+class Errors(unittest.TestCase):
     def setUp(self) -> None:
         self.agent = IceAgent()
 
     def test_lines_say_why(self) -> None:
-        with self.assertRaises(BadCandidate) as refusal:
+        with self.assertRaises(BadCandidate) as error:
             self.agent.add_remote_candidate("candidate:1 1 udp")
-        self.assertEqual(str(refusal.exception), f"bad candidate: {line_refusal('candidate:1 1 udp')}")
+        self.assertEqual(str(error.exception), f"bad candidate: {line_refusal('candidate:1 1 udp')}")
         self.assertIsNone(line_refusal(LINE_OF_THERE))
+
+    def test_a_candidate_with_an_mdns_name(self) -> None:
+        hidden = LINE_OF_THERE.replace("10.0.0.2", "3f2b8c1e-5c1e-4b0a-9f5e-1f2e3d4c5b6a.local")
+        self.assertTrue(has_mdns_name(hidden))
+        self.assertFalse(has_mdns_name(LINE_OF_THERE))
+        self.assertFalse(has_mdns_name("candidate:1 1 udp"))
+        self.assertRaises(BadCandidate, self.agent.add_remote_candidate, hidden)
+
+    def test_an_agent_on_another_thread(self) -> None:
+        with ThreadPoolExecutor(1) as other:
+            for call in (lambda: self.agent.state, lambda: self.agent.handle_timeout(BEGINNING), self.agent.close):
+                self.assertRaises(WrongThread, other.submit(call).result)
+        self.assertEqual(self.agent.state, IceConnectionState.NEW)
 
     def test_candidates_say_why(self) -> None:
         with self.assertRaises(BadCandidate):
@@ -150,10 +171,10 @@ class Values(unittest.TestCase):
 
     def test_candidates_of_each_kind(self) -> None:
         agent = IceAgent()
-        seen, lent = SocketAddress("203.0.113.1", 3000), SocketAddress("198.51.100.1", 4000)
+        seen, relayed = SocketAddress("203.0.113.1", 3000), SocketAddress("198.51.100.1", 4000)
         six = SocketAddress("2001:db8::1", 1000)
         lines = [agent.add_local_candidate(c) for c in (Candidate.host(HERE), Candidate.server_reflexive(seen, HERE),
-                                                        Candidate.relayed(lent, HERE), Candidate.host(six))]
+                                                        Candidate.relayed(relayed, HERE), Candidate.host(six))]
         self.assertEqual([line.split(" typ ")[1].split()[0] for line in lines if line], ["host", "srflx", "relay", "host"])
         self.assertEqual(agent.local_candidates(), lines)
         self.assertIsNone(agent.add_local_candidate(Candidate.host(HERE)))
@@ -183,19 +204,47 @@ class Values(unittest.TestCase):
         wanted = [(126 << 24) + (preference << 8) + 255 for preference in (100, 99, 200)]
         self.assertEqual([int(line.split()[3]) for line in lines if line], wanted)
 
-    def test_structs_take_what_the_header_says(self) -> None:
+    def test_a_state_prints_its_name(self) -> None:
+        self.assertEqual(str(IceConnectionState.CHECKING), "State.Checking")
+        self.assertEqual(f"{IceAgent().state}", "State.New")
+        self.assertEqual(IceConnectionState.CHECKING, 1)
+
+    def test_the_library_next_to_the_module_comes_first(self) -> None:
+        with tempfile.TemporaryDirectory() as folder, mock.patch.object(_abi, "__file__", str(Path(folder, "is_ice", "_abi.py"))):
+            with mock.patch.dict(os.environ):
+                os.environ.pop("IS_ICE_LIBRARY", None)
+                self.assertEqual(_abi.library_path(), Path(folder).resolve() / "out" / _abi.NAME)
+                os.environ["IS_ICE_LIBRARY"] = "/elsewhere/lib.so"
+                self.assertEqual(_abi.library_path(), Path("/elsewhere/lib.so"))
+                installed = Path(folder).resolve() / "is_ice" / _abi.NAME
+                installed.parent.mkdir()
+                installed.touch()
+                self.assertEqual(_abi.library_path(), installed)
+
+    def test_each_public_name_has_a_docstring(self) -> None:
+        for name in is_ice.__all__:
+            item = getattr(is_ice, name)
+            if not inspect.isclass(item) and not inspect.isfunction(item):
+                continue  # IceAgentEvent, a union
+            self.assertTrue(item.__dict__.get("__doc__") if inspect.isclass(item) else item.__doc__, name)
+            for method, value in vars(item).items() if inspect.isclass(item) else ():
+                value = getattr(value, "__func__", value)
+                if not method.startswith("_") and (inspect.isfunction(value) or isinstance(value, property)):
+                    self.assertTrue(value.__doc__, f"{name}.{method}")
+
+    def test_structs_have_the_sizes_of_the_header(self) -> None:
         for struct, size in _abi.SIZES.items():
             self.assertEqual(ctypes.sizeof(struct), size, struct)
 
     def test_the_header_declares_what_is_called(self) -> None:
         header = Path(__file__).resolve().parents[2] / "c" / "is_ice.h"
         if not header.exists():
-            self.skipTest("c/is_ice.h is not there")
+            self.skipTest("c/is_ice.h does not exist")
         text = re.sub(r"/\*.*?\*/", "", header.read_text(), flags=re.S)
         declared = set(re.findall(r"^(?:IS_ICE_CALL|IS_ICE_QUIET_CALL|uint32_t)\s[^;(]*?\b(is_ice_\w+)\([^)]*\);", text, re.M))
         self.assertEqual(declared, {*_abi.PROTOTYPES, "is_ice_version", "is_ice_agent_free"})
 
-    def test_an_agent_that_is_dropped_elsewhere_is_left_alone(self) -> None:
+    def test_an_agent_that_is_dropped_on_another_thread_is_not_freed(self) -> None:
         kept = [IceAgent()]
         thread = threading.Thread(target=kept.clear)
         thread.start()

@@ -1,4 +1,4 @@
-"""Two peers connect over loopback, in each constellation of roles; against aioice where that is installed."""
+"""Tests two peers over loopback for each combination of roles, and with aioice if that is installed."""
 
 import asyncio
 import os
@@ -7,7 +7,7 @@ import unittest
 from pathlib import Path
 
 PEER = Path(__file__).resolve().parent.parent / "peer.py"
-# The program of c/examples, where it was built.
+# The program of c/examples, if it was built.
 C_PEER = Path(os.environ.get("IS_ICE_C_PEER") or Path(__file__).resolve().parents[2] / "c" / "out" / "peer")
 ROLES = [("controlling", "controlled"), ("controlled", "controlling"), ("controlling", "controlling"), ("controlled", "controlled")]
 
@@ -67,7 +67,7 @@ class Peers(unittest.TestCase):
                     self.assertIn("heard hello", told)
                     self.assertIn("state Completed", told)
 
-    @unittest.skipUnless(C_PEER.exists(), "the program of c/examples is not built (IS_ICE_C_PEER names it)")
+    @unittest.skipUnless(C_PEER.exists(), "c/examples/peer.c is not built; IS_ICE_C_PEER names the program")
     def test_with_the_program_in_c(self) -> None:
         for roles in ROLES:
             with self.subTest(roles=roles):

@@ -11,34 +11,34 @@ use std::fmt;
 use std::net::SocketAddr;
 use std::time::{Duration, Instant};
 
-/// Where the first moment lies on the agent's clock: late enough for what it subtracts.
+/// The first instant on the agent's clock: late enough for what the agent subtracts.
 const BEGINNING: Duration = Duration::from_secs(60);
 
 /// One side of a connection: a state machine without sockets, threads or clocks.
 ///
-/// It stays on the thread that made it:
+/// It is used only on the thread that created it:
 ///
 /// ```compile_fail
 /// fn send<T: Send>(_: T) {}
 /// send(is::IceAgent::new(is::IceCreds::new()));
 /// ```
 pub struct IceAgent {
-    /// Asking takes no `&mut self`, though every call of the library lends the agent mutably.
+    /// Queries take `&self`, although each call of the library borrows the agent mutably.
     held: RefCell<Box<ffi::Agent>>,
     random: Random,
     first: Option<Instant>,
     pub(crate) local: IceCreds,
     pub(crate) remote: Option<IceCreds>,
     gathered: Vec<(String, Gathered)>,
-    lent: Option<Candidate>,
+    added: Option<Candidate>,
     buffer: Vec<u8>,
 }
 
-/// The truth of an answer: `OK`, or another that is no refusal.
+/// Whether a call returned `OK`, and not `NOTHING`.
 ///
 /// # Panics
 ///
-/// Where it is a refusal.
+/// If it returned an error.
 fn yes(what: &str, code: i32) -> bool {
     assert!(code >= ffi::OK, "{what}: {}", ffi::text_of(code));
     code == ffi::OK
@@ -48,14 +48,14 @@ pub(crate) fn nanoseconds(duration: Duration) -> u64 {
     u64::try_from(duration.as_nanos()).unwrap_or(u64::MAX)
 }
 
-// ---- making
+// ---- creating
 
 impl IceAgent {
-    /// A controlled agent, with a random tie-breaker.
+    /// Creates a controlled agent with a random tie-breaker.
     ///
     /// # Panics
     ///
-    /// Where its user fragment is longer than 507 bytes, and where the system has no memory or no random bytes.
+    /// If its username fragment is longer than 507 bytes, if out of memory, or if the system has no random bytes.
     pub fn new(local_credentials: IceCreds) -> IceAgent {
         let mut random = Random::new();
         let tie_breaker = u64::from_ne_bytes(random.draw());
@@ -67,7 +67,7 @@ impl IceAgent {
             local: local_credentials,
             remote: None,
             gathered: Vec::new(),
-            lent: None,
+            added: None,
             buffer: vec![0; 1500],
         }
     }
@@ -82,7 +82,7 @@ impl IceAgent {
 }
 
 impl fmt::Debug for IceAgent {
-    /// Its role and its state, and no secret.
+    /// Prints its role and its state, but no secret.
     fn fmt(&self, f: &mut fmt::Formatter<'_>) -> fmt::Result {
         f.debug_struct("IceAgent").field("controlling", &self.controlling()).field("state", &self.state()).finish_non_exhaustive()
     }
@@ -91,59 +91,59 @@ impl fmt::Debug for IceAgent {
 // ---- candidates
 
 impl IceAgent {
-    /// The local candidates that stand.
+    /// The local candidates, without those that were removed.
     pub fn local_candidates(&self) -> impl Iterator<Item = Candidate> + Clone + '_ {
-        let told = |index| ffi::told(|buffer, length| self.ask(|agent| agent.local_candidate(index, buffer, length)));
-        let listed: Vec<_> = listed(told).into_iter().map(|line| self.known(line)).collect();
+        let text = |index| ffi::text(|buffer, length| self.ask(|agent| agent.local_candidate(index, buffer, length)));
+        let listed: Vec<_> = listed(text).into_iter().map(|line| self.known(line)).collect();
         listed.into_iter()
     }
 
-    /// The remote candidates that stand.
+    /// The remote candidates, without those that were removed.
     pub fn remote_candidates(&self) -> impl Iterator<Item = Candidate> + Clone + '_ {
-        let told = |index| ffi::told(|buffer, length| self.ask(|agent| agent.remote_candidate(index, buffer, length)));
-        let listed: Vec<_> = listed(told).into_iter().map(|line| Candidate::listed(line, None)).collect();
+        let text = |index| ffi::text(|buffer, length| self.ask(|agent| agent.remote_candidate(index, buffer, length)));
+        let listed: Vec<_> = listed(text).into_iter().map(|line| Candidate::listed(line, None)).collect();
         listed.into_iter()
     }
 
-    /// The candidate of a local line, with what it was gathered as.
+    /// The local candidate of this text, with what it was gathered as.
     fn known(&self, line: String) -> Candidate {
         let gathered = self.gathered.iter().find(|(known, _)| *known == unnamed(&line)).map(|(_, gathered)| *gathered);
         Candidate::listed(line, gathered)
     }
 
-    /// Adds a local candidate that was gathered. Returns it as it stands, with the priority that the agent gives it; or nothing,
-    /// where it is redundant, or one of a line.
+    /// Adds a local candidate that was gathered, and returns it with the priority that the agent gives it. Returns `None` if it is
+    /// redundant, or was read from a text.
     ///
     /// # Panics
     ///
-    /// For want of memory.
+    /// If out of memory.
     pub fn add_local_candidate(&mut self, c: Candidate) -> Option<&Candidate> {
         let gathered = c.gathered()?;
         let before: Vec<_> = self.local_candidates().collect();
         if !self.tell("candidate", |agent| ffi::is_ice_add_local(agent, &gathered.raw())) {
             return None;
         }
-        // it is the one that was not there; one that came again is as it was
+        // the new one; a candidate that is added again changes nothing
         let added = self.local_candidates().find(|candidate| !before.contains(candidate))?;
         self.gathered.push((unnamed(&added.to_sdp_string()).to_owned(), gathered));
-        self.lent = Some(Candidate::listed(added.to_sdp_string(), Some(gathered)));
-        self.lent.as_ref()
+        self.added = Some(Candidate::listed(added.to_sdp_string(), Some(gathered)));
+        self.added.as_ref()
     }
 
-    /// Adds a candidate of the peer's.
+    /// Adds a candidate of the peer.
     ///
     /// # Panics
     ///
-    /// For want of memory.
+    /// If out of memory.
     pub fn add_remote_candidate(&mut self, c: Candidate) {
         self.tell("candidate", |agent| agent.add_remote(&c.to_sdp_string()));
     }
 
-    /// Takes a candidate away, with its pairs: a local one, else a remote one. Whether there was one.
+    /// Removes a candidate and its pairs: a local one, else a remote one. Returns whether there was one.
     ///
     /// # Panics
     ///
-    /// For want of memory.
+    /// If out of memory.
     pub fn invalidate_candidate(&mut self, c: &Candidate) -> bool {
         match c.gathered() {
             Some(gathered) => self.tell("candidate", |agent| ffi::is_ice_invalidate_local(agent, &gathered.raw())),
@@ -151,17 +151,17 @@ impl IceAgent {
         }
     }
 
-    /// Whether a path to a remote candidate of this address works.
+    /// Whether there is a valid pair whose remote candidate has this address.
     pub fn has_viable_remote_candidate(&self, addr: SocketAddr) -> bool {
         yes("address", self.ask(|agent| ffi::is_ice_has_viable_remote(agent, &address_of(addr))))
     }
 }
 
-/// The lines from the first on.
-fn listed(told: impl Fn(usize) -> Result<String, i32>) -> Vec<String> {
+/// All texts, by index from 0.
+fn listed(text: impl Fn(usize) -> Result<String, i32>) -> Vec<String> {
     let mut lines = Vec::new();
     loop {
-        match told(lines.len()) {
+        match text(lines.len()) {
             Ok(line) => lines.push(line),
             Err(code) => {
                 yes("a line", code);
@@ -174,11 +174,12 @@ fn listed(told: impl Fn(usize) -> Result<String, i32>) -> Vec<String> {
 // ---- sessions
 
 impl IceAgent {
-    /// Begins the session anew, under other credentials; local candidates stay or go.
+    /// Makes an ICE restart with new local credentials. Local candidates stay if `keep_local_candidates` is true. Then set the
+    /// peer's new credentials and candidates.
     ///
     /// # Panics
     ///
-    /// Where the user fragment is longer than 507 bytes.
+    /// If the username fragment is longer than 507 bytes, or if out of memory.
     pub fn ice_restart(&mut self, local_credentials: IceCreds, keep_local_candidates: bool) {
         self.tell("restart", |agent| agent.restart(&local_credentials.ufrag, &local_credentials.pass, keep_local_candidates));
         self.local = local_credentials;
@@ -188,36 +189,36 @@ impl IceAgent {
         }
     }
 
-    /// Forms the pairs anew.
+    /// Removes all pairs, and forms pairs of all candidates again.
     pub fn recreate_candidate_pairs(&mut self) {
         self.tell("pairs", |agent| ffi::is_ice_recreate_pairs(agent));
     }
 
-    /// Whether the message is one for this agent, wherever it came from.
+    /// Whether the message is for this agent, from any source.
     pub fn accepts_message(&self, message: &StunMessage<'_>) -> bool {
         self.ask(|agent| agent.accepts_message(message.bytes())) == ffi::OK
     }
 
-    /// Takes a packet that came. Whether it was for this agent; where it was not, nothing changed.
+    /// Passes a received packet to the agent. Returns whether it is for this agent; if not, the agent is unchanged.
     ///
     /// # Panics
     ///
-    /// For want of memory.
+    /// If out of memory.
     pub fn handle_packet(&mut self, now: Instant, packet: StunPacket<'_>) -> bool {
-        let now = self.moment(now);
+        let now = self.time(now);
         let (source, destination) = (address_of(packet.source), address_of(packet.destination));
         self.tell("packet", |agent| agent.handle_packet(now, packet.proto.number(), &source, &destination, packet.message.bytes()))
     }
 
-    /// Tells the agent of a moment.
+    /// Passes the current time to the agent. The first call starts the session.
     ///
     /// # Panics
     ///
-    /// For want of memory or of random bytes.
+    /// If out of memory, or if the system has no random bytes.
     pub fn handle_timeout(&mut self, now: Instant) {
-        let now = self.moment(now);
+        let now = self.time(now);
         let random = self.random.draw();
-        self.tell("moment", |agent| agent.handle_timeout(now, &random));
+        self.tell("timeout", |agent| agent.handle_timeout(now, &random));
     }
 
     /// The next packet to send.
@@ -236,22 +237,22 @@ impl IceAgent {
         })
     }
 
-    /// When the agent wants to be told of a moment next. Ask before packets are polled.
+    /// The time at which to call `handle_timeout` next. Call it before packets are polled.
     pub fn poll_timeout(&mut self) -> Option<Instant> {
         let mut at = 0;
-        let is_told = self.tell("wake-up", |agent| ffi::is_ice_poll_timeout(agent, &mut at));
-        is_told.then(|| self.instant(at)).flatten()
+        let is_some = self.tell("next timeout", |agent| ffi::is_ice_poll_timeout(agent, &mut at));
+        is_some.then(|| self.instant(at)).flatten()
     }
 
     /// The next event.
     pub fn poll_event(&mut self) -> Option<IceAgentEvent> {
         let mut event = ffi::Event::default();
-        let is_told = self.tell("event", |agent| ffi::is_ice_poll_event(agent, &mut event));
-        is_told.then(|| IceAgentEvent::of(&event, &self.local))
+        let is_some = self.tell("event", |agent| ffi::is_ice_poll_event(agent, &mut event));
+        is_some.then(|| IceAgentEvent::of(&event, &self.local))
     }
 
-    /// The moment on the agent's clock, which shows a minute at the first moment that it is told of.
-    fn moment(&mut self, now: Instant) -> u64 {
+    /// The time on the agent's clock, which starts at one minute.
+    fn time(&mut self, now: Instant) -> u64 {
         let first = *self.first.get_or_insert(now);
         match now.checked_duration_since(first) {
             Some(since) => nanoseconds(BEGINNING.saturating_add(since)),
@@ -259,7 +260,7 @@ impl IceAgent {
         }
     }
 
-    /// The moment on the caller's clock. None where it has no such.
+    /// The time on the caller's clock, if that can represent it.
     fn instant(&self, at: u64) -> Option<Instant> {
         let (first, at) = (self.first?, Duration::from_nanos(at));
         match at.checked_sub(BEGINNING) {
@@ -269,7 +270,7 @@ impl IceAgent {
     }
 }
 
-// ---- asking
+// ---- queries
 
 impl IceAgent {
     pub(crate) fn status(&self) -> ffi::Status {
@@ -283,7 +284,7 @@ impl IceAgent {
         IceConnectionState::of(self.status().state)
     }
 
-    /// How often things happened since the last restart.
+    /// Counters since the last restart.
     pub fn stats(&self) -> IceAgentStats {
         let mut stats = ffi::Stats::default();
         yes("stats", self.ask(|agent| ffi::is_ice_stats(agent, &mut stats)));
@@ -295,18 +296,18 @@ impl IceAgent {
         yes("figures", self.ask(|agent| ffi::is_ice_nominated(agent, &mut nominated))).then_some(nominated)
     }
 
-    /// How long the last answered check took, on the path that was announced last.
+    /// The last round-trip time on the selected pair.
     pub fn nominated_pair_rtt(&self) -> Option<Duration> {
         let nominated = self.nominated()?;
         nominated.has_rtt.then(|| Duration::from_nanos(nominated.rtt))
     }
 
-    /// How long all answered checks took together, on the path that was announced last.
+    /// The sum of the round-trip times on the selected pair.
     pub fn nominated_pair_total_rtt(&self) -> Option<Duration> {
         self.nominated().map(|nominated| Duration::from_nanos(nominated.total_rtt))
     }
 
-    /// How many answers came, on the path that was announced last.
+    /// The number of responses on the selected pair.
     pub fn nominated_pair_responses_received(&self) -> Option<u64> {
         self.nominated().map(|nominated| nominated.responses)
     }

@@ -1,4 +1,4 @@
-//! Candidates: one that was gathered is told to the library field by field, any other one by its line.
+//! Candidates. One that was gathered is passed to the library by its fields, any other one by its text.
 
 use crate::error::IceError;
 use crate::ffi;
@@ -6,16 +6,16 @@ use crate::proto::{Protocol, TcpType, address_of};
 use std::fmt;
 use std::net::{IpAddr, SocketAddr};
 
-/// What an address is that a candidate has.
+/// The kind of a candidate (RFC 8445, section 4).
 #[derive(Clone, Copy, Debug, PartialEq, Eq, PartialOrd, Ord, Hash)]
 pub enum CandidateKind {
-    /// A socket's own.
+    /// The address of a local socket.
     Host,
-    /// One that a peer saw.
+    /// An address that the peer saw.
     PeerReflexive,
-    /// One that a STUN server saw.
+    /// An address that a STUN server saw.
     ServerReflexive,
-    /// One that a TURN server lends.
+    /// An address that a TURN server allocated.
     Relayed,
 }
 
@@ -30,7 +30,7 @@ impl fmt::Display for CandidateKind {
     }
 }
 
-/// What a candidate was gathered as: its kind's number, its address, and its base or local address.
+/// What a candidate was gathered as: the number of its kind, its address, and its base or local address.
 #[derive(Clone, Copy, Debug, PartialEq, Eq, Hash)]
 pub(crate) struct Gathered {
     kind: u8,
@@ -45,27 +45,27 @@ impl Gathered {
     }
 }
 
-/// An address at which an agent may be reached.
+/// A candidate: a transport address at which an agent may be reached.
 #[derive(Clone, Debug, PartialEq, Eq, Hash)]
 pub struct Candidate {
     gathered: Option<Gathered>,
     line: String,
 }
 
-// ---- making
+// ---- creating
 
 impl Candidate {
-    /// A socket's own address.
+    /// Creates a host candidate: the address of a local socket.
     pub fn host(addr: SocketAddr, proto: impl TryInto<Protocol>) -> Result<Candidate, IceError> {
         Candidate::gather(0, addr, addr, proto)
     }
 
-    /// An address that a STUN server saw the socket at `base` at.
+    /// Creates a server-reflexive candidate: the address at which a STUN server saw the socket at `base`.
     pub fn server_reflexive(addr: SocketAddr, base: SocketAddr, proto: impl TryInto<Protocol>) -> Result<Candidate, IceError> {
         Candidate::gather(1, addr, base, proto)
     }
 
-    /// An address that a TURN server lends, which was asked from the socket at `local`.
+    /// Creates a relayed candidate: the address that a TURN server allocated for the socket at `local`.
     pub fn relayed(addr: SocketAddr, local: SocketAddr, proto: impl TryInto<Protocol>) -> Result<Candidate, IceError> {
         Candidate::gather(2, addr, local, proto)
     }
@@ -74,22 +74,40 @@ impl Candidate {
         let proto = proto.try_into().map_err(|_| IceError::BadCandidate("invalid protocol".to_owned()))?;
         let gathered = Gathered { kind, addr, base, proto };
         let raw = gathered.raw();
-        if let Ok(why) = ffi::told(|buffer, length| ffi::candidate_refusal(&raw, buffer, length)) {
+        if let Ok(why) = ffi::text(|buffer, length| ffi::candidate_refusal(&raw, buffer, length)) {
             return Err(IceError::BadCandidate(why));
         }
         Ok(Candidate { gathered: Some(gathered), line: printed(&raw) })
     }
 
-    /// The candidate of a line, as `candidate:1 1 udp 2130706175 10.0.0.2 2000 typ host`.
+    /// Reads a candidate attribute (RFC 8839) without `a=`, as `candidate:1 1 udp 2130706175 10.0.0.2 2000 typ host`.
+    ///
+    /// A candidate with an mDNS name instead of an address is an error. Resolve the name by mDNS and put the address in its place,
+    /// or leave the candidate out, as here: the peer's checks bring its address as a peer-reflexive candidate.
+    ///
+    /// ```
+    /// # let mut agent = is::IceAgent::new(is::IceCreds::new());
+    /// let signaled = [
+    ///     "candidate:1 1 udp 2130706175 10.0.0.2 2000 typ host",
+    ///     "candidate:2 1 udp 2130706174 3f2b8c1e-5c1e-4b0a-9f5e-1f2e3d4c5b6a.local 2000 typ host",
+    /// ];
+    /// for text in signaled {
+    ///     match is::Candidate::from_sdp_string(text) {
+    ///         Ok(candidate) => agent.add_remote_candidate(candidate),
+    ///         Err(why) => eprintln!("left out: {why}"),
+    ///     }
+    /// }
+    /// assert_eq!(agent.remote_candidates().count(), 1);
+    /// ```
     pub fn from_sdp_string(line: &str) -> Result<Candidate, IceError> {
-        match ffi::told(|buffer, length| ffi::line_refusal(line, buffer, length)) {
+        match ffi::text(|buffer, length| ffi::line_refusal(line, buffer, length)) {
             Ok(why) => Err(IceError::BadCandidate(why)),
             Err(ffi::NOTHING) => Ok(Candidate { gathered: None, line: line.to_owned() }),
             Err(code) => panic!("a line: {}", ffi::text_of(code)),
         }
     }
 
-    /// The candidate that an agent lists by this line, and what it was gathered as, where it was.
+    /// The candidate that an agent lists by this text, with what it was gathered as, if it was.
     pub(crate) fn listed(line: String, gathered: Option<Gathered>) -> Candidate {
         Candidate { gathered, line }
     }
@@ -99,33 +117,33 @@ impl Candidate {
     }
 }
 
-/// The line of a gathered candidate, as an agent of its own prints it, less that agent's user fragment.
+/// The text of a gathered candidate, without a username fragment: a temporary agent prints it.
 fn printed(raw: &ffi::Gathered) -> String {
     let mut agent = ffi::Agent::new("-", "-", 0).unwrap_or_else(|code| panic!("an agent: {}", ffi::text_of(code)));
     let code = ffi::is_ice_add_local(&mut agent, raw);
     assert_eq!(code, ffi::OK, "a candidate: {}", ffi::text_of(code));
-    let line = ffi::told(|buffer, length| agent.local_candidate(0, buffer, length));
+    let line = ffi::text(|buffer, length| agent.local_candidate(0, buffer, length));
     unnamed(&line.expect("the candidate was added")).to_owned()
 }
 
-/// The line up to its user fragment, which stands last.
+/// The text without its username fragment, which is last.
 pub(crate) fn unnamed(line: &str) -> &str {
     line.rfind(" ufrag ").map_or(line, |at| &line[..at])
 }
 
-// ---- telling: words of the line, which reads as a candidate
+// ---- fields: words of the text, which was read as a candidate
 
 impl Candidate {
-    /// The line of it, for signalling.
+    /// Its text, for signaling.
     pub fn to_sdp_string(&self) -> String {
         self.line.clone()
     }
 
-    fn word(&self, place: usize) -> &str {
-        self.line.split_ascii_whitespace().nth(place).expect("a candidate line has eight words")
+    fn word(&self, index: usize) -> &str {
+        self.line.split_ascii_whitespace().nth(index).expect("a candidate line has eight words")
     }
 
-    /// The word behind this one, among the extensions.
+    /// The word after this one, among the extensions.
     fn extension(&self, name: &str) -> Option<&str> {
         let mut words = self.line.split_ascii_whitespace().skip(8);
         while let Some(word) = words.next() {
@@ -137,13 +155,13 @@ impl Candidate {
         None
     }
 
-    /// Where it is reached.
+    /// Its transport address.
     pub fn addr(&self) -> SocketAddr {
         let ip: IpAddr = self.word(4).parse().expect("an IP address");
         SocketAddr::new(ip, self.word(5).parse().expect("a port"))
     }
 
-    /// The address of the local interface: where it was gathered, that of its socket; of any other one its own.
+    /// The address of the local socket if it was gathered, else its transport address.
     pub fn local(&self) -> SocketAddr {
         self.gathered.map_or_else(|| self.addr(), |gathered| gathered.base)
     }
@@ -153,12 +171,12 @@ impl Candidate {
         self.word(3).parse().expect("a priority")
     }
 
-    /// What its packets go over.
+    /// Its transport protocol.
     pub fn proto(&self) -> Protocol {
         self.word(2).try_into().expect("a protocol")
     }
 
-    /// What its address is.
+    /// Its kind.
     pub fn kind(&self) -> CandidateKind {
         match self.word(7) {
             "host" => CandidateKind::Host,
@@ -168,12 +186,12 @@ impl Candidate {
         }
     }
 
-    /// Who connects, of a TCP candidate.
+    /// Which side opens the connection of a TCP candidate.
     pub fn tcptype(&self) -> Option<TcpType> {
         self.extension("tcptype").and_then(TcpType::of)
     }
 
-    /// The user fragment of the session that it belongs to.
+    /// The username fragment of the session that it belongs to.
     pub fn ufrag(&self) -> Option<&str> {
         self.extension("ufrag")
     }

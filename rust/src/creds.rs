@@ -1,24 +1,24 @@
-//! Credentials, and the system's random bytes that they are made of.
+//! Credentials, and the system's random bytes that they are created from.
 
 use crate::ffi;
 use std::fs::File;
 use std::io::Read;
 
-/// The credentials of an agent, which signalling carries.
+/// The credentials of an agent, which signaling brings to the peer.
 #[derive(Clone, Debug, PartialEq, Eq, Hash)]
 pub struct IceCreds {
-    /// The user fragment, of `a=ice-ufrag`.
+    /// The username fragment, of `a=ice-ufrag`.
     pub ufrag: String,
     /// The password, of `a=ice-pwd`.
     pub pass: String,
 }
 
 impl IceCreds {
-    /// Random credentials: a user fragment of 16 characters, and a password of 22.
+    /// Creates random credentials: a username fragment of 16 characters and a password of 22.
     ///
     /// # Panics
     ///
-    /// Where the system has no random bytes, or no memory.
+    /// If the system has no random bytes, or if out of memory.
     #[allow(clippy::new_without_default)]
     pub fn new() -> IceCreds {
         let (mut ufrag, mut pass) = ([0; 16], [0; 22]);

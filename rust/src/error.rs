@@ -1,12 +1,12 @@
-//! Refusals.
+//! Errors.
 
 use std::error::Error;
 use std::fmt;
 
-/// A candidate that is refused.
+/// A candidate with an error.
 #[derive(Clone, Debug, PartialEq, Eq)]
 pub enum IceError {
-    /// An address that no candidate may have, or a line that does not read as one; with the agent's words.
+    /// An address that no candidate may have, or a text that is not a candidate, with the agent's explanation.
     BadCandidate(String),
 }
 
@@ -20,10 +20,10 @@ impl fmt::Display for IceError {
 
 impl Error for IceError {}
 
-/// Bytes that are no STUN message.
+/// Bytes that are not a STUN message.
 #[derive(Clone, Debug, PartialEq, Eq)]
 pub enum StunError {
-    /// They do not read as one.
+    /// They cannot be parsed.
     Parse(String),
 }
 

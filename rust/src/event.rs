@@ -1,4 +1,4 @@
-//! What an agent tells: events, states, figures, and packets to be sent.
+//! What an agent returns: events, states, statistics, and packets to send.
 
 use crate::creds::IceCreds;
 use crate::ffi;
@@ -8,15 +8,15 @@ use std::net::SocketAddr;
 /// The state of a connection.
 #[derive(Clone, Copy, Debug, PartialEq, Eq)]
 pub enum IceConnectionState {
-    /// No moment was told yet.
+    /// The session has not started.
     New,
-    /// Paths are checked, and none is nominated.
+    /// No valid pair is nominated, and one may yet be, or a side has no candidates yet.
     Checking,
-    /// A path is nominated, and others are still possible.
+    /// A valid pair is nominated, and another one may yet be found.
     Connected,
-    /// A path is nominated, and no other one is possible.
+    /// A valid pair is nominated, and no other one may be found, or the agent is lite.
     Completed,
-    /// No path is nominated, and none is possible. New candidates, requests of the peer and restarts may change that.
+    /// No valid pair is nominated, and none may be. New candidates, checks of the peer and restarts may change that.
     Disconnected,
 }
 
@@ -31,23 +31,23 @@ impl IceConnectionState {
         }
     }
 
-    /// Whether a path is nominated.
+    /// Whether a valid pair is nominated.
     pub fn is_connected(&self) -> bool {
         matches!(self, IceConnectionState::Connected | IceConnectionState::Completed)
     }
 
-    /// Whether no path is possible.
+    /// Whether no valid pair is nominated and none may be.
     pub fn is_disconnected(&self) -> bool {
         matches!(self, IceConnectionState::Disconnected)
     }
 }
 
-/// How often things happened since the last restart.
+/// Counters since the last restart.
 #[derive(Clone, Copy, Debug, Default, PartialEq, Eq)]
 pub struct IceAgentStats {
-    /// Checks that were sent.
+    /// Connectivity checks sent.
     pub bind_request_sent: u64,
-    /// Success answers to checks.
+    /// Success responses received.
     pub bind_success_recv: u64,
     /// Requests of the peer that were served.
     pub bind_request_recv: u64,
@@ -72,30 +72,30 @@ impl IceAgentStats {
 /// Something that happened.
 #[derive(Clone, Debug, PartialEq, Eq)]
 pub enum IceAgentEvent {
-    /// A session begins, or begins anew, under these credentials of the agent's own.
+    /// A session starts or restarts with these local credentials.
     IceRestart(IceCreds),
-    /// The state is another one.
+    /// The state changed.
     IceConnectionStateChange(IceConnectionState),
-    /// An authentic packet came from this address for the first time since the last restart.
+    /// The first authentic packet from this address since the last restart.
     DiscoveredRecv {
-        /// What it came over.
+        /// Its transport protocol.
         proto: Protocol,
-        /// Where it came from.
+        /// Its source.
         source: SocketAddr,
     },
-    /// Media goes on this path, until the next such event.
+    /// Send media on this path, until the next such event.
     NominatedSend {
-        /// What it goes over.
+        /// The transport protocol.
         proto: Protocol,
         /// The local address to send from.
         source: SocketAddr,
-        /// Where to send.
+        /// The address to send to.
         destination: SocketAddr,
     },
 }
 
 impl IceAgentEvent {
-    /// The event that the library tells of; the credentials are those of a restart.
+    /// Converts the library's event; the credentials are those of a restart.
     pub(crate) fn of(event: &ffi::Event, creds: &IceCreds) -> IceAgentEvent {
         let proto = Protocol::of(event.protocol);
         let source = socket_of(&event.source);
@@ -108,14 +108,14 @@ impl IceAgentEvent {
     }
 }
 
-/// A packet to be sent: a STUN message.
+/// A packet to send: a STUN message.
 #[derive(Clone, Debug, PartialEq, Eq)]
 pub struct Transmit {
-    /// What it goes over.
+    /// The transport protocol.
     pub proto: Protocol,
-    /// The local address to send it from: the base of a local candidate.
+    /// The local address to send from: the base of a local candidate.
     pub source: SocketAddr,
-    /// Where to send it.
+    /// The address to send to.
     pub destination: SocketAddr,
     /// Its bytes.
     pub contents: Vec<u8>,

@@ -1,11 +1,11 @@
-//! The library's C interface, `c/is_ice.h`, behind functions that are safe to call: the one module with `unsafe`.
+//! Safe functions for the library's C interface, `c/is_ice.h`: the only module with `unsafe`.
 //!
-//! What makes the calls safe, beside what is said at each block:
-//! - An `Agent` is made zeroed, in a box that it never leaves, and its fields are private to this module: so it is never copied
-//!   and written by the library alone.
-//! - It holds a raw pointer, so it is neither `Send` nor `Sync`: it stays on the thread that made it. A call borrows it
-//!   mutably, so it has one call at a time.
-//! - References and slices are not null, and those that are written overlap no other argument.
+//! Why the calls are safe, in addition to the reason at each block:
+//! - An `Agent` is created zeroed, in a box that it never leaves, and its fields are private to this module. So it is never copied,
+//!   and only the library writes it.
+//! - It has a raw pointer, so it is neither `Send` nor `Sync` and stays on the thread that created it. A call borrows it mutably,
+//!   so there is one call at a time.
+//! - References and slices are not null, and a mutable one overlaps no other argument.
 
 use std::ptr;
 
@@ -16,7 +16,7 @@ pub(crate) const NOTHING: i32 = 1;
 pub(crate) const UNPARSED: i32 = -5;
 pub(crate) const BUFFER_TOO_SHORT: i32 = -6;
 
-/// A word for each refusal, as `is_ice_code_text` of the header has it.
+/// The text of each code, as in `is_ice_code_text` of the header.
 pub(crate) fn text_of(code: i32) -> &'static str {
     match code {
         -1 => "no agent",
@@ -39,7 +39,7 @@ pub(crate) fn text_of(code: i32) -> &'static str {
 
 // ---- types
 
-/// Where the library holds an agent. All zero: there is none.
+/// Refers to an agent of the library. All zero: there is none.
 #[repr(C)]
 pub(crate) struct Agent {
     is_held: bool,
@@ -142,7 +142,7 @@ const _: () = {
     assert!(std::mem::offset_of!(Event, state) == 60 && std::mem::offset_of!(Status, mtu) == 8);
 };
 
-// ---- calls: `safe` where all arguments are numbers and references
+// ---- calls: `safe` if all arguments are numbers and references
 
 #[allow(unsafe_code)]
 // SAFETY: names, arguments and results are those of is_ice.h; `c/run names` compares that header with the library.
@@ -219,16 +219,16 @@ unsafe extern "C" {
 
 // ---- calls with texts, datagrams and buffers
 //
-// Why each block is safe: a slice's pointer and length go together, the slice lives as long as the call, and the library keeps no
-// pointer of it. What is written is lent mutably.
+// Why each block is safe: pointer and length are those of one slice, the slice lives as long as the call, and the library keeps no
+// pointer to it. A slice that the library writes is borrowed mutably.
 
 impl Agent {
-    /// An agent under these credentials.
+    /// Creates an agent with these credentials.
     pub(crate) fn new(ufrag: &str, pass: &str, tie_breaker: u64) -> Result<Box<Agent>, i32> {
         assert_eq!(is_ice_version(), 1, "is_ice.h belongs to another library");
         let mut agent = Box::new(Agent { is_held: false, at: ptr::null_mut() });
         #[allow(unsafe_code)]
-        // SAFETY: both texts are slices that are read; the agent is zeroed, and stays in its box.
+        // SAFETY: both texts are slices that are read. The agent is zeroed, and stays in its box.
         let code = unsafe { is_ice_agent_new(&mut agent, ufrag.as_ptr(), ufrag.len(), pass.as_ptr(), pass.len(), tie_breaker) };
         if code == OK { Ok(agent) } else { Err(code) }
     }
@@ -275,7 +275,7 @@ impl Agent {
 
     pub(crate) fn local_candidate(&mut self, index: usize, buffer: &mut [u8], length: &mut usize) -> i32 {
         #[allow(unsafe_code)]
-        // SAFETY: the buffer is a slice that is lent mutably.
+        // SAFETY: the buffer is a slice that is borrowed mutably.
         unsafe {
             is_ice_local_candidate(self, index, buffer.as_mut_ptr(), buffer.len(), length)
         }
@@ -283,7 +283,7 @@ impl Agent {
 
     pub(crate) fn remote_candidate(&mut self, index: usize, buffer: &mut [u8], length: &mut usize) -> i32 {
         #[allow(unsafe_code)]
-        // SAFETY: the buffer is a slice that is lent mutably.
+        // SAFETY: the buffer is a slice that is borrowed mutably.
         unsafe {
             is_ice_remote_candidate(self, index, buffer.as_mut_ptr(), buffer.len(), length)
         }
@@ -315,7 +315,7 @@ impl Agent {
 
     pub(crate) fn poll_transmit(&mut self, buffer: &mut [u8], packet: &mut Packet) -> i32 {
         #[allow(unsafe_code)]
-        // SAFETY: the buffer is a slice that is lent mutably.
+        // SAFETY: the buffer is a slice that is borrowed mutably.
         unsafe {
             is_ice_poll_transmit(self, buffer.as_mut_ptr(), buffer.len(), packet)
         }
@@ -330,7 +330,7 @@ impl Drop for Agent {
 
 pub(crate) fn make_credentials(random: &[u8; 38], ufrag: &mut [u8; 16], pass: &mut [u8; 22]) -> i32 {
     #[allow(unsafe_code)]
-    // SAFETY: three arrays, of which the last two are lent mutably.
+    // SAFETY: three arrays, of which the last two are borrowed mutably.
     unsafe {
         is_ice_make_credentials(random.as_ptr(), random.len(), ufrag.as_mut_ptr(), ufrag.len(), pass.as_mut_ptr(), pass.len())
     }
@@ -338,7 +338,7 @@ pub(crate) fn make_credentials(random: &[u8; 38], ufrag: &mut [u8; 16], pass: &m
 
 pub(crate) fn line_refusal(line: &str, buffer: &mut [u8], length: &mut usize) -> i32 {
     #[allow(unsafe_code)]
-    // SAFETY: the line is a slice that is read, the buffer one that is lent mutably.
+    // SAFETY: the line is a slice that is read, the buffer one that is borrowed mutably.
     unsafe {
         is_ice_line_refusal(line.as_ptr(), line.len(), buffer.as_mut_ptr(), buffer.len(), length)
     }
@@ -346,14 +346,14 @@ pub(crate) fn line_refusal(line: &str, buffer: &mut [u8], length: &mut usize) ->
 
 pub(crate) fn candidate_refusal(candidate: &Gathered, buffer: &mut [u8], length: &mut usize) -> i32 {
     #[allow(unsafe_code)]
-    // SAFETY: the buffer is a slice that is lent mutably.
+    // SAFETY: the buffer is a slice that is borrowed mutably.
     unsafe {
         is_ice_candidate_refusal(candidate, buffer.as_mut_ptr(), buffer.len(), length)
     }
 }
 
-/// The text that a call writes to a buffer, which grows until it is long enough; or the call's code, where it is not `OK`.
-pub(crate) fn told(mut call: impl FnMut(&mut [u8], &mut usize) -> i32) -> Result<String, i32> {
+/// The text that a call writes to a buffer, which grows until it is long enough; or the call's code, if it is not `OK`.
+pub(crate) fn text(mut call: impl FnMut(&mut [u8], &mut usize) -> i32) -> Result<String, i32> {
     let mut buffer = vec![0; 256];
     loop {
         let mut length = 0;

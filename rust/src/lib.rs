@@ -1,7 +1,7 @@
-//! An ICE agent (RFC 8445) that is proved, under the names of the crate `is` 0.12.0.
+//! A proved ICE agent (RFC 8445) with the API of the crate `is` 0.12.0.
 //!
-//! Names, arguments and results are those of that crate, so a program that uses it takes this one by a line of its Cargo.toml.
-//! The agent behind them is this repository's: written in Rattle, proved, and called over its C interface, `c/is_ice.h`.
+//! Names, arguments and results are those of that crate, so a program that uses it needs only another line in its Cargo.toml. The
+//! agent is this repository's: written in Rattle, proved, and called over its C interface, `c/is_ice.h`.
 //!
 //! ```
 //! use is::{Candidate, IceAgent, IceCreds};
@@ -12,14 +12,13 @@
 //! agent.set_controlling(true);
 //! ```
 //!
-//! What differs, beside what docs/DIFFERENCES.md says of the agent:
-//! - An [`IceAgent`] is neither `Send` nor `Sync`: the C interface leaves an agent on the thread that made it.
-//! - A refusal that the original does not know, as want of memory, is a panic that names it; each call says which it has.
-//! - A local preference is a number or a table, [`LocalPreference`], and no callback.
+//! Differences, in addition to those of the agent in docs/DIFFERENCES.md:
+//! - An [`IceAgent`] is neither `Send` nor `Sync`: the C interface requires that it is used only on the thread that created it.
+//! - An error that the original does not have, such as out of memory, is a panic that names it. Each method documents its panics.
+//! - A local preference is a number or a table, [`LocalPreference`], not a callback.
 //! - HMAC-SHA1 is the proved one: there is no `with_hmac`. Random bytes are read from `/dev/urandom`.
-//! - A [`stun::StunMessage`] is known to be one, and tells nothing of itself; a local candidate is one of the three constructors'.
-//!   There are no `Candidate::builder`, `from_parts` and `set_ufrag`, no serde, and no
-//!   `find_pair_for_equivalent_remote_candidate`.
+//! - A [`stun::StunMessage`] has no accessors. Local candidates are created by three constructors: there are no
+//!   `Candidate::builder`, `from_parts` and `set_ufrag`, no serde, and no `find_pair_for_equivalent_remote_candidate`.
 
 mod agent;
 mod candidate;

@@ -1,4 +1,4 @@
-//! Which local candidates are preferred.
+//! Local preferences of candidates.
 
 use crate::ffi;
 
@@ -7,9 +7,9 @@ use crate::ffi;
 pub struct KindPreferences {
     /// Of host candidates.
     pub host: u16,
-    /// Of peer reflexive candidates.
+    /// Of peer-reflexive candidates.
     pub peer_reflexive: u16,
-    /// Of server reflexive candidates.
+    /// Of server-reflexive candidates.
     pub server_reflexive: u16,
     /// Of relayed candidates.
     pub relayed: u16,
@@ -24,15 +24,15 @@ pub struct PreferenceTable {
     pub v6: KindPreferences,
 }
 
-/// How local candidates that are added from now on are preferred.
+/// The local preference of local candidates that are added later.
 #[derive(Clone, Copy, Debug, Default, PartialEq, Eq)]
 pub enum LocalPreference {
-    /// Hosts before reflexive before relayed ones, IPv6 just before IPv4, earlier before later ones.
+    /// Host before reflexive before relayed candidates, IPv6 just before IPv4, earlier before later ones.
     #[default]
     ByDefault,
-    /// Each has this number.
+    /// This number for each candidate.
     Fixed(u16),
-    /// The table's number for its kind and IP version, less one for each candidate of the same that came before, and at least 0.
+    /// The table's number for kind and IP version, less one for each earlier candidate of the same kind and version, at least 0.
     ByKind(PreferenceTable),
 }
 

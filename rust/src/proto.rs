@@ -1,17 +1,17 @@
-//! Transport protocols, and socket addresses as the library has them.
+//! Transport protocols, and socket addresses in the library's form.
 
 use crate::ffi;
 use std::fmt;
 use std::net::{IpAddr, Ipv4Addr, Ipv6Addr, SocketAddr, SocketAddrV6};
 
-/// What a candidate's packets go over.
+/// The transport protocol of a candidate's packets.
 #[derive(Clone, Copy, Debug, PartialEq, Eq, PartialOrd, Ord, Hash)]
 pub enum Protocol {
     /// UDP.
     Udp,
-    /// TCP, with frames (RFC 4571).
+    /// TCP with framing (RFC 4571).
     Tcp,
-    /// TCP behind a fixed SSL handshake.
+    /// TCP after a fixed SSL handshake.
     SslTcp,
     /// TLS over TCP.
     Tls,
@@ -40,7 +40,7 @@ impl Protocol {
 impl TryFrom<&str> for Protocol {
     type Error = ();
 
-    /// The protocol of a word, in any case of letters.
+    /// Reads the name of a protocol, in upper or lower case.
     fn try_from(word: &str) -> Result<Protocol, ()> {
         match word.to_ascii_lowercase().as_str() {
             "udp" => Ok(Protocol::Udp),
@@ -63,14 +63,14 @@ impl fmt::Display for Protocol {
     }
 }
 
-/// Who connects, of a TCP candidate (RFC 6544).
+/// Which side opens the connection of a TCP candidate (RFC 6544).
 #[derive(Clone, Copy, Debug, PartialEq, Eq, Hash)]
 pub enum TcpType {
-    /// It connects.
+    /// The agent of the candidate.
     Active,
-    /// It is connected to.
+    /// The other agent.
     Passive,
-    /// Both at once.
+    /// Both at once (simultaneous open).
     So,
 }
 
@@ -85,7 +85,7 @@ impl TcpType {
     }
 }
 
-/// The socket address as it is handed to the library.
+/// Converts a socket address to the library's form.
 pub(crate) fn address_of(socket: SocketAddr) -> ffi::Address {
     let mut address = ffi::Address { port: socket.port(), ..Default::default() };
     match socket {
@@ -103,7 +103,7 @@ pub(crate) fn address_of(socket: SocketAddr) -> ffi::Address {
     address
 }
 
-/// The socket address that the library tells of.
+/// Converts a socket address from the library's form.
 pub(crate) fn socket_of(address: &ffi::Address) -> SocketAddr {
     if address.family == 4 {
         let [a, b, c, d, ..] = address.bytes;

@@ -1,4 +1,4 @@
-//! What the caller may set of an agent.
+//! The settings of an agent.
 
 use crate::agent::{IceAgent, nanoseconds};
 use crate::creds::IceCreds;
@@ -8,99 +8,103 @@ use std::ops::RangeInclusive;
 use std::time::Duration;
 
 impl IceAgent {
-    /// How long packets may be, and the length to warn of.
+    /// Stores how long a packet may be, and the length to warn about. Default: 1150 and 1280.
     ///
     /// # Panics
     ///
-    /// Where the first is below 588 bytes, the length of the longest check.
+    /// If the first is below 588 bytes, the length of the longest connectivity check.
     pub fn set_mtu(&mut self, mtu: RangeInclusive<usize>) {
         self.tell("mtu", |agent| ffi::is_ice_set_mtu(agent, *mtu.start(), *mtu.end()));
     }
 
-    /// How long packets may be.
+    /// How long a packet may be.
     pub fn mtu(&self) -> usize {
         self.status().mtu
     }
 
-    /// The length to warn of.
+    /// The length of a packet to warn about.
     pub fn mtu_warn(&self) -> usize {
         self.status().mtu_warn
     }
 
-    /// Sets the number that settles who yields where both sides claim one role.
+    /// Sets the number that decides role conflicts: the agent with the greater one keeps its role.
     pub fn set_control_tie_breaker(&mut self, tie_breaker: u64) {
         self.tell("tie-breaker", |agent| ffi::is_ice_set_tie_breaker(agent, tie_breaker));
     }
 
-    /// How many pairs are kept, where pairs are formed.
+    /// Limits the number of pairs, when pairs are next formed. Default: 100.
     pub fn set_max_candidate_pairs(&mut self, max: usize) {
         self.tell("limit", |agent| ffi::is_ice_set_max_pairs(agent, max));
     }
 
-    /// Whether the agent is ice-lite.
+    /// Whether the agent is a lite agent.
     pub fn ice_lite(&self) -> bool {
         self.status().lite
     }
 
-    /// Makes the agent ice-lite, or a full one.
+    /// Makes the agent a lite agent, which has only host candidates and sends no checks, or a full one.
+    ///
+    /// A lite agent has to be controlled, and its peer a full agent. One that stays controlling never finds a path, and no call
+    /// reports it.
     pub fn set_ice_lite(&mut self, enabled: bool) {
         self.tell("lite", |agent| ffi::is_ice_set_lite(agent, enabled));
     }
 
-    /// The time between two checks.
+    /// Sets the pacing interval Ta: the least time between two timeouts, each of which sends at most one packet. Default: 50 ms.
     pub fn set_timing_advance(&mut self, duration: Duration) {
-        self.tell("advance", |agent| ffi::is_ice_set_timing_advance(agent, nanoseconds(duration)));
+        self.tell("pacing interval", |agent| ffi::is_ice_set_timing_advance(agent, nanoseconds(duration)));
     }
 
-    /// How long a pair's first check is waited for.
+    /// Sets the time from a pair's first check until the second one is due; it doubles with each further check. Default: 250 ms.
     pub fn set_initial_stun_rto(&mut self, timeout: Duration) {
-        self.tell("delay", |agent| ffi::is_ice_set_initial_rto(agent, nanoseconds(timeout)));
+        self.tell("initial RTO", |agent| ffi::is_ice_set_initial_rto(agent, nanoseconds(timeout)));
     }
 
-    /// The longest such wait.
+    /// Sets the longest time from one check of a pair until the next one is due. Default: 3 s.
     pub fn set_max_stun_rto(&mut self, timeout: Duration) {
-        self.tell("delay", |agent| ffi::is_ice_set_max_rto(agent, nanoseconds(timeout)));
+        self.tell("maximal RTO", |agent| ffi::is_ice_set_max_rto(agent, nanoseconds(timeout)));
     }
 
-    /// How many checks in a row a pair sends in vain.
+    /// Sets after how many checks in a row without a response a pair is removed. It is not removed while the last check may still
+    /// be answered in time, nor within 15 s of a check of the peer on it. Default: 9.
     ///
     /// # Panics
     ///
-    /// For 0.
+    /// If the limit is 0.
     pub fn set_max_stun_retransmits(&mut self, num: usize) {
         self.tell("retransmits", |agent| ffi::is_ice_set_max_retransmits(agent, num));
     }
 
-    /// How local candidates that are added from now on are preferred.
+    /// Sets the local preference of local candidates that are added later.
     pub fn set_local_preference(&mut self, p: LocalPreference) {
         self.tell("preference", |agent| p.set(agent));
     }
 
-    /// How long a pair is checked in vain before it is given up.
+    /// How long a pair's checks go on without a response, before the pair is removed.
     pub fn ice_timeout(&self) -> Duration {
         Duration::from_nanos(self.status().ice_timeout)
     }
 
-    /// Whether the agent is the controlling one.
+    /// Whether the agent is controlling.
     pub fn controlling(&self) -> bool {
         self.status().controlling
     }
 
-    /// Makes the agent the controlling one, or the controlled one.
+    /// Makes the agent controlling or controlled: controlling on the side that made the offer.
     pub fn set_controlling(&mut self, controlling: bool) {
         self.tell("role", |agent| ffi::is_ice_set_controlling(agent, controlling));
     }
 
-    /// The agent's own credentials.
+    /// The local credentials.
     pub fn local_credentials(&self) -> &IceCreds {
         &self.local
     }
 
-    /// Sets the agent's own credentials.
+    /// Sets the local credentials without an ICE restart: for use before they are signaled.
     ///
     /// # Panics
     ///
-    /// Where both user fragments and a colon are longer than 508 bytes.
+    /// If both username fragments and a colon are longer than 508 bytes, or if out of memory.
     pub fn set_local_credentials(&mut self, r: IceCreds) {
         self.tell("credentials", |agent| agent.set_local_credentials(&r.ufrag, &r.pass));
         self.local = r;
@@ -111,11 +115,11 @@ impl IceAgent {
         self.remote.as_ref()
     }
 
-    /// Sets the peer's credentials.
+    /// Sets the peer's credentials, which signaling brings. Before this call no check is sent.
     ///
     /// # Panics
     ///
-    /// Where both user fragments and a colon are longer than 508 bytes.
+    /// If both username fragments and a colon are longer than 508 bytes, or if out of memory.
     pub fn set_remote_credentials(&mut self, r: IceCreds) {
         self.tell("credentials", |agent| agent.set_remote_credentials(&r.ufrag, &r.pass));
         self.remote = Some(r);

@@ -1,4 +1,4 @@
-//! STUN messages, as far as an agent's caller hands them on.
+//! STUN messages that a caller passes to an agent.
 
 use crate::error::StunError;
 use crate::ffi;
@@ -7,7 +7,7 @@ use std::cell::RefCell;
 use std::net::SocketAddr;
 
 thread_local! {
-    /// An agent without candidates, which says of bytes whether they read as a message.
+    /// An agent without candidates, which parses messages.
     static READER: RefCell<Box<ffi::Agent>> = RefCell::new(ffi::Agent::new("-", "-", 0).unwrap_or_else(|code| panic!("a reader: {}", ffi::text_of(code))));
 }
 
@@ -16,7 +16,7 @@ thread_local! {
 pub struct StunMessage<'a>(&'a [u8]);
 
 impl<'a> StunMessage<'a> {
-    /// The message of a datagram, which it borrows; refused where it is none, as media is.
+    /// Parses a datagram, which the message borrows. An error if it is not a STUN message, as media.
     pub fn parse(bytes: &'a [u8]) -> Result<StunMessage<'a>, StunError> {
         match READER.with_borrow_mut(|reader| reader.accepts_message(bytes)) {
             ffi::UNPARSED => Err(StunError::Parse(ffi::text_of(ffi::UNPARSED).to_owned())),
@@ -29,14 +29,14 @@ impl<'a> StunMessage<'a> {
     }
 }
 
-/// A message that came.
+/// A received message.
 #[derive(Clone, Copy, Debug)]
 pub struct StunPacket<'a> {
-    /// What it came over.
+    /// Its transport protocol.
     pub proto: Protocol,
-    /// Where it came from.
+    /// Its source.
     pub source: SocketAddr,
-    /// The local address that it came to.
+    /// The local address that received it.
     pub destination: SocketAddr,
     /// The message.
     pub message: StunMessage<'a>,

@@ -8,7 +8,7 @@ use is::{KindPreferences, LocalPreference, PreferenceTable, Protocol, StunError,
 use std::time::{Duration, Instant};
 use world::{at, creds, host, ms};
 
-/// A browser's signed Binding request, for the user fragment p9KA under the password below.
+/// A browser's Binding request with MESSAGE-INTEGRITY, for the username fragment p9KA and the password below.
 const REQUEST: &str = "000100502112a4426a756331357578556e6747630006000970394b413a53514174000000c05700040001000a802a00086eeec6e97d18395c\
                        00250000002400046e7f1eff000800145d0425a0207ab1e054102299aaf9839ca076c6d580280004360e219f";
 const PASSWORD: &str = "xJcE9AQAR7kczUDVOXRUCl";
@@ -24,7 +24,7 @@ fn from_peer(bytes: &[u8]) -> StunPacket<'_> {
     StunPacket { proto: Protocol::Udp, source: at("10.0.0.2:2000"), destination: at("10.0.0.1:1000"), message }
 }
 
-/// The agent that the request is for.
+/// The agent that the request is addressed to.
 fn addressed() -> IceAgent {
     let mut agent = IceAgent::new(IceCreds { ufrag: "p9KA".to_owned(), pass: PASSWORD.to_owned() });
     agent.set_remote_credentials(IceCreds { ufrag: "SQAt".to_owned(), pass: "x".to_owned() });
@@ -32,7 +32,7 @@ fn addressed() -> IceAgent {
     agent
 }
 
-/// A controlling agent that knows its peer, and a candidate of the peer's.
+/// A controlling agent with its peer's credentials and one candidate of the peer.
 fn paired() -> IceAgent {
     let mut agent = IceAgent::new(creds("near"));
     agent.set_controlling(true);
@@ -76,10 +76,10 @@ fn media_is_no_message() {
     assert!(StunMessage::parse(&[]).is_err());
 }
 
-// ---- moments
+// ---- time
 
 #[test]
-fn no_moment_was_told_yet() {
+fn no_timeout_was_handled_yet() {
     let mut agent = paired();
     assert_eq!((agent.poll_timeout(), agent.state()), (None, IceConnectionState::New));
 }
@@ -92,7 +92,7 @@ fn checks_go_out_by_the_schedule() {
         agent.handle_timeout(when);
         let check = agent.poll_transmit().expect("a check");
         assert_eq!((check.destination, check.contents.len()), (at("10.0.0.2:2000"), 88));
-        when = agent.poll_timeout().expect("a wake-up");
+        when = agent.poll_timeout().expect("a next timeout");
         assert_eq!(when - began, ms(after));
     }
     agent.handle_timeout(when);

@@ -1,4 +1,4 @@
-//! Roles, and ice-lite agents.
+//! Roles, and lite agents.
 
 mod world;
 
@@ -6,7 +6,7 @@ use is::IceConnectionState;
 use std::time::Duration;
 use world::{World, at, host, ms};
 
-/// Two agents in these roles, the first of the greater tie-breaker.
+/// Two agents in these roles; the first has the greater tie-breaker.
 fn claim(controlling: [bool; 2]) -> World {
     let mut world = World::new();
     for side in [0, 1] {
@@ -41,16 +41,16 @@ fn the_lesser_tie_breaker_yields() {
 
 #[test]
 fn the_controlling_one_chooses() {
-    // the controlled one sends no packet but answers before it was asked for the path
+    // the controlled one sends only responses before it receives USE-CANDIDATE
     let mut world = claim([true, false]);
     world.connect();
     let told = |side: usize| world.sides[side].when(IceConnectionState::Completed).unwrap();
     assert!(told(0) < told(1), "{:?} and {:?}", told(0), told(1));
 }
 
-// ---- ice-lite
+// ---- lite agents
 
-/// A full agent, controlling, and a lite one.
+/// A full agent, which is controlling, and a lite one.
 fn beside_lite() -> World {
     let mut world = claim([true, false]);
     world.sides[1].agent.set_ice_lite(true);
@@ -76,16 +76,16 @@ fn a_lite_agent_takes_hosts_alone() {
 }
 
 #[test]
-fn a_lite_agent_gives_up_15_seconds_behind_the_last_check() {
+fn a_lite_agent_disconnects_15_seconds_after_the_last_check() {
     let mut world = beside_lite();
     world.connect();
     world.pass(Duration::from_secs(5));
     world.lost = Box::new(|_, _| true);
     let cut = world.now;
-    world.pass_until("given up", |world| world.right().state().is_disconnected());
+    world.pass_until("disconnected", |world| world.right().state().is_disconnected());
     let took = world.now - cut;
     assert!(took > Duration::from_secs(11) && took < Duration::from_secs(19), "{took:?}");
-    // and comes back with its peer
+    // and connects again when its peer is back
     world.lost = Box::new(|_, _| false);
     world.pass_until("back", |world| world.right().state().is_connected());
     assert!(world.now - cut < took + ms(4000));

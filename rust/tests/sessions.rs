@@ -9,7 +9,7 @@ use world::{Nat, World, at, creds, host, ms};
 const LEFT: &str = "10.0.0.1:1000";
 const RIGHT: &str = "10.0.0.2:2000";
 
-/// Two agents with a host candidate each, which the other knows.
+/// Two agents with one host candidate each, which was signaled to the other.
 fn hosts() -> World {
     let mut world = World::new();
     world.add(0, host(LEFT));
@@ -25,7 +25,7 @@ fn two_hosts_connect() {
     assert_eq!(world.sides[1].path(), Some((at(RIGHT), at(LEFT))));
     assert_eq!(world.left().state(), IceConnectionState::Completed);
     assert_eq!(world.right().state(), IceConnectionState::Completed);
-    // a check and its answer, and a check that nominates
+    // a check and its response, and a check with USE-CANDIDATE
     assert!(world.now < ms(200), "{:?}", world.now);
     assert_eq!(world.sides[0].sources(), [at(RIGHT)]);
     assert_eq!(world.left().nominated_pair_rtt(), Some(ms(20)));
@@ -54,7 +54,7 @@ fn figures_count_what_happened() {
     assert_eq!(left.bind_request_sent, right.bind_request_recv);
     assert_eq!(world.left().nominated_pair_responses_received(), Some(left.bind_success_recv));
     assert_eq!(world.left().nominated_pair_total_rtt(), Some(ms(20) * left.bind_success_recv as u32));
-    // what each sent is its checks and its replies
+    // each sent its checks and its responses
     assert_eq!(world.sides[0].sent as u64, left.bind_request_sent + left.bind_request_recv);
 }
 
@@ -77,7 +77,7 @@ fn credentials_come_late() {
     world.sides[1].agent.ice_restart(creds("rgh2"), true);
     world.sides[1].agent.add_remote_candidate(Candidate::from_sdp_string("candidate:1 1 udp 7 10.0.0.1 1000 typ host").unwrap());
     world.sides[0].agent.set_remote_credentials(creds("rgh2"));
-    // the left one's requests wait at the right one, which knows no credentials to check with
+    // the right one stores the left one's early requests, since it has no remote credentials yet
     world.pass(ms(300));
     assert_eq!(world.right().stats().bind_request_recv, 0);
     assert_eq!(world.sides[1].sources(), [at(LEFT)]);
@@ -101,7 +101,7 @@ fn the_better_of_two_paths_is_announced() {
 }
 
 #[test]
-fn a_better_path_that_comes_later_is_announced_anew() {
+fn a_better_path_that_comes_later_is_selected() {
     let mut world = hosts();
     world.connect();
     assert_eq!(world.left().stats().nomination_send_count, 1);
@@ -193,12 +193,12 @@ fn a_restart_clears_what_was() {
     assert!(agent.controlling());
 }
 
-// ---- routers
+// ---- NATs
 
 #[test]
 fn an_address_that_a_router_gives_is_learnt() {
     let mut world = World::new();
-    // the left one sits behind a router, and nobody says where it is seen
+    // the left one is behind a NAT, and its server-reflexive address is not signaled
     world.nats.push(Nat { side: 0, inner: at(LEFT), outer: at("192.0.2.9:9000") });
     world.add_secretly(0, host(LEFT));
     world.add(1, host(RIGHT));
@@ -206,8 +206,8 @@ fn an_address_that_a_router_gives_is_learnt() {
     assert_eq!(world.sides[0].path(), Some((at(LEFT), at(RIGHT))));
     assert_eq!(world.sides[1].path(), Some((at(RIGHT), at("192.0.2.9:9000"))));
     assert_eq!(world.sides[0].local_addresses(), [at(LEFT), at("192.0.2.9:9000")]);
-    let learnt = world.left().local_candidates().last().unwrap();
-    assert_eq!(learnt.kind(), is::CandidateKind::PeerReflexive);
+    let discovered = world.left().local_candidates().last().unwrap();
+    assert_eq!(discovered.kind(), is::CandidateKind::PeerReflexive);
     let heard_of = world.right().remote_candidates().next().unwrap();
     assert_eq!((heard_of.kind(), heard_of.addr()), (is::CandidateKind::PeerReflexive, at("192.0.2.9:9000")));
 }
@@ -217,7 +217,7 @@ fn a_server_told_of_the_address() {
     let mut world = World::new();
     let outer = at("192.0.2.9:9000");
     world.nats.push(Nat { side: 0, inner: at(LEFT), outer });
-    // the inner address is not reached from outside
+    // the inner address cannot be reached from outside
     world.lost = Box::new(move |_, destination| destination == at("10.9.9.9:1"));
     world.add_secretly(0, host(LEFT));
     world.add(0, Candidate::server_reflexive(outer, at(LEFT), "udp").unwrap());
@@ -225,7 +225,7 @@ fn a_server_told_of_the_address() {
     world.connect();
     assert_eq!(world.sides[0].path(), Some((at(LEFT), at(RIGHT))));
     assert_eq!(world.sides[1].path(), Some((at(RIGHT), outer)));
-    // it is known, so nothing is learnt
+    // it is known, so nothing is discovered
     assert_eq!(world.sides[0].local_addresses(), [at(LEFT), outer]);
 }
 
@@ -254,7 +254,7 @@ fn a_relay_is_taken_where_nothing_else_works() {
     world.connect();
     assert_eq!(world.sides[0].path(), Some((relay, at(RIGHT))));
     assert_eq!(world.sides[1].path(), Some((at(RIGHT), relay)));
-    // and left for the better one, once that works
+    // and replaced by the better one when that works
     world.lost = Box::new(|_, _| false);
     world.pass(Duration::from_secs(5));
     assert_eq!(world.sides[0].path(), Some((at(LEFT), at(RIGHT))));

@@ -1,5 +1,4 @@
-//! Two agents, a clock of their own, and a network that carries their packets: with a delay, with routers that rewrite addresses,
-//! and with holes.
+//! Two agents, a simulated clock, and a simulated network that carries their packets: with a delay, NATs and loss.
 #![allow(dead_code)]
 
 use is::stun::{StunMessage, StunPacket};
@@ -7,7 +6,7 @@ use is::{Candidate, IceAgent, IceAgentEvent, IceConnectionState, IceCreds, Proto
 use std::net::SocketAddr;
 use std::time::{Duration, Instant};
 
-/// How long a packet is on its way.
+/// The delay of a packet.
 pub const TRIP: Duration = Duration::from_millis(10);
 
 pub fn at(text: &str) -> SocketAddr {
@@ -26,7 +25,7 @@ pub fn creds(ufrag: &str) -> IceCreds {
     IceCreds { ufrag: ufrag.to_owned(), pass: format!("password-of-{ufrag}") }
 }
 
-/// An agent, and what it told so far.
+/// An agent, and its events so far.
 pub struct Side {
     pub agent: IceAgent,
     pub events: Vec<(Duration, IceAgentEvent)>,
@@ -38,7 +37,7 @@ impl Side {
         Side { agent: IceAgent::new(creds(ufrag)), events: Vec::new(), sent: 0 }
     }
 
-    /// The path of the last announcement.
+    /// The path of the selected pair.
     pub fn path(&self) -> Option<(SocketAddr, SocketAddr)> {
         self.events.iter().rev().find_map(|(_, event)| match event {
             IceAgentEvent::NominatedSend { source, destination, .. } => Some((*source, *destination)),
@@ -46,7 +45,7 @@ impl Side {
         })
     }
 
-    /// When the state was told of first.
+    /// When the state was first reported.
     pub fn when(&self, state: IceConnectionState) -> Option<Duration> {
         let wanted = IceAgentEvent::IceConnectionStateChange(state);
         self.events.iter().find(|(_, event)| *event == wanted).map(|(when, _)| *when)
@@ -65,7 +64,7 @@ impl Side {
     }
 }
 
-/// A packet on its way, to a side.
+/// A packet in flight to a side.
 struct Flight {
     when: Duration,
     to: usize,
@@ -74,7 +73,7 @@ struct Flight {
     contents: Vec<u8>,
 }
 
-/// A router before a side: its socket at `inner` is seen at `outer`, and is reached there.
+/// A NAT in front of a side, which maps the socket at `inner` to `outer`.
 pub struct Nat {
     pub side: usize,
     pub inner: SocketAddr,
@@ -87,12 +86,12 @@ pub struct World {
     pub sides: [Side; 2],
     flights: Vec<Flight>,
     pub nats: Vec<Nat>,
-    /// Whether a packet from there to there is lost.
+    /// Whether a packet between these addresses is lost.
     pub lost: Box<dyn Fn(SocketAddr, SocketAddr) -> bool>,
 }
 
 impl World {
-    /// Two agents that know each other's credentials; the first one is controlling.
+    /// Two agents with each other's credentials; the first one is controlling.
     pub fn new() -> World {
         let mut world = World {
             began: Instant::now(),
@@ -107,25 +106,25 @@ impl World {
         world
     }
 
-    /// Each is told of the other's credentials.
+    /// Signals the credentials both ways.
     pub fn meet(&mut self) {
         let [left, right] = &mut self.sides;
         left.agent.set_remote_credentials(right.agent.local_credentials().clone());
         right.agent.set_remote_credentials(left.agent.local_credentials().clone());
     }
 
-    /// The side has the candidate, and the other one is told of it.
+    /// Adds the candidate to the side, and signals it to the other one.
     pub fn add(&mut self, side: usize, candidate: Candidate) {
         let line = self.add_secretly(side, candidate);
         self.sides[1 - side].agent.add_remote_candidate(Candidate::from_sdp_string(&line).expect("a line"));
     }
 
-    /// The side has the candidate, and nobody is told of it. Returns its line.
+    /// Adds the candidate to the side without signaling it. Returns its text.
     pub fn add_secretly(&mut self, side: usize, candidate: Candidate) -> String {
         self.sides[side].agent.add_local_candidate(candidate).expect("a new candidate").to_sdp_string()
     }
 
-    pub fn moment(&self) -> Instant {
+    pub fn now(&self) -> Instant {
         self.began + self.now
     }
 
@@ -139,14 +138,14 @@ impl World {
 
     // ---- time
 
-    /// Lets so much time pass.
+    /// Lets this time pass.
     pub fn pass(&mut self, time: Duration) {
         let end = self.now + time;
         while self.step(end) {}
         self.now = end;
     }
 
-    /// Lets time pass until the fact holds, for a minute at most.
+    /// Lets time pass until the fact holds, at most a minute.
     pub fn pass_until(&mut self, what: &str, fact: impl Fn(&World) -> bool) {
         let end = self.now + Duration::from_secs(60);
         while !fact(self) {
@@ -158,7 +157,7 @@ impl World {
         self.pass_until("connected", |world| world.sides.iter().all(|side| side.agent.state().is_connected() && side.path().is_some()));
     }
 
-    /// The next thing that happens until then, if any: a packet that comes, or a moment.
+    /// The next arrival of a packet or timeout until then, if any.
     fn step(&mut self, end: Duration) -> bool {
         let wakes = [self.wake(0), self.wake(1)];
         self.collect(0);
@@ -175,19 +174,19 @@ impl World {
             self.land(flight);
         } else {
             self.now = self.now.max(wakes[side]);
-            let moment = self.moment();
-            self.sides[side].agent.handle_timeout(moment);
+            let now = self.now();
+            self.sides[side].agent.handle_timeout(now);
         }
         true
     }
 
-    /// When the side wants to be told of a moment: at once, where it was told of none.
+    /// The next timeout of the side: at once, if there was none yet.
     fn wake(&mut self, side: usize) -> Duration {
         let at = self.sides[side].agent.poll_timeout();
         at.map_or(self.now, |at| at.saturating_duration_since(self.began))
     }
 
-    /// Takes packets and events out.
+    /// Polls packets and events.
     fn collect(&mut self, side: usize) {
         while let Some(event) = self.sides[side].agent.poll_event() {
             self.sides[side].events.push((self.now, event));
@@ -208,7 +207,7 @@ impl World {
     fn land(&mut self, flight: Flight) {
         let message = StunMessage::parse(&flight.contents).expect("agents send STUN messages");
         let packet = StunPacket { proto: Protocol::Udp, source: flight.source, destination: flight.destination, message };
-        let moment = self.moment();
-        self.sides[flight.to].agent.handle_packet(moment, packet);
+        let now = self.now();
+        self.sides[flight.to].agent.handle_packet(now, packet);
     }
 }

@@ -1,4 +1,4 @@
-"""The caller of one agent: its sockets, its gathering, its signalling and its loop. No rule of ICE stands here."""
+"""The endpoint of one agent: its sockets, gathering, signaling and loop. It contains no rule of ICE."""
 
 from __future__ import annotations
 
@@ -10,28 +10,31 @@ from is_ice import Candidate, IceAgent, IceAgentEvent, IceCreds, SocketAddress, 
 from .clock import Clock, nanoseconds
 from .network import Datagram, Interface, Packet
 from .scenario import AgentSettings
-from .servers import SMALL, WRAPPED, AskAddress, AskRelay, Permit, Relayed, Told
+from .servers import SMALL, WRAPPED, BindingRequest, AllocateRequest, CreatePermission, Relayed, SuccessResponse
 from .signalling import Channel, Signal
 
-# A question to a server that was not answered is asked so often, so much later at first, then twice as late each time
-# (RFC 8489, 6.2.1).
-QUESTIONS = 7
-PATIENCE = 500_000_000
+# How often a request to a server is sent without a response (Rc), and its first RTO, which doubles each time (RFC 8489, section 6.2.1).
+REQUESTS = 7
+FIRST_RTO = 500_000_000
 
 
 class Watch(Interface_):
-    """Who is told of what a caller does and hears."""
+    """Observes what an endpoint sends and receives."""
 
-    def sent(self, side: str, datagram: Datagram) -> None: ...
+    def sent(self, side: str, datagram: Datagram) -> None:
+        """A packet was sent."""
 
-    def took(self, side: str, datagram: Datagram, source: SocketAddress, local: SocketAddress, accepted: bool) -> None: ...
+    def took(self, side: str, datagram: Datagram, source: SocketAddress, local: SocketAddress, accepted: bool) -> None:
+        """A packet was passed to the agent."""
 
-    def told(self, side: str, event: IceAgentEvent) -> None: ...
+    def told(self, side: str, event: IceAgentEvent) -> None:
+        """The agent reported an event."""
 
-    def cleared(self, side: str) -> None: ...
+    def cleared(self, side: str) -> None:
+        """The agent restarted."""
 
 
-class Caller:
+class Endpoint:
     """One side of a session."""
 
     def __init__(self, side: str, settings: AgentSettings, interfaces: list[Interface], servers: list[SocketAddress],
@@ -41,14 +44,14 @@ class Caller:
         self.tie_breaker = random.getrandbits(64)
         self.agent = IceAgent(self._creds(), self.tie_breaker)
         self.sockets: dict[SocketAddress, Interface] = {}
-        self.relays: dict[SocketAddress, tuple[SocketAddress, SocketAddress]] = {}  # with its socket and its server
+        self.relays: dict[SocketAddress, tuple[SocketAddress, SocketAddress]] = {}  # relayed address to socket and server
         self.generation = 0
         self.began = False
-        self.late = 0  # by how much the own credentials come behind the candidates
+        self.late = 0  # how much later than the candidates the local credentials are signaled
         self._candidates: dict[SocketAddress, list[Candidate]] = {}  # by socket
-        self._asked: set[tuple[SocketAddress, SocketAddress, bool]] = set()
-        self._untold: list[str] = []
-        self._wake: int | None = None
+        self._pending: set[tuple[SocketAddress, SocketAddress, bool]] = set()
+        self._unsignaled: list[str] = []
+        self._timeout: int | None = None
         self._peers: set[str] = set()
         self._trickle = True
         self._configure()
@@ -68,21 +71,21 @@ class Caller:
             if limit is not None:
                 setter(limit)
 
-    # ---- beginning, restarting, interfaces
+    # ---- starting, restarting, interfaces
 
     def begin(self, trickle: bool) -> None:
-        """Gathers, tells the peer, and begins the session."""
+        """Gathers candidates, signals them, and starts the session."""
         self._trickle = trickle
         self.began = True
-        self._tell_creds()
+        self._signal_creds()
         for interface in self.interfaces:
             if interface.is_on:
                 self._bind(interface)
-        self._tell_candidates()
-        self._tell_moment()
+        self._signal_candidates()
+        self._handle_timeout()
 
     def restart(self) -> None:
-        """Restarts the agent under new credentials, and tells the peer."""
+        """Makes an ICE restart, and signals it to the peer."""
         self.generation += 1
         self._renew()
 
@@ -90,19 +93,19 @@ class Caller:
         self.agent.ice_restart(self._creds(), True)
         self._watch.cleared(self.side)
         lines = tuple(self.agent.local_candidates())
-        self._untold.clear()
+        self._unsignaled.clear()
         self._channel.tell(Signal(self.generation, self.agent.local_credentials, lines))
         self.turn()
 
     def turn_on(self, interface: Interface) -> None:
-        """An interface comes up: its candidates are gathered."""
+        """Turns an interface on and gathers its candidates."""
         interface.is_on = True
         self._bind(interface)
-        self._tell_candidates()
+        self._signal_candidates()
         self.turn()
 
     def turn_off(self, interface: Interface) -> None:
-        """An interface goes, and its candidates with it."""
+        """Turns an interface off and removes its candidates."""
         interface.is_on = False
         for socket in [s for s, i in self.sockets.items() if i is interface]:
             for candidate in self._candidates.pop(socket, []):
@@ -118,31 +121,31 @@ class Caller:
         for server in self._servers:
             if server.version == socket.version:
                 if self.settings.stun and socket.version == 4:
-                    self._ask(socket, server, False, QUESTIONS)
+                    self._request(socket, server, False, REQUESTS)
                 if self.settings.relay:
-                    self._ask(socket, server, True, QUESTIONS)
+                    self._request(socket, server, True, REQUESTS)
 
     # ---- gathering
 
-    def _ask(self, socket: SocketAddress, server: SocketAddress, is_relay: bool, left: int) -> None:
-        question = (socket, server, is_relay)
+    def _request(self, socket: SocketAddress, server: SocketAddress, is_relay: bool, left: int) -> None:
+        transaction = (socket, server, is_relay)
         interface = self.sockets.get(socket)
-        if left < QUESTIONS and question not in self._asked:
-            return  # answered meanwhile
-        self._asked.add(question)
+        if left < REQUESTS and transaction not in self._pending:
+            return  # there was a response
+        self._pending.add(transaction)
         if interface is None or left == 0:
-            self._answered(question)
+            self._close(transaction)
             return
-        interface.send(Packet(socket, server, AskRelay() if is_relay else AskAddress(), SMALL))
-        self._clock.at(self._clock.now + (PATIENCE << QUESTIONS - left), self._ask, socket, server, is_relay, left - 1)
+        interface.send(Packet(socket, server, AllocateRequest() if is_relay else BindingRequest(), SMALL))
+        self._clock.at(self._clock.now + (FIRST_RTO << REQUESTS - left), self._request, socket, server, is_relay, left - 1)
 
-    def _answered(self, question: tuple[SocketAddress, SocketAddress, bool]) -> None:
-        self._asked.discard(question)
-        self._tell_candidates()
+    def _close(self, transaction: tuple[SocketAddress, SocketAddress, bool]) -> None:
+        self._pending.discard(transaction)
+        self._signal_candidates()
 
-    def _told(self, socket: SocketAddress, told: Told) -> None:
-        question = (socket, told.server, told.is_relay)
-        if question not in self._asked or socket not in self.sockets:
+    def _take_response(self, socket: SocketAddress, told: SuccessResponse) -> None:
+        transaction = (socket, told.server, told.is_relay)
+        if transaction not in self._pending or socket not in self.sockets:
             return
         if told.is_relay:
             self.relays[told.address] = (socket, told.server)
@@ -151,44 +154,44 @@ class Caller:
                 self._permit(told.address, ip)
         elif told.address != socket:
             self._add(socket, Candidate.server_reflexive(told.address, socket))
-        self._answered(question)
+        self._close(transaction)
         self.turn()
 
     def _add(self, socket: SocketAddress, candidate: Candidate) -> None:
         self._candidates.setdefault(socket, []).append(candidate)
         line = self.agent.add_local_candidate(candidate)
         if line is not None:
-            self._untold.append(line)
+            self._unsignaled.append(line)
 
     def _permit(self, relay: SocketAddress, ip: str) -> None:
         socket, server = self.relays[relay]
         if interface := self.sockets.get(socket):
-            interface.send(Packet(socket, server, Permit(relay, ip), SMALL))
+            interface.send(Packet(socket, server, CreatePermission(relay, ip), SMALL))
 
-    # ---- signalling
+    # ---- signaling
 
-    def _tell_creds(self) -> None:
+    def _signal_creds(self) -> None:
         self._channel.tell(Signal(self.generation, self.agent.local_credentials), self.late)
 
-    def _tell_candidates(self) -> None:
-        if self._untold and (self._trickle or not self._asked):
-            self._channel.tell(Signal(self.generation, None, tuple(self._untold)))
-            self._untold.clear()
+    def _signal_candidates(self) -> None:
+        if self._unsignaled and (self._trickle or not self._pending):
+            self._channel.tell(Signal(self.generation, None, tuple(self._unsignaled)))
+            self._unsignaled.clear()
 
-    def hear(self, signal: Signal) -> None:
-        """Takes what the peer told."""
+    def take_signal(self, signal: Signal) -> None:
+        """Takes a message of the peer's signaling."""
         if signal.generation > self.generation:
             self.generation = signal.generation
             self._renew()
         elif signal.generation < self.generation:
-            return  # of a session that is no more
+            return  # from before the restart
         if signal.creds is not None:
             self.agent.set_remote_credentials(signal.creds)
         for line in signal.lines:
-            self._hear_line(line)
+            self._take_candidate(line)
         self.turn()
 
-    def _hear_line(self, line: str) -> None:
+    def _take_candidate(self, line: str) -> None:
         self.agent.add_remote_candidate(line)
         ip = line.split()[4]
         if ip not in self._peers:
@@ -199,24 +202,24 @@ class Caller:
     # ---- the loop
 
     def turn(self) -> None:
-        """Asks for the wake-up, sends what there is to send, and notes what there is to know."""
+        """Sends packets, reports events, and sets the next timeout."""
         if not self.began:
             return
-        wake = self.agent.poll_timeout()
+        timeout = self.agent.poll_timeout()
         while packet := self.agent.poll_transmit():
             self._send(packet.source, packet.destination, packet.contents)
         while event := self.agent.poll_event():
             self._watch.told(self.side, event)
-        if wake is not None and wake != self._wake:
-            self._wake = wake
-            self._clock.at(wake, self._woken, wake)
+        if timeout is not None and timeout != self._timeout:
+            self._timeout = timeout
+            self._clock.at(timeout, self._timed_out, timeout)
 
-    def _woken(self, wake: int) -> None:
-        if wake == self._wake:
-            self._wake = None
-            self._tell_moment()
+    def _timed_out(self, timeout: int) -> None:
+        if timeout == self._timeout:
+            self._timeout = None
+            self._handle_timeout()
 
-    def _tell_moment(self) -> None:
+    def _handle_timeout(self) -> None:
         self.agent.handle_timeout(self._clock.now, self._random.randbytes(12))
         self.turn()
 
@@ -237,8 +240,8 @@ class Caller:
         word = packet.payload
         if packet.destination not in self.sockets:
             return
-        if isinstance(word, Told):
-            self._told(packet.destination, word)
+        if isinstance(word, SuccessResponse):
+            self._take_response(packet.destination, word)
         elif isinstance(word, Relayed):
             self._take_datagram(word.contents, word.peer, word.relay)
         elif isinstance(word, Datagram):

@@ -1,4 +1,4 @@
-"""What the agents promise, checked on what they said and did in a session. A broken promise stops the laboratory."""
+"""Tests the guarantees of the agents on each session. The simulator stops at the first one that does not hold."""
 
 from __future__ import annotations
 
@@ -11,11 +11,11 @@ Path = tuple[SocketAddress, SocketAddress]
 
 
 class Broken(Exception):
-    """A promise did not hold."""
+    """A guarantee did not hold."""
 
 
-class SidePromises:
-    """What was seen of one agent since its last restart."""
+class SideGuarantees:
+    """What was observed of one agent since its last restart."""
 
     def __init__(self, side: str, agent: IceAgent, tie_breaker: int, lite: bool, controlling: bool) -> None:
         self.side, self.agent, self.tie_breaker, self.lite = side, agent, tie_breaker, lite
@@ -23,38 +23,38 @@ class SidePromises:
         self.changes = 0
         self.was_controlling = controlling  # at any time since the last restart
         self._checks: dict[bytes, Path] = {}
-        self._answered: set[Path] = set()
-        self._asked: set[Path] = set()
+        self._succeeded: set[Path] = set()
+        self._nominated: set[Path] = set()
 
     def cleared(self) -> None:
-        """The agent restarted."""
+        """Records a restart of the agent."""
         self._checks.clear()
-        self._answered.clear()
-        self._asked.clear()
+        self._succeeded.clear()
+        self._nominated.clear()
         self.was_controlling = self.controlling
 
     def sent(self, datagram: Datagram) -> None:
-        """Notes a check."""
+        """Records a check."""
         message = message_of(datagram.contents)
         if message.kind == "request":
             if message.transaction in self._checks:
-                raise Broken(f"{self.side}: two checks have one transaction")
+                raise Broken(f"{self.side}: two checks have one transaction ID")
             self._checks[message.transaction] = (datagram.source, datagram.destination)
 
     def took(self, datagram: Datagram, source: SocketAddress, local: SocketAddress) -> None:
-        """Notes an accepted message: an answered check, a path that was asked for, a role that changed."""
+        """Records an accepted message: a response to a check, a nomination by the peer, a change of role."""
         if datagram.side == self.side:
-            raise Broken(f"{self.side}: accepted a message of its own")
+            raise Broken(f"{self.side}: accepted its own message")
         message = message_of(datagram.contents)
         if message.kind == "request":
-            if message.asks_for_path:
-                self._asked.add((local, source))
+            if message.use_candidate:
+                self._nominated.add((local, source))
         elif message.transaction not in self._checks:
-            raise Broken(f"{self.side}: accepted an answer to no check")
+            raise Broken(f"{self.side}: accepted a response to no check")
         elif message.kind == "success":
             if self._checks[message.transaction] != (local, source):
-                raise Broken(f"{self.side}: accepted an answer that came another way")
-            self._answered.add((local, source))
+                raise Broken(f"{self.side}: accepted a response from another path")
+            self._succeeded.add((local, source))
         self._note_role()
 
     def _note_role(self) -> None:
@@ -65,22 +65,22 @@ class SidePromises:
         self.was_controlling |= controlling
 
     def told(self, event: IceAgentEvent) -> None:
-        """Tests an announced path."""
+        """Tests a selected pair."""
         if not isinstance(event, NominatedSend) or self.lite:
             return
         path = (event.source, event.destination)
-        if path not in self._answered:
-            raise Broken(f"{self.side}: announced {path[0]} {path[1]}, of which no check was answered")
-        if not self.was_controlling and path not in self._asked:
-            raise Broken(f"{self.side}: announced {path[0]} {path[1]}, which was not asked for")
+        if path not in self._succeeded:
+            raise Broken(f"{self.side}: selected {path[0]} {path[1]}, on which no check succeeded")
+        if not self.was_controlling and path not in self._nominated:
+            raise Broken(f"{self.side}: selected {path[0]} {path[1]}, which was not nominated by the peer")
 
 
-def judge_roles(a: SidePromises, b: SidePromises, connected: bool) -> None:
-    """The greater tie-breaker kept its role, the other yielded at most once, and of two that connected one is controlling."""
+def judge_roles(a: SideGuarantees, b: SideGuarantees, connected: bool) -> None:
+    """Tests that the greater tie-breaker kept its role, the other switched at most once, and connected agents have opposite roles."""
     greater, lesser = (a, b) if a.tie_breaker > b.tie_breaker else (b, a)
     if greater.changes:
-        raise Broken(f"{greater.side}: has the greater tie-breaker, and changed its role")
+        raise Broken(f"{greater.side}: switched its role, although it has the greater tie-breaker")
     if lesser.changes > 1:
-        raise Broken(f"{lesser.side}: changed its role {lesser.changes} times")
+        raise Broken(f"{lesser.side}: switched its role {lesser.changes} times")
     if connected and a.controlling == b.controlling:
-        raise Broken("both have one role at the end")
+        raise Broken("both have the same role at the end")
