@@ -3,6 +3,7 @@
 
 ghost use Rattle.std.specs.Prelude.{◌≡◌, ◌<◌, ◌&&◌, Some, None, true, false, not, length, IfOk, IfErr, OnOk, IsOkUnless};
 ghost use Rattle.is_candidate.specs.Candidates.{candidate_at};
+ghost use Rattle.is_proto.specs.Moments.{MAX};
 ghost use Rattle.is_proto.specs.declared.error.IceError.TheVariants as errors;
 ghost use Rattle.is_agent.specs.View.{record_of};
 ghost use Rattle.is_rules.specs.RequestView.{request_view};
@@ -79,7 +80,7 @@ impl<H: Sha1HmacProvider + Drop, P: LocalPreference> Agent<H, P> {
     pub(crate) fn lacks_number(&self, request: &Request<'_>, at: Places) -> bool
         ensures lacks { result ≡ lacks_number (record_of self.now) (request_view request.now) at }
         ensures left { result ≡ false → wants_pair (record_of self.now) (request_view request.now) at ≡ true
-            → self.now.next_number < 18446744073709551615 }
+            → self.now.next_number < MAX }
     {
         self.next_number == u64::MAX && self.wants_pair(request, at)
     }
@@ -257,7 +258,7 @@ impl<H: Sha1HmacProvider + Drop, P: LocalPreference> Agent<H, P> {
         requires pairs { HasRoom 1 self.old.pairs }
         requires packets { HasPacketRoom self.old }
         requires news { HasNewsRoom 2 self.old }
-        requires number { self.old.next_number < 18446744073709551615 }
+        requires number { self.old.next_number < MAX }
         ensures added { record_of self.new ≡ with_pair (formed (record_of self.old) l r) (record_of self.old) }
         ensures packets { HasPacketRoom self.new }
         ensures news { HasNewsRoom 2 self.new }
@@ -273,7 +274,7 @@ impl<H: Sha1HmacProvider + Drop, P: LocalPreference> Agent<H, P> {
         requires packets { HasPacketRoom self.old }
         requires news { HasNewsRoom 2 self.old }
         requires reply { length reply.items ≡ LONGEST_REPLY }
-        requires number { self.old.next_number < 18446744073709551615 }
+        requires number { self.old.next_number < MAX }
         ensures served { AddsPair H.mac (request_view request.now) l r (record_of self.old) result (record_of self.new) }
         ensures news { HasNewsRoom 1 self.new }
     {
@@ -296,7 +297,7 @@ impl<H: Sha1HmacProvider + Drop, P: LocalPreference> Agent<H, P> {
         requires packets { HasPacketRoom self.old }
         requires news { HasNewsRoom 2 self.old }
         requires reply { length reply.items ≡ LONGEST_REPLY }
-        requires number { pair ≡ None → (candidate_at self.old.local.items l).discarded ≡ false → self.old.next_number < 18446744073709551615 }
+        requires number { pair ≡ None → (candidate_at self.old.local.items l).discarded ≡ false → self.old.next_number < MAX }
         ensures served { TakesAt H.mac (request_view request.now) l r pair (record_of self.old) result (record_of self.new) }
         ensures news { HasNewsRoom 1 self.new }
     {
