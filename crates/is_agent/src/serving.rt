@@ -7,7 +7,7 @@ ghost use Rattle.is_proto.specs.Moments.{MAX};
 ghost use Rattle.is_proto.specs.declared.error.IceError.TheVariants as errors;
 ghost use Rattle.is_agent.specs.View.{record_of};
 ghost use Rattle.is_rules.specs.RequestView.{request_view};
-ghost use Rattle.is_agent.specs.Room.{HasServingRoom, HasPacketRoom, HasNewsRoom};
+ghost use Rattle.is_agent.specs.Room.{HasEventRoom, HasServingRoom, HasPacketRoom, HasNewsRoom, UsesNews};
 ghost use Rattle.is_pair.specs.Bag.{is_valid_at};
 ghost use Rattle.is_pair.specs.Checklists.{HasRoom};
 ghost use Rattle.is_rules.specs.Forming.{formed, with_pair};
@@ -161,9 +161,8 @@ impl<H: Sha1HmacProvider + Drop, P: LocalPreference> Agent<H, P> {
     /// The reply goes out on the path.
     fn send_reply(&mut self, path: Path, contents: Vec<u8>)
         requires packets { HasPacketRoom self.old }
-        requires news { HasNewsRoom 1 self.old }
         ensures sent { record_of self.new ≡ with_packet path contents.items (record_of self.old) }
-        ensures news { HasNewsRoom 1 self.new }
+        ensures news { UsesNews 0 self.old self.new }
     {
         self.packets.push_back_reserved(Transmit {
             proto: path.proto,
@@ -176,12 +175,11 @@ impl<H: Sha1HmacProvider + Drop, P: LocalPreference> Agent<H, P> {
     /// The success reply goes out on the path, signed with the local password (RFC 8445, section 7.3.1.2; RFC 8489, section 9.1.3).
     fn reply(&mut self, request: &Request<'_>, path: Path, mut reply: Vec<u8>)
         requires packets { HasPacketRoom self.old }
-        requires news { HasNewsRoom 1 self.old }
         requires reply { length reply.items ≡ LONGEST_REPLY }
         ensures put { IsPut (written (H.mac self.old.provider) (Some self.old.local_creds.pass)
             (binding_reply request.now.id.0 request.now.path.source)) (binding_reply request.now.id.0 (carried request.now.path.source)) }
         ensures replied { record_of self.new ≡ replied H.mac (request_view request.now) path (record_of self.old) }
-        ensures news { HasNewsRoom 1 self.new }
+        ensures news { UsesNews 0 self.old self.new }
     {
         let password = self.local_creds.pass.as_str();
         write_reply(
@@ -204,10 +202,9 @@ impl<H: Sha1HmacProvider + Drop, P: LocalPreference> Agent<H, P> {
     /// The pair records the request.
     fn serve_pair(&mut self, request: &Request<'_>, number: u64)
         requires packets { HasPacketRoom self.old }
-        requires news { HasNewsRoom 2 self.old }
         ensures served { record_of self.new ≡ pair_served (request_view request.now) number (record_of self.old) }
         ensures packets { HasPacketRoom self.new }
-        ensures news { HasNewsRoom 2 self.new }
+        ensures news { UsesNews 0 self.old self.new }
     {
         let standing = Standing {
             controlling: self.controlling,
@@ -226,10 +223,10 @@ impl<H: Sha1HmacProvider + Drop, P: LocalPreference> Agent<H, P> {
         reply: Vec<u8>,
     ) -> Told
         requires packets { HasPacketRoom self.old }
-        requires news { HasNewsRoom 2 self.old }
+        requires events { HasEventRoom 1 self.old }
         requires reply { length reply.items ≡ LONGEST_REPLY }
         ensures served { ServesPair H.mac (request_view request.now) l r number (record_of self.old) result (record_of self.new) }
-        ensures news { HasNewsRoom 1 self.new }
+        ensures news { UsesNews 1 self.old self.new }
     {
         let path = self.path_between(l, r);
         let evaluates = self.evaluates_at(number);
@@ -257,11 +254,10 @@ impl<H: Sha1HmacProvider + Drop, P: LocalPreference> Agent<H, P> {
     fn add_pair(&mut self, l: usize, r: usize)
         requires pairs { HasRoom 1 self.old.pairs }
         requires packets { HasPacketRoom self.old }
-        requires news { HasNewsRoom 2 self.old }
         requires number { self.old.next_number < MAX }
         ensures added { record_of self.new ≡ with_pair (formed (record_of self.old) l r) (record_of self.old) }
         ensures packets { HasPacketRoom self.new }
-        ensures news { HasNewsRoom 2 self.new }
+        ensures news { UsesNews 0 self.old self.new }
     {
         let pair = self.formed(l, r);
         self.pairs.add(pair);
@@ -272,11 +268,11 @@ impl<H: Sha1HmacProvider + Drop, P: LocalPreference> Agent<H, P> {
     fn take_new(&mut self, request: &Request<'_>, l: usize, r: usize, reply: Vec<u8>) -> Told
         requires pairs { HasRoom 1 self.old.pairs }
         requires packets { HasPacketRoom self.old }
-        requires news { HasNewsRoom 2 self.old }
+        requires events { HasEventRoom 1 self.old }
         requires reply { length reply.items ≡ LONGEST_REPLY }
         requires number { self.old.next_number < MAX }
         ensures served { AddsPair H.mac (request_view request.now) l r (record_of self.old) result (record_of self.new) }
-        ensures news { HasNewsRoom 1 self.new }
+        ensures news { UsesNews 1 self.old self.new }
     {
         let number = self.next_number;
         self.add_pair(l, r);
@@ -295,11 +291,11 @@ impl<H: Sha1HmacProvider + Drop, P: LocalPreference> Agent<H, P> {
     ) -> Told
         requires pairs { HasRoom 1 self.old.pairs }
         requires packets { HasPacketRoom self.old }
-        requires news { HasNewsRoom 2 self.old }
+        requires events { HasEventRoom 1 self.old }
         requires reply { length reply.items ≡ LONGEST_REPLY }
         requires number { pair ≡ None → (candidate_at self.old.local.items l).discarded ≡ false → self.old.next_number < MAX }
         ensures served { TakesAt H.mac (request_view request.now) l r pair (record_of self.old) result (record_of self.new) }
-        ensures news { HasNewsRoom 1 self.new }
+        ensures news { UsesNews 1 self.old self.new }
     {
         match pair {
             Some(number) => self.take(request, l, r, number, reply),
@@ -318,7 +314,7 @@ impl<H: Sha1HmacProvider + Drop, P: LocalPreference> Agent<H, P> {
         requires { IsReady (wants_pair_at at.remote at.pair (candidate_at self.old.local.items at.local).discarded) self.old
             (request_view request.now) at supplies }
         ensures served { JoinsAt H.mac (request_view request.now) at.local at.remote (record_of self.old) result (record_of self.new) }
-        ensures news { HasNewsRoom 1 self.new }
+        ensures news { UsesNews 1 self.old self.new }
     {
         let Supplies { reply, sender } = supplies;
         match (at.remote, sender) {
@@ -338,7 +334,7 @@ impl<H: Sha1HmacProvider + Drop, P: LocalPreference> Agent<H, P> {
         requires { IsReady (not (is_misled self.old.controlling (request_view request.now)) && wants_pair_at at.remote at.pair
             (candidate_at self.old.local.items at.local).discarded) self.old (request_view request.now) at supplies }
         ensures served { Admits H.mac (request_view request.now) at.local (record_of self.old) result (record_of self.new) }
-        ensures news { HasNewsRoom 1 self.new }
+        ensures news { UsesNews 1 self.old self.new }
     {
         if is_misled(self.controlling, request) {
             return Told::nothing();
@@ -350,10 +346,9 @@ impl<H: Sha1HmacProvider + Drop, P: LocalPreference> Agent<H, P> {
     /// The 487 goes back the way that the request came, signed with the local password (RFC 8445, section 7.3.1.1).
     fn insist(&mut self, request: &Request<'_>, supplies: Supplies) -> Told
         requires packets { HasPacketRoom self.old }
-        requires news { HasNewsRoom 2 self.old }
         requires reply { length supplies.reply.items ≡ LONGEST_REPLY }
         ensures insisted { InsistsOnRole H.mac (request_view request.now) (record_of self.old) result (record_of self.new) }
-        ensures news { HasNewsRoom 1 self.new }
+        ensures news { UsesNews 0 self.old self.new }
     {
         let Supplies { mut reply, .. } = supplies;
         let password = self.local_creds.pass.as_str();
@@ -368,7 +363,7 @@ impl<H: Sha1HmacProvider + Drop, P: LocalPreference> Agent<H, P> {
         requires { IsReady (not (is_misled (not self.old.controlling) (request_view request.now)) && wants_pair_at at.remote at.pair
             (candidate_at self.old.local.items at.local).discarded) self.old (request_view request.now) at supplies }
         ensures served { Admits H.mac (request_view request.now) at.local (switched (record_of self.old)) result (record_of self.new) }
-        ensures news { HasNewsRoom 1 self.new }
+        ensures news { UsesNews 1 self.old self.new }
     {
         self.switch_role();
         self.admit(request, at, supplies)
@@ -378,7 +373,7 @@ impl<H: Sha1HmacProvider + Drop, P: LocalPreference> Agent<H, P> {
     pub(crate) fn settle(&mut self, request: &Request<'_>, at: Places, supplies: Supplies) -> Told
         requires { IsReady (wants_pair (record_of self.old) (request_view request.now) at) self.old (request_view request.now) at supplies }
         ensures served { Settles H.mac (request_view request.now) at.local (record_of self.old) result (record_of self.new) }
-        ensures news { HasNewsRoom 1 self.new }
+        ensures news { UsesNews 1 self.old self.new }
     {
         match self.conflict(request) {
             Conflict::Absent => self.admit(request, at, supplies),
