@@ -1,5 +1,6 @@
 -- What contracts cite, and the definitions that they pass on from the crates below.
 pub mod Views
+pub mod Subjects
 pub mod Log
 pub mod Accepted
 pub mod Queues

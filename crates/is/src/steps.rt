@@ -1,11 +1,12 @@
-//! One call of an execution.
-ghost use Rattle.std.specs.Prelude.{◌≡◌};
+//! One call of a run.
+ghost use Rattle.std.specs.Prelude.{◌≡◌, true};
 ghost use Rattle.rand_core.specs.Stream.{Stream};
 ghost use Rattle.is_agent.specs.View.{record_of, emitted_of};
 ghost use Rattle.is_rules.specs.Steps as steps;
 ghost use Rattle.is_rules.specs.Steps.{Receives, Step};
 ghost use Rattle.is_rules.specs.Sound.{GivesBased};
 ghost use Rattle.is.specs.Views.{call_view, answer_view, entry_view};
+ghost use Rattle.is.specs.Subjects.{is_plain_setting, is_quiet};
 
 use crate::calls::{AgentCall, Answer, Entry};
 use is_agent::Agent;
@@ -118,17 +119,70 @@ fn take_moment<H: Sha1HmacProvider + Drop, P: LocalPreference, R: Rng>(
 /// A retransmit limit. A limit of 0 violates a precondition of the agent.
 fn take_limit<H: Sha1HmacProvider + Drop, P: LocalPreference>(
     agent: &mut Agent<H, P>,
-    number: usize,
     limit: usize,
-) -> Entry
-    ensures did { (s : Stream) → steps.SetsRetransmits H.mac P.answers limit (record_of agent.old) s (entry_view result) (record_of agent.new) s }
-    ensures numbered { result.number ≡ number }
+) -> Answer
+    ensures did { (s : Stream) → steps.SetsRetransmits H.mac P.answers limit (record_of agent.old) s (steps.quiet (answer_view result))
+        (record_of agent.new) s }
 {
     if limit == 0 {
-        return quiet(number, Answer::NotCalled);
+        return Answer::NotCalled;
     }
     agent.set_max_stun_retransmits(limit);
-    quiet(number, Answer::Done)
+    Answer::Done
+}
+
+/// A setting that is never refused.
+fn take_setting<H: Sha1HmacProvider + Drop, P: LocalPreference>(
+    agent: &mut Agent<H, P>,
+    call: AgentCall<P>,
+)
+    requires setting { is_plain_setting (call_view call) ≡ true }
+    ensures did { (s : Stream) → Step H.mac P.answers (record_of agent.old) s (call_view call) (steps.quiet steps.Done)
+        (record_of agent.new) s }
+    ensures given { GivesBased (call_view call) }
+{
+    match call {
+        AgentCall::SetControlTieBreaker(tie_breaker) => agent.set_control_tie_breaker(tie_breaker),
+        AgentCall::SetMaxCandidatePairs(limit) => agent.set_max_candidate_pairs(limit),
+        AgentCall::SetIceLite(lite) => agent.set_ice_lite(lite),
+        AgentCall::SetTimingAdvance(advance) => agent.set_timing_advance(advance),
+        AgentCall::SetInitialStunRto(rto) => agent.set_initial_stun_rto(rto),
+        AgentCall::SetMaxStunRto(rto) => agent.set_max_stun_rto(rto),
+        AgentCall::SetLocalPreference(object) => agent.set_local_preference(object),
+        AgentCall::SetControlling(controlling) => agent.set_controlling(controlling),
+        AgentCall::SkipPairIds(least) => agent.skip_pair_ids(least),
+        _ => unreachable!(),
+    }
+}
+
+/// A call that issues and announces nothing.
+fn take_quiet<H: Sha1HmacProvider + Drop, P: LocalPreference>(
+    agent: &mut Agent<H, P>,
+    call: AgentCall<P>,
+) -> Answer
+    requires quiet { is_quiet (call_view call) ≡ true }
+    ensures did { (s : Stream) → Step H.mac P.answers (record_of agent.old) s (call_view call) (steps.quiet (answer_view result))
+        (record_of agent.new) s }
+    ensures given { GivesBased (call_view call) }
+{
+    match call {
+        AgentCall::SetMtu(mtu) => done_or_refused(agent.set_mtu(mtu)),
+        AgentCall::SetMaxStunRetransmits(limit) => take_limit(agent, limit),
+        AgentCall::SetLocalCredentials(own) => done_or_refused(agent.set_local_credentials(own)),
+        AgentCall::SetRemoteCredentials(far) => done_or_refused(agent.set_remote_credentials(far)),
+        AgentCall::AddLocalCandidate(added) => added_or_refused(add_local(agent, added)),
+        AgentCall::AddRemoteCandidate(added) => done_or_refused(agent.add_remote_candidate(added)),
+        AgentCall::InvalidateCandidate(lost) => Answer::Flag(agent.invalidate_candidate(&lost)),
+        AgentCall::RestartIce { creds, keep } => done_or_refused(agent.ice_restart(creds, keep)),
+        AgentCall::RecreateCandidatePairs => done_or_refused(agent.recreate_candidate_pairs()),
+        AgentCall::PollTransmit => Answer::Transmit(agent.poll_transmit()),
+        AgentCall::PollTimeout => Answer::Wake(agent.poll_timeout()),
+        AgentCall::PollEvent => Answer::Event(agent.poll_event()),
+        setting => {
+            take_setting(agent, setting);
+            Answer::Done
+        }
+    }
 }
 
 /// One call, with its number.
@@ -144,68 +198,6 @@ pub(crate) fn step<H: Sha1HmacProvider + Drop, P: LocalPreference, R: Rng>(
     ensures given { GivesBased (call_view call) }
 {
     match call {
-        AgentCall::SetMtu(mtu) => quiet(number, done_or_refused(agent.set_mtu(mtu))),
-        AgentCall::SetControlTieBreaker(tie_breaker) => {
-            agent.set_control_tie_breaker(tie_breaker);
-            quiet(number, Answer::Done)
-        }
-        AgentCall::SetMaxCandidatePairs(limit) => {
-            agent.set_max_candidate_pairs(limit);
-            quiet(number, Answer::Done)
-        }
-        AgentCall::SetIceLite(lite) => {
-            agent.set_ice_lite(lite);
-            quiet(number, Answer::Done)
-        }
-        AgentCall::SetTimingAdvance(advance) => {
-            agent.set_timing_advance(advance);
-            quiet(number, Answer::Done)
-        }
-        AgentCall::SetInitialStunRto(rto) => {
-            agent.set_initial_stun_rto(rto);
-            quiet(number, Answer::Done)
-        }
-        AgentCall::SetMaxStunRto(rto) => {
-            agent.set_max_stun_rto(rto);
-            quiet(number, Answer::Done)
-        }
-        AgentCall::SetMaxStunRetransmits(limit) => take_limit(agent, number, limit),
-        AgentCall::SetLocalPreference(object) => {
-            agent.set_local_preference(object);
-            quiet(number, Answer::Done)
-        }
-        AgentCall::SetControlling(controlling) => {
-            agent.set_controlling(controlling);
-            quiet(number, Answer::Done)
-        }
-        AgentCall::SetLocalCredentials(creds) => {
-            quiet(number, done_or_refused(agent.set_local_credentials(creds)))
-        }
-        AgentCall::SetRemoteCredentials(creds) => {
-            quiet(number, done_or_refused(agent.set_remote_credentials(creds)))
-        }
-        AgentCall::SkipPairIds(least) => {
-            agent.skip_pair_ids(least);
-            quiet(number, Answer::Done)
-        }
-        AgentCall::AddLocalCandidate(candidate) => {
-            quiet(number, added_or_refused(add_local(agent, candidate)))
-        }
-        AgentCall::AddRemoteCandidate(candidate) => {
-            quiet(
-                number,
-                done_or_refused(agent.add_remote_candidate(candidate)),
-            )
-        }
-        AgentCall::InvalidateCandidate(candidate) => {
-            quiet(number, Answer::Flag(agent.invalidate_candidate(&candidate)))
-        }
-        AgentCall::RestartIce { creds, keep } => {
-            quiet(number, done_or_refused(agent.ice_restart(creds, keep)))
-        }
-        AgentCall::RecreateCandidatePairs => {
-            quiet(number, done_or_refused(agent.recreate_candidate_pairs()))
-        }
         AgentCall::Packet {
             now,
             proto,
@@ -221,8 +213,6 @@ pub(crate) fn step<H: Sha1HmacProvider + Drop, P: LocalPreference, R: Rng>(
             take_packet(agent, number, now, path, &bytes)
         }
         AgentCall::HandleTimeout(now) => take_moment(agent, number, now, rng),
-        AgentCall::PollTransmit => quiet(number, Answer::Transmit(agent.poll_transmit())),
-        AgentCall::PollTimeout => quiet(number, Answer::Wake(agent.poll_timeout())),
-        AgentCall::PollEvent => quiet(number, Answer::Event(agent.poll_event())),
+        other => quiet(number, take_quiet(agent, other)),
     }
 }

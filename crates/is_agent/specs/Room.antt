@@ -18,6 +18,14 @@ module _ {H P : Type 0} where
   abbrev pub HasNewsRoom : ℕ → Agent H P → Type 0
   HasNewsRoom n a = (vec_len a.discovered_sources < vec_capacity a.discovered_sources) × HasEventRoom n a
 
+  -- so many events at most took of the room: where so many and n more fitted before, n more fit
+  abbrev pub UsesEvents : ℕ → Agent H P → Agent H P → Type 0
+  UsesEvents used old new = deque_len new.events + deque_capacity old.events ≤ deque_len old.events + deque_capacity new.events + used
+
+  -- and no source did
+  abbrev pub UsesNews : ℕ → Agent H P → Agent H P → Type 0
+  UsesNews used old new = (vec_len new.discovered_sources + vec_capacity old.discovered_sources ≤ vec_len old.discovered_sources + vec_capacity new.discovered_sources) × UsesEvents used old new
+
   -- one more packet
   abbrev pub HasPacketRoom : Agent H P → Type 0
   HasPacketRoom a = deque_len a.packets < deque_capacity a.packets

@@ -1,6 +1,6 @@
 //! The agent, and how it is made.
 
-ghost use Rattle.std.specs.Prelude.{◌≡◌, ◌<◌, true, false, IfOk};
+ghost use Rattle.std.specs.Prelude.{◌≡◌, ◌<◌, None, true, false, IfOk};
 ghost use Rattle.is_rules.specs.Fitting.{are_too_long};
 ghost use Rattle.is_rules.specs.Kept.{NoneTooHigh};
 ghost use Rattle.is_pair.specs.Bag.{are_below};
@@ -103,9 +103,9 @@ impl<P: LocalPreference> Agent<DefaultSha1HmacProvider, P> {
 }
 
 impl<H: Sha1HmacProvider + Drop, P: LocalPreference> Agent<H, P> {
-    ghost use Rattle.is_rules.specs.Agent.{MakesAgent};
+    ghost use Rattle.is_rules.specs.Agent.{MakesAgent, fresh};
     ghost use Rattle.is_rules.specs.Emitted.{nothing_emitted};
-    ghost use Rattle.is_agent.specs.View.{made, emitted_of};
+    ghost use Rattle.is_agent.specs.View.{made, record_of, emitted_of};
 
     /// A controlled agent without candidates, under these credentials, that signs by this provider. The tie-breaker is
     /// a random number that settles role conflicts (RFC 8445, section 7.3.1.1).
@@ -123,8 +123,17 @@ impl<H: Sha1HmacProvider + Drop, P: LocalPreference> Agent<H, P> {
         if are_too_long(&creds, &None) {
             return Err(IceError::CredentialsTooLong);
         }
+        Ok(Self::fresh(alloc, creds, provider, tie_breaker))
+    }
+
+    /// The agent as it is made, under credentials that fit.
+    fn fresh(alloc: Global, creds: IceCreds, provider: H, tie_breaker: u64) -> Self
+        requires fit { are_too_long creds None ≡ false }
+        ensures record { record_of result ≡ fresh provider creds tie_breaker }
+        ensures emitted { emitted_of result ≡ nothing_emitted }
+    {
         let local_key = HmacKey::new(creds.pass.as_str().as_bytes());
-        Ok(Agent {
+        Agent {
             provider,
             preference: None,
             max_pairs: DEFAULT_MAX_PAIRS,
@@ -154,6 +163,6 @@ impl<H: Sha1HmacProvider + Drop, P: LocalPreference> Agent<H, P> {
             discovered_sources: Vec::new(alloc),
             stats: IceAgentStats::default(),
             emitted: Emitted::nothing(),
-        })
+        }
     }
 }

@@ -4,7 +4,7 @@
 
 ghost use Rattle.std.specs.Prelude.{◌≡◌, ◌<◌, ◌↔◌, IsTrue, IsSomeAnd, IfOk, IfErr, IfSome, IfNone, OnOk, true, is_some, vec_len, vec_capacity};
 ghost use Rattle.std.specs.List.{list_any};
-ghost use Rattle.is_candidate.specs.Priorities.{candidate_priority};
+ghost use Rattle.is_candidate.specs.Priorities.{candidate_priority, TOO_HIGH};
 ghost use Rattle.is_pair.specs.Checks.{is_kept};
 ghost use Rattle.is_pair.specs.Pairs.{PairRecord};
 ghost use Rattle.is_pair.specs.Bag.{keeps, pair_numbered};
@@ -13,7 +13,7 @@ ghost use Rattle.is_stun.specs.MessageView.{message_view};
 ghost use Rattle.is_rules.specs.Emitted.{nothing_emitted};
 ghost use Rattle.is_agent.specs.View.{record_of};
 ghost use Rattle.is_rules.specs.Kept.{TOO_HIGH};
-ghost use Rattle.is_agent.specs.Room.{HasNewsRoom};
+ghost use Rattle.is_agent.specs.Room.{HasEventRoom, HasNewsRoom, UsesNews};
 ghost use Rattle.is_rules.specs.Due.{KeepsCheckOn, IsRecorded, IsSentUnder};
 ghost use Rattle.is_rules.specs.Accepting.{IsAwaited};
 ghost use Rattle.is_rules.specs.Answers.{is_known_address, is_role_conflict, keeps_check_on, joined_by, local_with, mapped_candidate};
@@ -138,9 +138,8 @@ impl<H: Sha1HmacProvider + Drop, P: LocalPreference> Agent<H, P> {
         requires kept { keeps id.0 number (record_of self.old).pairs ≡ true }
         requires low { IfSome mapped (λ c. candidate_priority c < TOO_HIGH) }
         requires local { vec_len self.old.local < vec_capacity self.old.local }
-        requires news { HasNewsRoom 3 self.old }
         ensures records { IsRecorded number now.0 id.0 (joined_by mapped self.old.local.items) (record_of self.old) (record_of self.new) }
-        ensures news { HasNewsRoom 3 self.new }
+        ensures news { UsesNews 0 self.old self.new }
     {
         self.pairs.record_binding_response(number, now, id);
         join(&mut self.local, mapped);
@@ -149,9 +148,9 @@ impl<H: Sha1HmacProvider + Drop, P: LocalPreference> Agent<H, P> {
 
     /// Nomination and state are evaluated.
     fn conclude(&mut self, now: Instant) -> Emitted
-        requires room { HasNewsRoom 3 self.old }
+        requires room { HasEventRoom 2 self.old }
         ensures concludes { Concludes now.0 (record_of self.old) result (record_of self.new) }
-        ensures room { HasNewsRoom 1 self.new }
+        ensures news { UsesNews 2 self.old self.new }
     {
         let path = self.evaluate_nomination();
         self.evaluate_state(now);
@@ -198,9 +197,8 @@ impl<H: Sha1HmacProvider + Drop, P: LocalPreference> Agent<H, P> {
     /// section 7.2.5.1).
     fn give_up_role(&mut self, number: u64, path: &Path, message: &StunMessage<'_>)
         requires kept { KeepsCheckOn (record_of self.old) path.now (message_view message.now).id number }
-        requires room { HasNewsRoom 1 self.old }
         ensures gives_up { GivesUpRole (record_of self.old) path.now (message_view message.now) nothing_emitted (record_of self.new) }
-        ensures room { HasNewsRoom 1 self.new }
+        ensures news { UsesNews 0 self.old self.new }
     {
         if self.is_of_present_role(number, message.trans_id()) {
             self.switch_role();
@@ -210,9 +208,8 @@ impl<H: Sha1HmacProvider + Drop, P: LocalPreference> Agent<H, P> {
     /// A failure of code 487 may switch the role, and any other does nothing.
     pub(crate) fn take_failure(&mut self, number: u64, path: &Path, message: &StunMessage<'_>)
         requires kept { KeepsCheckOn (record_of self.old) path.now (message_view message.now).id number }
-        requires room { HasNewsRoom 1 self.old }
         ensures taken { TakesFailure (record_of self.old) path.now (message_view message.now) nothing_emitted (record_of self.new) }
-        ensures room { HasNewsRoom 1 self.new }
+        ensures news { UsesNews 0 self.old self.new }
     {
         if is_role_conflict(message) {
             self.give_up_role(number, path, message);

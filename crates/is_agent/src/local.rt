@@ -1,8 +1,7 @@
 //! Adding local candidates (RFC 8445, section 5.1); the rules: `is_rules::local`.
 
 ghost use Rattle.std.specs.Prelude.{◌≡◌, ◌≤◌, ◌<◌, length, position, nat_lt, ◌↔◌, IsTrue, Some, IfOk, IfSome, OnOk};
-ghost use Rattle.is_candidate.specs.Priorities.{candidate_priority};
-ghost use Rattle.is_rules.specs.Kept.{TOO_HIGH};
+ghost use Rattle.is_candidate.specs.Priorities.{candidate_priority, TOO_HIGH};
 ghost use Rattle.std.specs.Borrow.{sem};
 ghost use Rattle.is_candidate.specs.Equality.{is_same_place};
 ghost use Rattle.is_candidate.specs.Candidates.{candidate_at};

@@ -4,7 +4,7 @@
 
 ghost use Rattle.std.specs.Prelude.{◌≡◌, ℕ};
 ghost use Rattle.is_agent.specs.View.{record_of};
-ghost use Rattle.is_agent.specs.Room.{HasEventRoom, HasNewsRoom, HasPacketRoom, HasCheckRoomAt};
+ghost use Rattle.is_agent.specs.Room.{HasEventRoom, HasPacketRoom, HasCheckRoomAt, UsesNews};
 ghost use Rattle.is_rules.specs.Nominating.{nominated_emitted, Nominates, NominatesWhere};
 
 use crate::agent::Agent;
@@ -20,10 +20,7 @@ impl<H: Sha1HmacProvider + Drop, P: LocalPreference> Agent<H, P> {
     pub(crate) fn emit_nominated(&mut self, path: Option<Path>)
         requires room { HasEventRoom 1 self.old }
         ensures emitted { record_of self.new ≡ nominated_emitted path (record_of self.old) }
-        ensures events { HasEventRoom 2 self.old → HasEventRoom 1 self.new }
-        ensures more { HasEventRoom 3 self.old → HasEventRoom 2 self.new }
-        ensures news { HasNewsRoom 2 self.old → HasNewsRoom 1 self.new }
-        ensures more_news { HasNewsRoom 3 self.old → HasNewsRoom 2 self.new }
+        ensures news { UsesNews 1 self.old self.new }
         ensures packets { HasPacketRoom self.old → HasPacketRoom self.new }
         ensures checks { (now : ℕ) → HasCheckRoomAt now self.old → HasCheckRoomAt now self.new }
     {
@@ -42,10 +39,7 @@ impl<H: Sha1HmacProvider + Drop, P: LocalPreference> Agent<H, P> {
     pub(crate) fn evaluate_nomination(&mut self) -> Option<Path>
         requires room { HasEventRoom 1 self.old }
         ensures nominates { Nominates (record_of self.old) result (record_of self.new) }
-        ensures room { HasNewsRoom 2 self.old → HasNewsRoom 1 self.new }
-        ensures more { HasNewsRoom 3 self.old → HasNewsRoom 2 self.new }
-        ensures one { HasEventRoom 2 self.old → HasEventRoom 1 self.new }
-        ensures two { HasEventRoom 3 self.old → HasEventRoom 2 self.new }
+        ensures news { UsesNews 1 self.old self.new }
         ensures packets { HasPacketRoom self.old → HasPacketRoom self.new }
         ensures checks { (now : ℕ) → HasCheckRoomAt now self.old → HasCheckRoomAt now self.new }
     {
@@ -62,9 +56,9 @@ impl<H: Sha1HmacProvider + Drop, P: LocalPreference> Agent<H, P> {
 
     /// Nomination is evaluated, where it is to be.
     pub(crate) fn nominate_where(&mut self, evaluates: bool) -> Option<Path>
-        requires room { HasNewsRoom 2 self.old }
+        requires room { HasEventRoom 1 self.old }
         ensures nominates { NominatesWhere evaluates (record_of self.old) result (record_of self.new) }
-        ensures room { HasNewsRoom 1 self.new }
+        ensures news { UsesNews 1 self.old self.new }
         ensures packets { HasPacketRoom self.old → HasPacketRoom self.new }
     {
         if evaluates {

@@ -3,7 +3,7 @@
 ghost use Rattle.std.specs.Prelude.{◌≡◌};
 ghost use Rattle.is_agent.specs.View.{record_of};
 ghost use Rattle.is_rules.specs.RequestView.{request_view};
-ghost use Rattle.is_agent.specs.Room.{HasServingRoom, HasNewsRoom};
+ghost use Rattle.is_agent.specs.Room.{HasServingRoom, UsesNews};
 ghost use Rattle.is_rules.specs.Roles.{conflict_by, conflict_of, rival, switched};
 
 use crate::agent::Agent;
@@ -35,8 +35,7 @@ impl<H: Sha1HmacProvider + Drop, P: LocalPreference> Agent<H, P> {
     pub(crate) fn switch_role(&mut self)
         ensures record { record_of self.new ≡ switched (record_of self.old) }
         ensures room { HasServingRoom self.old → HasServingRoom self.new }
-        ensures news { HasNewsRoom 2 self.old → HasNewsRoom 2 self.new }
-        ensures source { HasNewsRoom 1 self.old → HasNewsRoom 1 self.new }
+        ensures news { UsesNews 0 self.old self.new }
     {
         self.controlling = !self.controlling;
         let sides = Sides {

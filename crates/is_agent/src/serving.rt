@@ -5,10 +5,11 @@
 
 ghost use Rattle.std.specs.Prelude.{◌≡◌, ◌<◌, ◌&&◌, Some, None, true, false, not, length, IfOk, IfErr, OnOk, IsOkUnless};
 ghost use Rattle.is_candidate.specs.Candidates.{candidate_at};
+ghost use Rattle.is_proto.specs.Moments.{MAX};
 ghost use Rattle.is_proto.specs.declared.error.IceError.TheVariants as errors;
 ghost use Rattle.is_agent.specs.View.{record_of};
 ghost use Rattle.is_rules.specs.RequestView.{request_view};
-ghost use Rattle.is_agent.specs.Room.{HasServingRoom, HasPacketRoom, HasNewsRoom};
+ghost use Rattle.is_agent.specs.Room.{HasEventRoom, HasServingRoom, HasPacketRoom, HasNewsRoom, UsesNews};
 ghost use Rattle.is_pair.specs.Bag.{is_valid_at};
 ghost use Rattle.is_pair.specs.Checklists.{HasRoom};
 ghost use Rattle.is_rules.specs.Forming.{formed, with_pair};
@@ -81,7 +82,7 @@ impl<H: Sha1HmacProvider + Drop, P: LocalPreference> Agent<H, P> {
     pub(crate) fn lacks_number(&self, request: &Request<'_>, at: Places) -> bool
         ensures lacks { result ≡ lacks_number (record_of self.now) (request_view request.now) at }
         ensures left { result ≡ false → wants_pair (record_of self.now) (request_view request.now) at ≡ true
-            → self.now.next_number < 18446744073709551615 }
+            → self.now.next_number < MAX }
     {
         self.next_number == u64::MAX && self.wants_pair(request, at)
     }
@@ -162,9 +163,8 @@ impl<H: Sha1HmacProvider + Drop, P: LocalPreference> Agent<H, P> {
     /// The reply goes out on the path.
     fn send_reply(&mut self, path: Path, contents: Vec<u8>)
         requires packets { HasPacketRoom self.old }
-        requires news { HasNewsRoom 1 self.old }
         ensures sent { record_of self.new ≡ with_packet path contents.items (record_of self.old) }
-        ensures news { HasNewsRoom 1 self.new }
+        ensures news { UsesNews 0 self.old self.new }
     {
         self.packets.push_back_reserved(Transmit {
             proto: path.proto,
@@ -177,12 +177,11 @@ impl<H: Sha1HmacProvider + Drop, P: LocalPreference> Agent<H, P> {
     /// The success reply goes out on the path, signed with the local password (RFC 8445, section 7.3.1.2; RFC 8489, section 9.1.3).
     fn reply(&mut self, request: &Request<'_>, path: Path, mut reply: Vec<u8>)
         requires packets { HasPacketRoom self.old }
-        requires news { HasNewsRoom 1 self.old }
         requires reply { length reply.items ≡ LONGEST_REPLY }
         ensures put { IsPut (written (H.mac self.old.provider) (Some self.old.local_creds.pass)
             (binding_reply request.now.id.0 request.now.path.source)) (binding_reply request.now.id.0 (carried request.now.path.source)) }
         ensures replied { record_of self.new ≡ replied H.mac (request_view request.now) path (record_of self.old) }
-        ensures news { HasNewsRoom 1 self.new }
+        ensures news { UsesNews 0 self.old self.new }
     {
         let password = self.local_creds.pass.as_str();
         write_reply(
@@ -205,10 +204,9 @@ impl<H: Sha1HmacProvider + Drop, P: LocalPreference> Agent<H, P> {
     /// The pair records the request.
     fn serve_pair(&mut self, request: &Request<'_>, number: u64)
         requires packets { HasPacketRoom self.old }
-        requires news { HasNewsRoom 2 self.old }
         ensures served { record_of self.new ≡ pair_served (request_view request.now) number (record_of self.old) }
         ensures packets { HasPacketRoom self.new }
-        ensures news { HasNewsRoom 2 self.new }
+        ensures news { UsesNews 0 self.old self.new }
     {
         let standing = Standing {
             controlling: self.controlling,
@@ -227,10 +225,10 @@ impl<H: Sha1HmacProvider + Drop, P: LocalPreference> Agent<H, P> {
         reply: Vec<u8>,
     ) -> Emitted
         requires packets { HasPacketRoom self.old }
-        requires news { HasNewsRoom 2 self.old }
+        requires events { HasEventRoom 1 self.old }
         requires reply { length reply.items ≡ LONGEST_REPLY }
         ensures served { RecordsAndResponds H.mac (request_view request.now) l r number (record_of self.old) result (record_of self.new) }
-        ensures news { HasNewsRoom 1 self.new }
+        ensures news { UsesNews 1 self.old self.new }
     {
         let path = self.path_between(l, r);
         let evaluates = self.evaluates_at(number);
@@ -258,11 +256,10 @@ impl<H: Sha1HmacProvider + Drop, P: LocalPreference> Agent<H, P> {
     fn add_pair(&mut self, l: usize, r: usize)
         requires pairs { HasRoom 1 self.old.pairs }
         requires packets { HasPacketRoom self.old }
-        requires news { HasNewsRoom 2 self.old }
-        requires number { self.old.next_number < 18446744073709551615 }
+        requires number { self.old.next_number < MAX }
         ensures added { record_of self.new ≡ with_pair (formed (record_of self.old) l r) (record_of self.old) }
         ensures packets { HasPacketRoom self.new }
-        ensures news { HasNewsRoom 2 self.new }
+        ensures news { UsesNews 0 self.old self.new }
     {
         let pair = self.formed(l, r);
         self.pairs.add(pair);
@@ -279,11 +276,11 @@ impl<H: Sha1HmacProvider + Drop, P: LocalPreference> Agent<H, P> {
     ) -> Emitted
         requires pairs { HasRoom 1 self.old.pairs }
         requires packets { HasPacketRoom self.old }
-        requires news { HasNewsRoom 2 self.old }
+        requires events { HasEventRoom 1 self.old }
         requires reply { length reply.items ≡ LONGEST_REPLY }
-        requires number { self.old.next_number < 18446744073709551615 }
+        requires number { self.old.next_number < MAX }
         ensures served { AddsPairAndResponds H.mac (request_view request.now) l r (record_of self.old) result (record_of self.new) }
-        ensures news { HasNewsRoom 1 self.new }
+        ensures news { UsesNews 1 self.old self.new }
     {
         let number = self.next_number;
         self.add_pair(l, r);
@@ -302,11 +299,11 @@ impl<H: Sha1HmacProvider + Drop, P: LocalPreference> Agent<H, P> {
     ) -> Emitted
         requires pairs { HasRoom 1 self.old.pairs }
         requires packets { HasPacketRoom self.old }
-        requires news { HasNewsRoom 2 self.old }
+        requires events { HasEventRoom 1 self.old }
         requires reply { length reply.items ≡ LONGEST_REPLY }
-        requires number { pair ≡ None → (candidate_at self.old.local.items l).discarded ≡ false → self.old.next_number < 18446744073709551615 }
+        requires number { pair ≡ None → (candidate_at self.old.local.items l).discarded ≡ false → self.old.next_number < MAX }
         ensures served { FindsOrAddsPair H.mac (request_view request.now) l r pair (record_of self.old) result (record_of self.new) }
-        ensures news { HasNewsRoom 1 self.new }
+        ensures news { UsesNews 1 self.old self.new }
     {
         match pair {
             Some(number) => self.record_and_respond(request, l, r, number, reply),
@@ -330,7 +327,7 @@ impl<H: Sha1HmacProvider + Drop, P: LocalPreference> Agent<H, P> {
         requires { IsReady (wants_pair_at at.remote at.pair (candidate_at self.old.local.items at.local).discarded) self.old
             (request_view request.now) at supplies }
         ensures served { AddsUnknownSender H.mac (request_view request.now) at.local at.remote (record_of self.old) result (record_of self.new) }
-        ensures news { HasNewsRoom 1 self.new }
+        ensures news { UsesNews 1 self.old self.new }
     {
         let Supplies { reply, sender } = supplies;
         match (at.remote, sender) {
@@ -352,7 +349,7 @@ impl<H: Sha1HmacProvider + Drop, P: LocalPreference> Agent<H, P> {
         requires { IsReady (not (is_misled self.old.controlling (request_view request.now)) && wants_pair_at at.remote at.pair
             (candidate_at self.old.local.items at.local).discarded) self.old (request_view request.now) at supplies }
         ensures served { CountsAndServes H.mac (request_view request.now) at.local (record_of self.old) result (record_of self.new) }
-        ensures news { HasNewsRoom 1 self.new }
+        ensures news { UsesNews 1 self.old self.new }
     {
         if is_misled(self.controlling, request) {
             return Emitted::nothing();
@@ -364,10 +361,9 @@ impl<H: Sha1HmacProvider + Drop, P: LocalPreference> Agent<H, P> {
     /// The 487 goes back on the reverse path of the request, signed with the local password (RFC 8445, section 7.3.1.1).
     fn send_role_conflict(&mut self, request: &Request<'_>, supplies: Supplies) -> Emitted
         requires packets { HasPacketRoom self.old }
-        requires news { HasNewsRoom 2 self.old }
         requires reply { length supplies.reply.items ≡ LONGEST_REPLY }
         ensures conflict_sent { SendsRoleConflict H.mac (request_view request.now) (record_of self.old) result (record_of self.new) }
-        ensures news { HasNewsRoom 1 self.new }
+        ensures news { UsesNews 0 self.old self.new }
     {
         let Supplies { mut reply, .. } = supplies;
         let password = self.local_creds.pass.as_str();
@@ -387,7 +383,7 @@ impl<H: Sha1HmacProvider + Drop, P: LocalPreference> Agent<H, P> {
         requires { IsReady (not (is_misled (not self.old.controlling) (request_view request.now)) && wants_pair_at at.remote at.pair
             (candidate_at self.old.local.items at.local).discarded) self.old (request_view request.now) at supplies }
         ensures served { CountsAndServes H.mac (request_view request.now) at.local (switched (record_of self.old)) result (record_of self.new) }
-        ensures news { HasNewsRoom 1 self.new }
+        ensures news { UsesNews 1 self.old self.new }
     {
         self.switch_role();
         self.count_and_serve(request, at, supplies)
@@ -402,7 +398,7 @@ impl<H: Sha1HmacProvider + Drop, P: LocalPreference> Agent<H, P> {
     ) -> Emitted
         requires { IsReady (wants_pair (record_of self.old) (request_view request.now) at) self.old (request_view request.now) at supplies }
         ensures served { ResolvesRoleConflict H.mac (request_view request.now) at.local (record_of self.old) result (record_of self.new) }
-        ensures news { HasNewsRoom 1 self.new }
+        ensures news { UsesNews 1 self.old self.new }
     {
         match self.conflict(request) {
             Conflict::Absent => self.count_and_serve(request, at, supplies),

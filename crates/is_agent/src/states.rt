@@ -3,7 +3,7 @@
 ghost use Rattle.std.specs.Prelude.{◌≡◌, ◌<◌, ◌+◌};
 ghost use Rattle.is_agent.specs.View.{record_of};
 ghost use Rattle.is_rules.specs.States.{next_state, has_nominated, has_possible, evaluated};
-ghost use Rattle.is_agent.specs.Room.{HasNewsRoom};
+ghost use Rattle.is_agent.specs.Room.{HasEventRoom, UsesNews};
 
 use crate::agent::Agent;
 use is_candidate::LocalPreference;
@@ -42,9 +42,9 @@ impl<H: Sha1HmacProvider + Drop, P: LocalPreference> Agent<H, P> {
 
     /// The state is evaluated at this moment.
     pub(crate) fn evaluate_state(&mut self, now: Instant)
-        requires room { HasNewsRoom 2 self.old }
+        requires room { HasEventRoom 1 self.old }
         ensures evaluated { record_of self.new ≡ evaluated now.0 (record_of self.old) }
-        ensures room { HasNewsRoom 1 self.new }
+        ensures news { UsesNews 1 self.old self.new }
     {
         let state = self.state_at(now);
         emit_state(&mut self.state, &mut self.events, state);

@@ -9,7 +9,7 @@ ghost use Rattle.is_stun.specs.Writing.{written};
 ghost use Rattle.is_stun.specs.declared.header.Class.TheVariants as classes;
 ghost use Rattle.is_rules.specs.declared.credentials.IceCreds as model;
 ghost use Rattle.is_agent.specs.View.{record_of, emitted_of};
-ghost use Rattle.is_agent.specs.Room.{HasPacketRoom, HasEventRoom, HasCheckRoom, HasCheckRoomAt, IsPrepared};
+ghost use Rattle.is_agent.specs.Room.{HasPacketRoom, HasEventRoom, HasCheckRoom, HasCheckRoomAt, IsPrepared, UsesEvents};
 ghost use Rattle.is_rules.specs.Checking.{check_message, ChecksPair, ChecksNext, MayCheck};
 ghost use Rattle.is_pair.specs.Bag.{has_number, pair_numbered, rises};
 ghost use Rattle.is_pair.specs.Due.{is_due, IsNextDue};
@@ -54,7 +54,7 @@ impl<H: Sha1HmacProvider + Drop, P: LocalPreference> Agent<H, P> {
 
     fn drop_given_up(&mut self, now: Instant)
         ensures gone { record_of self.new ≡ given_up_gone now.0 (record_of self.old) }
-        ensures events { HasEventRoom 2 self.old → HasEventRoom 2 self.new }
+        ensures events { UsesEvents 0 self.old self.new }
         ensures checks { (t : ℕ) → HasCheckRoomAt t self.old → HasCheckRoomAt t self.new }
     {
         self.pairs.remove_where(&GivenUp {

@@ -2,7 +2,7 @@
 
 ghost use Rattle.std.specs.Prelude.{◌≡◌, ℕ, ◌<◌, ◌+◌, true, false, IfOk, IfErr, IfSome, OnOk, IsOkUnless, MatchOption, option_map, slice_get};
 ghost use Rattle.is_rules.specs.RequestView.{request_view, waiting_view};
-ghost use Rattle.is_agent.specs.Room.{HasEventRoom, HasNewsRoom, HasServingRoom, HasPacketRoom, HasCheckRoomAt};
+ghost use Rattle.is_agent.specs.Room.{HasEventRoom, HasNewsRoom, HasServingRoom, HasPacketRoom, HasCheckRoomAt, UsesNews};
 ghost use Rattle.is_rules.specs.Serving.{Serves, LacksNumber, AlwaysLacksNumber, MayRefuseRequest};
 ghost use Rattle.is_proto.specs.declared.error.IceError.TheVariants as errors;
 ghost use Rattle.is_agent.specs.View.{record_of};
@@ -48,9 +48,7 @@ impl<H: Sha1HmacProvider + Drop, P: LocalPreference> Agent<H, P> {
         requires room { HasEventRoom 1 self.old }
         ensures emitted { record_of self.new ≡ start_emitted (record_of self.old) }
         ensures serving { HasServingRoom self.old → HasServingRoom self.new }
-        ensures events { HasEventRoom 2 self.old → HasEventRoom 1 self.new }
-        ensures more { HasEventRoom 5 self.old → HasEventRoom 4 self.new }
-        ensures news { HasNewsRoom 4 self.old → HasNewsRoom 3 self.new }
+        ensures news { UsesNews 1 self.old self.new }
         ensures checks { (t : ℕ) → HasCheckRoomAt t self.old → HasCheckRoomAt t self.new }
     {
         emit_start(&mut self.events, start);
@@ -61,8 +59,7 @@ impl<H: Sha1HmacProvider + Drop, P: LocalPreference> Agent<H, P> {
         requires room { HasEventRoom 1 self.old }
         ensures timeout_begun { record_of self.new ≡ queue_cleared now.0 (evaluated now.0 (record_of self.old)) }
         ensures serving { HasServingRoom self.old → HasServingRoom self.new }
-        ensures events { HasEventRoom 4 self.old → HasEventRoom 3 self.new }
-        ensures news { HasNewsRoom 3 self.old → HasNewsRoom 2 self.new }
+        ensures news { UsesNews 1 self.old self.new }
         ensures checks { (t : ℕ) → HasCheckRoomAt t self.old → HasCheckRoomAt t self.new }
     {
         let state = self.state_at(now);
@@ -139,7 +136,7 @@ impl<H: Sha1HmacProvider + Drop, P: LocalPreference> Agent<H, P> {
         requires room { HasEventRoom 2 self.old }
         ensures timeout_begun { record_of self.new ≡ first_taken (timeout_begun now.0 (record_of self.old)) }
         ensures serving { HasServingRoom self.old → HasServingRoom self.new }
-        ensures news { HasNewsRoom 4 self.old → HasNewsRoom 2 self.new }
+        ensures news { UsesNews 2 self.old self.new }
     {
         self.emit_start(start);
         self.update_state_and_queue(now);

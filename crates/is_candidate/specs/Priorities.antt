@@ -33,6 +33,10 @@ priority_as kind c = unwrap_or c.given_priority (formula kind c)
 abbrev pub candidate_priority : CandidateRecord → ℕ
 candidate_priority c = priority_as c.kind c
 
+-- The greatest candidate priority. With it, no pair priority fits into 64 bits.
+abbrev pub TOO_HIGH : ℕ
+TOO_HIGH = 0xffff_ffff
+
 -- the PRIORITY of a check from this candidate (RFC 8445, section 7.1.1)
 abbrev pub check_priority : CandidateRecord → ℕ
 check_priority c = priority_as PeerReflexive c

@@ -5,8 +5,7 @@ use Rattle.is_proto.specs.declared.proto.Protocol.TheVariants.{Udp, Tcp, SslTcp,
 use Rattle.is_candidate.specs.declared.candidate.kind.CandidateKind.{CandidateKind}
 use Rattle.is_candidate.specs.declared.candidate.kind.CandidateKind.TheVariants.{Host, PeerReflexive, ServerReflexive, Relayed}
 use Rattle.is_candidate.specs.Candidates.{CandidateRecord}
-use Rattle.is_candidate.specs.Priorities.{candidate_priority, type_preference}
-use Rattle.is_rules.specs.Kept.{TOO_HIGH}
+use Rattle.is_candidate.specs.Priorities.{candidate_priority, type_preference, TOO_HIGH}
 
 type_preference-small : (kind : CandidateKind) (proto : Protocol) → type_preference kind proto ≤ 126
 type_preference-small Host Udp = omega arith

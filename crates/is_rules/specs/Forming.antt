@@ -2,6 +2,7 @@
 use Rattle.std.specs.Prelude.{◌≡◌, ℕ, ◌+◌, ◌≤◌, ◌&&◌, Bool, not, nat_lt, List, [], ◌∷◌, ◌++◌, map, Option, Some, None, if◌then◌else◌}
 use Rattle.std.specs.List.{flat_map}
 use Rattle.is_proto.specs.Lists.{places_where}
+use Rattle.is_proto.specs.Moments.{MAX}
 use Rattle.is_candidate.specs.Addresses.{same_address, same_protocol, same_version}
 use Rattle.is_candidate.specs.Candidates.{CandidateRecord, base_of, candidate_at, nowhere}
 use Rattle.is_candidate.specs.Priorities.{candidate_priority}
@@ -112,7 +113,7 @@ FormsEach s limit all old new =
 
 -- numbers run from 0 to one below the greatest counter
 abbrev pub HasNumbers : ℕ → ℕ → Type 0
-HasNumbers next_number many = next_number + many ≤ 18446744073709551615
+HasNumbers next_number many = next_number + many ≤ MAX
 
 module _ {H P : Type 0} where
   abbrev pub sides_of : AgentRecord H P → SidesRecord

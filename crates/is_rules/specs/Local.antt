@@ -8,12 +8,11 @@ use Rattle.is_proto.specs.declared.error.IceError.TheVariants.{OutOfMemory, Pair
 use Rattle.is_candidate.specs.declared.candidate.kind.CandidateKind.TheVariants.{Host}
 use Rattle.is_candidate.specs.Kinds.{same_kind}
 use Rattle.is_candidate.specs.Candidates.{CandidateRecord, candidate_at}
-use Rattle.is_candidate.specs.Priorities.{candidate_priority}
+use Rattle.is_candidate.specs.Priorities.{candidate_priority, TOO_HIGH}
 use Rattle.is_candidate.specs.Preferences.{default_preference}
 use Rattle.is_candidate.specs.Equality.{is_alike, is_same_place, is_same_origin}
 use Rattle.is_rules.specs.declared.local.Refusal.{Refusal}
 use Rattle.is_rules.specs.declared.local.Refusal.TheVariants as refusal
-use Rattle.is_rules.specs.Kept.{TOO_HIGH}
 use Rattle.is_rules.specs.Agent.{AgentRecord}
 use Rattle.is_rules.specs.Discarding.{change_place, local_discarded}
 use Rattle.is_rules.specs.Forming.{HasNumbers, partners, local_combinations, FormsAll}

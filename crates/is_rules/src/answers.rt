@@ -4,7 +4,7 @@
 
 ghost use Rattle.std.specs.Prelude.{◌≡◌, ◌<◌, IsTrue, IfSome, true, is_some, vec_len, vec_capacity};
 ghost use Rattle.std.specs.List.{list_any};
-ghost use Rattle.is_candidate.specs.Priorities.{candidate_priority};
+ghost use Rattle.is_candidate.specs.Priorities.{candidate_priority, TOO_HIGH};
 ghost use Rattle.is_pair.specs.Checks.{is_kept};
 ghost use Rattle.is_pair.specs.Pairs.{PairRecord};
 ghost use Rattle.is_pair.specs.Bag.{is_awaiting, keeps_check, pair_numbered};
@@ -12,7 +12,7 @@ ghost use Rattle.is_pair.specs.Checklists.{bag_of};
 ghost use Rattle.is_rules.specs.FormingView.{sides_view};
 ghost use Rattle.is_rules.specs.Nominating.{path_in};
 ghost use Rattle.is_stun.specs.MessageView.{message_view};
-ghost use Rattle.is_rules.specs.Kept.{TOO_HIGH, NoneTooHigh};
+ghost use Rattle.is_rules.specs.Kept.{NoneTooHigh};
 ghost use Rattle.is_rules.specs.Due.{IsSentUnder};
 ghost use Rattle.is_rules.specs.Answers.{is_known_address, is_role_conflict, goes_back, joined_by};
 

@@ -5,6 +5,7 @@
 ghost use Rattle.std.specs.Prelude.{◌≡◌, ℕ, ◌≤◌, ◌<◌, ◌+◌, ◌++◌, ◌∷◌, [], ◌↔◌, true, IsTrue, IfOk, filter, length, map};
 ghost use Rattle.std.specs.Option.{option_copied};
 ghost use Rattle.std.specs.List.{flat_map};
+ghost use Rattle.is_proto.specs.Moments.{MAX};
 ghost use Rattle.is_candidate.specs.Candidates.{candidate_at};
 ghost use Rattle.is_pair.specs.Bag.{are_below, IsGreatest};
 ghost use Rattle.is_pair.specs.Checklists.{bag_of, HasRoom};
@@ -88,7 +89,7 @@ pub fn pair_of(alloc: Global, sides: Sides<'_>, at: (usize, usize), number: u64)
 /// Adds the pair with the next number, within the reserved capacity.
 fn add(pairs: &mut Checklist, next_number: &mut u64, pair: CandidatePair)
     requires room { HasRoom 1 pairs.old }
-    requires number { next_number.old < 18446744073709551615 }
+    requires number { next_number.old < MAX }
     requires its { pair.number ≡ next_number.old }
     requires last { are_below next_number.old (bag_of pairs.old) ≡ true }
     requires unchecked { pair.checks ≡ [] }
@@ -111,7 +112,7 @@ fn try_one(
     next_number: &mut u64,
 )
     requires room { HasRoom 1 pairs.old }
-    requires number { next_number.old < 18446744073709551615 }
+    requires number { next_number.old < MAX }
     requires last { are_below next_number.old (bag_of pairs.old) ≡ true }
     ensures tries { Tries (sides_view sides.entry) at (formed_as (bag_of pairs.old) next_number.old) (formed_as (bag_of pairs.new) next_number.new) }
     ensures room { (n : ℕ) → HasRoom (n + 1) pairs.old → HasRoom n pairs.new }

@@ -1,8 +1,8 @@
 //! Local candidates: preference, equal candidates, list (RFC 8445, section 5.1); the agent's part: `is_agent::local`.
 
 ghost use Rattle.std.specs.Prelude.{◌≡◌, ◌≤◌, ◌<◌, ◌++◌, ◌∷◌, [], length, position, Some, IfOk, IfSome, vec_len, vec_capacity};
-ghost use Rattle.is_candidate.specs.Priorities.{candidate_priority};
-ghost use Rattle.is_rules.specs.Kept.{TOO_HIGH, NoneTooHigh};
+ghost use Rattle.is_candidate.specs.Priorities.{candidate_priority, TOO_HIGH};
+ghost use Rattle.is_rules.specs.Kept.{NoneTooHigh};
 ghost use Rattle.std.specs.Option.{option_copied, option_and_then};
 ghost use Rattle.std.specs.Prelude.{slice_get};
 ghost use Rattle.is_candidate.specs.Equality.{is_alike, is_same_place};

@@ -24,7 +24,7 @@ pub struct StunTiming {
 
 /// An initial RTO of 250 ms, 9 retransmits, and a longest RTO of 3 s.
 impl Default for StunTiming {
-    ghost is_default = { λ t. t ≡ record { initial_rto = record { 0 = 250000000 }; max_retransmits = 9; max_rto = record { 0 = 3000000000 } } };
+    ghost is_default = { λ t. t ≡ record { initial_rto = record { 0 = 250 * MILLISECOND }; max_retransmits = 9; max_rto = record { 0 = 3000 * MILLISECOND } } };
 
     fn default() -> StunTiming {
         StunTiming {

@@ -1,6 +1,6 @@
 //! The priority of a candidate (RFC 8445, section 5.1.2).
 ghost use Rattle.std.specs.Prelude.{◌≡◌, ◌<◌, ◌≤◌};
-ghost use Rattle.is_candidate.specs.Priorities.{type_preference, local_preference_of, formula, candidate_priority, check_priority};
+ghost use Rattle.is_candidate.specs.Priorities.{type_preference, local_preference_of, formula, candidate_priority, check_priority, TOO_HIGH};
 
 use super::Candidate;
 use super::kind::CandidateKind;
@@ -23,7 +23,7 @@ impl Candidate {
 /// 7.1.1). So it is below the greatest priority if that of the candidate is.
 pub fn check_priority(c: &Candidate) -> u32
     ensures value { result ≡ check_priority c.now }
-    ensures low { candidate_priority c.now < 4294967295 → result < 4294967295 }
+    ensures low { candidate_priority c.now < TOO_HIGH → result < TOO_HIGH }
 {
     match c.given_priority {
         Some(priority) => priority,
@@ -33,7 +33,7 @@ pub fn check_priority(c: &Candidate) -> u32
 
 fn formula(c: &Candidate, kind: CandidateKind) -> u32
     ensures value { result ≡ formula kind c.now }
-    ensures low { result < 4294967295 }
+    ensures low { result < TOO_HIGH }
 {
     type_preference(kind, c.proto) * 0x100_0000
         + u32::from(local_preference(c)) * 0x100

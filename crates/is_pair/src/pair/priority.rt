@@ -1,6 +1,7 @@
 //! The priority of a pair (RFC 8445, section 6.1.2.3).
 
-ghost use Rattle.std.specs.Prelude.{◌≡◌, ◌<◌, ◌+◌};
+ghost use Rattle.std.specs.Prelude.{◌≡◌, ◌<◌, ◌+◌, ◌*◌};
+ghost use Rattle.is_candidate.specs.Priorities.{TOO_HIGH};
 ghost use Rattle.is_pair.specs.Priorities.{pair_priority};
 
 use super::CandidatePair;
@@ -10,7 +11,7 @@ impl CandidatePair {
     /// remote and the local candidate. Both agents compute the same. The two candidates must not both have priority
     /// 4294967295, for which no pair priority fits 64 bits.
     pub fn calculate_prio(controlling: bool, remote_prio: u32, local_prio: u32) -> u64
-        requires { remote_prio + local_prio < 8589934590 }
+        requires { remote_prio + local_prio < 2 * TOO_HIGH }
         ensures { result ≡ pair_priority controlling remote_prio local_prio }
     {
         let (g, d) = if controlling {

@@ -1,4 +1,5 @@
 use Rattle.std.proofs.Common.{◌≡◌, ◌+◌, ◌-◌, ◌≤◌, true, length, drop}
+use Rattle.is_proto.specs.Moments.{MAX}
 use Rattle.is_pair.specs.Bag.{are_below}
 use Rattle.is_pair.specs.Checklists.{bag_of, HasRoom}
 use Rattle.is_rules.specs.Each.{Each}
@@ -12,6 +13,6 @@ invariant-loop-at l = record {
   goes : (end : Formed) → Each (Tries (sides_view l.sides)) (drop l.at-index l.all) (formed_as (bag_of l.pairs) l.next_number) end
       → Each (Tries (sides_view l.sides)) l.all (formed_as (bag_of l.fn.pairs) l.fn.next_number) end;
   room : HasRoom (length l.all - l.at-index) l.pairs;
-  numbers : l.next_number + length l.all ≤ 18446744073709551615 + l.at-index;
+  numbers : l.next_number + length l.all ≤ MAX + l.at-index;
   last : are_below l.next_number (bag_of l.pairs) ≡ true;
 }

@@ -1,7 +1,7 @@
 use Rattle.std.proofs.Common.{◌<◌, IfOk, Result, Ok, Err, sym, subst}
 use Rattle.std.proofs.lemmas.List.Elements.{All-map}
-use Rattle.is_candidate.specs.Priorities.{candidate_priority}
-use Rattle.is_rules.specs.Kept.{TOO_HIGH, NoneTooHigh}
+use Rattle.is_candidate.specs.Priorities.{candidate_priority, TOO_HIGH}
+use Rattle.is_rules.specs.Kept.{NoneTooHigh}
 use Rattle.is_rules.specs.Restarting.{with_ufrag}
 use Rattle.is_rules.proofs.restarting.kept_local.Goals as goal
 

@@ -1,4 +1,4 @@
-use Rattle.std.proofs.Common.{subst, ap}
+use Rattle.std.proofs.Common.{subst, ap, rules}
 use Rattle.is_rules.specs.Agent.{AgentRecord}
 use Rattle.is_agent.specs.View.{record_of}
 use Rattle.is_rules.specs.RequestView.{request_view}
@@ -24,7 +24,7 @@ count_and_serve-requires g c =
       reply = c.requires.reply;
       number = rw (controlling, local, next_number) c.requires.number;
       room = c.switch_role.ensures.room c.requires.room;
-      news = c.switch_role.ensures.news c.requires.news;
+      events = search rules;
     }
 
 pub returns-clause-served : goal.returns-clause-served
