@@ -1,4 +1,4 @@
-/* One agent: it takes the 100 bytes of a signed Binding request and prints its reply, and meets a refusal
+/* The shortest program: an agent takes the 100 bytes of a signed Binding request and prints its reply, and meets a refusal
  * of each kind on the way. Exits with 0, or tells of the first call that answered something else than is said here. */
 #include "is_ice.h"
 #include <stdio.h>
