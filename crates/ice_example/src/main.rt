@@ -1,5 +1,4 @@
-//! Two agents in one program find a path to each other. What signalling would carry is handed over, and an inbox on each side
-//! stands for its socket.
+//! Two agents in one program find a path to each other. Signaling is a function call, and each side's inbox stands for its socket.
 #![tactic(auto)]
 
 use is::stun::{StunMessage, StunPacket};
@@ -17,7 +16,7 @@ use std::random::RandomSource;
 
 type Agent = IceAgent<DefaultSha1HmacProvider>;
 
-/// One side: its agent, the datagrams that came, and from where to where its media goes.
+/// One side: its agent, the received datagrams, and the path of its media.
 #[derive(Drop)]
 struct Side {
     agent: Box<Agent>,
@@ -25,25 +24,25 @@ struct Side {
     path: Option<(SocketAddr, SocketAddr)>,
 }
 
-/// What signalling tells the other side: the credentials, and a line for each candidate.
+/// What signaling carries to the peer: the credentials, and a line for each candidate.
 #[derive(Drop)]
 struct Signal {
     creds: IceCreds,
     lines: Vec<String>,
 }
 
-/// An agent with one socket, bound at this address, and what the other side is told of it.
+/// An agent with one socket, bound to this address, and its signal for the peer.
 fn begin<R: Rng>(
     alloc: Global,
     address: SocketAddr,
     rng: &mut R,
 ) -> Result<(Side, Signal), IceError> {
     let creds = IceCreds::new(alloc, rng)?;
-    // The tie-breaker is a random word of 64 bits, drawn once.
+    // The tie-breaker: 64 random bits, drawn once.
     let mut agent = Box::new(alloc, Agent::new(alloc, creds.clone()?, rng.next_u64())?)?;
     let mut lines = Vec::new(alloc);
     let host = Candidate::host(alloc, address, Protocol::Udp)?;
-    // What is lent has its priority. None: another candidate makes it needless.
+    // The candidate that is returned has its priority. None: it is redundant.
     if let Some(added) = agent.add_local_candidate(host)? {
         lines.push(added.to_sdp_string(alloc)?)?;
     }
@@ -52,7 +51,7 @@ fn begin<R: Rng>(
     Ok((Side { agent, inbox, path }, Signal { creds, lines }))
 }
 
-/// Takes what the other side told: credentials before candidates.
+/// Takes the peer's signal: credentials before candidates.
 fn learn(alloc: Global, agent: &mut Agent, signal: Signal) -> Result<(), IceError> {
     agent.set_remote_credentials(signal.creds)?;
     for line in &signal.lines {
@@ -61,9 +60,9 @@ fn learn(alloc: Global, agent: &mut Agent, signal: Signal) -> Result<(), IceErro
     Ok(())
 }
 
-/// A datagram came. True: it was for the agent. False or refused: nothing changed.
+/// Passes a datagram to the agent. True: it was for the agent. False or an error: nothing changed.
 fn receive(agent: &mut Agent, datagram: &Transmit, now: Instant) -> Result<bool, IceError> {
-    // The message borrows its bytes. What does not read is no STUN: media, or a stranger's bytes.
+    // The message borrows its bytes. Bytes that do not parse are not STUN: media, or anything else.
     let Ok(message) = StunMessage::parse(&datagram.contents) else {
         return Ok(false);
     };
@@ -76,26 +75,26 @@ fn receive(agent: &mut Agent, datagram: &Transmit, now: Instant) -> Result<bool,
     agent.handle_packet(now, packet)
 }
 
-/// One turn of a side's loop. Answers when to come back.
+/// One iteration of a side's loop. Returns when to call it next.
 fn turn<R: Rng>(
     side: &mut Side,
     other: &mut Side,
     now: Instant,
     rng: &mut R,
 ) -> Result<Option<Instant>, IceError> {
-    // 1. What came.
+    // 1. Received datagrams.
     while let Some(datagram) = side.inbox.pop_front() {
         receive(&mut side.agent, &datagram, now)?;
     }
-    // 2. The moment. The first one begins the session.
+    // 2. The time. The first call starts the session.
     side.agent.handle_timeout(now, rng)?;
-    // 3. When to come back, asked for before packets are polled.
+    // 3. The next timeout, before packets are polled.
     let wake = side.agent.poll_timeout();
-    // 4. What there is to send, from packet.source to packet.destination.
+    // 4. Packets to send, from packet.source to packet.destination.
     while let Some(packet) = side.agent.poll_transmit() {
         other.inbox.push_back(packet)?;
     }
-    // 5. What there is to know: the state, a source that was heard of, the path to send media on.
+    // 5. Events: the state, new sources, the path to send media on.
     while let Some(event) = side.agent.poll_event() {
         if let IceAgentEvent::NominatedSend {
             source,
@@ -109,13 +108,13 @@ fn turn<R: Rng>(
     Ok(wake)
 }
 
-/// The path of the first side, once each side has one, within a hundred turns.
+/// The path of the first side, once each side has one; None after 100 iterations.
 fn connect<R: Rng>(
     a: &mut Side,
     b: &mut Side,
     rng: &mut R,
 ) -> Result<Option<(SocketAddr, SocketAddr)>, IceError> {
-    // Nanoseconds from a beginning that is yours, from 60 s on.
+    // Nanoseconds from any start, beginning at 60 s.
     let mut now = Instant(60_000_000_000);
     for _ in 0..100 {
         let wakes = (turn(a, b, now, rng)?, turn(b, a, now, rng)?);
@@ -129,11 +128,11 @@ fn connect<R: Rng>(
     Ok(None)
 }
 
-/// Two sides that know of each other what signalling tells, and the path between them.
+/// Two sides that exchange their signals, and the path between them.
 fn meet<R: Rng>(alloc: Global, rng: &mut R) -> Result<Option<(SocketAddr, SocketAddr)>, IceError> {
     let (mut a, told_by_a) = begin(alloc, at(1, 1000), rng)?;
     let (mut b, told_by_b) = begin(alloc, at(2, 2000), rng)?;
-    // the side that made the offer
+    // The side that made the offer.
     a.agent.set_controlling(true);
     learn(alloc, &mut b.agent, told_by_a)?;
     learn(alloc, &mut a.agent, told_by_b)?;

@@ -1,0 +1,30 @@
+"""The programs of `examples/`, and what they print."""
+
+from __future__ import annotations
+
+import re
+import subprocess
+import sys
+import unittest
+from pathlib import Path
+
+EXAMPLES = Path(__file__).resolve().parent.parent / "examples"
+
+
+def output(name: str) -> str:
+    return subprocess.run([sys.executable, EXAMPLES / name], capture_output=True, text=True, check=True, timeout=120).stdout
+
+
+class Examples(unittest.TestCase):
+    def test_two_agents_find_a_path(self) -> None:
+        self.assertEqual(output("quick.py"), "10.0.0.1:5000 -> 10.0.0.2:5000 | 10.0.0.2:5000 -> 10.0.0.1:5000\n")
+
+    def test_the_order_of_the_loop_matters(self) -> None:
+        """README.md, "The loop", has the figures."""
+        before, after = (int(found) for found in re.findall(r"controlled (\d+) ms", output("order.py")))
+        self.assertLess(before, 100)
+        self.assertGreater(after, 200)
+
+
+if __name__ == "__main__":
+    unittest.main()
