@@ -28,7 +28,7 @@ use is::{
 use std::alloc::{AllocError, Global};
 use std::net::{Ipv4Addr, SocketAddr, SocketAddrV4};
 use std::test::Fail;
-use story::{Story, Subject, Emitted, tell};
+use story::{Story, Subject, Told, same, same_in, tell};
 
 /// A Binding request of 100 bytes: user name `p9KA:SQAt`, network cost (1, 10), controlling, USE-CANDIDATE, priority
 /// 1853824767, signed with `xJcE9AQAR7kczUDVOXRUCl`.

@@ -125,8 +125,8 @@ fn forge(alloc: Global, forgery: &Forgery, id: TransId) -> Result<Vec<u8>, Broke
     signed(alloc, message, forgery.pass)
 }
 
-/// Whether the agent is as it was seen, with nothing to send and nothing to tell.
-fn is_as(
+/// Polls all packets and events; whether there was none, and the agent is as it was seen.
+fn stays_as(
     agent: &mut Agent,
     alloc: Global,
     peer: &Candidate,
@@ -162,7 +162,7 @@ fn write_forgery<W: Write>(
 ) -> Result<(), Broken> {
     let before = look(agent, check.peer);
     let taken = give(agent, alloc, check.id, 50, forgery)?;
-    let same = is_as(agent, alloc, check.peer, &before)?;
+    let same = stays_as(agent, alloc, check.peer, &before)?;
     writeln!(
         output,
         "answer {}: {taken:?}, unchanged {same}",

@@ -68,10 +68,10 @@ fn answers(agent: &mut Agent) -> bool {
         next_event(agent),
         Some(IceAgentEvent::DiscoveredRecv { .. })
     );
-    told && reply.contents.as_slice() == REPLY.as_slice() && is_idle(agent)
+    told && reply.contents.as_slice() == REPLY.as_slice() && emits_nothing(agent)
 }
 
-fn is_idle(agent: &mut Agent) -> bool {
+fn emits_nothing(agent: &mut Agent) -> bool {
     next_packet(agent).is_none() && next_event(agent).is_none()
 }
 
@@ -90,7 +90,7 @@ fn try_flip(
         answers(agent)
     } else {
         look(agent, peer) == before
-            && is_idle(agent)
+            && emits_nothing(agent)
             && take_here(agent, Instant(0), &REQUEST)? == Taken::True
             && answers(agent)
     };

@@ -1,7 +1,7 @@
 //! More requests than an agent keeps, before it knows its peer.
 use crate::agents::{
-    Agent, FAR, FAR_PASS, NEAR, NEAR_PASS, Taken, add_host, at, events, ms, next_packet, next_timeout,
-    packets, renew, signed, take_here, tell_peer, wake,
+    Agent, FAR, FAR_PASS, NEAR, NEAR_PASS, Taken, add_host, at, events, ms, next_packet,
+    next_timeout, packets, renew, signed, take_here, tell_peer, wake,
 };
 use crate::broken::Broken;
 use is::stun::{StunMessage, TransId};

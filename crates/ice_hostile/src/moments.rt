@@ -1,6 +1,7 @@
 //! Moments and delays at their ends.
 use crate::agents::{
-    Agent, FAR_LINE, events, ms, next_packet, next_timeout, packets, renew_lonely, renew_paired, wake,
+    Agent, FAR_LINE, events, ms, next_packet, next_timeout, packets, renew_lonely, renew_paired,
+    wake,
 };
 use crate::broken::Broken;
 use crate::limits::pair_prio;

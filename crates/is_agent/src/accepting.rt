@@ -1,4 +1,4 @@
-//! Which messages an agent accepts, and what becomes of a packet (RFC 8445, section 7.3).
+//! Which messages an agent accepts, and what a packet does (RFC 8445, section 7.3); the rules: `is_rules::accepting`.
 
 ghost use Rattle.std.specs.Prelude.{◌≡◌, ◌↔◌, ℕ, IsTrue, IfSome, IfOk, IfErr, OnOk};
 ghost use Rattle.is_stun.specs.declared.header.Class.TheVariants as classes;

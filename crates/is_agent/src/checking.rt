@@ -1,4 +1,4 @@
-//! What a check of the agent's own says, and where it goes (RFC 8445, section 7.2).
+//! Writing a connectivity check and finding its path (RFC 8445, section 7.2); the rules: `is_rules::checking`.
 
 ghost use Rattle.std.specs.Prelude.{◌≡◌, Some, None, IfSome, length};
 ghost use Rattle.is_stun.specs.Laws.{IsClass, IsChannelNumber, IsPut, plain};

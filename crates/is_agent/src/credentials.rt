@@ -1,4 +1,4 @@
-//! The credentials of the two agents of a session (RFC 8445, section 5.3).
+//! Reading and setting the credentials of both agents (RFC 8445, section 5.3); the rules: `is_rules::credentials`.
 
 ghost use Rattle.std.specs.Prelude.{◌≡◌, ◌<◌};
 ghost use Rattle.std.specs.Option.{option_copied};

@@ -1,4 +1,4 @@
-//! Candidates that go. A discarded one keeps its place, and its pairs go.
+//! Discarding candidates: each keeps its place, its pairs go; the rules: `is_rules::discarding`.
 
 ghost use Rattle.std.specs.Prelude.{◌≡◌, ℕ, ◌<◌, length, IfSome, vec_len, vec_capacity};
 ghost use Rattle.is_agent.specs.View.{record_of};

@@ -1,4 +1,4 @@
-//! What the last `handle_packet` or `handle_timeout` call emitted: the packet that it issued, and the paths that it announced.
+//! What the last packet or `handle_timeout` call issued and announced; the rules: `is_rules::emitted`.
 
 ghost use Rattle.std.specs.Prelude.{◌≡◌};
 ghost use Rattle.is_agent.specs.View.{emitted_of};

@@ -1,6 +1,7 @@
-//! The ICE agent (RFC 8445) without sockets, clocks or threads: calls go in, packets and events come out.
+//! The ICE agent (RFC 8445) without sockets, clocks or threads; its rules: `is_rules`.
 //!
-//! A call reads and makes room first, then changes; so a refused call leaves the agent as it was.
+//! Calls go in, packets and events come out. A call reads and makes room first, then changes; so a refused call leaves the
+//! agent as it was. A file of the same name in `is_rules` has the rules of a subject.
 #![tactic(auto)]
 
 pub mod accepting;

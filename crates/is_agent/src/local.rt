@@ -1,4 +1,4 @@
-//! Local candidates (RFC 8445, section 5.1).
+//! Adding local candidates (RFC 8445, section 5.1); the rules: `is_rules::local`.
 
 ghost use Rattle.std.specs.Prelude.{◌≡◌, ◌≤◌, ◌<◌, length, position, nat_lt, ◌↔◌, IsTrue, Some, IfOk, IfSome, OnOk};
 ghost use Rattle.is_candidate.specs.Priorities.{candidate_priority};

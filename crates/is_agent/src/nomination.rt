@@ -1,4 +1,6 @@
-//! Nomination (RFC 8445, section 8.1.1): of the eligible pairs, one of greatest priority is announced.
+//! Nomination (RFC 8445, section 8.1.1): announcing the path of a pair; the rules: `is_rules::nomination`.
+//!
+//! Of the eligible pairs, one of greatest priority is announced.
 
 ghost use Rattle.std.specs.Prelude.{◌≡◌, ℕ};
 ghost use Rattle.is_agent.specs.View.{record_of};

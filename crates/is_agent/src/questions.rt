@@ -1,4 +1,4 @@
-//! What an agent answers with no change.
+//! Queries that change nothing: candidates, statistics, and figures of pairs.
 
 ghost use Rattle.std.specs.Prelude.{◌≡◌, option_map};
 ghost use Rattle.std.specs.Option.{option_copied};

@@ -1,4 +1,4 @@
-//! Remote candidates (RFC 8445, section 5.4).
+//! Adding remote candidates and forming their pairs (RFC 8445, section 5.4); the rules: `is_rules::remote`.
 
 ghost use Rattle.std.specs.Prelude.{◌≡◌, ◌<◌, IfSome, IsOkUnless, OnOk, position, length};
 ghost use Rattle.std.specs.List.{list_any};

@@ -1,4 +1,4 @@
-//! Restarts (RFC 8445, section 9), and pairs that are formed anew.
+//! ICE restarts (RFC 8445, section 9), and pairs that are formed anew; the rules: `is_rules::restarting`.
 
 ghost use Rattle.std.specs.Prelude.{◌≡◌, ◌+◌, ◌↔◌, IsTrue, None, false, IfOk, OnOk};
 ghost use Rattle.is_rules.specs.Fitting.{are_too_long};

@@ -1,4 +1,4 @@
-//! Role conflicts (RFC 8445, section 7.3.1.1).
+//! Role conflicts (RFC 8445, section 7.3.1.1), and switching the role; the rules: `is_rules::roles`.
 
 ghost use Rattle.std.specs.Prelude.{◌≡◌};
 ghost use Rattle.is_agent.specs.View.{record_of};

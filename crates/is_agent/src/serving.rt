@@ -1,5 +1,7 @@
-//! Serving a Binding request (RFC 8445, section 7.3): a function for each rule, in the order in which they act, each ending
-//! in the next one. Choices are made and room is taken before anything changes; what follows can't be refused.
+//! Serving a Binding request (RFC 8445, section 7.3); the rules: `is_rules::serving`.
+//!
+//! There is a function for each rule, in the order in which they act. Each ends in a call of the next one.
+//! Choices are made and room is taken before anything changes; what follows can't be refused.
 
 ghost use Rattle.std.specs.Prelude.{◌≡◌, ◌<◌, ◌&&◌, Some, None, true, false, not, length, IfOk, IfErr, OnOk, IsOkUnless};
 ghost use Rattle.is_candidate.specs.Candidates.{candidate_at};

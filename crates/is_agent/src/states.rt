@@ -1,4 +1,4 @@
-//! How far the agent has come in connecting.
+//! The connection state of an agent, and when it changes; the rules: `is_rules::states`.
 
 ghost use Rattle.std.specs.Prelude.{◌≡◌, ◌<◌, ◌+◌};
 ghost use Rattle.is_agent.specs.View.{record_of};

@@ -1,4 +1,4 @@
-//! What a moment does: nomination, pairs that are given up, and a check.
+//! What `handle_timeout` does: nomination, giving up pairs, and a check; the rules: `is_rules::timeout`.
 //!
 //! Room for all of it is made before the agent changes; what follows can't be refused.
 

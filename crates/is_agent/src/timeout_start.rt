@@ -1,4 +1,4 @@
-//! How a `handle_timeout` call begins: `IceRestart` is emitted in New, the state is evaluated, and outdated requests go.
+//! How `handle_timeout` begins: the event of the start, the state, queued requests; the rules: `is_rules::timeout_start`.
 
 ghost use Rattle.std.specs.Prelude.{◌≡◌, ℕ, ◌<◌, ◌+◌, true, false, IfOk, IfErr, IfSome, OnOk, IsOkUnless, MatchOption, option_map, slice_get};
 ghost use Rattle.is_rules.specs.RequestView.{request_view, waiting_view};

@@ -53,7 +53,7 @@ module _ {H P : Type 0} (mac : H → List ℕ → List ℕ → List ℕ) (answer
       let there : Has made.pairs after =
       subst (λ (x : PairRecord). Has (change_pair c.pair.number (checked now c.old.timing c.old.controlling id) c.old.pairs) x) own
       (Has-mapped (change_at c.pair.number (checked now c.old.timing c.old.controlling id)) c.old.pairs c.pair c.has) in
-      let each : AreNominatedOn made via = subst (λ (a : AgentRecord H P). AreNominatedOn a path) c.made nominated in
+      let each : AreNominatedOn made path = subst (λ (a : AgentRecord H P). AreNominatedOn a path) c.made nominated in
       let asks : is_nominated c.pair ≡ true = sym (sent_nominated c.pair.nomination) ∙ each after there c.path in
       ap (λ b. b && is_nominated c.pair) (ap (λ (a : AgentRecord H P). a.controlling) (sym c.made) ∙ role) ∙ asks
 

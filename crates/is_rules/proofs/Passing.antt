@@ -193,7 +193,7 @@ module _ {H P : Type 0} where
     placed = s.placed;
     rising = s.rising;
     below = s.below;
-    announced = s.selected_pair;
+    announced = s.announced;
     started = s.started;
     checks = s.checks;
     queued = s.queued;

@@ -66,7 +66,7 @@ module _ {H P : Type 0} (mac : H → List ℕ → List ℕ → List ℕ) (answer
         emitted i.0 (i.1 ∙ ap (λ c. written (mac b.provider) (Some (key_for c b.local_creds b.remote_creds)) i.0) (sym same.1)) (sym same.2)
         (subst (λ c. Says c b issued.call issued.entry refusal.contents i.0 (via_out refusal) served.controlling) (sym same.1) i.3) where
           path : Path
-          via = via_out refusal
+          path = via_out refusal
 
           emitted : (m : Message) → refusal.contents ≡ written (mac b.provider) (Some b.local_creds.pass) m → m.id ≡ id
               → Says class.Failure b issued.call issued.entry refusal.contents m path served.controlling

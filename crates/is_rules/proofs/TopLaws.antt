@@ -94,7 +94,7 @@ module _ {H P : Type 0} where
         let own : p.priority ≡ o.0.priority = ap (λ (x : PairRecord). x.priority) (sym o.2) ∙ change_priority (is_numbered top.number o.0) old.controlling old.lite o.0 in
         subst (λ n. n ≤ (g top).priority) (sym own) (subst (λ n. o.0.priority ≤ n) (sym (same_pair old.controlling old.lite top).1) bound)
 
-    it_stands : stands_at (announced top old).announced (g top).priority (announced top old).pairs ≡ true
+    it_stands : stands_at (announced top old).selected_pair (g top).priority (announced top old).pairs ≡ true
     it_stands = ap (λ (o : Option PairRecord). option_map_or (λ (p : PairRecord). p.priority == (g top).priority) o false)
         (found old.pairs top g rising has (same_pair old.controlling old.lite top).0) ∙ eq-eqb (g top).priority (g top).priority refl
 

@@ -66,7 +66,7 @@ module _ {H P : Type 0} where
   -- a protocol and source that was not seen since the last restart is told of
   abbrev pub discovered_emitted : Path → AgentRecord H P → AgentRecord H P
   discovered_emitted path a = record a {
-    seen = if is_discovered path a then a.discovered_sources else a.discovered_sources ++ record { proto = path.proto; address = path.source } ∷ [];
+    discovered_sources = if is_discovered path a then a.discovered_sources else a.discovered_sources ++ record { proto = path.proto; address = path.source } ∷ [];
     events = if is_discovered path a then a.events else a.events ++ DiscoveredRecv path.proto path.source ∷ [];
     stats = record a.stats {
       discovered_recv_count = if is_discovered path a then a.stats.discovered_recv_count else counted a.stats.discovered_recv_count;

@@ -1,4 +1,4 @@
-//! What accepting a packet looks at: the sources that were seen, and texts that must be equal.
+//! Sources of packets that were seen before, and texts that must be equal; the agent's part: `is_agent::accepting`.
 
 ghost use Rattle.std.specs.Prelude.{◌≡◌, ◌↔◌, IsTrue};
 ghost use Rattle.std.specs.List.{list_any};

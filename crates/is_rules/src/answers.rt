@@ -1,4 +1,6 @@
-//! Answers to the agent's checks (RFC 8445, section 7.2.5). They count only on the path that their check went.
+//! Responses to the agent's checks (RFC 8445, section 7.2.5); the agent's part: `is_agent::answers`.
+//!
+//! A response counts only on the path that its check went.
 
 ghost use Rattle.std.specs.Prelude.{◌≡◌, ◌<◌, IsTrue, IfSome, true, is_some, vec_len, vec_capacity};
 ghost use Rattle.std.specs.List.{list_any};

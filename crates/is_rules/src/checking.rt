@@ -1,4 +1,4 @@
-//! What a check of the agent's own says, and where it goes (RFC 8445, section 7.2).
+//! What a connectivity check carries, and its path (RFC 8445, section 7.2); the agent's part: `is_agent::checking`.
 
 ghost use Rattle.std.specs.Prelude.{◌≡◌, OnOk, string_bytes};
 ghost use Rattle.is_rules.specs.Checking.{username_between};

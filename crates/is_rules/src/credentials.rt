@@ -1,4 +1,4 @@
-//! The credentials of the two agents of a session (RFC 8445, section 5.3).
+//! User fragments and passwords of both agents (RFC 8445, section 5.3); the agent's part: `is_agent::credentials`.
 
 ghost use Rattle.std.specs.Prelude.{◌≡◌, ◌≤◌, ◌<◌, [], length, vec_capacity};
 ghost use Rattle.is_rules.specs.Fitting.{are_too_long};

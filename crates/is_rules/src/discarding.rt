@@ -1,4 +1,4 @@
-//! Candidates that go. A discarded one keeps its place, and its pairs go.
+//! Candidates that are discarded: each keeps its place, its pairs go; the agent's part: `is_agent::discarding`.
 
 ghost use Rattle.std.specs.Prelude.{◌≡◌, ◌<◌, length, position, IfSome, vec_len, vec_capacity};
 ghost use Rattle.is_candidate.specs.Equality.{is_equivalent};

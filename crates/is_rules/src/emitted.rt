@@ -1,4 +1,4 @@
-//! What a call emits: at most one packet, and the paths of the pairs that it selects (events `NominatedSend`).
+//! What a call issued and announced: at most one packet, and up to two paths; the agent's part: `is_agent::emitted`.
 
 ghost use Rattle.std.specs.Prelude.{◌≡◌};
 ghost use Rattle.is_rules.specs.Emitted.{nothing_emitted, issued_only, announced_only, issued_as, emitted_by, reversed};

@@ -1,4 +1,4 @@
-//! Forming pairs of candidates (RFC 8445, section 6.1.2).
+//! Forming candidate pairs (RFC 8445, section 6.1.2).
 //!
 //! The combinations are counted and listed, and room for as many pairs is made; what follows can't be refused.
 

@@ -1,5 +1,7 @@
-//! The rules of an ICE agent (RFC 8445), apart from the agent that keeps them: what each call does to an agent's record,
-//! what any step and any run of steps can do, and the functions of those rules that look at parts of an agent alone.
+//! The rules of an ICE agent (RFC 8445); the agent that keeps them: `is_agent`.
+//!
+//! They say what each call does to an agent's record, and what any step and any run of steps can do. The functions here are
+//! those of the rules that need only parts of an agent. A file of the same name in `is_agent` has the agent's part.
 #![tactic(auto)]
 
 pub mod accepting;

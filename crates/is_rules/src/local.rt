@@ -1,4 +1,4 @@
-//! Local candidates (RFC 8445, section 5.1).
+//! Local candidates: preference, equal ones, list (RFC 8445, section 5.1); the agent's part: `is_agent::local`.
 
 ghost use Rattle.std.specs.Prelude.{◌≡◌, ◌≤◌, ◌<◌, ◌++◌, ◌∷◌, [], length, position, Some, IfOk, IfSome, vec_len, vec_capacity};
 ghost use Rattle.is_candidate.specs.Priorities.{candidate_priority};

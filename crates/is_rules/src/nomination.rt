@@ -1,4 +1,6 @@
-//! Nomination (RFC 8445, section 8.1.1): of the eligible pairs, one of greatest priority is announced.
+//! Nomination (RFC 8445, section 8.1.1): which pair is announced; the agent's part: `is_agent::nomination`.
+//!
+//! Of the eligible pairs, one of greatest priority is announced.
 
 ghost use Rattle.std.specs.Prelude.{◌≡◌, ℕ, true};
 ghost use Rattle.std.specs.Option.{option_copied};

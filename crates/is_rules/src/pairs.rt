@@ -1,4 +1,4 @@
-//! The pair of a request: which one it is, and what the request makes of it.
+//! The pair of a Binding request: how it is found, and how the request changes it.
 
 ghost use Rattle.std.specs.Prelude.{◌≡◌, ℕ, true};
 ghost use Rattle.is_pair.specs.Bag.{are_below, change_pair, is_valid_at, IsPairBetween};

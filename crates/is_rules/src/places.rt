@@ -1,4 +1,4 @@
-//! Where a request is served: the choices that serving it rests on.
+//! Which candidates a Binding request is served at: the local one that it reached, and the remote one that sent it.
 
 ghost use Rattle.std.specs.Prelude.{◌≡◌, ◌==◌, ◌&&◌, ◌+◌, ◌<◌, ◌≤◌, length, position, true, false, None, IfSome};
 ghost use Rattle.std.specs.Net.Socket.{socket_port};

@@ -1,4 +1,4 @@
-//! Requests that wait for remote credentials.
+//! Requests that wait until the remote credentials are known; the agent's part: `is_agent::queue`.
 
 ghost use Rattle.std.specs.Prelude.{◌≡◌, ◌<◌, ◌+◌, ◌++◌, ◌∷◌, [], drop, map, length, take_while};
 ghost use Rattle.std.specs.VecDeque.{deque_len, deque_capacity};

@@ -1,4 +1,4 @@
-//! Remote candidates (RFC 8445, section 5.4).
+//! Remote candidates: equal ones, placeholders, list (RFC 8445, section 5.4); the agent's part: `is_agent::remote`.
 
 ghost use Rattle.std.specs.Prelude.{◌≡◌, ◌<◌, IfSome, position, length, vec_len, vec_capacity};
 ghost use Rattle.is_rules.specs.Remote.{has_equivalent, is_placeholder, as_remote, stored, place_or_end};

@@ -1,4 +1,4 @@
-//! What the agent writes: signed messages, and among them the replies to a Binding request.
+//! Signed messages that the agent writes, among them the responses to Binding requests.
 
 ghost use Rattle.std.specs.Prelude.{◌≡◌, IfSome, Some, None, length};
 ghost use Rattle.is_stun.specs.Checks.{binding_reply, binding_role_conflict_reply};

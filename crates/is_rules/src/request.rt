@@ -1,4 +1,4 @@
-//! A Binding request, as the agent serves it.
+//! A Binding request, as the agent serves it, and as it waits in the queue.
 
 ghost use Rattle.std.specs.Prelude.{◌≡◌, IfOk};
 ghost use Rattle.is_stun.specs.MessageView.{message_view};

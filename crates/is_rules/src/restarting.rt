@@ -1,4 +1,4 @@
-//! Restarts (RFC 8445, section 9), and pairs that are formed anew.
+//! ICE restarts (RFC 8445, section 9): the local candidates that are kept; the agent's part: `is_agent::restarting`.
 
 ghost use Rattle.std.specs.Prelude.{◌≡◌, IfOk, map};
 ghost use Rattle.is_rules.specs.Kept.{NoneTooHigh};

@@ -1,4 +1,4 @@
-//! Role conflicts (RFC 8445, section 7.3.1.1).
+//! Role conflicts (RFC 8445, section 7.3.1.1): who yields, new priorities; the agent's part: `is_agent::roles`.
 
 ghost use Rattle.std.specs.Prelude.{◌≡◌, ℕ, true, map};
 ghost use Rattle.is_pair.specs.Bag.{are_below};

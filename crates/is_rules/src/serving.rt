@@ -1,4 +1,4 @@
-//! What serving a Binding request takes and decides before anything changes (RFC 8445, section 7.3).
+//! Serving a Binding request (RFC 8445, section 7.3): what is decided first; the agent's part: `is_agent::serving`.
 
 ghost use Rattle.std.specs.Prelude.{◌≡◌, ◌<◌, ◌&&◌, false};
 ghost use Rattle.is_rules.specs.RequestView.{request_view};

@@ -1,4 +1,4 @@
-//! Between what pairs are formed.
+//! The candidates and the role from which pairs are formed.
 
 ghost use Rattle.is_rules.specs.Kept.{NoneTooHigh};
 

@@ -1,4 +1,4 @@
-//! How far the agent has come in connecting.
+//! The connection state: how it follows from the pairs, and events of it; the agent's part: `is_agent::states`.
 
 ghost use Rattle.std.specs.Prelude.{◌≡◌, ◌<◌, ◌≤◌, ◌+◌, ◌++◌, ◌∷◌, [], if◌then◌else◌};
 ghost use Rattle.std.specs.VecDeque.{deque_len, deque_capacity};

@@ -1,4 +1,4 @@
-//! Which pairs may fall due at a moment.
+//! Which pairs may fall due in a `handle_timeout` call; the agent's part: `is_agent::timeout`.
 
 ghost use Rattle.std.specs.Prelude.{◌≡◌};
 ghost use Rattle.is_rules.specs.Due.{awaits_nomination};

@@ -1,4 +1,4 @@
-//! How a `handle_timeout` call begins: the event of the start, and the requests that wait in the queue.
+//! How `handle_timeout` begins: the event of the start, queued requests; the agent's part: `is_agent::timeout_start`.
 
 ghost use Rattle.std.specs.Prelude.{◌≡◌, ◌<◌, ◌≤◌, ◌+◌, slice_get};
 ghost use Rattle.std.specs.VecDeque.{deque_len, deque_capacity};

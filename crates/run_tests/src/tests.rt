@@ -23,7 +23,7 @@ use stage::Stage;
 use std::alloc::{AllocError, Global};
 use std::net::{Ipv4Addr, SocketAddr, SocketAddrV4};
 use std::test::Fail;
-use story::{Story, Subject, Emitted, tell};
+use story::{Story, Subject, Told, same, tell};
 
 type Agent = IceAgent<DefaultSha1HmacProvider>;
 
@@ -297,36 +297,56 @@ fn wanted<T: Copy>(table: &[(usize, T)], number: usize) -> Option<T> {
 }
 
 /// These entries announce these paths, and no other announces any.
-fn announces(log: &RunLog, paths: &[(usize, Path)]) -> bool {
-    for entry in &log.entries {
-        if entry.announced != [wanted(paths, entry.number), None] {
+fn announces(stage: &mut Stage, paths: &[(usize, Path)]) -> bool {
+    for entry in &stage.log.entries {
+        let expected = [wanted(paths, entry.number), None];
+        if !same(
+            entry.number,
+            entry.announced,
+            expected,
+            stage.alloc,
+            &mut stage.difference,
+        ) {
             return false;
         }
     }
-    !log.stopped
+    !stage.log.stopped
 }
 
 /// These entries issue these packets, and no other issues any.
-fn issues(log: &RunLog, packets: &[(usize, Issued)]) -> bool {
-    for entry in &log.entries {
-        if entry.issued != wanted(packets, entry.number) {
+fn issues(stage: &mut Stage, packets: &[(usize, Issued)]) -> bool {
+    for entry in &stage.log.entries {
+        let expected = wanted(packets, entry.number);
+        if !same(
+            entry.number,
+            entry.issued,
+            expected,
+            stage.alloc,
+            &mut stage.difference,
+        ) {
             return false;
         }
     }
-    !log.stopped
+    !stage.log.stopped
 }
 
 /// The entry has the answer.
-fn answers(log: &RunLog, number: usize, answer: &Answer) -> bool {
-    match log.entries.get(number) {
-        Some(entry) => entry.answer == *answer,
+fn answers(stage: &mut Stage, number: usize, answer: &Answer) -> bool {
+    match stage.log.entries.get(number) {
+        Some(entry) => same(
+            number,
+            &entry.answer,
+            answer,
+            stage.alloc,
+            &mut stage.difference,
+        ),
         None => false,
     }
 }
 
 /// The packet of the entry was accepted, or not.
-fn takes(log: &RunLog, number: usize, accepted: bool) -> bool {
-    answers(log, number, &Answer::Flag(accepted))
+fn takes(stage: &mut Stage, number: usize, accepted: bool) -> bool {
+    answers(stage, number, &Answer::Flag(accepted))
 }
 
 /// A's check of this number to the address.

@@ -9,7 +9,7 @@ use is::stun::Builder;
 struct Answers;
 
 impl Subject for Answers {
-    fn play(&self, player: &mut Player) -> Emitted {
+    fn play(&self, player: &mut Player) -> Told {
         off_its_path_nothing_comes_of_an_answer(player)?;
         an_answer_on_its_path_announces_it(player)?;
         figures_are_those_of_the_announced_pair(player)?;
@@ -31,23 +31,23 @@ fn answers_count_on_their_path(rt: HostRuntime) -> Result<(), Fail> {
     tell(rt.alloc(), &Answers)
 }
 
-/// What comes is accepted as a message, and from there to there it is not, and does nothing.
-fn is_off_path(player: &mut Player, from: SocketAddr, to: SocketAddr) -> bool {
+/// What comes is accepted as a message; from there to there it is dropped, and does nothing.
+fn drops_off_path(player: &mut Player, from: SocketAddr, to: SocketAddr) -> bool {
     player.accepts()
         && !player.accepts_from(from, to)
         && !player.takes(50, from, to)
-        && player.is_still()
+        && player.emits_nothing()
         && player.has_no_figures()
 }
 
-fn off_its_path_nothing_comes_of_an_answer(player: &mut Player) -> Emitted {
+fn off_its_path_nothing_comes_of_an_answer(player: &mut Player) -> Told {
     Story("off_its_path_nothing_comes_of_an_answer").holds(&[
-        player.is_paired(),
+        player.set_up_pair(),
         player.checks(0) && player.tells(b"Rc"),
         player.expects_answer(at(1, 1000)),
-        is_off_path(player, at(3, 2000), at(1, 1000)),
-        is_off_path(player, at(2, 2001), at(1, 1000)),
-        is_off_path(player, at(2, 2000), at(1, 1001)),
+        drops_off_path(player, at(3, 2000), at(1, 1000)),
+        drops_off_path(player, at(2, 2001), at(1, 1000)),
+        drops_off_path(player, at(2, 2000), at(1, 1001)),
         player.accepts_from(at(2, 2000), at(1, 1000)),
         player.hears_peer(50) && player.tells(b"NCD"),
     ])
@@ -67,9 +67,9 @@ fn announces(player: &mut Player, from: SocketAddr, to: SocketAddr) -> bool {
     }
 }
 
-fn an_answer_on_its_path_announces_it(player: &mut Player) -> Emitted {
+fn an_answer_on_its_path_announces_it(player: &mut Player) -> Told {
     Story("an_answer_on_its_path_announces_it").holds(&[
-        player.is_paired(),
+        player.set_up_pair(),
         player.checks(0) && player.tells(b"Rc"),
         player.expects_answer(at(1, 1000)) && player.hears_peer(50),
         announces(player, at(1, 1000), at(2, 2000)),
@@ -78,19 +78,19 @@ fn an_answer_on_its_path_announces_it(player: &mut Player) -> Emitted {
     ])
 }
 
-fn figures_are_those_of_the_announced_pair(player: &mut Player) -> Emitted {
+fn figures_are_those_of_the_announced_pair(player: &mut Player) -> Told {
     Story("figures_are_those_of_the_announced_pair").holds(&[
-        player.is_paired(),
-        player.has_no_figures() && player.is_answered(at(1, 1000)),
+        player.set_up_pair(),
+        player.has_no_figures() && player.complete_check(at(1, 1000)),
         player.has_figures(50, 50, 1),
         // an answer that comes again counts again
         player.hears_peer(70) && player.has_figures(70, 120, 2),
-        player.agent.stats().bind_success_recv == 2,
+        same(player.agent.stats().bind_success_recv, 2, player),
     ])
 }
 
-/// What comes is accepted in no way.
-fn is_refused(player: &mut Player) -> bool {
+/// What comes is refused.
+fn refuses_answer(player: &mut Player) -> bool {
     !player.accepts() && !player.hears_peer(50) && player.has_no_figures()
 }
 
@@ -108,13 +108,13 @@ fn expects_forged(player: &mut Player) -> bool {
     }
 }
 
-fn an_answer_of_another_key_or_id_is_none(player: &mut Player) -> Emitted {
+fn an_answer_of_another_key_or_id_is_none(player: &mut Player) -> Told {
     Story("an_answer_of_another_key_or_id_is_none").holds(&[
-        player.is_paired(),
+        player.set_up_pair(),
         player.checks(0) && player.tells(b"Rc"),
-        expects_forged(player) && is_refused(player),
-        expects_stray(player) && is_refused(player),
-        player.is_still(),
+        expects_forged(player) && refuses_answer(player),
+        expects_stray(player) && refuses_answer(player),
+        player.emits_nothing(),
     ])
 }
 
@@ -131,9 +131,9 @@ fn expects_failure(player: &mut Player) -> bool {
     player.expects(message, "farpass")
 }
 
-fn a_failure_of_another_code_is_taken_and_does_nothing(player: &mut Player) -> Emitted {
+fn a_failure_of_another_code_is_taken_and_does_nothing(player: &mut Player) -> Told {
     Story("a_failure_of_another_code_is_taken_and_does_nothing").holds(&[
-        player.is_paired(),
+        player.set_up_pair(),
         player.checks(0) && expects_failure(player),
         player.hears_peer(50) && player.tells(b"RcD"),
         player.agent.controlling() && player.has_no_figures(),
@@ -151,9 +151,9 @@ fn checks_under_one_id(player: &mut Player, ms: u64) -> bool {
 
 const OTHER: &str = "candidate:1 1 udp 2130706175 10.0.0.3 3000 typ host";
 
-fn of_equal_ids_the_one_on_the_path_is_answered(player: &mut Player) -> Emitted {
+fn of_equal_ids_the_one_on_the_path_is_answered(player: &mut Player) -> Told {
     Story("of_equal_ids_the_one_on_the_path_is_answered").holds(&[
-        player.is_paired(),
+        player.set_up_pair(),
         checks_under_one_id(player, 0) && player.hears(OTHER),
         checks_under_one_id(player, 10) && player.expects_answer(at(1, 1000)),
         player.tells(b"Rc") && player.takes(50, at(3, 3000), at(1, 1000)),
@@ -170,12 +170,12 @@ fn checks_under_zeros(player: &mut Player, ms: u64, destination: SocketAddr) -> 
     player.agent.handle_timeout(later(ms), &mut Zeros).is_ok()
         && player.sends()
         && player.has_sent_from(at(1, 1000), destination)
-        && player.sent_id() == Some(TransId([0; 12]))
+        && same(player.sent_id(), Some(TransId([0; 12])), player)
 }
 
-/// The agent has checked both addresses of the peer under one id, and an answer of that id is to come.
-fn has_checked_twice(player: &mut Player) -> bool {
-    player.is_paired()
+/// Sets up an agent that has checked both addresses of the peer under one id; an answer of that id is to come.
+fn set_up_two_checks(player: &mut Player) -> bool {
+    player.set_up_pair()
         && player.hears(SECOND)
         && checks_under_zeros(player, 0, at(2, 2000))
         && checks_under_zeros(player, 50, at(3, 2000))
@@ -183,19 +183,19 @@ fn has_checked_twice(player: &mut Player) -> bool {
         && player.expects_answer(at(1, 1000))
 }
 
-fn of_two_checks_of_one_id_that_of_the_pair_left_is_answered(player: &mut Player) -> Emitted {
+fn of_two_checks_of_one_id_that_of_the_pair_left_is_answered(player: &mut Player) -> Told {
     Story("of_two_checks_of_one_id_that_of_the_pair_left_is_answered").holds(&[
-        has_checked_twice(player),
+        set_up_two_checks(player),
         player.loses(PEER) && player.takes(60, at(3, 2000), at(1, 1000)),
         announces(player, at(1, 1000), at(3, 2000)),
     ])
 }
 
-fn of_two_checks_of_one_id_that_of_the_pair_gone_is_not(player: &mut Player) -> Emitted {
+fn of_two_checks_of_one_id_that_of_the_pair_gone_is_not(player: &mut Player) -> Told {
     Story("of_two_checks_of_one_id_that_of_the_pair_gone_is_not").holds(&[
-        has_checked_twice(player),
+        set_up_two_checks(player),
         player.loses(SECOND) && !player.takes(60, at(3, 2000), at(1, 1000)),
-        player.is_still() && player.has_no_figures(),
+        player.emits_nothing() && player.has_no_figures(),
     ])
 }
 
@@ -212,9 +212,9 @@ fn accepts_bare_failure(player: &Player) -> bool {
     }
 }
 
-fn a_failure_that_carries_nothing_is_refused(player: &mut Player) -> Emitted {
+fn a_failure_that_carries_nothing_is_refused(player: &mut Player) -> Told {
     Story("a_failure_that_carries_nothing_is_refused").holds(&[
-        player.is_paired() && checks_under_zeros(player, 0, at(2, 2000)),
+        player.set_up_pair() && checks_under_zeros(player, 0, at(2, 2000)),
         !accepts_bare_failure(player),
         expects_failure(player) && player.accepts(),
     ])
@@ -226,18 +226,18 @@ fn answered_from(player: &mut Player, source: SocketAddr) -> (bool, bool) {
     (taken, player.accepts())
 }
 
-fn of_two_checks_of_one_id_each_goes_with_its_pair(player: &mut Player) -> Emitted {
+fn of_two_checks_of_one_id_each_goes_with_its_pair(player: &mut Player) -> Told {
     let (first, second) = (at(2, 2000), at(3, 2000));
     Story("of_two_checks_of_one_id_each_goes_with_its_pair").holds(&[
-        has_checked_twice(player) && answered_from(player, second) == (true, true),
-        player.loses(PEER) && answered_from(player, second) == (true, true),
-        answered_from(player, first) == (false, true),
-        player.loses(SECOND) && answered_from(player, second) == (false, false),
+        set_up_two_checks(player) && same(answered_from(player, second), (true, true), player),
+        player.loses(PEER) && same(answered_from(player, second), (true, true), player),
+        same(answered_from(player, first), (false, true), player),
+        player.loses(SECOND) && same(answered_from(player, second), (false, false), player),
         // the other way round
-        has_checked_twice(player) && answered_from(player, second) == (true, true),
-        player.loses(SECOND) && answered_from(player, second) == (false, true),
-        answered_from(player, first) == (true, true),
-        player.loses(PEER) && answered_from(player, first) == (false, false),
+        set_up_two_checks(player) && same(answered_from(player, second), (true, true), player),
+        player.loses(SECOND) && same(answered_from(player, second), (false, true), player),
+        same(answered_from(player, first), (true, true), player),
+        player.loses(PEER) && same(answered_from(player, first), (false, false), player),
     ])
 }
 
@@ -254,31 +254,31 @@ fn has_learnt(player: &Player, base: SocketAddr, prio: u32) -> bool {
     is_learnt
 }
 
-fn an_unknown_mapped_address_is_a_candidate(player: &mut Player) -> Emitted {
+fn an_unknown_mapped_address_is_a_candidate(player: &mut Player) -> Told {
     Story("an_unknown_mapped_address_is_a_candidate").holds(&[
-        player.is_paired(),
-        player.is_answered(at(9, 9000)),
+        player.set_up_pair(),
+        player.complete_check(at(9, 9000)),
         player.is_at(&[at(1, 1000), at(9, 9000)]),
         has_learnt(player, at(1, 1000), 1862270719),
         player.tells(b"RcNCD"),
     ])
 }
 
-fn a_discarded_candidate_keeps_its_address_from_being_learnt(player: &mut Player) -> Emitted {
+fn a_discarded_candidate_keeps_its_address_from_being_learnt(player: &mut Player) -> Told {
     Story("a_discarded_candidate_keeps_its_address_from_being_learnt").holds(&[
-        player.is_paired(),
+        player.set_up_pair(),
         player.host(at(9, 9000)),
         player.loses("candidate:1 1 udp 1 10.0.0.9 9000 typ host"),
-        player.is_answered(at(9, 9000)) && player.is_at(&[at(1, 1000)]),
+        player.complete_check(at(9, 9000)) && player.is_at(&[at(1, 1000)]),
     ])
 }
 
-fn a_learnt_candidate_pairs_with_later_ones(player: &mut Player) -> Emitted {
+fn a_learnt_candidate_pairs_with_later_ones(player: &mut Player) -> Told {
     Story("a_learnt_candidate_pairs_with_later_ones").holds(&[
-        player.is_paired(),
-        player.is_answered(at(9, 9000)),
+        player.set_up_pair(),
+        player.complete_check(at(9, 9000)),
         // it alone is left
         player.loses("candidate:1 1 udp 1 10.0.0.1 1000 typ host"),
-        player.hears(OTHER) && player.places_with(OTHER) == Some((1, 1)),
+        player.hears(OTHER) && same(player.places_with(OTHER), Some((1, 1)), player),
     ])
 }

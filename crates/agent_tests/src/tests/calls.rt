@@ -6,7 +6,7 @@ use super::*;
 struct Numbers;
 
 impl Subject for Numbers {
-    fn play(&self, player: &mut Player) -> Emitted {
+    fn play(&self, player: &mut Player) -> Told {
         numbers_end(player)?;
         without_a_number_no_candidate_is_stored(player)?;
         the_last_number_forms_one_pair(player)?;
@@ -29,29 +29,29 @@ fn recreates(player: &mut Player) -> bool {
     player.agent.recreate_candidate_pairs().is_ok()
 }
 
-/// Pairs can't be made anew, for want of numbers.
-fn is_exhausted(player: &mut Player) -> bool {
+/// Pairs can't be created again, since no numbers are left.
+fn fails_to_recreate(player: &mut Player) -> bool {
     matches!(
         player.agent.recreate_candidate_pairs(),
         Err(IceError::PairIdsExhausted)
     )
 }
 
-fn numbers_end(player: &mut Player) -> Emitted {
+fn numbers_end(player: &mut Player) -> Told {
     Story("numbers_end").holds(&[
-        player.is_paired(),
-        player.number_with(PEER) == Some(0),
+        player.set_up_pair(),
+        same(player.number_with(PEER), Some(0), player),
         recreates(player) && player.tells(b"c"),
         // none is given again
-        player.number_with(PEER) == Some(1),
-        player.skips_to(LAST) && recreates(player) && is_exhausted(player),
-        player.number_with(PEER) == Some(LAST) && player.is_still(),
+        same(player.number_with(PEER), Some(1), player),
+        player.skips_to(LAST) && recreates(player) && fails_to_recreate(player),
+        same(player.number_with(PEER), Some(LAST), player) && player.emits_nothing(),
     ])
 }
 
-fn without_a_number_no_candidate_is_stored(player: &mut Player) -> Emitted {
+fn without_a_number_no_candidate_is_stored(player: &mut Player) -> Told {
     Story("without_a_number_no_candidate_is_stored").holds(&[
-        player.is_alone() && player.skips_to(NONE_LEFT),
+        player.set_up_alone() && player.skips_to(NONE_LEFT),
         !player.hears(PEER) && player.has_heard_of(&[]),
         // no local candidate goes over TCP: no pair is wanted
         player.hears("candidate:1 1 tcp 2130706175 10.0.0.2 2000 typ host"),
@@ -59,22 +59,24 @@ fn without_a_number_no_candidate_is_stored(player: &mut Player) -> Emitted {
     ])
 }
 
-fn the_last_number_forms_one_pair(player: &mut Player) -> Emitted {
+fn the_last_number_forms_one_pair(player: &mut Player) -> Told {
     Story("the_last_number_forms_one_pair").holds(&[
-        player.is_alone() && player.skips_to(LAST),
+        player.set_up_alone() && player.skips_to(LAST),
         // a smaller number changes nothing
-        player.skips_to(3) && player.hears(PEER) && player.number_with(PEER) == Some(LAST),
+        player.skips_to(3)
+            && player.hears(PEER)
+            && same(player.number_with(PEER), Some(LAST), player),
         !player.hears("candidate:1 1 udp 2130706175 10.0.0.3 3000 typ host"),
         player.has_heard_of(&[at(2, 2000)]),
     ])
 }
 
-fn without_a_number_no_request_is_served(player: &mut Player) -> Emitted {
+fn without_a_number_no_request_is_served(player: &mut Player) -> Told {
     Story("without_a_number_no_request_is_served").holds(&[
-        player.is_addressed() && player.takes_role(true) && player.skips_to(NONE_LEFT),
+        player.set_up_credentials() && player.takes_role(true) && player.skips_to(NONE_LEFT),
         // neither the role, nor the sender, nor its source is changed
-        !player.is_asked(0, at(1, 1000)) && player.is_still(),
+        !player.receive_request(0, at(1, 1000)) && player.emits_nothing(),
         player.agent.controlling() && player.has_heard_of(&[]),
-        player.agent.stats().bind_request_recv == 0,
+        same(player.agent.stats().bind_request_recv, 0, player),
     ])
 }

@@ -7,7 +7,7 @@ use is::{CandidateKind, LocalPreference};
 struct Candidates;
 
 impl Subject for Candidates {
-    fn play(&self, player: &mut Player) -> Emitted {
+    fn play(&self, player: &mut Player) -> Told {
         the_greatest_priority_is_refused(player)?;
         equal_candidates_supersede_unless_they_are_less(player)?;
         a_candidate_that_comes_again_is_as_it_was(player)?;
@@ -74,8 +74,8 @@ fn a_boxed_object_prefers(rt: HostRuntime) -> Result<(), Fail> {
     Ok(())
 }
 
-/// An agent without a peer.
-fn is_unnamed(player: &mut Player) -> bool {
+/// Sets up an agent without a peer.
+fn set_up_without_peer(player: &mut Player) -> bool {
     player.begins("aaaa", "p", 1)
 }
 
@@ -105,16 +105,16 @@ fn refuses_greatest(player: &mut Player) -> bool {
     }
 }
 
-fn the_greatest_priority_is_refused(player: &mut Player) -> Emitted {
+fn the_greatest_priority_is_refused(player: &mut Player) -> Told {
     Story("the_greatest_priority_is_refused").holds(&[
-        is_unnamed(player),
+        set_up_without_peer(player),
         refuses_greatest(player) && player.is_at(&[]),
     ])
 }
 
-fn equal_candidates_supersede_unless_they_are_less(player: &mut Player) -> Emitted {
+fn equal_candidates_supersede_unless_they_are_less(player: &mut Player) -> Told {
     Story("equal_candidates_supersede_unless_they_are_less").holds(&[
-        is_unnamed(player),
+        set_up_without_peer(player),
         player.own("candidate:1 1 udp 100 10.0.0.1 1000 typ host"),
         !player.own("candidate:1 1 udp 99 10.0.0.1 1000 typ host"),
         player.own("candidate:1 1 udp 100 10.0.0.1 1000 typ host"),
@@ -136,28 +136,28 @@ fn is_first(player: &Player, ufrag: &str, prio: u32) -> bool {
 
 const OWN: &str = "candidate:1 1 udp 1 10.0.0.1 1000 typ host";
 
-fn a_candidate_that_comes_again_is_as_it_was(player: &mut Player) -> Emitted {
+fn a_candidate_that_comes_again_is_as_it_was(player: &mut Player) -> Told {
     Story("a_candidate_that_comes_again_is_as_it_was").holds(&[
-        player.is_paired(),
+        player.set_up_pair(),
         player.loses(OWN) && !player.loses(OWN),
         player.is_at(&[]) && player.pair_with(PEER).is_none(),
-        player.is_renamed("new1", "pass") && player.host(at(1, 1000)),
+        player.rename("new1", "pass") && player.host(at(1, 1000)),
         // it would get the second preference of its kind, were it new
         player.is_at(&[at(1, 1000)]) && is_first(player, "near", 2130706175),
         player.pair_with(PEER).is_some(),
     ])
 }
 
-fn discarded_candidates_count_for_preference(player: &mut Player) -> Emitted {
+fn discarded_candidates_count_for_preference(player: &mut Player) -> Told {
     Story("discarded_candidates_count_for_preference").holds(&[
-        player.is_alone(),
+        player.set_up_alone(),
         player.loses(OWN) && stands_at(player, at(1, 1001), 2130705663),
     ])
 }
 
-fn the_first_equal_candidate_decides_though_discarded(player: &mut Player) -> Emitted {
+fn the_first_equal_candidate_decides_though_discarded(player: &mut Player) -> Told {
     Story("the_first_equal_candidate_decides_though_discarded").holds(&[
-        is_unnamed(player),
+        set_up_without_peer(player),
         player.own("candidate:1 1 udp 200 10.0.0.1 1000 typ host"),
         player.loses(OWN),
         // of another kind, and less
@@ -167,9 +167,9 @@ fn the_first_equal_candidate_decides_though_discarded(player: &mut Player) -> Em
     ])
 }
 
-fn a_lite_agent_has_hosts_alone(player: &mut Player) -> Emitted {
+fn a_lite_agent_has_hosts_alone(player: &mut Player) -> Told {
     Story("a_lite_agent_has_hosts_alone").holds(&[
-        is_unnamed(player) && player.becomes_lite(),
+        set_up_without_peer(player) && player.becomes_lite(),
         !player.own("candidate:1 1 udp 100 10.0.0.1 1000 typ srflx"),
         player.host(at(1, 1001)) && player.is_at(&[at(1, 1001)]),
     ])
@@ -182,9 +182,9 @@ fn ignores(player: &mut Player, line: &str) -> bool {
     player.hears(line) && player.has_heard_of(&[at(2, 2000)])
 }
 
-fn some_remote_candidates_are_ignored(player: &mut Player) -> Emitted {
+fn some_remote_candidates_are_ignored(player: &mut Player) -> Told {
     Story("some_remote_candidates_are_ignored").holds(&[
-        player.is_paired(),
+        player.set_up_pair(),
         ignores(
             player,
             "candidate:1 2 udp 2130706174 10.0.0.2 2001 typ host",
@@ -210,17 +210,17 @@ fn are_unnamed(player: &Player) -> bool {
     true
 }
 
-fn a_candidate_without_a_pair_is_stored_again(player: &mut Player) -> Emitted {
+fn a_candidate_without_a_pair_is_stored_again(player: &mut Player) -> Told {
     Story("a_candidate_without_a_pair_is_stored_again").holds(&[
-        player.is_alone() && player.is_limited(0),
+        player.set_up_alone() && player.limit_pairs(0),
         player.hears(PEER) && player.hears(PEER),
         player.has_heard_of(&[at(2, 2000), at(2, 2000)]),
     ])
 }
 
-fn lists_skip_what_was_taken_back(player: &mut Player) -> Emitted {
+fn lists_skip_what_was_taken_back(player: &mut Player) -> Told {
     Story("lists_skip_what_was_taken_back").holds(&[
-        player.is_paired(),
+        player.set_up_pair(),
         player.hears("candidate:1 1 udp 7 10.0.0.3 3000 typ host"),
         player.host(at(1, 1001)),
         player.loses(PEER) && player.has_heard_of(&[at(3, 3000)]),

@@ -6,7 +6,7 @@ use super::*;
 struct Credentials;
 
 impl Subject for Credentials {
-    fn play(&self, player: &mut Player) -> Emitted {
+    fn play(&self, player: &mut Player) -> Told {
         user_fragments_leave_room_for_a_check(player)?;
         an_agent_is_made_under_507_letters(player)?;
         the_longest_check_reads_again(player)?;
@@ -50,12 +50,12 @@ fn fits(player: &mut Player, call: Setting, len: usize) -> Option<bool> {
 
 /// They are taken.
 fn takes(player: &mut Player, call: Setting, len: usize) -> bool {
-    fits(player, call, len) == Some(true)
+    same(fits(player, call, len), Some(true), player)
 }
 
 /// They are refused, since they leave no room.
 fn refuses(player: &mut Player, call: Setting, len: usize) -> bool {
-    fits(player, call, len) == Some(false)
+    same(fits(player, call, len), Some(false), player)
 }
 
 /// A call that takes credentials.
@@ -67,7 +67,7 @@ enum Setting {
 }
 
 /// Both fragments and the colon between them have 508 bytes at most.
-fn user_fragments_leave_room_for_a_check(player: &mut Player) -> Emitted {
+fn user_fragments_leave_room_for_a_check(player: &mut Player) -> Told {
     Story("user_fragments_leave_room_for_a_check").holds(&[
         player.begins("near", "nearpass", 1),
         refuses(player, Setting::Local, 508),
@@ -80,7 +80,11 @@ fn user_fragments_leave_room_for_a_check(player: &mut Player) -> Emitted {
         refuses(player, Setting::Restart, 508),
         // a restart forgets the other fragment
         takes(player, Setting::Restart, 507),
-        player.agent.local_credentials().ufrag.as_str().len() == 507,
+        same(
+            player.agent.local_credentials().ufrag.as_str().len(),
+            507,
+            player,
+        ),
         player.agent.remote_credentials().is_none() && player.tells(b"Rc"),
     ])
 }
@@ -96,19 +100,21 @@ fn is_made_under_none(player: &Player, len: usize) -> bool {
     }
 }
 
-fn an_agent_is_made_under_507_letters(player: &mut Player) -> Emitted {
+fn an_agent_is_made_under_507_letters(player: &mut Player) -> Told {
     Story("an_agent_is_made_under_507_letters").holds(&[is_made_under_none(player, 508)])
 }
 
-/// A controlling agent under the longest user fragments, which has got one candidate of the peer's.
-fn is_longest(player: &mut Player) -> bool {
-    player.is_paired() && takes(player, Setting::Local, 254) && takes(player, Setting::Remote, 253)
+/// Sets up a controlling agent with the longest username fragments and one candidate of the peer.
+fn set_up_longest(player: &mut Player) -> bool {
+    player.set_up_pair()
+        && takes(player, Setting::Local, 254)
+        && takes(player, Setting::Remote, 253)
 }
 
-fn the_longest_check_reads_again(player: &mut Player) -> Emitted {
+fn the_longest_check_reads_again(player: &mut Player) -> Told {
     Story("the_longest_check_reads_again").holds(&[
-        is_longest(player),
-        player.is_answered(at(1, 1000)) && player.checks(50),
+        set_up_longest(player),
+        player.complete_check(at(1, 1000)) && player.checks(50),
         // it reads as a check of this length with USE-CANDIDATE
         player.has_checked(588, true) && player.has_signed("farpass"),
     ])
@@ -124,21 +130,21 @@ fn goes_by(player: &Player, ufrag: &str) -> bool {
     }
 }
 
-fn candidates_keep_their_fragment_until_a_restart(player: &mut Player) -> Emitted {
+fn candidates_keep_their_fragment_until_a_restart(player: &mut Player) -> Told {
     Story("candidates_keep_their_fragment_until_a_restart").holds(&[
-        player.is_paired(),
-        goes_by(player, "near") && player.is_renamed("new1", "pass"),
+        player.set_up_pair(),
+        goes_by(player, "near") && player.rename("new1", "pass"),
         player.agent.local_credentials().ufrag.as_str() == "new1",
         goes_by(player, "near"),
         player.restarts("new2", "pass", true) && goes_by(player, "new2"),
     ])
 }
 
-fn requests_are_taken_under_the_present_credentials(player: &mut Player) -> Emitted {
+fn requests_are_taken_under_the_present_credentials(player: &mut Player) -> Told {
     Story("requests_are_taken_under_the_present_credentials").holds(&[
-        player.is_alone(),
-        player.knows("SQAt", "x") && !player.is_asked(0, at(1, 1000)),
-        player.is_renamed("p9KA", PASSWORD) && player.is_asked(0, at(1, 1000)),
+        player.set_up_alone(),
+        player.knows("SQAt", "x") && !player.receive_request(0, at(1, 1000)),
+        player.rename("p9KA", PASSWORD) && player.receive_request(0, at(1, 1000)),
         player.sends() && player.has_replied(PASSWORD),
     ])
 }

@@ -28,13 +28,15 @@ pub(super) fn generator() -> Pcg32 {
     Pcg32::new(42, 54)
 }
 
-/// An agent, its random source and memory, the packet that it sent last, and the bytes that come to it next.
+/// An agent, its random source and memory, the packet that it sent last, the first comparison that failed, and the bytes that
+/// come to the agent next.
 #[derive(Drop)]
 pub(super) struct Player {
     pub(super) agent: Agent,
     pub(super) rng: Pcg32,
     pub(super) alloc: Global,
     pub(super) sent: Option<Transmit>,
+    pub(super) difference: Option<String>,
     coming: Vec<u8>,
 }
 
@@ -51,18 +53,20 @@ impl Player {
             rng: Pcg32::seed_from_u64(tie_breaker),
             alloc,
             sent: None,
+            difference: None,
             coming: Vec::new(alloc),
         })
     }
 }
 
-// ---- how it begins: whether each was made
+// ---- how it begins: whether each was set up
 
 impl Player {
     /// Is a new agent, as `new` makes it.
     pub(super) fn begins(&mut self, ufrag: &str, pass: &str, tie_breaker: u64) -> bool {
         match Player::new(self.alloc, ufrag, pass, tie_breaker) {
-            Ok(player) => {
+            Ok(mut player) => {
+                player.difference = self.difference.take();
                 *self = player;
                 true
             }
@@ -70,22 +74,22 @@ impl Player {
         }
     }
 
-    /// Is the agent that the request of 100 bytes is for: at 10.0.0.1:1000.
-    pub(super) fn is_addressed(&mut self) -> bool {
+    /// Sets up the agent that the request of 100 bytes is for, at 10.0.0.1:1000, with both credentials.
+    pub(super) fn set_up_credentials(&mut self) -> bool {
         self.begins("p9KA", PASSWORD, 1) && self.knows("SQAt", "x") && self.host(at(1, 1000))
     }
 
-    /// Is a controlling agent at 10.0.0.1:1000 that knows the peer's credentials.
-    pub(super) fn is_alone(&mut self) -> bool {
+    /// Sets up a controlling agent at 10.0.0.1:1000 that knows the peer's credentials, and no candidate of it.
+    pub(super) fn set_up_alone(&mut self) -> bool {
         self.begins("near", "nearpass", 7)
             && self.takes_role(true)
             && self.knows("farr", "farpass")
             && self.host(at(1, 1000))
     }
 
-    /// Is the same agent, which has got one candidate of the peer's.
-    pub(super) fn is_paired(&mut self) -> bool {
-        self.is_alone() && self.hears(PEER)
+    /// Sets up the same agent, and adds one candidate of the peer: it has one pair.
+    pub(super) fn set_up_pair(&mut self) -> bool {
+        self.set_up_alone() && self.hears(PEER)
     }
 }
 
@@ -110,8 +114,8 @@ impl Player {
         true
     }
 
-    /// Has so many pairs at most from now on.
-    pub(super) fn is_limited(&mut self, pairs: usize) -> bool {
+    /// Limits the number of pairs.
+    pub(super) fn limit_pairs(&mut self, pairs: usize) -> bool {
         self.agent.set_max_candidate_pairs(pairs);
         true
     }
@@ -128,8 +132,8 @@ impl Player {
         true
     }
 
-    /// Sends a packet each so many milliseconds at most.
-    pub(super) fn is_paced(&mut self, ms: u64) -> bool {
+    /// Sets the pacing interval Ta, in milliseconds.
+    pub(super) fn set_pacing(&mut self, ms: u64) -> bool {
         self.agent.set_timing_advance(Duration::from_millis(ms));
         true
     }
@@ -148,8 +152,8 @@ impl Player {
         }
     }
 
-    /// Gives other credentials.
-    pub(super) fn is_renamed(&mut self, ufrag: &str, pass: &str) -> bool {
+    /// Sets other local credentials.
+    pub(super) fn rename(&mut self, ufrag: &str, pass: &str) -> bool {
         match creds(self.alloc, ufrag, pass) {
             Ok(creds) => self.agent.set_local_credentials(creds).is_ok(),
             Err(_) => false,
@@ -255,8 +259,8 @@ impl Player {
         self.takes(ms, at(2, 2000), at(1, 1000))
     }
 
-    /// It sends a check at 0, whose answer with this mapped address comes at 50.
-    pub(super) fn is_answered(&mut self, mapped: SocketAddr) -> bool {
+    /// It sends a check at 0, and the success response with this mapped address comes at 50 ms.
+    pub(super) fn complete_check(&mut self, mapped: SocketAddr) -> bool {
         self.checks(0) && self.expects_answer(mapped) && self.hears_peer(50)
     }
 
@@ -271,8 +275,8 @@ impl Player {
         }
     }
 
-    /// The request of 100 bytes comes from 10.0.0.2:2000; whether it takes it.
-    pub(super) fn is_asked(&mut self, ms: u64, destination: SocketAddr) -> bool {
+    /// The request of 100 bytes comes from 10.0.0.2:2000; whether the agent accepts it.
+    pub(super) fn receive_request(&mut self, ms: u64, destination: SocketAddr) -> bool {
         match packet(&REQUEST, at(2, 2000), destination) {
             Some(packet) => matches!(self.agent.handle_packet(later(ms), packet), Ok(true)),
             None => false,

@@ -18,13 +18,13 @@ fn add_host(agent: &mut Agent, alloc: Global) -> Result<bool, IceError> {
     Ok(agent.add_local_candidate(host)?.is_some())
 }
 
-/// Knows its peer; a call that is refused is made once more.
-fn knows_peer(agent: &mut Agent, alloc: Global) -> bool {
+/// Passes the peer's credentials; a call that fails is made once more.
+fn tell_peer_with_retry(agent: &mut Agent, alloc: Global) -> bool {
     tell_peer(agent, alloc).is_ok() || tell_peer(agent, alloc).is_ok()
 }
 
-/// Has a host candidate, likewise.
-fn has_host(agent: &mut Agent, alloc: Global) -> bool {
+/// Adds a host candidate, likewise.
+fn add_host_with_retry(agent: &mut Agent, alloc: Global) -> bool {
     matches!(add_host(agent, alloc), Ok(true)) || matches!(add_host(agent, alloc), Ok(true))
 }
 
@@ -41,8 +41,8 @@ fn takes(agent: &mut Agent, packet: StunPacket<'_>) -> bool {
     }
 }
 
-/// Takes the request from 10.0.0.2:2000.
-fn is_asked(agent: &mut Agent) -> bool {
+/// The request comes from 10.0.0.2:2000; whether the agent accepts it.
+fn receive_request(agent: &mut Agent) -> bool {
     match StunMessage::parse(&REQUEST) {
         Ok(message) => takes(
             agent,
@@ -66,9 +66,9 @@ fn replies(agent: &mut Agent) -> bool {
 
 /// Plays with the agent, which it borrows.
 fn play(rt: &impl Abort, agent: &mut Agent, alloc: Global) {
-    assert!(rt; knows_peer(agent, alloc));
-    assert!(rt; has_host(agent, alloc));
-    assert!(rt; is_asked(agent));
+    assert!(rt; tell_peer_with_retry(agent, alloc));
+    assert!(rt; add_host_with_retry(agent, alloc));
+    assert!(rt; receive_request(agent));
     assert!(rt; replies(agent));
     assert!(rt; agent.poll_event().is_some());
     assert!(rt; agent.poll_event().is_none());

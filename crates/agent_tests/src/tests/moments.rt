@@ -6,7 +6,7 @@ use super::*;
 struct Moments;
 
 impl Subject for Moments {
-    fn play(&self, player: &mut Player) -> Emitted {
+    fn play(&self, player: &mut Player) -> Told {
         a_path_is_announced_and_nominated(player)?;
         a_pair_without_answers_is_given_up(player)?;
         a_waiting_packet_leaves_due_moments_open(player)?;
@@ -23,17 +23,17 @@ fn moments_pass(rt: HostRuntime) -> Result<(), Fail> {
     tell(rt.alloc(), &Moments)
 }
 
-fn a_path_is_announced_and_nominated(player: &mut Player) -> Emitted {
+fn a_path_is_announced_and_nominated(player: &mut Player) -> Told {
     Story("a_path_is_announced_and_nominated").holds(&[
-        player.is_paired(),
+        player.set_up_pair(),
         player.checks(0) && player.has_checked(88, false),
         player.tells(b"Rc") && player.wakes_at(250),
         player.expects_answer(at(1, 1000)) && player.hears_peer(50),
         player.tells(b"NCD") && player.wakes_at(50),
         player.checks(50) && player.has_checked(92, true),
         // the announced pair stands at the greatest priority: it is not announced again
-        player.is_still(),
-        player.agent.stats().nomination_send_count == 1,
+        player.emits_nothing(),
+        same(player.agent.stats().nomination_send_count, 1, player),
     ])
 }
 
@@ -50,20 +50,20 @@ fn follows_schedule(player: &mut Player) -> bool {
     true
 }
 
-fn a_pair_without_answers_is_given_up(player: &mut Player) -> Emitted {
+fn a_pair_without_answers_is_given_up(player: &mut Player) -> Told {
     Story("a_pair_without_answers_is_given_up").holds(&[
-        player.is_paired(),
+        player.set_up_pair(),
         follows_schedule(player) && player.tells(b"Rc"),
-        player.timeout(18750) && player.tells(b"x") && player.is_silent(),
+        player.timeout(18750) && player.tells(b"x") && player.sends_nothing(),
         player.pair_with(PEER).is_none() && player.wakes_at(21750),
         player.agent.state().is_disconnected(),
-        player.agent.stats().bind_request_sent == 9,
+        same(player.agent.stats().bind_request_sent, 9, player),
     ])
 }
 
-fn a_waiting_packet_leaves_due_moments_open(player: &mut Player) -> Emitted {
+fn a_waiting_packet_leaves_due_moments_open(player: &mut Player) -> Told {
     Story("a_waiting_packet_leaves_due_moments_open").holds(&[
-        player.is_paired(),
+        player.set_up_pair(),
         player.agent.poll_timeout().is_none(),
         player.timeout(0) && player.wakes_at(50),
         // due moments are asked at the last moment, and fixed then
@@ -71,52 +71,52 @@ fn a_waiting_packet_leaves_due_moments_open(player: &mut Player) -> Emitted {
     ])
 }
 
-fn an_earlier_moment_makes_no_check(player: &mut Player) -> Emitted {
+fn an_earlier_moment_makes_no_check(player: &mut Player) -> Told {
     Story("an_earlier_moment_makes_no_check").holds(&[
-        player.is_paired(),
+        player.set_up_pair(),
         player.checks(1000),
-        player.timeout(0) && player.is_silent() && player.wakes_at(1250),
+        player.timeout(0) && player.sends_nothing() && player.wakes_at(1250),
     ])
 }
 
 /// A controlled agent, asked to nominate behind its check, wakes then.
 fn nominates_and_wakes_at(player: &mut Player, ms: u64) -> bool {
-    player.is_asked(10, at(1, 1000))
+    player.receive_request(10, at(1, 1000))
         && player.sends()
         && player.nominates(PEER)
         && player.wakes_at(ms)
 }
 
-fn a_nomination_leaves_a_due_moment_that_was_asked_for(player: &mut Player) -> Emitted {
+fn a_nomination_leaves_a_due_moment_that_was_asked_for(player: &mut Player) -> Told {
     Story("a_nomination_leaves_a_due_moment_that_was_asked_for").holds(&[
-        player.is_addressed(),
+        player.set_up_credentials(),
         player.hears(PEER) && player.checks(0) && player.wakes_at(250),
         nominates_and_wakes_at(player, 250),
     ])
 }
 
-fn a_nominated_pair_that_was_not_asked_is_due(player: &mut Player) -> Emitted {
+fn a_nominated_pair_that_was_not_asked_is_due(player: &mut Player) -> Told {
     Story("a_nominated_pair_that_was_not_asked_is_due").holds(&[
-        player.is_addressed(),
+        player.set_up_credentials(),
         player.hears(PEER) && player.checks(0),
         nominates_and_wakes_at(player, 50),
     ])
 }
 
-fn another_delay_asks_for_due_moments_anew(player: &mut Player) -> Emitted {
+fn another_delay_asks_for_due_moments_anew(player: &mut Player) -> Told {
     Story("another_delay_asks_for_due_moments_anew").holds(&[
-        player.is_paired(),
+        player.set_up_pair(),
         player.checks(0) && player.wakes_at(250),
         player.waits_at_first(100) && player.wakes_at(100),
         player.waits_at_most(80) && player.wakes_at(80),
         // the pace of what is sent bounds it from below
-        player.is_paced(90) && player.wakes_at(90),
+        player.set_pacing(90) && player.wakes_at(90),
     ])
 }
 
-fn fewer_checks_give_up_sooner(player: &mut Player) -> Emitted {
+fn fewer_checks_give_up_sooner(player: &mut Player) -> Told {
     Story("fewer_checks_give_up_sooner").holds(&[
-        player.is_paired() && player.tries_once(),
+        player.set_up_pair() && player.tries_once(),
         player.checks(0),
         player.timeout(249) && player.pair_with(PEER).is_some(),
         player.timeout(250) && player.pair_with(PEER).is_none(),

@@ -10,7 +10,7 @@ use is::Duration;
 struct Progress;
 
 impl Subject for Progress {
-    fn play(&self, player: &mut Player) -> Emitted {
+    fn play(&self, player: &mut Player) -> Told {
         the_least_of_four_pairs_is_announced_in_the_fourth_round(player)?;
         the_least_of_a_hundred_pairs_is_announced_in_the_hundredth_round(player)?;
         without_an_advance_the_wake_up_is_the_last_moment(player)?;
@@ -58,9 +58,9 @@ fn hears_of_all(player: &mut Player, count: u8) -> bool {
     true
 }
 
-/// Is a controlling agent at 10.0.0.1:1000 that has so many pairs.
-fn has_pairs(player: &mut Player, count: u8) -> bool {
-    player.is_alone() && hears_of_all(player, count)
+/// Sets up a controlling agent at 10.0.0.1:1000 with so many pairs.
+fn set_up_pairs(player: &mut Player, count: u8) -> bool {
+    player.set_up_alone() && hears_of_all(player, count)
 }
 
 // ---- rounds
@@ -73,8 +73,8 @@ fn next_moment(player: &mut Player) -> u64 {
     }
 }
 
-/// A check of the path to the address, if one goes out, meets an authentic success 10 ms later.
-fn may_be_answered(player: &mut Player, ms: u64, address: SocketAddr) -> bool {
+/// Answers a check to the address, if one goes out, by an authentic success 10 ms later.
+fn answer_check_to(player: &mut Player, ms: u64, address: SocketAddr) -> bool {
     if !player.sends() || !player.has_sent_from(at(1, 1000), address) {
         return true;
     }
@@ -99,8 +99,8 @@ fn announces(player: &mut Player, address: SocketAddr) -> bool {
 /// A round, at this moment, in which checks to the address alone are answered; whether it announced the path there.
 fn announces_in_round(player: &mut Player, ms: u64, address: SocketAddr) -> bool {
     player.timeout(ms)
-        && may_be_answered(player, ms, address)
-        && player.is_silent()
+        && answer_check_to(player, ms, address)
+        && player.sends_nothing()
         && announces(player, address)
 }
 
@@ -118,78 +118,81 @@ fn announced(player: &mut Player, address: SocketAddr, rounds: u64) -> Option<(u
 
 /// So many rounds pass in which it checks nothing, and announces nothing.
 fn checks_nothing(player: &mut Player, rounds: u64) -> bool {
-    announced(player, peer(1), rounds).is_none() && player.agent.stats().bind_request_sent == 0
+    announced(player, peer(1), rounds).is_none()
+        && same(player.agent.stats().bind_request_sent, 0, player)
 }
 
 // ---- of n pairs the last is checked in round n, (n - 1) * 50 ms behind the first
 
-fn the_least_of_four_pairs_is_announced_in_the_fourth_round(player: &mut Player) -> Emitted {
+fn the_least_of_four_pairs_is_announced_in_the_fourth_round(player: &mut Player) -> Told {
     Story("the_least_of_four_pairs_is_announced_in_the_fourth_round").holds(&[
-        has_pairs(player, 4),
-        announced(player, peer(4), 100) == Some((4, 150)),
-        player.agent.stats().bind_request_sent == 4,
+        set_up_pairs(player, 4),
+        same(announced(player, peer(4), 100), Some((4, 150)), player),
+        same(player.agent.stats().bind_request_sent, 4, player),
     ])
 }
 
-fn the_least_of_a_hundred_pairs_is_announced_in_the_hundredth_round(player: &mut Player) -> Emitted {
+fn the_least_of_a_hundred_pairs_is_announced_in_the_hundredth_round(player: &mut Player) -> Told {
     Story("the_least_of_a_hundred_pairs_is_announced_in_the_hundredth_round").holds(&[
-        has_pairs(player, 100),
-        announced(player, peer(100), 200) == Some((100, 4950)),
-        player.agent.stats().bind_request_sent == 100,
+        set_up_pairs(player, 100),
+        same(announced(player, peer(100), 200), Some((100, 4950)), player),
+        same(player.agent.stats().bind_request_sent, 100, player),
     ])
 }
 
 // ---- runs that hold it up
 
-fn without_an_advance_the_wake_up_is_the_last_moment(player: &mut Player) -> Emitted {
+fn without_an_advance_the_wake_up_is_the_last_moment(player: &mut Player) -> Told {
     Story("without_an_advance_the_wake_up_is_the_last_moment").holds(&[
-        has_pairs(player, 2) && player.is_paced(0),
+        set_up_pairs(player, 2) && player.set_pacing(0),
         player.checks(100) && player.wakes_at(100),
-        player.is_paced(1) && player.wakes_at(101),
+        player.set_pacing(1) && player.wakes_at(101),
     ])
 }
 
-/// Is a controlling agent with two pairs, which waits so many nanoseconds for the first answer.
-fn waits(player: &mut Player, nanos: u64) -> bool {
-    if !has_pairs(player, 2) {
+/// Sets up a controlling agent with two pairs, which waits so many nanoseconds for the first answer.
+fn set_up_initial_rto(player: &mut Player, nanos: u64) -> bool {
+    if !set_up_pairs(player, 2) {
         return false;
     }
     player.agent.set_initial_stun_rto(Duration(nanos));
     true
 }
 
-fn below_a_millisecond_a_pair_goes_twice_before_another(player: &mut Player) -> Emitted {
+fn below_a_millisecond_a_pair_goes_twice_before_another(player: &mut Player) -> Told {
     Story("below_a_millisecond_a_pair_goes_twice_before_another").holds(&[
         // due again at 1 ms, behind the other
-        waits(player, 1_000_000) && announced(player, peer(2), 9) == Some((2, 50)),
+        set_up_initial_rto(player, 1_000_000)
+            && same(announced(player, peer(2), 9), Some((2, 50)), player),
         // due again at once, before the other of less priority
-        waits(player, 999_999) && announced(player, peer(2), 9) == Some((3, 100)),
+        set_up_initial_rto(player, 999_999)
+            && same(announced(player, peer(2), 9), Some((3, 100)), player),
     ])
 }
 
-fn a_lite_agent_checks_nothing(player: &mut Player) -> Emitted {
+fn a_lite_agent_checks_nothing(player: &mut Player) -> Told {
     Story("a_lite_agent_checks_nothing").holds(&[
-        player.is_alone() && player.becomes_lite(),
+        player.set_up_alone() && player.becomes_lite(),
         hears_of_all(player, 1) && checks_nothing(player, 10),
         // it wakes each 3 s
         player.wakes_at(30_000),
     ])
 }
 
-fn without_the_credentials_of_the_peer_nothing_is_checked(player: &mut Player) -> Emitted {
+fn without_the_credentials_of_the_peer_nothing_is_checked(player: &mut Player) -> Told {
     Story("without_the_credentials_of_the_peer_nothing_is_checked").holds(&[
         player.begins("near", "nearpass", 7) && player.takes_role(true),
         player.host(at(1, 1000)) && hears_of_all(player, 1),
         // its pair is due all the time
         checks_nothing(player, 10) && player.wakes_at(500),
         player.knows("farr", "farpass"),
-        announced(player, peer(1), 9) == Some((1, 500)),
+        same(announced(player, peer(1), 9), Some((1, 500)), player),
     ])
 }
 
 /// A request of the first candidate, by an agent of greater tie-breaker in this role, turns the agent to the other one. It
 /// nominates where its sender is controlling.
-fn is_turned(player: &mut Player, ms: u64, claimed: bool) -> bool {
+fn turn_role(player: &mut Player, ms: u64, claimed: bool) -> bool {
     let request = StunMessage::binding_request(
         "near:farr",
         TransId([7; 12]),
@@ -205,34 +208,34 @@ fn is_turned(player: &mut Player, ms: u64, claimed: bool) -> bool {
         && player.has_sent(Class::Success, 64)
 }
 
-/// Is a controlling agent with two pairs that has checked the first, a minute behind the beginning.
-fn has_checked_one(player: &mut Player) -> bool {
-    has_pairs(player, 2) && player.checks(60_000) && player.has_sent_from(at(1, 1000), peer(1))
+/// Sets up a controlling agent with two pairs that has checked the first, a minute after the beginning.
+fn set_up_one_checked(player: &mut Player) -> bool {
+    set_up_pairs(player, 2) && player.checks(60_000) && player.has_sent_from(at(1, 1000), peer(1))
 }
 
-fn a_role_that_turns_twice_within_a_round_puts_a_pair_ahead(player: &mut Player) -> Emitted {
+fn a_role_that_turns_twice_within_a_round_puts_a_pair_ahead(player: &mut Player) -> Told {
     Story("a_role_that_turns_twice_within_a_round_puts_a_pair_ahead").holds(&[
-        has_checked_one(player),
-        announced(player, peer(2), 9) == Some((1, 60_050)),
-        has_checked_one(player),
-        is_turned(player, 60_010, true) && is_turned(player, 60_020, false),
+        set_up_one_checked(player),
+        same(announced(player, peer(2), 9), Some((1, 60_050)), player),
+        set_up_one_checked(player),
+        turn_role(player, 60_010, true) && turn_role(player, 60_020, false),
         // the pair that was nominated meanwhile is checked once more
-        announced(player, peer(2), 9) == Some((2, 60_100)),
+        same(announced(player, peer(2), 9), Some((2, 60_100)), player),
     ])
 }
 
 /// It checks its pair at 0, and wakes for it at 250; an answer to that check is to come.
-fn is_waited_for(player: &mut Player) -> bool {
+fn check_and_wait(player: &mut Player) -> bool {
     player.checks(0) && player.expects_answer(at(1, 1000)) && player.wakes_at(250)
 }
 
-fn a_pair_of_one_check_is_given_up_before_a_late_answer(player: &mut Player) -> Emitted {
+fn a_pair_of_one_check_is_given_up_before_a_late_answer(player: &mut Player) -> Told {
     Story("a_pair_of_one_check_is_given_up_before_a_late_answer").holds(&[
-        has_pairs(player, 1) && is_waited_for(player) && player.checks(250),
+        set_up_pairs(player, 1) && check_and_wait(player) && player.checks(250),
         // the answer to the first check counts behind the second one too
         player.takes(300, peer(1), at(1, 1000)) && announces(player, peer(1)),
-        has_pairs(player, 1) && player.tries_once() && is_waited_for(player),
-        player.timeout(250) && player.is_silent() && player.agent.state().is_disconnected(),
+        set_up_pairs(player, 1) && player.tries_once() && check_and_wait(player),
+        player.timeout(250) && player.sends_nothing() && player.agent.state().is_disconnected(),
         !player.takes(300, peer(1), at(1, 1000)) && !announces(player, peer(1)),
     ])
 }

@@ -6,7 +6,7 @@ use super::*;
 struct Queue;
 
 impl Subject for Queue {
-    fn play(&self, player: &mut Player) -> Emitted {
+    fn play(&self, player: &mut Player) -> Told {
         the_last_100_requests_wait(player)?;
         a_request_waits_as_long_as_a_pair_is_checked(player)?;
         an_old_request_is_dropped(player)?;
@@ -22,8 +22,8 @@ fn requests_wait(rt: HostRuntime) -> Result<(), Fail> {
     tell(rt.alloc(), &Queue)
 }
 
-/// Is the agent of the request of 100 bytes, before it knows of its peer.
-fn is_waiting(player: &mut Player) -> bool {
+/// Sets up the agent of the request of 100 bytes, before it knows its peer.
+fn set_up_without_peer(player: &mut Player) -> bool {
     player.begins("p9KA", PASSWORD, 1) && player.host(at(1, 1000))
 }
 
@@ -55,77 +55,80 @@ fn takes_many(player: &mut Player) -> bool {
 fn replies_in_order(player: &mut Player) -> bool {
     for before in 0..100u8 {
         let is_served = player.checks(0) && player.has_sent(Class::Success, 64);
-        if !is_served || player.sent_id() != Some(numbered(before + 1)) || !player.is_silent() {
+        if !is_served
+            || !same(player.sent_id(), Some(numbered(before + 1)), player)
+            || !player.sends_nothing()
+        {
             return false;
         }
     }
     true
 }
 
-fn the_last_100_requests_wait(player: &mut Player) -> Emitted {
+fn the_last_100_requests_wait(player: &mut Player) -> Told {
     Story("the_last_100_requests_wait").holds(&[
-        is_waiting(player),
-        takes_many(player) && player.tells(b"D") && player.is_silent(),
+        set_up_without_peer(player),
+        takes_many(player) && player.tells(b"D") && player.sends_nothing(),
         player.knows("SQAt", "x") && replies_in_order(player),
-        player.agent.stats().bind_request_recv == 100,
+        same(player.agent.stats().bind_request_recv, 100, player),
         // a moment that served a request is no last moment
         player.agent.poll_timeout().is_none(),
         player.checks(0) && player.has_sent(Class::Request, 88),
     ])
 }
 
-/// Is the same agent, which has taken the request at 0, and knows its peer now.
-fn is_told_late(player: &mut Player) -> bool {
-    is_waiting(player)
-        && player.is_asked(0, at(1, 1000))
+/// Sets up the same agent, which has accepted the request at 0, and knows its peer now.
+fn set_up_waiting_request(player: &mut Player) -> bool {
+    set_up_without_peer(player)
+        && player.receive_request(0, at(1, 1000))
         && player.tells(b"D")
         && player.knows("SQAt", "x")
 }
 
-fn a_request_waits_as_long_as_a_pair_is_checked(player: &mut Player) -> Emitted {
+fn a_request_waits_as_long_as_a_pair_is_checked(player: &mut Player) -> Told {
     Story("a_request_waits_as_long_as_a_pair_is_checked").holds(&[
-        is_told_late(player),
+        set_up_waiting_request(player),
         player.checks(21499) && player.has_replied(PASSWORD),
     ])
 }
 
-fn an_old_request_is_dropped(player: &mut Player) -> Emitted {
+fn an_old_request_is_dropped(player: &mut Player) -> Told {
     Story("an_old_request_is_dropped").holds(&[
-        is_told_late(player),
-        player.timeout(21500) && player.is_silent() && player.wakes_at(24500),
+        set_up_waiting_request(player),
+        player.timeout(21500) && player.sends_nothing() && player.wakes_at(24500),
     ])
 }
 
-fn without_delays_no_request_waits(player: &mut Player) -> Emitted {
+fn without_delays_no_request_waits(player: &mut Player) -> Told {
     Story("without_delays_no_request_waits").holds(&[
-        is_told_late(player) && player.waits_at_most(0),
-        player.timeout(0) && player.is_silent(),
+        set_up_waiting_request(player) && player.waits_at_most(0),
+        player.timeout(0) && player.sends_nothing(),
     ])
 }
 
-fn a_refused_moment_changes_nothing(player: &mut Player) -> Emitted {
+fn a_refused_moment_changes_nothing(player: &mut Player) -> Told {
     Story("a_refused_moment_changes_nothing").holds(&[
         // the request wants a pair, and no number is left
-        is_told_late(player) && player.skips_to(18446744073709551615),
-        !player.timeout(0) && player.is_still(),
-        player.agent.state() == IceConnectionState::New,
+        set_up_waiting_request(player) && player.skips_to(18446744073709551615),
+        !player.timeout(0) && player.emits_nothing(),
+        same(player.agent.state(), IceConnectionState::New, player),
         // it still waits, until it is too old
         !player.timeout(21499) && player.timeout(21500) && player.tells(b"Rc"),
     ])
 }
 
-fn a_waiting_request_wants_to_be_served_soon(player: &mut Player) -> Emitted {
+fn a_waiting_request_wants_to_be_served_soon(player: &mut Player) -> Told {
     Story("a_waiting_request_wants_to_be_served_soon").holds(&[
-        is_waiting(player),
+        set_up_without_peer(player),
         player.timeout(10) && player.wakes_at(3010),
-        player.is_asked(20, at(1, 1000)) && player.wakes_at(60),
+        player.receive_request(20, at(1, 1000)) && player.wakes_at(60),
     ])
 }
 
-fn a_waiting_request_outlives_a_restart(player: &mut Player) -> Emitted {
+fn a_waiting_request_outlives_a_restart(player: &mut Player) -> Told {
     Story("a_waiting_request_outlives_a_restart").holds(&[
-        is_waiting(player),
-        player.is_asked(0, at(1, 1000)) && player.restarts("new1", "newpass", true),
+        set_up_without_peer(player),
+        player.receive_request(0, at(1, 1000)) && player.restarts("new1", "newpass", true),
         // the request was signed with the old password; its reply goes by the new one
         player.knows("SQAt", "x") && player.checks(10) && player.has_replied("newpass"),
     ])

@@ -8,7 +8,7 @@ use is_agent::emitted::{last_announced, last_issued};
 struct Requests;
 
 impl Subject for Requests {
-    fn play(&self, player: &mut Player) -> Emitted {
+    fn play(&self, player: &mut Player) -> Told {
         the_request_is_answered(player)?;
         its_source_is_told_of_once(player)?;
         its_source_is_told_of_once_over_each_protocol(player)?;
@@ -52,31 +52,31 @@ fn has_issued(player: &Player) -> bool {
 }
 
 /// So many requests were served.
-fn has_served(player: &Player, count: u64) -> bool {
-    player.agent.stats().bind_request_recv == count
+fn has_served(player: &mut Player, count: u64) -> bool {
+    same(player.agent.stats().bind_request_recv, count, player)
 }
 
-fn the_request_is_answered(player: &mut Player) -> Emitted {
+fn the_request_is_answered(player: &mut Player) -> Told {
     Story("the_request_is_answered").holds(&[
-        player.is_addressed(),
-        player.is_asked(0, at(1, 1000)) && has_issued(player),
+        player.set_up_credentials(),
+        player.receive_request(0, at(1, 1000)) && has_issued(player),
         player.sends() && player.has_replied(PASSWORD),
         player.has_sent_from(at(1, 1000), at(2, 2000)),
     ])
 }
 
-fn its_source_is_told_of_once(player: &mut Player) -> Emitted {
+fn its_source_is_told_of_once(player: &mut Player) -> Told {
     Story("its_source_is_told_of_once").holds(&[
-        player.is_addressed(),
-        player.is_asked(0, at(1, 1000)) && discovers(player),
-        player.is_asked(1, at(1, 1000)) && player.tells(b""),
+        player.set_up_credentials(),
+        player.receive_request(0, at(1, 1000)) && discovers(player),
+        player.receive_request(1, at(1, 1000)) && player.tells(b""),
         player.agent.poll_timeout().is_none(),
-        player.agent.stats().discovered_recv_count == 1,
+        same(player.agent.stats().discovered_recv_count, 1, player),
     ])
 }
 
 /// The request comes over this protocol, from 10.0.0.2:2000 to 10.0.0.1:1000; whether the agent takes it.
-fn is_asked_over(player: &mut Player, proto: Protocol) -> bool {
+fn receive_request_over(player: &mut Player, proto: Protocol) -> bool {
     let Ok(message) = StunMessage::parse(&REQUEST) else {
         return false;
     };
@@ -91,66 +91,66 @@ fn is_asked_over(player: &mut Player, proto: Protocol) -> bool {
 
 /// It comes over this protocol, and is the first to.
 fn discovers_by(player: &mut Player, proto: Protocol) -> bool {
-    is_asked_over(player, proto) && discovers_over(player, proto) && player.tells(b"")
+    receive_request_over(player, proto) && discovers_over(player, proto) && player.tells(b"")
 }
 
-fn its_source_is_told_of_once_over_each_protocol(player: &mut Player) -> Emitted {
+fn its_source_is_told_of_once_over_each_protocol(player: &mut Player) -> Told {
     Story("its_source_is_told_of_once_over_each_protocol").holds(&[
-        player.is_addressed(),
+        player.set_up_credentials(),
         discovers_by(player, Protocol::Udp),
         discovers_by(player, Protocol::Tcp),
-        is_asked_over(player, Protocol::Tcp) && player.tells(b""),
-        is_asked_over(player, Protocol::Udp) && player.tells(b""),
-        player.agent.stats().discovered_recv_count == 2,
+        receive_request_over(player, Protocol::Tcp) && player.tells(b""),
+        receive_request_over(player, Protocol::Udp) && player.tells(b""),
+        same(player.agent.stats().discovered_recv_count, 2, player),
     ])
 }
 
-/// Is an agent at 10.0.0.1:1000 of this user fragment, password and peer.
-fn is_named(player: &mut Player, ufrag: &str, pass: &str, peer: &str) -> bool {
+/// Sets up an agent at 10.0.0.1:1000 with this username fragment, password and peer.
+fn set_up_named(player: &mut Player, ufrag: &str, pass: &str, peer: &str) -> bool {
     player.begins(ufrag, pass, 1) && player.knows(peer, "x") && player.host(at(1, 1000))
 }
 
-/// The agent takes the request, or it is not still behind it.
-fn is_taken(player: &mut Player) -> bool {
-    player.is_asked(0, at(1, 1000)) || !player.is_still()
+/// The agent accepts the request, or emits a packet or an event after it.
+fn reacts_to_request(player: &mut Player) -> bool {
+    player.receive_request(0, at(1, 1000)) || !player.emits_nothing()
 }
 
 /// The request is for the one agent, and for none of the others.
-fn a_request_for_others_changes_nothing(player: &mut Player) -> Emitted {
+fn a_request_for_others_changes_nothing(player: &mut Player) -> Told {
     let other = "xJcE9AQAR7kczUDVOXRUCm";
     Story("a_request_for_others_changes_nothing").holds(&[
-        is_named(player, "p9KA", PASSWORD, "SQAt") && is_taken(player),
-        is_named(player, "p9KA", other, "SQAt") && !is_taken(player),
-        is_named(player, "p9KB", PASSWORD, "SQAt") && !is_taken(player),
-        is_named(player, "p9KA", PASSWORD, "SQAu") && !is_taken(player),
+        set_up_named(player, "p9KA", PASSWORD, "SQAt") && reacts_to_request(player),
+        set_up_named(player, "p9KA", other, "SQAt") && !reacts_to_request(player),
+        set_up_named(player, "p9KB", PASSWORD, "SQAt") && !reacts_to_request(player),
+        set_up_named(player, "p9KA", PASSWORD, "SQAu") && !reacts_to_request(player),
     ])
 }
 
-fn a_request_to_no_local_candidate_is_dropped(player: &mut Player) -> Emitted {
+fn a_request_to_no_local_candidate_is_dropped(player: &mut Player) -> Told {
     Story("a_request_to_no_local_candidate_is_dropped").holds(&[
-        player.is_addressed(),
-        player.is_asked(0, at(1, 1001)) && player.is_silent(),
+        player.set_up_credentials(),
+        player.receive_request(0, at(1, 1001)) && player.sends_nothing(),
         discovers(player),
         has_served(player, 0),
     ])
 }
 
-fn a_request_to_a_discarded_candidate_forms_no_pair(player: &mut Player) -> Emitted {
+fn a_request_to_a_discarded_candidate_forms_no_pair(player: &mut Player) -> Told {
     Story("a_request_to_a_discarded_candidate_forms_no_pair").holds(&[
-        player.is_addressed(),
+        player.set_up_credentials(),
         player.loses("candidate:1 1 udp 1 10.0.0.1 1000 typ host"),
-        player.is_asked(0, at(1, 1000)) && player.tells(b"D") && player.is_silent(),
+        player.receive_request(0, at(1, 1000)) && player.tells(b"D") && player.sends_nothing(),
         // it counts, and its sender is stored
         has_served(player, 1),
         player.has_heard_of(&[at(2, 2000)]),
     ])
 }
 
-fn a_request_of_a_discarded_sender_is_dropped(player: &mut Player) -> Emitted {
+fn a_request_of_a_discarded_sender_is_dropped(player: &mut Player) -> Told {
     Story("a_request_of_a_discarded_sender_is_dropped").holds(&[
-        player.is_addressed(),
+        player.set_up_credentials(),
         player.hears(PEER) && player.loses(PEER),
-        player.is_asked(0, at(1, 1000)) && player.tells(b"D") && player.is_silent(),
+        player.receive_request(0, at(1, 1000)) && player.tells(b"D") && player.sends_nothing(),
         has_served(player, 1),
         player.has_heard_of(&[]),
     ])
@@ -167,31 +167,31 @@ fn named() -> Builder<'static, HasClass> {
         .prio(100)
 }
 
-fn a_controlling_agent_is_not_asked_to_nominate(player: &mut Player) -> Emitted {
+fn a_controlling_agent_is_not_asked_to_nominate(player: &mut Player) -> Told {
     let message = named().ice_controlled(3).use_candidate();
     Story("a_controlling_agent_is_not_asked_to_nominate").holds(&[
-        player.is_alone(),
+        player.set_up_alone(),
         player.expects(message.build(TransId([1; 12])), "nearpass"),
-        player.hears_peer(0) && player.tells(b"D") && player.is_silent(),
+        player.hears_peer(0) && player.tells(b"D") && player.sends_nothing(),
         has_served(player, 0),
         player.agent.controlling() && player.has_heard_of(&[]),
     ])
 }
 
-fn a_request_of_no_role_is_served(player: &mut Player) -> Emitted {
+fn a_request_of_no_role_is_served(player: &mut Player) -> Told {
     Story("a_request_of_no_role_is_served").holds(&[
-        player.is_alone(),
+        player.set_up_alone(),
         player.expects(named().build(TransId([1; 12])), "nearpass"),
         player.hears_peer(0) && player.sends() && player.has_sent(Class::Success, 64),
         player.agent.controlling() && player.has_heard_of(&[at(2, 2000)]),
     ])
 }
 
-fn of_two_roles_the_own_one_counts_once(player: &mut Player) -> Emitted {
+fn of_two_roles_the_own_one_counts_once(player: &mut Player) -> Told {
     // greater than the own tie-breaker in the own role, less in the other
     let message = named().ice_controlling(9).ice_controlled(1);
     Story("of_two_roles_the_own_one_counts_once").holds(&[
-        player.is_alone(),
+        player.set_up_alone(),
         player.expects(message.build(TransId([1; 12])), "nearpass"),
         player.hears_peer(0) && !player.agent.controlling(),
         player.sends() && player.has_sent(Class::Success, 64),

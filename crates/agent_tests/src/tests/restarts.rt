@@ -8,7 +8,7 @@ use is::pair::CheckState;
 struct Restarts;
 
 impl Subject for Restarts {
-    fn play(&self, player: &mut Player) -> Emitted {
+    fn play(&self, player: &mut Player) -> Told {
         a_restart_forgets_what_it_told(player)?;
         a_restart_keeps_own_candidates_or_not(player)?;
         a_restart_keeps_discard_marks_and_numbers(player)?;
@@ -30,10 +30,10 @@ fn has_done_nothing(player: &Player) -> bool {
     player.agent.stats() == IceAgentStats::default()
 }
 
-fn a_restart_forgets_what_it_told(player: &mut Player) -> Emitted {
+fn a_restart_forgets_what_it_told(player: &mut Player) -> Told {
     Story("a_restart_forgets_what_it_told").holds(&[
-        player.is_paired(),
-        player.is_answered(at(1, 1000)),
+        player.set_up_pair(),
+        player.complete_check(at(1, 1000)),
         !has_done_nothing(player),
         player.restarts("new1", "newpass", true),
         // of the five events of before none is left
@@ -51,9 +51,9 @@ fn tells_of(player: &mut Player, ufrag: &str) -> bool {
     }
 }
 
-fn a_restart_keeps_own_candidates_or_not(player: &mut Player) -> Emitted {
+fn a_restart_keeps_own_candidates_or_not(player: &mut Player) -> Told {
     Story("a_restart_keeps_own_candidates_or_not").holds(&[
-        player.is_paired(),
+        player.set_up_pair(),
         player.restarts("new1", "pass", true) && tells_of(player, "new1"),
         player.is_at(&[at(1, 1000)]) && player.has_heard_of(&[]),
         player.pair_with(PEER).is_none(),
@@ -63,19 +63,19 @@ fn a_restart_keeps_own_candidates_or_not(player: &mut Player) -> Emitted {
     ])
 }
 
-fn a_restart_keeps_discard_marks_and_numbers(player: &mut Player) -> Emitted {
+fn a_restart_keeps_discard_marks_and_numbers(player: &mut Player) -> Told {
     Story("a_restart_keeps_discard_marks_and_numbers").holds(&[
-        player.is_paired(),
+        player.set_up_pair(),
         player.host(at(1, 1001)),
         player.loses("candidate:1 1 udp 1 10.0.0.1 1000 typ host"),
         player.restarts("new1", "pass", true) && player.is_at(&[at(1, 1001)]),
-        player.hears(PEER) && player.number_with(PEER) == Some(2),
+        player.hears(PEER) && same(player.number_with(PEER), Some(2), player),
     ])
 }
 
-fn a_beginning_is_told_of_once(player: &mut Player) -> Emitted {
+fn a_beginning_is_told_of_once(player: &mut Player) -> Told {
     Story("a_beginning_is_told_of_once").holds(&[
-        player.is_paired(),
+        player.set_up_pair(),
         player.restarts("new1", "pass", true) && player.tells(b"Rc"),
         player.timeout(0) && player.tells(b""),
     ])
@@ -88,53 +88,58 @@ fn is_viable(player: &Player) -> bool {
     player.agent.has_viable_remote_candidate(at(2, 2000))
 }
 
-fn a_check_that_succeeded_is_seen(player: &mut Player) -> Emitted {
+fn a_check_that_succeeded_is_seen(player: &mut Player) -> Told {
     Story("a_check_that_succeeded_is_seen").holds(&[
-        player.is_paired(),
-        player.state_with(PEER) == Some(CheckState::Waiting),
-        player.checks(0) && player.state_with(PEER) == Some(CheckState::InProgress),
+        player.set_up_pair(),
+        same(player.state_with(PEER), Some(CheckState::Waiting), player),
+        player.checks(0)
+            && same(
+                player.state_with(PEER),
+                Some(CheckState::InProgress),
+                player,
+            ),
         !is_viable(player),
         player.expects_answer(at(1, 1000)) && player.hears_peer(50),
-        player.state_with(PEER) == Some(CheckState::Succeeded),
+        same(player.state_with(PEER), Some(CheckState::Succeeded), player),
         is_viable(player),
     ])
 }
 
-/// Is a lite agent that has taken the request at 0.
-fn is_lite(player: &mut Player) -> bool {
-    player.is_addressed() && player.becomes_lite() && player.is_asked(0, at(1, 1000))
+/// Sets up an ice-lite agent that has accepted the request at 0.
+fn set_up_lite(player: &mut Player) -> bool {
+    player.set_up_credentials() && player.becomes_lite() && player.receive_request(0, at(1, 1000))
 }
 
-fn a_lite_agent_has_its_path_at_once(player: &mut Player) -> Emitted {
+fn a_lite_agent_has_its_path_at_once(player: &mut Player) -> Told {
     Story("a_lite_agent_has_its_path_at_once").holds(&[
-        is_lite(player),
+        set_up_lite(player),
         is_viable(player),
         !player.agent.has_viable_remote_candidate(at(2, 2001)),
         player.timeout(0) && player.tells(b"DRcN"),
         player.sends() && player.wakes_at(3000),
-        player.agent.state() == IceConnectionState::Checking,
-        player.timeout(50) && player.tells(b"C") && player.is_silent(),
+        same(player.agent.state(), IceConnectionState::Checking, player),
+        player.timeout(50) && player.tells(b"C") && player.sends_nothing(),
         player.agent.state().is_connected(),
     ])
 }
 
-fn a_lite_agent_waits_15_seconds_for_its_peer(player: &mut Player) -> Emitted {
+fn a_lite_agent_waits_15_seconds_for_its_peer(player: &mut Player) -> Told {
     Story("a_lite_agent_waits_15_seconds_for_its_peer").holds(&[
-        is_lite(player),
+        set_up_lite(player),
         player.checks(0) && player.timeout(50) && player.tells(b"DRcNC"),
-        player.timeout(14999) && player.is_still(),
+        player.timeout(14999) && player.emits_nothing(),
         is_viable(player),
-        player.timeout(15000) && player.tells(b"x") && player.is_silent(),
+        player.timeout(15000) && player.tells(b"x") && player.sends_nothing(),
         !is_viable(player),
         player.agent.state().is_disconnected(),
     ])
 }
 
-fn a_lite_pair_that_replaces_lives_on_the_requests_of_the_other(player: &mut Player) -> Emitted {
+fn a_lite_pair_that_replaces_lives_on_the_requests_of_the_other(player: &mut Player) -> Told {
     Story("a_lite_pair_that_replaces_lives_on_the_requests_of_the_other").holds(&[
-        is_lite(player),
+        set_up_lite(player),
         // of a greater priority than the sender of the request
-        player.hears(PEER) && player.number_with(PEER) == Some(1),
+        player.hears(PEER) && same(player.number_with(PEER), Some(1), player),
         // not as if it had been heard of at the first moment
         player.timeout(10000) && player.timeout(14999),
         is_viable(player),

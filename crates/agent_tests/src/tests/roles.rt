@@ -12,9 +12,15 @@ const TWO: &str = "candidate:1 1 udp 100 10.0.0.2 2000 typ host";
 struct Roles;
 
 impl Subject for Roles {
-    fn play(&self, player: &mut Player) -> Emitted {
+    fn play(&self, player: &mut Player) -> Told {
         match other(player.alloc) {
-            Some(mut two) => play_both(player, &mut two),
+            Some(mut two) => {
+                let told = play_both(player, &mut two);
+                if player.difference.is_none() {
+                    player.difference = two.difference.take();
+                }
+                told
+            }
             None => Story("another agent is made").holds(&[false]),
         }
     }
@@ -30,7 +36,7 @@ fn other(alloc: Global) -> Option<Box<Player>> {
     Box::new(alloc, Player::new(alloc, "BBBB", "passB", 5).ok()?).ok()
 }
 
-fn play_both(one: &mut Player, two: &mut Player) -> Emitted {
+fn play_both(one: &mut Player, two: &mut Player) -> Told {
     the_lesser_tie_breaker_yields(one, two)?;
     a_487_switches_the_role_of_its_check_once(one, two)?;
     equal_tie_breakers_both_switch(one, two)?;
@@ -38,8 +44,8 @@ fn play_both(one: &mut Player, two: &mut Player) -> Emitted {
     a_487_off_its_path_does_nothing(two)
 }
 
-/// Is the agent at 10.0.0.1:1000, in that role, which has sent a check at 0.
-fn is_first(player: &mut Player, tie_breaker: u64, controlling: bool) -> bool {
+/// Sets up the agent at 10.0.0.1:1000, in that role, which has sent a check at 0.
+fn set_up_first(player: &mut Player, tie_breaker: u64, controlling: bool) -> bool {
     player.begins("AAAA", "passA", tie_breaker)
         && player.takes_role(controlling)
         && player.knows("BBBB", "passB")
@@ -49,8 +55,8 @@ fn is_first(player: &mut Player, tie_breaker: u64, controlling: bool) -> bool {
         && player.tells(b"Rc")
 }
 
-/// Is the agent at 10.0.0.2:2000, likewise.
-fn is_second(player: &mut Player, tie_breaker: u64, controlling: bool) -> bool {
+/// Sets up the agent at 10.0.0.2:2000, likewise.
+fn set_up_second(player: &mut Player, tie_breaker: u64, controlling: bool) -> bool {
     player.begins("BBBB", "passB", tie_breaker)
         && player.takes_role(controlling)
         && player.knows("AAAA", "passA")
@@ -60,9 +66,9 @@ fn is_second(player: &mut Player, tie_breaker: u64, controlling: bool) -> bool {
         && player.tells(b"Rc")
 }
 
-/// Are agents of these tie-breakers that claim one role, each with a check on its way.
+/// Sets up agents of these tie-breakers that claim one role, each with a check on its way.
 fn claim(one: &mut Player, two: &mut Player, ties: (u64, u64), controlling: bool) -> bool {
-    is_first(one, ties.0, controlling) && is_second(two, ties.1, controlling)
+    set_up_first(one, ties.0, controlling) && set_up_second(two, ties.1, controlling)
 }
 
 /// Each gets the check of the other, and answers it.
@@ -71,7 +77,7 @@ fn meet(one: &mut Player, two: &mut Player) -> bool {
 }
 
 /// The first gets the check of the second, and answers by a 487, the way back.
-fn is_told(one: &mut Player, two: &Player) -> bool {
+fn answer_by_487(one: &mut Player, two: &Player) -> bool {
     one.gets(10, two)
         && one.sends()
         && one.has_sent(Class::Failure, 76)
@@ -89,14 +95,14 @@ fn lesser_yields(one: &mut Player, two: &mut Player, controlling: bool) -> bool 
     meet(one, two)
         && one.has_sent(Class::Failure, 76)
         && two.has_sent(Class::Success, 64)
-        && roles_of(one, two) == (controlling, !controlling)
+        && same(roles_of(one, two), (controlling, !controlling), one)
         // the check was sent under the role of before: the 487 does nothing now, once and again
         && two.gets(20, one)
         && two.gets(30, one)
-        && roles_of(one, two) == (controlling, !controlling)
+        && same(roles_of(one, two), (controlling, !controlling), one)
 }
 
-fn the_lesser_tie_breaker_yields(one: &mut Player, two: &mut Player) -> Emitted {
+fn the_lesser_tie_breaker_yields(one: &mut Player, two: &mut Player) -> Told {
     Story("the_lesser_tie_breaker_yields").holds(&[
         claim(one, two, (10, 5), true),
         lesser_yields(one, two, true),
@@ -107,15 +113,15 @@ fn the_lesser_tie_breaker_yields(one: &mut Player, two: &mut Player) -> Emitted 
 
 /// The second switches when the 487 comes, and does nothing when it comes again.
 fn switches_once(one: &mut Player, two: &mut Player, controlling: bool) -> bool {
-    is_told(one, two)
-        && roles_of(one, two) == (controlling, controlling)
+    answer_by_487(one, two)
+        && same(roles_of(one, two), (controlling, controlling), one)
         && two.gets(20, one)
-        && roles_of(one, two) == (controlling, !controlling)
+        && same(roles_of(one, two), (controlling, !controlling), one)
         && two.gets(30, one)
-        && roles_of(one, two) == (controlling, !controlling)
+        && same(roles_of(one, two), (controlling, !controlling), one)
 }
 
-fn a_487_switches_the_role_of_its_check_once(one: &mut Player, two: &mut Player) -> Emitted {
+fn a_487_switches_the_role_of_its_check_once(one: &mut Player, two: &mut Player) -> Told {
     Story("a_487_switches_the_role_of_its_check_once").holds(&[
         claim(one, two, (10, 5), true),
         switches_once(one, two, true),
@@ -124,28 +130,29 @@ fn a_487_switches_the_role_of_its_check_once(one: &mut Player, two: &mut Player)
     ])
 }
 
-fn equal_tie_breakers_both_switch(one: &mut Player, two: &mut Player) -> Emitted {
+fn equal_tie_breakers_both_switch(one: &mut Player, two: &mut Player) -> Told {
     Story("equal_tie_breakers_both_switch").holds(&[
         claim(one, two, (7, 7), true),
-        meet(one, two) && roles_of(one, two) == (true, true),
+        meet(one, two) && same(roles_of(one, two), (true, true), one),
         one.has_sent(Class::Failure, 76) && two.has_sent(Class::Failure, 76),
         one.gets(20, two) && two.gets(20, one),
-        roles_of(one, two) == (false, false),
+        same(roles_of(one, two), (false, false), one),
     ])
 }
 
 /// What a 487 leaves of the second's pair: an unanswered check, under the priority of the role now.
-fn is_unanswered(player: &Player, prio: u64) -> bool {
-    player.prio_with(ONE) == Some(prio) && player.state_with(ONE) == Some(CheckState::InProgress)
+fn is_unanswered(player: &mut Player, prio: u64) -> bool {
+    same(player.prio_with(ONE), Some(prio), player)
+        && same(player.state_with(ONE), Some(CheckState::InProgress), player)
 }
 
-fn a_switch_computes_priorities_anew(one: &mut Player, two: &mut Player) -> Emitted {
+fn a_switch_computes_priorities_anew(one: &mut Player, two: &mut Player) -> Told {
     Story("a_switch_computes_priorities_anew").holds(&[
         claim(one, two, (10, 5), true),
-        is_told(one, two) && is_unanswered(two, 433758141951),
+        answer_by_487(one, two) && is_unanswered(two, 433758141951),
         two.gets(20, one) && is_unanswered(two, 433758141950),
         // no answer counts, and the next check is due as before
-        two.agent.stats().bind_success_recv == 0,
+        same(two.agent.stats().bind_success_recv, 0, two),
         two.tells(b"D") && two.wakes_at(250),
     ])
 }
@@ -158,12 +165,12 @@ fn expects_487(player: &mut Player) -> bool {
     }
 }
 
-fn a_487_off_its_path_does_nothing(player: &mut Player) -> Emitted {
+fn a_487_off_its_path_does_nothing(player: &mut Player) -> Told {
     Story("a_487_off_its_path_does_nothing").holds(&[
-        is_second(player, 5, true),
+        set_up_second(player, 5, true),
         expects_487(player) && player.accepts(),
         !player.accepts_from(at(3, 1000), at(2, 2000)),
-        !player.takes(20, at(3, 1000), at(2, 2000)) && player.is_still(),
+        !player.takes(20, at(3, 1000), at(2, 2000)) && player.emits_nothing(),
         player.agent.controlling() && player.takes(20, at(1, 1000), at(2, 2000)),
         !player.agent.controlling(),
     ])

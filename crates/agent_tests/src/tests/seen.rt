@@ -25,8 +25,8 @@ impl Player {
         self.sent.is_some()
     }
 
-    /// It has no packet left to send.
-    pub(super) fn is_silent(&mut self) -> bool {
+    /// Polls for a packet, and there is none.
+    pub(super) fn sends_nothing(&mut self) -> bool {
         self.agent.poll_transmit().is_none()
     }
 
@@ -40,14 +40,15 @@ impl Player {
     }
 
     /// The packet that it sent last is of this class and length.
-    pub(super) fn has_sent(&self, class: Class, len: usize) -> bool {
+    pub(super) fn has_sent(&mut self, class: Class, len: usize) -> bool {
         let Some(sent) = &self.sent else {
             return false;
         };
-        match StunMessage::parse(&sent.contents) {
-            Ok(message) => message.class() == class && sent.contents.len() == len,
-            Err(_) => false,
-        }
+        let came = match StunMessage::parse(&sent.contents) {
+            Ok(message) => (message.class(), sent.contents.len()),
+            Err(_) => return false,
+        };
+        same(came, (class, len), self)
     }
 
     /// The packet that it sent last is a check of this length that says the priority of a peer reflexive candidate.
@@ -111,31 +112,41 @@ impl Player {
 // ---- what is seen of it
 
 impl Player {
+    /// The letter of its next event.
+    fn next_letter(&mut self) -> Option<char> {
+        let event = self.agent.poll_event()?;
+        Some(char::from(letter(&event)))
+    }
+
     /// It tells of these events, and of no others.
     pub(super) fn tells(&mut self, letters: &[u8]) -> bool {
         for wanted in letters {
-            match self.agent.poll_event() {
-                Some(event) if letter(&event) == *wanted => {}
-                _ => return false,
+            if !same(self.next_letter(), Some(char::from(*wanted)), self) {
+                return false;
             }
         }
-        self.agent.poll_event().is_none()
+        same(self.next_letter(), None, self)
     }
 
-    /// It has no packet and no event.
-    pub(super) fn is_still(&mut self) -> bool {
+    /// Polls for a packet and an event, and there is neither.
+    pub(super) fn emits_nothing(&mut self) -> bool {
         self.agent.poll_transmit().is_none() && self.agent.poll_event().is_none()
     }
 
     pub(super) fn wakes_at(&mut self, ms: u64) -> bool {
-        self.agent.poll_timeout() == Some(later(ms))
+        same(self.agent.poll_timeout(), Some(later(ms)), self)
     }
 
     /// The figures of the announced pair: milliseconds of the last answer, of all together, and how many there were.
-    pub(super) fn has_figures(&self, last: u64, total: u64, count: u64) -> bool {
-        self.agent.nominated_pair_rtt() == Some(Duration::from_millis(last))
-            && self.agent.nominated_pair_total_rtt() == Some(Duration::from_millis(total))
-            && self.agent.nominated_pair_responses_received() == Some(count)
+    pub(super) fn has_figures(&mut self, last: u64, total: u64, count: u64) -> bool {
+        let (rtt, total_rtt) = (Duration::from_millis(last), Duration::from_millis(total));
+        same(self.agent.nominated_pair_rtt(), Some(rtt), self)
+            && same(self.agent.nominated_pair_total_rtt(), Some(total_rtt), self)
+            && same(
+                self.agent.nominated_pair_responses_received(),
+                Some(count),
+                self,
+            )
     }
 
     pub(super) fn has_no_figures(&self) -> bool {
@@ -192,24 +203,28 @@ impl Player {
     }
 
     /// The local candidates are at these addresses, in this order.
-    pub(super) fn is_at(&self, addresses: &[SocketAddr]) -> bool {
+    pub(super) fn is_at(&mut self, addresses: &[SocketAddr]) -> bool {
         let mut left = self.agent.local_candidates();
         for address in addresses {
-            match left.next() {
-                Some(candidate) if candidate.addr() == *address => {}
-                _ => return false,
+            let Some(candidate) = left.next() else {
+                return false;
+            };
+            if !same_in(candidate.addr(), *address, self.alloc, &mut self.difference) {
+                return false;
             }
         }
         left.next().is_none() && left.next().is_none()
     }
 
     /// The remote candidates are at these addresses, in this order.
-    pub(super) fn has_heard_of(&self, addresses: &[SocketAddr]) -> bool {
+    pub(super) fn has_heard_of(&mut self, addresses: &[SocketAddr]) -> bool {
         let mut left = self.agent.remote_candidates();
         for address in addresses {
-            match left.next() {
-                Some(candidate) if candidate.addr() == *address => {}
-                _ => return false,
+            let Some(candidate) = left.next() else {
+                return false;
+            };
+            if !same_in(candidate.addr(), *address, self.alloc, &mut self.difference) {
+                return false;
             }
         }
         left.next().is_none() && left.next().is_none()

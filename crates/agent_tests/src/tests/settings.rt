@@ -7,7 +7,7 @@ use is::Duration;
 struct Settings;
 
 impl Subject for Settings {
-    fn play(&self, player: &mut Player) -> Emitted {
+    fn play(&self, player: &mut Player) -> Told {
         a_packet_may_be_as_long_as_the_longest_check(player)?;
         what_is_not_set_has_a_default(player)?;
         a_check_claims_the_role_by_the_tie_breaker(player)?;
@@ -21,8 +21,8 @@ fn settings_are_kept(rt: HostRuntime) -> Result<(), Fail> {
     tell(rt.alloc(), &Settings)
 }
 
-/// The lengths are refused.
-fn are_too_small(agent: &mut Agent) -> bool {
+/// Lengths that are too small are refused.
+fn refuses_lengths(agent: &mut Agent) -> bool {
     matches!(agent.set_mtu(587..=9000), Err(IceError::MtuTooSmall))
 }
 
@@ -31,19 +31,19 @@ fn has_lengths(agent: &Agent, mtu: usize, mtu_warn: usize) -> bool {
     agent.mtu() == mtu && agent.mtu_warn() == mtu_warn
 }
 
-fn a_packet_may_be_as_long_as_the_longest_check(player: &mut Player) -> Emitted {
+fn a_packet_may_be_as_long_as_the_longest_check(player: &mut Player) -> Told {
     Story("a_packet_may_be_as_long_as_the_longest_check").holds(&[
-        player.is_alone(),
+        player.set_up_alone(),
         has_lengths(&player.agent, 1150, 1280),
-        are_too_small(&mut player.agent),
+        refuses_lengths(&mut player.agent),
         has_lengths(&player.agent, 1150, 1280),
         player.agent.set_mtu(588..=600).is_ok(),
         has_lengths(&player.agent, 588, 600),
     ])
 }
 
-/// Is an agent whose digests are made by a provider that is handed in.
-fn is_provided(player: &mut Player) -> bool {
+/// Sets up an agent whose digests are computed by a provider that is passed in.
+fn set_up_provider(player: &mut Player) -> bool {
     let Ok(creds) = creds(player.alloc, "aaaa", "p") else {
         return false;
     };
@@ -56,12 +56,16 @@ fn is_provided(player: &mut Player) -> bool {
     }
 }
 
-fn what_is_not_set_has_a_default(player: &mut Player) -> Emitted {
+fn what_is_not_set_has_a_default(player: &mut Player) -> Told {
     Story("what_is_not_set_has_a_default").holds(&[
-        is_provided(player),
+        set_up_provider(player),
         !player.agent.controlling() && !player.agent.ice_lite(),
-        player.agent.state() == IceConnectionState::New,
-        player.agent.ice_timeout() == Duration::from_millis(21500),
+        same(player.agent.state(), IceConnectionState::New, player),
+        same(
+            player.agent.ice_timeout(),
+            Duration::from_millis(21500),
+            player,
+        ),
         player.agent.remote_credentials().is_none(),
         player.agent.local_credentials().ufrag.as_str() == "aaaa",
     ])
@@ -76,9 +80,9 @@ fn breaks_ties_by(player: &mut Player, tie_breaker: u64) -> bool {
     true
 }
 
-fn a_check_claims_the_role_by_the_tie_breaker(player: &mut Player) -> Emitted {
+fn a_check_claims_the_role_by_the_tie_breaker(player: &mut Player) -> Told {
     Story("a_check_claims_the_role_by_the_tie_breaker").holds(&[
-        player.is_paired() && breaks_ties_by(player, TIE_BREAKER),
+        player.set_up_pair() && breaks_ties_by(player, TIE_BREAKER),
         player.checks(0) && player.has_claimed(TIE_BREAKER, "farr:near"),
     ])
 }
@@ -88,7 +92,7 @@ fn is_of(state: IceConnectionState, connected: bool, disconnected: bool) -> bool
     state.is_connected() == connected && state.is_disconnected() == disconnected
 }
 
-fn connected_and_completed_are_connected() -> Emitted {
+fn connected_and_completed_are_connected() -> Told {
     Story("connected_and_completed_are_connected").holds(&[
         is_of(IceConnectionState::New, false, false),
         is_of(IceConnectionState::Checking, false, false),
@@ -99,8 +103,12 @@ fn connected_and_completed_are_connected() -> Emitted {
 }
 
 /// A pair without answers is given up behind so many milliseconds.
-fn gives_up_behind(player: &Player, ms: u64) -> bool {
-    player.agent.ice_timeout() == Duration::from_millis(ms)
+fn gives_up_behind(player: &mut Player, ms: u64) -> bool {
+    same(
+        player.agent.ice_timeout(),
+        Duration::from_millis(ms),
+        player,
+    )
 }
 
 /// Checks a pair twice from now on.
@@ -109,9 +117,9 @@ fn checks_twice(player: &mut Player) -> bool {
     true
 }
 
-fn how_long_a_pair_is_checked_follows_the_delays(player: &mut Player) -> Emitted {
+fn how_long_a_pair_is_checked_follows_the_delays(player: &mut Player) -> Told {
     Story("how_long_a_pair_is_checked_follows_the_delays").holds(&[
-        player.is_alone(),
+        player.set_up_alone(),
         // 500, and 500 behind the last check
         checks_twice(player) && gives_up_behind(player, 1000),
         player.waits_at_most(400) && gives_up_behind(player, 800),

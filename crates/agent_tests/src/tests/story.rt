@@ -2,6 +2,7 @@
 //! player, and each begins with a new agent.
 
 use super::*;
+use std::fmt::Debug;
 
 /// The first sentence of a story that does not hold, counted from 1.
 #[derive(Clone, Copy)]
@@ -11,7 +12,7 @@ pub(super) struct Missed {
 }
 
 /// Whether what was told came so.
-pub(super) type Emitted = Result<(), Missed>;
+pub(super) type Told = Result<(), Missed>;
 
 /// A story by its name.
 #[derive(Clone, Copy)]
@@ -19,7 +20,7 @@ pub(super) struct Story(pub(super) &'static str);
 
 impl Story {
     /// Whether it came so: each of its sentences holds.
-    pub(super) fn holds(self, sentences: &[bool]) -> Emitted {
+    pub(super) fn holds(self, sentences: &[bool]) -> Told {
         let mut sentence: usize = 0;
         for came in sentences {
             sentence = sentence.saturating_add(1);
@@ -37,20 +38,49 @@ impl Story {
 /// The stories of one subject.
 pub(super) trait Subject {
     /// Has the player play each of them.
-    fn play(&self, player: &mut Player) -> Emitted;
+    fn play(&self, player: &mut Player) -> Told;
 }
 
-/// What comes of the stories, played by an agent in a box.
-fn played<S: Subject>(alloc: Global, subject: &S) -> Result<Emitted, Fail> {
+/// Whether the value is the expected one. The first that is not is kept, and printed if the story fails.
+pub(super) fn same_in<T: Copy + PartialEq + Debug>(
+    actual: T,
+    expected: T,
+    alloc: Global,
+    difference: &mut Option<String>,
+) -> bool {
+    if actual == expected {
+        return true;
+    }
+    if difference.is_none() {
+        *difference = format!(in alloc; "expected {expected:?}, actual {actual:?}").ok();
+    }
+    false
+}
+
+/// The same, kept by the player.
+pub(super) fn same<T: Copy + PartialEq + Debug>(
+    actual: T,
+    expected: T,
+    player: &mut Player,
+) -> bool {
+    same_in(actual, expected, player.alloc, &mut player.difference)
+}
+
+/// What comes of the stories, played by an agent in a box, and the first comparison that failed.
+fn played<S: Subject>(alloc: Global, subject: &S) -> Result<(Told, Option<String>), Fail> {
     let mut player = Box::new(alloc, Player::new(alloc, "near", "nearpass", 7)?)?;
-    Ok(subject.play(&mut player))
+    let told = subject.play(&mut player);
+    Ok((told, player.difference.take()))
 }
 
-/// Tells the stories, and fails with the first that does not hold, and its sentence.
+/// Tells the stories, and fails with the first that does not hold, its sentence, and the first comparison that failed.
 pub(super) fn tell<S: Subject>(alloc: Global, subject: &S) -> Result<(), Fail> {
     match played(alloc, subject)? {
-        Ok(()) => Ok(()),
-        Err(Missed { story, sentence }) => {
+        (Ok(()), _) => Ok(()),
+        (Err(Missed { story, sentence }), Some(text)) => {
+            Err(format!(in alloc; "{story}: sentence {sentence}; {text}")?.into())
+        }
+        (Err(Missed { story, sentence }), None) => {
             Err(format!(in alloc; "{story}: sentence {sentence}")?.into())
         }
     }

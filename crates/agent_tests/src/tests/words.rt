@@ -8,7 +8,7 @@ use rand_core::Rng;
 struct Words;
 
 impl Subject for Words {
-    fn play(&self, player: &mut Player) -> Emitted {
+    fn play(&self, player: &mut Player) -> Told {
         credentials_are_the_low_six_bits_of_the_bytes(player.alloc)?;
         a_check_draws_its_id_and_nothing_else_draws(player)
     }
@@ -24,7 +24,7 @@ fn are(creds: &IceCreds, ufrag: &str, pass: &str) -> bool {
     creds.ufrag.as_str() == ufrag && creds.pass.as_str() == pass
 }
 
-fn credentials_are_the_low_six_bits_of_the_bytes(alloc: Global) -> Emitted {
+fn credentials_are_the_low_six_bits_of_the_bytes(alloc: Global) -> Told {
     let mut rng = generator();
     let drawn = match IceCreds::new(alloc, &mut rng) {
         Ok(creds) => are(&creds, "3CchJ0H7wzd6TySD", "L4k/ugtLtjG/t/vBawfmQL"),
@@ -46,11 +46,11 @@ fn draws(player: &mut Player) -> bool {
     true
 }
 
-fn a_check_draws_its_id_and_nothing_else_draws(player: &mut Player) -> Emitted {
+fn a_check_draws_its_id_and_nothing_else_draws(player: &mut Player) -> Told {
     Story("a_check_draws_its_id_and_nothing_else_draws").holds(&[
-        player.is_paired() && draws(player),
-        player.checks(0) && player.sent_id() == Some(ID),
-        player.timeout(249) && player.is_silent(),
-        player.rng.next_u32() == 0x83d2f293,
+        player.set_up_pair() && draws(player),
+        player.checks(0) && same(player.sent_id(), Some(ID), player),
+        player.timeout(249) && player.sends_nothing(),
+        same(player.rng.next_u32(), 0x83d2f293, player),
     ])
 }

@@ -30,7 +30,7 @@ fn says(said: Said) -> Step {
 struct Answered;
 
 impl Subject for Answered {
-    fn play(&self, stage: &mut Stage) -> Emitted {
+    fn play(&self, stage: &mut Stage) -> Told {
         an_announced_path_was_answered(stage)?;
         an_answer_that_comes_twice_announces_once(stage)?;
         packets_that_are_not_accepted_change_nothing(stage)
@@ -54,7 +54,7 @@ fn plays_behind_check(stage: &mut Stage, last: &[Step]) -> bool {
     stage.plays(&[&first, last])
 }
 
-fn an_announced_path_was_answered(stage: &mut Stage) -> Emitted {
+fn an_announced_path_was_answered(stage: &mut Stage) -> Told {
     let answers = [
         answer(50, at(3, 2000), at(1, 1000)),
         answer(50, at(2, 2000), at(1, 1001)),
@@ -62,11 +62,11 @@ fn an_announced_path_was_answered(stage: &mut Stage) -> Emitted {
     ];
     Story("an_announced_path_was_answered").holds(&[
         plays_behind_check(stage, &answers),
-        issues(&stage.log, &[(CHECK, check(0, at(2, 2000)))]),
-        takes(&stage.log, 5, false),
-        takes(&stage.log, 6, false),
-        takes(&stage.log, 7, true),
-        announces(&stage.log, &[(7, path_to(at(2, 2000)))]),
+        issues(stage, &[(CHECK, check(0, at(2, 2000)))]),
+        takes(stage, 5, false),
+        takes(stage, 6, false),
+        takes(stage, 7, true),
+        announces(stage, &[(7, path_to(at(2, 2000)))]),
     ])
 }
 
@@ -77,31 +77,31 @@ fn has_figures(agent: &Agent, last: u64, total: u64, count: u64) -> bool {
         && agent.nominated_pair_responses_received() == Some(count)
 }
 
-fn an_answer_that_comes_twice_announces_once(stage: &mut Stage) -> Emitted {
+fn an_answer_that_comes_twice_announces_once(stage: &mut Stage) -> Told {
     let answers = [
         answer(50, at(2, 2000), at(1, 1000)),
         answer(60, at(2, 2000), at(1, 1000)),
     ];
     Story("an_answer_that_comes_twice_announces_once").holds(&[
         plays_behind_check(stage, &answers),
-        takes(&stage.log, 5, true),
-        takes(&stage.log, 6, true),
-        announces(&stage.log, &[(5, path_to(at(2, 2000)))]),
-        issues(&stage.log, &[(CHECK, check(0, at(2, 2000)))]),
+        takes(stage, 5, true),
+        takes(stage, 6, true),
+        announces(stage, &[(5, path_to(at(2, 2000)))]),
+        issues(stage, &[(CHECK, check(0, at(2, 2000)))]),
         has_figures(&stage.agent, 60, 110, 2),
     ])
 }
 
 /// The five packets behind the check are refused at their entries.
-fn are_refused(log: &RunLog) -> bool {
-    let mut refused = answers(log, 5, &Answer::Unparsed(ParseFault::TooShort));
+fn are_refused(stage: &mut Stage) -> bool {
+    let mut refused = answers(stage, 5, &Answer::Unparsed(ParseFault::TooShort));
     for number in 6..10 {
-        refused = refused && takes(log, number, false);
+        refused = refused && takes(stage, number, false);
     }
     refused
 }
 
-fn packets_that_are_not_accepted_change_nothing(stage: &mut Stage) -> Emitted {
+fn packets_that_are_not_accepted_change_nothing(stage: &mut Stage) -> Told {
     let packets = [
         says(Said::Nothing),
         says(Said::ForgedRequest(1)),
@@ -112,9 +112,9 @@ fn packets_that_are_not_accepted_change_nothing(stage: &mut Stage) -> Emitted {
     ];
     Story("packets_that_are_not_accepted_change_nothing").holds(&[
         plays_behind_check(stage, &packets),
-        are_refused(&stage.log),
-        takes(&stage.log, 10, true),
-        issues(&stage.log, &[(CHECK, check(0, at(2, 2000)))]),
-        announces(&stage.log, &[(10, path_to(at(2, 2000)))]),
+        are_refused(stage),
+        takes(stage, 10, true),
+        issues(stage, &[(CHECK, check(0, at(2, 2000)))]),
+        announces(stage, &[(10, path_to(at(2, 2000)))]),
     ])
 }

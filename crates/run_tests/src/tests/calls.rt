@@ -7,7 +7,7 @@ use is::{Duration, IceError, LocalPreference, run};
 struct Calls;
 
 impl Subject for Calls {
-    fn play(&self, stage: &mut Stage) -> Emitted {
+    fn play(&self, stage: &mut Stage) -> Told {
         each_setting_has_its_entry(stage)
     }
 }
@@ -79,7 +79,7 @@ fn have_answers(log: &RunLog, answers: &[Answer]) -> bool {
     true
 }
 
-fn each_setting_has_its_entry(stage: &mut Stage) -> Emitted {
+fn each_setting_has_its_entry(stage: &mut Stage) -> Told {
     let calls = settings(stage.alloc);
     Story("each_setting_has_its_entry").holds(&[
         stage.makes(calls),

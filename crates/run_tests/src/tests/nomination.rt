@@ -21,7 +21,7 @@ fn says(ms: u64, from: SocketAddr, said: Said) -> Step {
 struct Nomination;
 
 impl Subject for Nomination {
-    fn play(&self, stage: &mut Stage) -> Emitted {
+    fn play(&self, stage: &mut Stage) -> Told {
         the_greater_of_two_eligible_pairs_is_announced(stage)?;
         a_lesser_pair_is_not_announced_behind_it(stage)?;
         a_replaced_pair_is_announced_at_the_next_moment(stage)?;
@@ -36,8 +36,8 @@ fn stories(rt: HostRuntime) -> Result<(), Fail> {
     tell(rt.alloc(), &Nomination)
 }
 
-/// A, which is controlling, checks both candidates of B, the greater first; both answer.
-fn has_two_answers(stage: &mut Stage, first: Step, second: Step) -> bool {
+/// Plays: A, which is controlling, checks both candidates of B, the greater first; both answer.
+fn play_two_answers(stage: &mut Stage, first: Step, second: Step) -> bool {
     stage.plays(&[&[
         Step::Controlling(true),
         Step::Remote,
@@ -52,7 +52,7 @@ fn has_two_answers(stage: &mut Stage, first: Step, second: Step) -> bool {
     ]])
 }
 
-fn the_greater_of_two_eligible_pairs_is_announced(stage: &mut Stage) -> Emitted {
+fn the_greater_of_two_eligible_pairs_is_announced(stage: &mut Stage) -> Told {
     let lesser = says(60, at(3, 3000), Said::Success(1));
     let greater = says(70, at(2, 2000), Said::Success(0));
     let paths = [(7, path_to(at(3, 3000))), (8, path_to(at(2, 2000)))];
@@ -62,26 +62,26 @@ fn the_greater_of_two_eligible_pairs_is_announced(stage: &mut Stage) -> Emitted 
         (9, check(2, at(2, 2000))),
     ];
     Story("the_greater_of_two_eligible_pairs_is_announced").holds(&[
-        has_two_answers(stage, lesser, greater),
-        announces(&stage.log, &paths),
-        issues(&stage.log, &checks),
+        play_two_answers(stage, lesser, greater),
+        announces(stage, &paths),
+        issues(stage, &checks),
     ])
 }
 
-fn a_lesser_pair_is_not_announced_behind_it(stage: &mut Stage) -> Emitted {
+fn a_lesser_pair_is_not_announced_behind_it(stage: &mut Stage) -> Told {
     let greater = says(60, at(2, 2000), Said::Success(0));
     let lesser = says(70, at(3, 3000), Said::Success(1));
     Story("a_lesser_pair_is_not_announced_behind_it").holds(&[
-        has_two_answers(stage, greater, lesser),
-        takes(&stage.log, 7, true),
-        takes(&stage.log, 8, true),
-        announces(&stage.log, &[(7, path_to(at(2, 2000)))]),
+        play_two_answers(stage, greater, lesser),
+        takes(stage, 7, true),
+        takes(stage, 8, true),
+        announces(stage, &[(7, path_to(at(2, 2000)))]),
         // it is valid all the same
         stage.agent.has_viable_remote_candidate(at(3, 3000)),
     ])
 }
 
-fn a_replaced_pair_is_announced_at_the_next_moment(stage: &mut Stage) -> Emitted {
+fn a_replaced_pair_is_announced_at_the_next_moment(stage: &mut Stage) -> Told {
     let steps = [
         Step::Controlling(true),
         Step::Remote,
@@ -97,15 +97,15 @@ fn a_replaced_pair_is_announced_at_the_next_moment(stage: &mut Stage) -> Emitted
     let checks = [(4, check(0, at(2, 2000))), (7, check(1, at(2, 2000)))];
     Story("a_replaced_pair_is_announced_at_the_next_moment").holds(&[
         stage.plays(&[&steps]),
-        announces(&stage.log, &[(5, path), (7, path)]),
-        issues(&stage.log, &checks),
+        announces(stage, &[(5, path), (7, path)]),
+        issues(stage, &checks),
         // the pair of the first check is gone
-        takes(&stage.log, 8, false),
+        takes(stage, 8, false),
     ])
 }
 
-/// A, which is controlled, has sent a check in entry 3. Behind what comes then, a moment passes in entry 6.
-fn is_controlled(stage: &mut Stage, first: Step, second: Step) -> bool {
+/// Plays: A, which is controlled, has sent a check in entry 3. After what comes then, there is a timeout in entry 6.
+fn play_controlled(stage: &mut Stage, first: Step, second: Step) -> bool {
     stage.plays(&[&[
         Step::Remote,
         Step::Host(at(1, 1000)),
@@ -125,48 +125,48 @@ fn nominating() -> Step {
     says(50, at(2, 2000), Said::Nominating { number: 1 })
 }
 
-fn a_controlled_agent_announces_what_was_asked_for(stage: &mut Stage) -> Emitted {
+fn a_controlled_agent_announces_what_was_asked_for(stage: &mut Stage) -> Told {
     let packets = [
         (3, check(0, at(2, 2000))),
         (5, reply(1, Class::Success)),
         (6, check(1, at(2, 2000))),
     ];
     Story("a_controlled_agent_announces_what_was_asked_for").holds(&[
-        is_controlled(stage, success(), nominating()),
-        takes(&stage.log, 4, true),
-        takes(&stage.log, 5, true),
-        issues(&stage.log, &packets),
+        play_controlled(stage, success(), nominating()),
+        takes(stage, 4, true),
+        takes(stage, 5, true),
+        issues(stage, &packets),
         // the request nominates, and the next moment announces
-        announces(&stage.log, &[(6, path_to(at(2, 2000)))]),
+        announces(stage, &[(6, path_to(at(2, 2000)))]),
     ])
 }
 
-fn a_pair_that_was_asked_for_is_announced_once_it_is_valid(stage: &mut Stage) -> Emitted {
+fn a_pair_that_was_asked_for_is_announced_once_it_is_valid(stage: &mut Stage) -> Told {
     let packets = [
         (3, check(0, at(2, 2000))),
         (4, reply(1, Class::Success)),
         (6, check(1, at(2, 2000))),
     ];
     Story("a_pair_that_was_asked_for_is_announced_once_it_is_valid").holds(&[
-        is_controlled(stage, nominating(), success()),
-        takes(&stage.log, 4, true),
-        takes(&stage.log, 5, true),
-        issues(&stage.log, &packets),
-        announces(&stage.log, &[(5, path_to(at(2, 2000)))]),
+        play_controlled(stage, nominating(), success()),
+        takes(stage, 4, true),
+        takes(stage, 5, true),
+        issues(stage, &packets),
+        announces(stage, &[(5, path_to(at(2, 2000)))]),
     ])
 }
 
-fn a_controlled_agent_announces_nothing_unasked(stage: &mut Stage) -> Emitted {
+fn a_controlled_agent_announces_nothing_unasked(stage: &mut Stage) -> Told {
     let unasked = Said::Request {
         number: 1,
         controlling: true,
     };
     let packets = [(3, check(0, at(2, 2000))), (5, reply(1, Class::Success))];
     Story("a_controlled_agent_announces_nothing_unasked").holds(&[
-        is_controlled(stage, success(), says(60, at(2, 2000), unasked)),
-        takes(&stage.log, 4, true),
-        takes(&stage.log, 5, true),
-        issues(&stage.log, &packets),
-        announces(&stage.log, &[]),
+        play_controlled(stage, success(), says(60, at(2, 2000), unasked)),
+        takes(stage, 4, true),
+        takes(stage, 5, true),
+        issues(stage, &packets),
+        announces(stage, &[]),
     ])
 }

@@ -7,7 +7,7 @@ use is::{IceAgentEvent, IceConnectionState};
 struct Order;
 
 impl Subject for Order {
-    fn play(&self, stage: &mut Stage) -> Emitted {
+    fn play(&self, stage: &mut Stage) -> Told {
         packets_are_polled_in_order(stage)?;
         events_are_polled_in_order(stage)?;
         a_restart_empties_both_queues(stage)
@@ -19,8 +19,8 @@ fn stories(rt: HostRuntime) -> Result<(), Fail> {
     tell(rt.alloc(), &Order)
 }
 
-/// A check in entry 3, a reply in entry 4, and these steps behind them.
-fn has_two_packets(stage: &mut Stage, last: &[Step]) -> bool {
+/// Plays: a check in entry 3, a reply in entry 4, and these steps after them.
+fn play_two_packets(stage: &mut Stage, last: &[Step]) -> bool {
     let request = Step::Packet {
         ms: 10,
         from: at(2, 2000),
@@ -59,14 +59,14 @@ fn polls(log: &RunLog, number: usize, class: Class, id: TransId) -> bool {
     }
 }
 
-fn packets_are_polled_in_order(stage: &mut Stage) -> Emitted {
+fn packets_are_polled_in_order(stage: &mut Stage) -> Told {
     let packets = [(3, check(0, at(2, 2000))), (4, reply(1, Class::Success))];
     Story("packets_are_polled_in_order").holds(&[
-        has_two_packets(stage, &[Step::PollPacket; 3]),
-        issues(&stage.log, &packets),
+        play_two_packets(stage, &[Step::PollPacket; 3]),
+        issues(stage, &packets),
         polls(&stage.log, 5, Class::Request, check_id(0)),
         polls(&stage.log, 6, Class::Success, request_id(1)),
-        answers(&stage.log, 7, &Answer::Transmit(None)),
+        answers(stage, 7, &Answer::Transmit(None)),
     ])
 }
 
@@ -97,14 +97,14 @@ fn tells(log: &RunLog, first: usize, all_in_flight: &[u8]) -> bool {
     true
 }
 
-fn events_are_polled_in_order(stage: &mut Stage) -> Emitted {
+fn events_are_polled_in_order(stage: &mut Stage) -> Told {
     Story("events_are_polled_in_order").holds(&[
-        has_two_packets(stage, &[Step::PollEvent; 4]),
+        play_two_packets(stage, &[Step::PollEvent; 4]),
         tells(&stage.log, 5, b"RcD-"),
     ])
 }
 
-fn a_restart_empties_both_queues(stage: &mut Stage) -> Emitted {
+fn a_restart_empties_both_queues(stage: &mut Stage) -> Told {
     let steps = [
         Step::Restart,
         Step::PollPacket,
@@ -112,9 +112,9 @@ fn a_restart_empties_both_queues(stage: &mut Stage) -> Emitted {
         Step::PollEvent,
     ];
     Story("a_restart_empties_both_queues").holds(&[
-        has_two_packets(stage, &steps),
-        answers(&stage.log, 5, &Answer::Done),
-        answers(&stage.log, 6, &Answer::Transmit(None)),
+        play_two_packets(stage, &steps),
+        answers(stage, 5, &Answer::Done),
+        answers(stage, 6, &Answer::Transmit(None)),
         tells(&stage.log, 7, b"R-"),
     ])
 }

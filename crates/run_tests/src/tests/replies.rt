@@ -20,7 +20,7 @@ fn asks(ms: u64, number: u8, to: SocketAddr) -> Step {
 struct Replies;
 
 impl Subject for Replies {
-    fn play(&self, stage: &mut Stage) -> Emitted {
+    fn play(&self, stage: &mut Stage) -> Told {
         each_request_has_its_reply(stage)?;
         a_waiting_request_is_answered_once(stage)?;
         the_greater_tie_breaker_answers_a_conflict(stage)
@@ -32,7 +32,7 @@ fn stories(rt: HostRuntime) -> Result<(), Fail> {
     tell(rt.alloc(), &Replies)
 }
 
-fn each_request_has_its_reply(stage: &mut Stage) -> Emitted {
+fn each_request_has_its_reply(stage: &mut Stage) -> Told {
     let steps = [
         Step::Remote,
         Step::Host(at(1, 1000)),
@@ -48,18 +48,18 @@ fn each_request_has_its_reply(stage: &mut Stage) -> Emitted {
     ];
     Story("each_request_has_its_reply").holds(&[
         stage.plays(&[&steps]),
-        issues(&stage.log, &replies),
-        takes(&stage.log, 4, true),
+        issues(stage, &replies),
+        takes(stage, 4, true),
         // no candidate has the address, so nobody answers
-        takes(&stage.log, 5, true),
-        announces(&stage.log, &[]),
+        takes(stage, 5, true),
+        announces(stage, &[]),
     ])
 }
 
 /// Requests that came before the credentials, and three moments behind them.
 const LATE: usize = 4;
 
-fn a_waiting_request_is_answered_once(stage: &mut Stage) -> Emitted {
+fn a_waiting_request_is_answered_once(stage: &mut Stage) -> Told {
     let steps = [
         Step::Host(at(1, 1000)),
         asks(0, 1, at(1, 1000)),
@@ -76,9 +76,9 @@ fn a_waiting_request_is_answered_once(stage: &mut Stage) -> Emitted {
     ];
     Story("a_waiting_request_is_answered_once").holds(&[
         stage.plays(&[&steps]),
-        takes(&stage.log, 1, true),
-        takes(&stage.log, 2, true),
-        issues(&stage.log, &packets),
+        takes(stage, 1, true),
+        takes(stage, 2, true),
+        issues(stage, &packets),
     ])
 }
 
@@ -107,7 +107,7 @@ fn sends(log: &RunLog, number: usize, len: usize) -> bool {
     }
 }
 
-fn the_greater_tie_breaker_answers_a_conflict(stage: &mut Stage) -> Emitted {
+fn the_greater_tie_breaker_answers_a_conflict(stage: &mut Stage) -> Told {
     let steps = [
         Step::Controlling(true),
         Step::Remote,
@@ -118,9 +118,9 @@ fn the_greater_tie_breaker_answers_a_conflict(stage: &mut Stage) -> Emitted {
     ];
     Story("the_greater_tie_breaker_answers_a_conflict").holds(&[
         stage.plays(&[&steps]),
-        issues(&stage.log, &[(3, reply(1, Class::Failure))]),
+        issues(stage, &[(3, reply(1, Class::Failure))]),
         stage.agent.controlling(),
         sends(&stage.log, 4, 76),
-        answers(&stage.log, 5, &Answer::Transmit(None)),
+        answers(stage, 5, &Answer::Transmit(None)),
     ])
 }

@@ -14,7 +14,7 @@ const BEFORE: usize = 3;
 struct Rounds;
 
 impl Subject for Rounds {
-    fn play(&self, stage: &mut Stage) -> Emitted {
+    fn play(&self, stage: &mut Stage) -> Told {
         the_least_of_four_pairs_is_announced_in_round_four(stage)?;
         the_least_of_a_hundred_pairs_is_announced_in_round_a_hundred(stage)
     }
@@ -90,20 +90,17 @@ fn checks_in_order(log: &RunLog, count: u8) -> bool {
 }
 
 /// So many rounds announce the path to the last candidate, in the entry behind the last moment, and in no other.
-fn announces_in_round(stage: &mut Stage, name: &'static str, count: u8) -> Emitted {
+fn announces_in_round(stage: &mut Stage, name: &'static str, count: u8) -> Told {
     let last = count.saturating_sub(1);
     Story(name).holds(&[
         stage.makes(calls(stage.alloc, count)),
         checks_in_order(&stage.log, count),
-        takes(&stage.log, entry_of(count, count), true),
-        announces(
-            &stage.log,
-            &[(entry_of(count, count), path_to(place(last)))],
-        ),
+        takes(stage, entry_of(count, count), true),
+        announces(stage, &[(entry_of(count, count), path_to(place(last)))]),
     ])
 }
 
-fn the_least_of_four_pairs_is_announced_in_round_four(stage: &mut Stage) -> Emitted {
+fn the_least_of_four_pairs_is_announced_in_round_four(stage: &mut Stage) -> Told {
     announces_in_round(
         stage,
         "the_least_of_four_pairs_is_announced_in_round_four",
@@ -111,7 +108,7 @@ fn the_least_of_four_pairs_is_announced_in_round_four(stage: &mut Stage) -> Emit
     )
 }
 
-fn the_least_of_a_hundred_pairs_is_announced_in_round_a_hundred(stage: &mut Stage) -> Emitted {
+fn the_least_of_a_hundred_pairs_is_announced_in_round_a_hundred(stage: &mut Stage) -> Told {
     announces_in_round(
         stage,
         "the_least_of_a_hundred_pairs_is_announced_in_round_a_hundred",

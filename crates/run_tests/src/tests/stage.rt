@@ -3,13 +3,14 @@
 use super::*;
 use is::{IceError, WorldLog, run};
 
-/// An agent behind its run, the log of that, and the log of a world.
+/// An agent behind its run, the log of that, the log of a world, and the first comparison that failed.
 #[derive(Drop)]
 pub(super) struct Stage {
     pub(super) alloc: Global,
     pub(super) agent: Agent,
     pub(super) log: RunLog,
     pub(super) world: WorldLog,
+    pub(super) difference: Option<String>,
 }
 
 /// A as it is made.
@@ -31,6 +32,7 @@ impl Stage {
                 entries: Vec::new(alloc),
                 stopped: false,
             },
+            difference: None,
         })
     }
 

@@ -165,21 +165,37 @@ fn roles_at(table: &[(usize, [bool; 2])], number: usize) -> [bool; 2] {
 }
 
 /// From the entries of the table on the roles are these. There is an entry for each event, in order.
-fn has_roles(log: &WorldLog, table: &[(usize, [bool; 2])]) -> bool {
+fn has_roles(stage: &mut Stage, table: &[(usize, [bool; 2])]) -> bool {
     let mut number = 0usize;
-    for entry in &log.entries {
-        if entry.number != number || entry.controlling != roles_at(table, number) {
+    for entry in &stage.world.entries {
+        let expected = roles_at(table, number);
+        if entry.number != number
+            || !same(
+                number,
+                entry.controlling,
+                expected,
+                stage.alloc,
+                &mut stage.difference,
+            )
+        {
             return false;
         }
         number = number.saturating_add(1);
     }
-    !log.stopped
+    !stage.world.stopped
 }
 
 /// These entries issue these packets, and no other issues any.
-fn world_issues(log: &WorldLog, packets: &[(usize, Issued)]) -> bool {
-    for entry in &log.entries {
-        if entry.issued != wanted(packets, entry.number) {
+fn world_issues(stage: &mut Stage, packets: &[(usize, Issued)]) -> bool {
+    for entry in &stage.world.entries {
+        let expected = wanted(packets, entry.number);
+        if !same(
+            entry.number,
+            entry.issued,
+            expected,
+            stage.alloc,
+            &mut stage.difference,
+        ) {
             return false;
         }
     }
@@ -187,9 +203,16 @@ fn world_issues(log: &WorldLog, packets: &[(usize, Issued)]) -> bool {
 }
 
 /// These entries announce these paths, and no other announces any.
-fn world_announces(log: &WorldLog, paths: &[(usize, Path)]) -> bool {
-    for entry in &log.entries {
-        if entry.announced != [wanted(paths, entry.number), None] {
+fn world_announces(stage: &mut Stage, paths: &[(usize, Path)]) -> bool {
+    for entry in &stage.world.entries {
+        let expected = [wanted(paths, entry.number), None];
+        if !same(
+            entry.number,
+            entry.announced,
+            expected,
+            stage.alloc,
+            &mut stage.difference,
+        ) {
             return false;
         }
     }
@@ -197,13 +220,22 @@ fn world_announces(log: &WorldLog, paths: &[(usize, Path)]) -> bool {
 }
 
 /// From this entry on, that many packets were delivered to the side and answered so.
-fn takes_all(log: &WorldLog, first: usize, count: usize, side: Side, accepted: bool) -> bool {
-    for entry in log.entries.iter().skip(first).take(count) {
-        if entry.side != Some(side) || entry.answer != Answer::Flag(accepted) {
+fn takes_all(stage: &mut Stage, first: usize, count: usize, side: Side, accepted: bool) -> bool {
+    for entry in stage.world.entries.iter().skip(first).take(count) {
+        let expected = Answer::Flag(accepted);
+        if entry.side != Some(side)
+            || !same(
+                entry.number,
+                &entry.answer,
+                &expected,
+                stage.alloc,
+                &mut stage.difference,
+            )
+        {
             return false;
         }
     }
-    first.saturating_add(count) <= log.entries.len()
+    first.saturating_add(count) <= stage.world.entries.len()
 }
 
 /// The way from the side to the other.
@@ -253,7 +285,7 @@ const BOTH_CONTROLLED: Start = Start {
 struct Strangers;
 
 impl Subject for Strangers {
-    fn play(&self, stage: &mut Stage) -> Emitted {
+    fn play(&self, stage: &mut Stage) -> Told {
         some_calls_are_no_events_of_a_world(stage)
     }
 }
@@ -263,7 +295,7 @@ fn stories(rt: HostRuntime) -> Result<(), Fail> {
     tell(rt.alloc(), &Strangers)
 }
 
-fn some_calls_are_no_events_of_a_world(stage: &mut Stage) -> Emitted {
+fn some_calls_are_no_events_of_a_world(stage: &mut Stage) -> Told {
     let request = Step::Packet {
         ms: 0,
         from: home(Side::B),
@@ -287,8 +319,8 @@ fn some_calls_are_no_events_of_a_world(stage: &mut Stage) -> Emitted {
     Story("some_calls_are_no_events_of_a_world").holds(&[
         stage.happens(BOTH_CONTROLLED, &[&events]),
         begins_with(&stage.world, &answers),
-        has_roles(&stage.world, &[]),
-        world_issues(&stage.world, &[]),
+        has_roles(stage, &[]),
+        world_issues(stage, &[]),
         stage.world.entries.len() == 5,
     ])
 }

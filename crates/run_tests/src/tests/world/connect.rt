@@ -9,7 +9,7 @@ use super::*;
 struct Connect;
 
 impl Subject for Connect {
-    fn play(&self, stage: &mut Stage) -> Emitted {
+    fn play(&self, stage: &mut Stage) -> Told {
         both_announce_the_path_of_the_lesser_of_two_pairs(stage)?;
         where_the_nominating_check_is_lost_the_next_one_serves(stage)?;
         where_all_premises_hold_both_announce(stage)
@@ -53,7 +53,7 @@ fn lost() -> [Event; 2] {
 }
 
 /// The second round's checks are answered, and A announces. Its check in the third round, packet 6, nominates.
-fn both_announce_the_path_of_the_lesser_of_two_pairs(stage: &mut Stage) -> Emitted {
+fn both_announce_the_path_of_the_lesser_of_two_pairs(stage: &mut Stage) -> Told {
     let third = [
         Event::Poll(Side::A),
         deliver(6, 110, Side::B),
@@ -73,17 +73,14 @@ fn both_announce_the_path_of_the_lesser_of_two_pairs(stage: &mut Stage) -> Emitt
     ];
     Story("both_announce_the_path_of_the_lesser_of_two_pairs").holds(&[
         stage.happens(A_CONTROLS, &parts),
-        has_roles(&stage.world, &[(0, [true, false])]),
-        world_announces(
-            &stage.world,
-            &[(21, path_of(Side::A)), (29, path_of(Side::B))],
-        ),
+        has_roles(stage, &[(0, [true, false])]),
+        world_announces(stage, &[(21, path_of(Side::A)), (29, path_of(Side::B))]),
     ])
 }
 
 /// Packet 6 is lost. The pairs of nobody are due again at 250, those of the path by 600. Then A's check nominates, and B announces at the
 /// answer to its own.
-fn where_the_nominating_check_is_lost_the_next_one_serves(stage: &mut Stage) -> Emitted {
+fn where_the_nominating_check_is_lost_the_next_one_serves(stage: &mut Stage) -> Told {
     let parts: [&[Event]; 13] = [
         &hear_of_two(),
         &moments(0),
@@ -101,18 +98,15 @@ fn where_the_nominating_check_is_lost_the_next_one_serves(stage: &mut Stage) -> 
     ];
     Story("where_the_nominating_check_is_lost_the_next_one_serves").holds(&[
         stage.happens(A_CONTROLS, &parts),
-        has_roles(&stage.world, &[(0, [true, false])]),
-        world_announces(
-            &stage.world,
-            &[(21, path_of(Side::A)), (37, path_of(Side::B))],
-        ),
+        has_roles(stage, &[(0, [true, false])]),
+        world_announces(stage, &[(21, path_of(Side::A)), (37, path_of(Side::B))]),
     ])
 }
 
 /// Each has one pair. Both first checks are answered at 20, and A announces; asked for its wake-up, its nominated pair is due 60 s before, and
 /// B's is due at 250. A's round is the moment at 50, whose check nominates; B's is the one at 251, behind the due moment, whose check is
 /// answered. So by the moment at 300 B announced: it did at 251, since its first check was answered before it was asked.
-fn where_all_premises_hold_both_announce(stage: &mut Stage) -> Emitted {
+fn where_all_premises_hold_both_announce(stage: &mut Stage) -> Told {
     let asked = [
         Event::Do(Side::A, Step::PollWake),
         Event::Do(Side::B, Step::PollWake),
@@ -152,10 +146,10 @@ fn where_all_premises_hold_both_announce(stage: &mut Stage) -> Emitted {
     ];
     Story("where_all_premises_hold_both_announce").holds(&[
         stage.happens(A_CONTROLS, &parts),
-        has_roles(&stage.world, &[(0, [true, false])]),
-        world_issues(&stage.world, &issued),
-        takes_all(&stage.world, 14, 1, Side::B, true),
-        takes_all(&stage.world, 15, 1, Side::A, true),
-        world_announces(&stage.world, &[(15, path_of(Side::A)), (23, path_of(Side::B))]),
+        has_roles(stage, &[(0, [true, false])]),
+        world_issues(stage, &issued),
+        takes_all(stage, 14, 1, Side::B, true),
+        takes_all(stage, 15, 1, Side::A, true),
+        world_announces(stage, &[(15, path_of(Side::A)), (23, path_of(Side::B))]),
     ])
 }

@@ -6,7 +6,7 @@ use super::*;
 struct Granted;
 
 impl Subject for Granted {
-    fn play(&self, stage: &mut Stage) -> Emitted {
+    fn play(&self, stage: &mut Stage) -> Told {
         what_was_answered_is_announced_once_it_is_asked_for(stage)?;
         what_was_asked_for_is_announced_once_it_is_answered(stage)?;
         what_is_answered_alone_is_not_announced(stage)
@@ -47,16 +47,13 @@ fn a_asks(packet: usize) -> [Event; 3] {
     ]
 }
 
-fn what_was_answered_is_announced_once_it_is_asked_for(stage: &mut Stage) -> Emitted {
+fn what_was_answered_is_announced_once_it_is_asked_for(stage: &mut Stage) -> Told {
     let moment = [Event::Do(Side::B, Step::Moment(320))];
     let (a, b) = (a_is_answered(), b_is_answered());
     Story("what_was_answered_is_announced_once_it_is_asked_for").holds(&[
         stage.happens(A_CONTROLS, &[&opening(), &a, &b, &a_asks(4), &moment]),
-        has_roles(&stage.world, &[(0, [true, false])]),
-        world_announces(
-            &stage.world,
-            &[(12, path_of(Side::A)), (19, path_of(Side::B))],
-        ),
+        has_roles(stage, &[(0, [true, false])]),
+        world_announces(stage, &[(12, path_of(Side::A)), (19, path_of(Side::B))]),
     ])
 }
 
@@ -72,7 +69,7 @@ fn b_is_answered_later() -> [Event; 5] {
 }
 
 /// It is announced with the answer, and the moment behind that finds it so.
-fn what_was_asked_for_is_announced_once_it_is_answered(stage: &mut Stage) -> Emitted {
+fn what_was_asked_for_is_announced_once_it_is_answered(stage: &mut Stage) -> Told {
     let last = [
         deliver(6, 340, Side::B),
         Event::Do(Side::B, Step::Moment(350)),
@@ -80,16 +77,13 @@ fn what_was_asked_for_is_announced_once_it_is_answered(stage: &mut Stage) -> Emi
     let (a, b) = (a_is_answered(), b_is_answered_later());
     Story("what_was_asked_for_is_announced_once_it_is_answered").holds(&[
         stage.happens(A_CONTROLS, &[&opening(), &a, &a_asks(3), &b, &last]),
-        has_roles(&stage.world, &[(0, [true, false])]),
-        world_announces(
-            &stage.world,
-            &[(12, path_of(Side::A)), (21, path_of(Side::B))],
-        ),
+        has_roles(stage, &[(0, [true, false])]),
+        world_announces(stage, &[(12, path_of(Side::A)), (21, path_of(Side::B))]),
     ])
 }
 
 /// A's check on its nominated path is lost.
-fn what_is_answered_alone_is_not_announced(stage: &mut Stage) -> Emitted {
+fn what_is_answered_alone_is_not_announced(stage: &mut Stage) -> Told {
     let last = [
         Event::Do(Side::A, Step::Moment(300)),
         Event::Do(Side::B, Step::Moment(320)),
@@ -98,6 +92,6 @@ fn what_is_answered_alone_is_not_announced(stage: &mut Stage) -> Emitted {
     let (a, b) = (a_is_answered(), b_is_answered());
     Story("what_is_answered_alone_is_not_announced").holds(&[
         stage.happens(A_CONTROLS, &[&opening(), &a, &b, &last]),
-        world_announces(&stage.world, &[(12, path_of(Side::A))]),
+        world_announces(stage, &[(12, path_of(Side::A))]),
     ])
 }

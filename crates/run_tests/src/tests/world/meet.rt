@@ -8,7 +8,7 @@ use super::*;
 struct Meet;
 
 impl Subject for Meet {
-    fn play(&self, stage: &mut Stage) -> Emitted {
+    fn play(&self, stage: &mut Stage) -> Told {
         the_check_of_the_greater_turns_the_lesser(stage)?;
         the_check_of_the_lesser_turns_it_by_its_refusal(stage)?;
         without_the_refusal_roles_stay_alike(stage)?;
@@ -22,7 +22,7 @@ fn stories(rt: HostRuntime) -> Result<(), Fail> {
 }
 
 /// A's check alone is delivered, and B answers it.
-fn the_check_of_the_greater_turns_the_lesser(stage: &mut Stage) -> Emitted {
+fn the_check_of_the_greater_turns_the_lesser(stage: &mut Stage) -> Told {
     let last = [Event::Poll(Side::A), deliver(0, 10, Side::B)];
     let packets = [
         (3, sent(Side::A, Class::Request, 0)),
@@ -31,11 +31,11 @@ fn the_check_of_the_greater_turns_the_lesser(stage: &mut Stage) -> Emitted {
     ];
     Story("the_check_of_the_greater_turns_the_lesser").holds(&[
         stage.happens_behind(BOTH_CONTROLLING, &last),
-        world_issues(&stage.world, &packets),
-        has_roles(&stage.world, &[(0, [true, true]), (9, [true, false])]),
+        world_issues(stage, &packets),
+        has_roles(stage, &[(0, [true, true]), (9, [true, false])]),
         stage.happens_behind(BOTH_CONTROLLED, &last),
-        world_issues(&stage.world, &packets),
-        has_roles(&stage.world, &[(9, [false, true])]),
+        world_issues(stage, &packets),
+        has_roles(stage, &[(9, [false, true])]),
     ])
 }
 
@@ -49,7 +49,7 @@ fn refused() -> [Event; 4] {
     ]
 }
 
-fn the_check_of_the_lesser_turns_it_by_its_refusal(stage: &mut Stage) -> Emitted {
+fn the_check_of_the_lesser_turns_it_by_its_refusal(stage: &mut Stage) -> Told {
     let last = [deliver(2, 20, Side::B)];
     let packets = [
         (3, sent(Side::A, Class::Request, 0)),
@@ -58,16 +58,16 @@ fn the_check_of_the_lesser_turns_it_by_its_refusal(stage: &mut Stage) -> Emitted
     ];
     Story("the_check_of_the_lesser_turns_it_by_its_refusal").holds(&[
         stage.happens(BOTH_CONTROLLING, &[&opening(), &refused(), &last]),
-        world_issues(&stage.world, &packets),
-        has_roles(&stage.world, &[(0, [true, true]), (12, [true, false])]),
+        world_issues(stage, &packets),
+        has_roles(stage, &[(0, [true, true]), (12, [true, false])]),
         stage.happens(BOTH_CONTROLLED, &[&opening(), &refused(), &last]),
-        world_issues(&stage.world, &packets),
-        has_roles(&stage.world, &[(12, [false, true])]),
+        world_issues(stage, &packets),
+        has_roles(stage, &[(12, [false, true])]),
     ])
 }
 
 /// A's refusal is lost. B's next check is refused too, and that comes back.
-fn without_the_refusal_roles_stay_alike(stage: &mut Stage) -> Emitted {
+fn without_the_refusal_roles_stay_alike(stage: &mut Stage) -> Told {
     let last = [
         Event::Do(Side::B, Step::Moment(250)),
         Event::Poll(Side::B),
@@ -84,13 +84,13 @@ fn without_the_refusal_roles_stay_alike(stage: &mut Stage) -> Emitted {
     ];
     Story("without_the_refusal_roles_stay_alike").holds(&[
         stage.happens(BOTH_CONTROLLING, &[&opening(), &refused(), &last]),
-        world_issues(&stage.world, &packets),
-        has_roles(&stage.world, &[(0, [true, true]), (16, [true, false])]),
+        world_issues(stage, &packets),
+        has_roles(stage, &[(0, [true, true]), (16, [true, false])]),
     ])
 }
 
 /// B knows A, and has no candidate.
-fn a_check_that_reaches_no_candidate_turns_nobody(stage: &mut Stage) -> Emitted {
+fn a_check_that_reaches_no_candidate_turns_nobody(stage: &mut Stage) -> Told {
     let events = [
         Event::Do(Side::A, Step::Remote),
         Event::Do(Side::A, Step::Host(home(Side::A))),
@@ -102,8 +102,8 @@ fn a_check_that_reaches_no_candidate_turns_nobody(stage: &mut Stage) -> Emitted 
     ];
     Story("a_check_that_reaches_no_candidate_turns_nobody").holds(&[
         stage.happens(BOTH_CONTROLLING, &[&events]),
-        takes_all(&stage.world, 6, 1, Side::B, true),
-        world_issues(&stage.world, &[(3, sent(Side::A, Class::Request, 0))]),
-        has_roles(&stage.world, &[(0, [true, true])]),
+        takes_all(stage, 6, 1, Side::B, true),
+        world_issues(stage, &[(3, sent(Side::A, Class::Request, 0))]),
+        has_roles(stage, &[(0, [true, true])]),
     ])
 }

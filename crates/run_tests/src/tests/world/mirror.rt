@@ -13,7 +13,7 @@ fn second() -> SocketAddr {
 struct Mirror;
 
 impl Subject for Mirror {
-    fn play(&self, stage: &mut Stage) -> Emitted {
+    fn play(&self, stage: &mut Stage) -> Told {
         of_the_same_priorities_both_end_on_one_path(stage)?;
         of_swapped_priorities_each_ends_on_another_path(stage)
     }
@@ -108,7 +108,7 @@ fn settles(
 }
 
 /// The lines have the priorities of B's own candidates.
-fn of_the_same_priorities_both_end_on_one_path(stage: &mut Stage) -> Emitted {
+fn of_the_same_priorities_both_end_on_one_path(stage: &mut Stage) -> Told {
     let lines = [
         "candidate:1 1 udp 2130706175 10.0.0.2 2000 typ host",
         "candidate:2 1 udp 2130705663 10.0.0.3 2000 typ host",
@@ -116,9 +116,9 @@ fn of_the_same_priorities_both_end_on_one_path(stage: &mut Stage) -> Emitted {
     let (first, second) = (home(Side::B), second());
     Story("of_the_same_priorities_both_end_on_one_path").holds(&[
         settles(stage, lines, second, first),
-        has_roles(&stage.world, &[(0, [true, false])]),
+        has_roles(stage, &[(0, [true, false])]),
         world_announces(
-            &stage.world,
+            stage,
             &[
                 (24, path_to(second)),
                 (31, path_from(second)),
@@ -130,7 +130,7 @@ fn of_the_same_priorities_both_end_on_one_path(stage: &mut Stage) -> Emitted {
 }
 
 /// The lines have each other's. B was asked for both paths too, and stays on that of its own greater pair.
-fn of_swapped_priorities_each_ends_on_another_path(stage: &mut Stage) -> Emitted {
+fn of_swapped_priorities_each_ends_on_another_path(stage: &mut Stage) -> Told {
     let lines = [
         "candidate:1 1 udp 2130705663 10.0.0.2 2000 typ host",
         "candidate:2 1 udp 2130706175 10.0.0.3 2000 typ host",
@@ -138,9 +138,9 @@ fn of_swapped_priorities_each_ends_on_another_path(stage: &mut Stage) -> Emitted
     let (first, second) = (home(Side::B), second());
     Story("of_swapped_priorities_each_ends_on_another_path").holds(&[
         settles(stage, lines, first, second),
-        has_roles(&stage.world, &[(0, [true, false])]),
+        has_roles(stage, &[(0, [true, false])]),
         world_announces(
-            &stage.world,
+            stage,
             &[
                 (24, path_to(first)),
                 (31, path_from(first)),

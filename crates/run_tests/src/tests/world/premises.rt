@@ -7,7 +7,7 @@ use super::*;
 struct Premises;
 
 impl Subject for Premises {
-    fn play(&self, stage: &mut Stage) -> Emitted {
+    fn play(&self, stage: &mut Stage) -> Told {
         of_different_tie_breakers_both_announce(stage)?;
         of_one_tie_breaker_both_turn_again_and_again(stage)?;
         where_neither_checks_nothing_is_sent(stage)?;
@@ -59,19 +59,16 @@ fn check_twice(stage: &mut Stage, start: Start) -> bool {
 }
 
 /// B yields, and A announces at its first answer; B at the answer to its second check, behind A's second one.
-fn of_different_tie_breakers_both_announce(stage: &mut Stage) -> Emitted {
+fn of_different_tie_breakers_both_announce(stage: &mut Stage) -> Told {
     Story("of_different_tie_breakers_both_announce").holds(&[
         check_twice(stage, BOTH_CONTROLLING),
-        has_roles(&stage.world, &[(0, [true, true]), (10, [true, false])]),
-        world_announces(
-            &stage.world,
-            &[(15, path_of(Side::A)), (24, path_of(Side::B))],
-        ),
+        has_roles(stage, &[(0, [true, true]), (10, [true, false])]),
+        world_announces(stage, &[(15, path_of(Side::A)), (24, path_of(Side::B))]),
     ])
 }
 
 /// Each insists, and then yields to the other.
-fn of_one_tie_breaker_both_turn_again_and_again(stage: &mut Stage) -> Emitted {
+fn of_one_tie_breaker_both_turn_again_and_again(stage: &mut Stage) -> Told {
     let roles = [
         (0, [true, true]),
         (14, [true, false]),
@@ -81,19 +78,17 @@ fn of_one_tie_breaker_both_turn_again_and_again(stage: &mut Stage) -> Emitted {
     ];
     Story("of_one_tie_breaker_both_turn_again_and_again").holds(&[
         check_twice(stage, EQUALS),
-        has_roles(&stage.world, &roles),
-        world_announces(&stage.world, &[]),
+        has_roles(stage, &roles),
+        world_announces(stage, &[]),
     ])
 }
 
-/// Nothing comes of the events.
-fn is_silent(stage: &mut Stage, parts: &[&[Event]]) -> bool {
-    stage.happens(A_CONTROLS, parts)
-        && world_issues(&stage.world, &[])
-        && world_announces(&stage.world, &[])
+/// Plays the events; no packet is issued and no path announced.
+fn play_without_effect(stage: &mut Stage, parts: &[&[Event]]) -> bool {
+    stage.happens(A_CONTROLS, parts) && world_issues(stage, &[]) && world_announces(stage, &[])
 }
 
-fn where_neither_checks_nothing_is_sent(stage: &mut Stage) -> Emitted {
+fn where_neither_checks_nothing_is_sent(stage: &mut Stage) -> Told {
     let lite = [
         Event::Do(Side::A, Step::Lite),
         Event::Do(Side::B, Step::Lite),
@@ -110,11 +105,11 @@ fn where_neither_checks_nothing_is_sent(stage: &mut Stage) -> Emitted {
     ];
     Story("where_neither_checks_nothing_is_sent").holds(&[
         // both are ice-lite
-        is_silent(stage, &[&lite, &opening(), &moments(300)]),
+        play_without_effect(stage, &[&lite, &opening(), &moments(300)]),
         // neither may form a pair
-        is_silent(stage, &[&limited, &opening(), &moments(300)]),
+        play_without_effect(stage, &[&limited, &opening(), &moments(300)]),
         // neither knows a candidate of the other
-        is_silent(stage, &[&apart, &moments(0), &moments(300)]),
+        play_without_effect(stage, &[&apart, &moments(0), &moments(300)]),
     ])
 }
 
@@ -128,7 +123,7 @@ fn begins(side: Side) -> [Event; 3] {
 }
 
 /// The user name of B's check, `ne:ar:farr`, begins with `ne`. A's own is read as it is meant.
-fn a_user_fragment_with_a_colon_takes_no_check(stage: &mut Stage) -> Emitted {
+fn a_user_fragment_with_a_colon_takes_no_check(stage: &mut Stage) -> Told {
     let name = [
         Event::Do(Side::A, Step::Named("ne:ar")),
         Event::Do(Side::A, Step::Remote),
@@ -149,14 +144,14 @@ fn a_user_fragment_with_a_colon_takes_no_check(stage: &mut Stage) -> Emitted {
     ];
     Story("a_user_fragment_with_a_colon_takes_no_check").holds(&[
         stage.happens(A_CONTROLS, &parts),
-        takes_all(&stage.world, 12, 1, Side::A, false),
-        world_issues(&stage.world, &packets),
-        world_announces(&stage.world, &[(14, path_of(Side::A))]),
+        takes_all(stage, 12, 1, Side::A, false),
+        world_issues(stage, &packets),
+        world_announces(stage, &[(14, path_of(Side::A))]),
     ])
 }
 
 /// B has a pair, and not the credentials of A, whose checks wait there.
-fn who_does_not_know_the_other_does_not_answer(stage: &mut Stage) -> Emitted {
+fn who_does_not_know_the_other_does_not_answer(stage: &mut Stage) -> Told {
     let knows = [Event::Do(Side::A, Step::Remote)];
     let checks = [
         Event::Poll(Side::A),
@@ -175,10 +170,10 @@ fn who_does_not_know_the_other_does_not_answer(stage: &mut Stage) -> Emitted {
             A_CONTROLS,
             &[&knows, &begins(Side::A), &begins(Side::B), &checks],
         ),
-        takes_all(&stage.world, 8, 1, Side::B, true),
-        takes_all(&stage.world, 11, 1, Side::B, true),
-        world_issues(&stage.world, &packets),
-        world_announces(&stage.world, &[]),
+        takes_all(stage, 8, 1, Side::B, true),
+        takes_all(stage, 11, 1, Side::B, true),
+        world_issues(stage, &packets),
+        world_announces(stage, &[]),
     ])
 }
 
@@ -194,17 +189,17 @@ fn asks_behind(stage: &mut Stage, calls: &[Event]) -> bool {
     stage.happens(A_CONTROLS, &[&opening(), &checks, &back, calls, &asks])
 }
 
-fn a_path_whose_pair_was_cleared_is_not_announced(stage: &mut Stage) -> Emitted {
+fn a_path_whose_pair_was_cleared_is_not_announced(stage: &mut Stage) -> Told {
     let both = [(15, path_of(Side::A)), (19, path_of(Side::B))];
     Story("a_path_whose_pair_was_cleared_is_not_announced").holds(&[
-        asks_behind(stage, &[]) && world_announces(&stage.world, &both),
+        asks_behind(stage, &[]) && world_announces(stage, &both),
         asks_behind(stage, &[Event::Do(Side::B, Step::Recreate)]),
-        world_announces(&stage.world, &[(15, path_of(Side::A))]),
+        world_announces(stage, &[(15, path_of(Side::A))]),
     ])
 }
 
-/// B's own check is lost. Its answer to A's comes to A behind the moment at 250.
-fn is_answered_late(stage: &mut Stage, calls: &[Event]) -> bool {
+/// Plays the calls; then B's own check is lost, and its answer to A's reaches A after the timeout at 250 ms.
+fn play_late_answer(stage: &mut Stage, calls: &[Event]) -> bool {
     let late = [
         Event::Poll(Side::A),
         Event::Poll(Side::B),
@@ -216,13 +211,13 @@ fn is_answered_late(stage: &mut Stage, calls: &[Event]) -> bool {
     stage.happens(A_CONTROLS, &[calls, &opening(), &late])
 }
 
-fn an_answer_behind_the_last_timeout_is_not_taken(stage: &mut Stage) -> Emitted {
+fn an_answer_behind_the_last_timeout_is_not_taken(stage: &mut Stage) -> Told {
     let path = [(13, path_of(Side::A))];
     Story("an_answer_behind_the_last_timeout_is_not_taken").holds(&[
-        is_answered_late(stage, &[]) && world_announces(&stage.world, &path),
+        play_late_answer(stage, &[]) && world_announces(stage, &path),
         // A may check once, and gives its pair up
-        is_answered_late(stage, &[Event::Do(Side::A, Step::Checks(1))]),
-        takes_all(&stage.world, 14, 1, Side::A, false),
-        world_announces(&stage.world, &[]),
+        play_late_answer(stage, &[Event::Do(Side::A, Step::Checks(1))]),
+        takes_all(stage, 14, 1, Side::A, false),
+        world_announces(stage, &[]),
     ])
 }

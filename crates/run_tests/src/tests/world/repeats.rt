@@ -6,7 +6,7 @@ use super::*;
 struct Repeats;
 
 impl Subject for Repeats {
-    fn play(&self, stage: &mut Stage) -> Emitted {
+    fn play(&self, stage: &mut Stage) -> Told {
         packets_that_come_three_times_change_no_role_again(stage)?;
         a_late_refusal_changes_no_role_again(stage)?;
         a_late_refusal_changes_the_role_once(stage)
@@ -116,7 +116,7 @@ fn happens_if(stage: &mut Stage, events: Result<Vec<Event>, AllocError>) -> bool
     }
 }
 
-fn packets_that_come_three_times_change_no_role_again(stage: &mut Stage) -> Emitted {
+fn packets_that_come_three_times_change_no_role_again(stage: &mut Stage) -> Told {
     let events = repeated(stage.alloc);
     // A announces at the first answer to its check; B, whom A's second check asked, at the first to its own second
     let paths = [(17, path_of(Side::A)), (63, path_of(Side::B))];
@@ -125,8 +125,8 @@ fn packets_that_come_three_times_change_no_role_again(stage: &mut Stage) -> Emit
         stage.world.entries.len() == 200,
         polled_and_delivered(&stage.world) == (44, 132),
         // A's check comes to B in entry 9
-        has_roles(&stage.world, &[(0, [true, true]), (9, [true, false])]),
-        world_announces(&stage.world, &paths),
+        has_roles(stage, &[(0, [true, true]), (9, [true, false])]),
+        world_announces(stage, &paths),
         are_traced(&stage.world),
     ])
 }
@@ -164,13 +164,13 @@ fn refused_behind_rounds(alloc: Global) -> Result<Vec<Event>, AllocError> {
     Ok(events)
 }
 
-fn a_late_refusal_changes_no_role_again(stage: &mut Stage) -> Emitted {
+fn a_late_refusal_changes_no_role_again(stage: &mut Stage) -> Told {
     let events = refused_behind_rounds(stage.alloc);
     Story("a_late_refusal_changes_no_role_again").holds(&[
         happens_if(stage, events),
         stage.world.entries.len() == 65,
-        takes_all(&stage.world, 62, 3, Side::B, true),
-        has_roles(&stage.world, &[(0, [true, true]), (12, [true, false])]),
+        takes_all(stage, 62, 3, Side::B, true),
+        has_roles(stage, &[(0, [true, true]), (12, [true, false])]),
     ])
 }
 
@@ -193,12 +193,12 @@ fn refused_behind_moments(alloc: Global) -> Result<Vec<Event>, AllocError> {
     Ok(events)
 }
 
-fn a_late_refusal_changes_the_role_once(stage: &mut Stage) -> Emitted {
+fn a_late_refusal_changes_the_role_once(stage: &mut Stage) -> Told {
     let events = refused_behind_moments(stage.alloc);
     Story("a_late_refusal_changes_the_role_once").holds(&[
         happens_if(stage, events),
         stage.world.entries.len() == 65,
-        takes_all(&stage.world, 62, 3, Side::B, true),
-        has_roles(&stage.world, &[(0, [true, true]), (62, [true, false])]),
+        takes_all(stage, 62, 3, Side::B, true),
+        has_roles(stage, &[(0, [true, true]), (62, [true, false])]),
     ])
 }

@@ -53,7 +53,7 @@ fn settled(served: usize) -> [(usize, Issued); 4] {
 struct Roles;
 
 impl Subject for Roles {
-    fn play(&self, stage: &mut Stage) -> Emitted {
+    fn play(&self, stage: &mut Stage) -> Told {
         the_lesser_yields_to_a_check(stage)?;
         the_lesser_yields_to_a_refusal(stage)?;
         of_two_controlled_agents_the_lesser_takes_control(stage)?;
@@ -66,34 +66,34 @@ fn stories(rt: HostRuntime) -> Result<(), Fail> {
     tell(rt.alloc(), &Roles)
 }
 
-fn the_lesser_yields_to_a_check(stage: &mut Stage) -> Emitted {
+fn the_lesser_yields_to_a_check(stage: &mut Stage) -> Told {
     Story("the_lesser_yields_to_a_check").holds(&[
         stage.happens_behind(BOTH_CONTROLLING, &check_first()),
-        world_issues(&stage.world, &settled(12)),
-        takes_all(&stage.world, 13, 1, Side::B, false),
-        takes_all(&stage.world, 14, 2, Side::B, true),
-        has_roles(&stage.world, &[(0, [true, true]), (12, [true, false])]),
+        world_issues(stage, &settled(12)),
+        takes_all(stage, 13, 1, Side::B, false),
+        takes_all(stage, 14, 2, Side::B, true),
+        has_roles(stage, &[(0, [true, true]), (12, [true, false])]),
     ])
 }
 
-fn the_lesser_yields_to_a_refusal(stage: &mut Stage) -> Emitted {
+fn the_lesser_yields_to_a_refusal(stage: &mut Stage) -> Told {
     Story("the_lesser_yields_to_a_refusal").holds(&[
         stage.happens_behind(BOTH_CONTROLLING, &answer_first()),
-        world_issues(&stage.world, &settled(15)),
-        takes_all(&stage.world, 12, 1, Side::B, false),
-        takes_all(&stage.world, 13, 3, Side::B, true),
-        has_roles(&stage.world, &[(0, [true, true]), (13, [true, false])]),
+        world_issues(stage, &settled(15)),
+        takes_all(stage, 12, 1, Side::B, false),
+        takes_all(stage, 13, 3, Side::B, true),
+        has_roles(stage, &[(0, [true, true]), (13, [true, false])]),
     ])
 }
 
-fn of_two_controlled_agents_the_lesser_takes_control(stage: &mut Stage) -> Emitted {
+fn of_two_controlled_agents_the_lesser_takes_control(stage: &mut Stage) -> Told {
     Story("of_two_controlled_agents_the_lesser_takes_control").holds(&[
         stage.happens_behind(BOTH_CONTROLLED, &check_first()),
-        world_issues(&stage.world, &settled(12)),
-        has_roles(&stage.world, &[(12, [false, true])]),
+        world_issues(stage, &settled(12)),
+        has_roles(stage, &[(12, [false, true])]),
         stage.happens_behind(BOTH_CONTROLLED, &answer_first()),
-        world_issues(&stage.world, &settled(15)),
-        has_roles(&stage.world, &[(13, [false, true])]),
+        world_issues(stage, &settled(15)),
+        has_roles(stage, &[(13, [false, true])]),
     ])
 }
 
@@ -102,7 +102,7 @@ pub(super) const EQUALS: Start = Start {
     controlling: [true, true],
 };
 
-fn agents_of_one_tie_breaker_both_switch(stage: &mut Stage) -> Emitted {
+fn agents_of_one_tie_breaker_both_switch(stage: &mut Stage) -> Told {
     let last = [
         deliver(0, 10, Side::B),
         Event::Poll(Side::B),
@@ -118,7 +118,7 @@ fn agents_of_one_tie_breaker_both_switch(stage: &mut Stage) -> Emitted {
     let roles = [(0, [true, true]), (14, [true, false]), (15, [false, false])];
     Story("agents_of_one_tie_breaker_both_switch").holds(&[
         stage.happens_behind(EQUALS, &with_answer_of_a(last)),
-        world_issues(&stage.world, &packets),
-        has_roles(&stage.world, &roles),
+        world_issues(stage, &packets),
+        has_roles(stage, &roles),
     ])
 }

@@ -7,7 +7,7 @@ use super::*;
 struct Rounds;
 
 impl Subject for Rounds {
-    fn play(&self, stage: &mut Stage) -> Emitted {
+    fn play(&self, stage: &mut Stage) -> Told {
         the_least_of_four_pairs_is_announced_in_round_four(stage)?;
         a_check_that_reaches_no_candidate_is_not_answered(stage)
     }
@@ -60,7 +60,7 @@ fn four_rounds() -> [Event; 11] {
     ]
 }
 
-fn the_least_of_four_pairs_is_announced_in_round_four(stage: &mut Stage) -> Emitted {
+fn the_least_of_four_pairs_is_announced_in_round_four(stage: &mut Stage) -> Told {
     let candidate = [Event::Do(Side::B, Step::Host(home(Side::B)))];
     let issued = [
         (8, check(0, at(3, 2000))),
@@ -71,14 +71,14 @@ fn the_least_of_four_pairs_is_announced_in_round_four(stage: &mut Stage) -> Emit
     ];
     Story("the_least_of_four_pairs_is_announced_in_round_four").holds(&[
         stage.happens(A_CONTROLS, &[&hears_of_four(), &candidate, &four_rounds()]),
-        world_issues(&stage.world, &issued),
-        has_roles(&stage.world, &[(0, [true, false])]),
-        world_announces(&stage.world, &[(18, path_of(Side::A))]),
+        world_issues(stage, &issued),
+        has_roles(stage, &[(0, [true, false])]),
+        world_announces(stage, &[(18, path_of(Side::A))]),
     ])
 }
 
 /// B accepts the check, and drops it: it has no candidate there.
-fn a_check_that_reaches_no_candidate_is_not_answered(stage: &mut Stage) -> Emitted {
+fn a_check_that_reaches_no_candidate_is_not_answered(stage: &mut Stage) -> Told {
     let none = [Event::Do(Side::B, Step::Recreate)];
     let issued = [
         (8, check(0, at(3, 2000))),
@@ -88,8 +88,8 @@ fn a_check_that_reaches_no_candidate_is_not_answered(stage: &mut Stage) -> Emitt
     ];
     Story("a_check_that_reaches_no_candidate_is_not_answered").holds(&[
         stage.happens(A_CONTROLS, &[&hears_of_four(), &none, &four_rounds()]),
-        takes_all(&stage.world, 16, 1, Side::B, true),
-        world_issues(&stage.world, &issued),
-        world_announces(&stage.world, &[]),
+        takes_all(stage, 16, 1, Side::B, true),
+        world_issues(stage, &issued),
+        world_announces(stage, &[]),
     ])
 }

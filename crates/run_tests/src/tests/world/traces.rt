@@ -7,7 +7,7 @@ use is::Trace;
 struct Traces;
 
 impl Subject for Traces {
-    fn play(&self, stage: &mut Stage) -> Emitted {
+    fn play(&self, stage: &mut Stage) -> Told {
         an_announced_path_is_traced(stage)?;
         a_lost_check_is_not_traced(stage)?;
         a_trace_begins_behind_the_last_clear(stage)?;
@@ -50,10 +50,10 @@ fn moved(log: &WorldLog, number: usize, side: Side, class: Class) -> bool {
     }
 }
 
-fn an_announced_path_is_traced(stage: &mut Stage) -> Emitted {
+fn an_announced_path_is_traced(stage: &mut Stage) -> Told {
     Story("an_announced_path_is_traced").holds(&[
         stage.happens_behind(A_CONTROLS, &answered()),
-        world_announces(&stage.world, &[(12, path_of(Side::A))]),
+        world_announces(stage, &[(12, path_of(Side::A))]),
         moved(&stage.world, 9, Side::B, Class::Request),
         moved(&stage.world, 12, Side::A, Class::Success),
         stage.world.trace(12, 0) == trace(3, 9, 9, 12),
@@ -65,7 +65,7 @@ fn an_announced_path_is_traced(stage: &mut Stage) -> Emitted {
     ])
 }
 
-fn a_lost_check_is_not_traced(stage: &mut Stage) -> Emitted {
+fn a_lost_check_is_not_traced(stage: &mut Stage) -> Told {
     let events = [
         Event::Poll(Side::A),
         Event::Do(Side::A, Step::Moment(250)),
@@ -77,7 +77,7 @@ fn a_lost_check_is_not_traced(stage: &mut Stage) -> Emitted {
     ];
     Story("a_lost_check_is_not_traced").holds(&[
         stage.happens_behind(A_CONTROLS, &events),
-        world_announces(&stage.world, &[(14, path_of(Side::A))]),
+        world_announces(stage, &[(14, path_of(Side::A))]),
         stage.world.trace(14, 0) == trace(9, 11, 11, 14),
     ])
 }
@@ -101,12 +101,12 @@ fn is_clear(log: &WorldLog, number: usize) -> bool {
     }
 }
 
-fn a_trace_begins_behind_the_last_clear(stage: &mut Stage) -> Emitted {
+fn a_trace_begins_behind_the_last_clear(stage: &mut Stage) -> Told {
     let path = path_of(Side::A);
     Story("a_trace_begins_behind_the_last_clear").holds(&[
         stage.happens(A_CONTROLS, &[&opening(), &answered(), &cleared()]),
         is_clear(&stage.world, 13),
-        world_announces(&stage.world, &[(12, path), (18, path)]),
+        world_announces(stage, &[(12, path), (18, path)]),
         stage.world.trace(12, 0) == trace(3, 9, 9, 12),
         stage.world.trace(18, 0) == trace(14, 16, 16, 18),
     ])
@@ -131,12 +131,12 @@ const B_CONTROLS: Start = Start {
     controlling: [false, true],
 };
 
-fn a_lite_agent_has_no_trace(stage: &mut Stage) -> Emitted {
+fn a_lite_agent_has_no_trace(stage: &mut Stage) -> Told {
     let lite_a = [Event::Do(Side::A, Step::Lite)];
     let paths = [(12, path_of(Side::B)), (16, path_of(Side::A))];
     Story("a_lite_agent_has_no_trace").holds(&[
         stage.happens(B_CONTROLS, &[&lite_a, &opening(), &lite()]),
-        world_announces(&stage.world, &paths),
+        world_announces(stage, &paths),
         stage.world.trace(12, 0) == trace(8, 10, 10, 12),
         stage.world.trace(16, 0).is_none(),
     ])

@@ -8,8 +8,8 @@ use Rattle.is_rules.specs.Serving.{CountsAndServes}
 use Rattle.is_agent.proofs.RoleLemmas.{between-reprioritized}
 use Rattle.is_agent.proofs.agent.Agent.switch_role_and_serve.Goals as goal
 
-pub admit-requires : goal.admit-requires
-admit-requires g c =
+pub count_and_serve-requires : goal.count_and_serve-requires
+count_and_serve-requires g c =
     let is = c.switch_role.ensures.record in let old = c.args.self.now in
     let controlling = ap (λ (a : AgentRecord g.row.H.Denot g.row.P.Denot). a.controlling) is in
     let local = ap (λ (a : AgentRecord g.row.H.Denot g.row.P.Denot). a.local) is in
