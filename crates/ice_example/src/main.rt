@@ -1,5 +1,5 @@
-//! Two agents in one program find a path to each other. What signalling would carry is handed over, and an inbox on each side
-//! stands for its socket.
+//! Two agents in one program find a path to each other. What signaling would carry is passed directly, and an inbox on each
+//! side replaces its socket.
 #![tactic(auto)]
 
 use is::stun::{StunMessage, StunPacket};
@@ -17,7 +17,7 @@ use std::random::RandomSource;
 
 type Agent = IceAgent<DefaultSha1HmacProvider>;
 
-/// One side: its agent, the datagrams that came, and from where to where its media goes.
+/// One side: its agent, the datagrams that were received, and the source and the destination of its media.
 #[derive(Drop)]
 struct Side {
     agent: Box<Agent>,
@@ -25,7 +25,7 @@ struct Side {
     path: Option<(SocketAddr, SocketAddr)>,
 }
 
-/// What signalling tells the other side: the credentials, and a line for each candidate.
+/// What signaling sends to the other side: the credentials, and a candidate attribute for each candidate.
 #[derive(Drop)]
 struct Signal {
     creds: IceCreds,
@@ -109,13 +109,13 @@ fn turn<R: Rng>(
     Ok(wake)
 }
 
-/// The path of the first side, once each side has one, within a hundred turns.
+/// The path of the first side, once each side has one, within a hundred rounds.
 fn connect<R: Rng>(
     a: &mut Side,
     b: &mut Side,
     rng: &mut R,
 ) -> Result<Option<(SocketAddr, SocketAddr)>, IceError> {
-    // Nanoseconds from a beginning that is yours, from 60 s on.
+    // Nanoseconds since an origin that you choose, starting at 60 s.
     let mut now = Instant(60_000_000_000);
     for _ in 0..100 {
         let wakes = (turn(a, b, now, rng)?, turn(b, a, now, rng)?);
@@ -129,7 +129,7 @@ fn connect<R: Rng>(
     Ok(None)
 }
 
-/// Two sides that know of each other what signalling tells, and the path between them.
+/// Two sides that exchange what signaling carries, and the path between them.
 fn meet<R: Rng>(alloc: Global, rng: &mut R) -> Result<Option<(SocketAddr, SocketAddr)>, IceError> {
     let (mut a, told_by_a) = begin(alloc, at(1, 1000), rng)?;
     let (mut b, told_by_b) = begin(alloc, at(2, 2000), rng)?;
