@@ -12,7 +12,6 @@ ghost use Rattle.is_stun.specs.Integrity.{IsSignedBy};
 ghost use Rattle.is_stun.specs.MessageView.{message_view};
 ghost use Rattle.is_rules.specs.Emitted.{nothing_emitted};
 ghost use Rattle.is_agent.specs.View.{record_of};
-ghost use Rattle.is_rules.specs.Kept.{TOO_HIGH};
 ghost use Rattle.is_agent.specs.Room.{HasEventRoom, HasNewsRoom, UsesNews};
 ghost use Rattle.is_rules.specs.Due.{KeepsCheckOn, IsRecorded, IsSentUnder};
 ghost use Rattle.is_rules.specs.Accepting.{IsAwaited};
