@@ -204,7 +204,7 @@ impl<H: Sha1HmacProvider + Drop, P: LocalPreference> Agent<H, P> {
         }
     }
 
-    /// The candidate gets its preference, and is added.
+    /// The candidate gets its preference, then `enrol` decides.
     fn enrol_preferred(&mut self, candidate: Candidate) -> Result<Option<usize>, Refusal>
         requires low { candidate_priority candidate < TOO_HIGH }
         ensures { EnrolsPreferred P.answers (record_of self.old) candidate (widened result) (record_of self.new) }
@@ -240,9 +240,9 @@ impl<H: Sha1HmacProvider + Drop, P: LocalPreference> Agent<H, P> {
     /// version, including discarded ones, or the default one. A lite agent adds only host candidates.
     ///
     /// The first local candidate with the same address, base and protocol decides. If it is discarded and has the same kind
-    /// and related address, it is enabled again and used instead. If its priority is greater, it stays, and the call returns
-    /// None. Else it is discarded, and its pairs are removed. Pairs are formed with the remote candidates (RFC 8445, section
-    /// 6.1.2).
+    /// and related address, it is enabled again and used instead. Otherwise, if its priority is greater than the new one's,
+    /// it stays, and the call returns None. Else it is discarded, and its pairs are removed. Pairs are formed with the remote
+    /// candidates (RFC 8445, section 6.1.2).
     ///
     /// Fails with `PriorityTooHigh` if the candidate's priority is 4294967295, with `PairIdsExhausted` if no number is left
     /// for a pair, and with `OutOfMemory`. The agent is then unchanged.

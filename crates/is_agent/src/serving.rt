@@ -70,7 +70,7 @@ impl<H: Sha1HmacProvider + Drop, P: LocalPreference> Agent<H, P> {
         })
     }
 
-    /// A pair must be added there, after the rules on role conflicts and on the role.
+    /// A pair must be added there, given the role conflict and the role after it.
     fn wants_pair(&self, request: &Request<'_>, at: Places) -> bool
         ensures { result ≡ wants_pair (record_of self.now) (request_view request.now) at }
     {
@@ -216,7 +216,7 @@ impl<H: Sha1HmacProvider + Drop, P: LocalPreference> Agent<H, P> {
         serve_pair(&mut self.pairs, number, request, standing);
     }
 
-    /// The pair records the request, a controlling agent evaluates nomination if the pair is valid, and the response goes out.
+    /// The pair records the request, a controlling agent evaluates nomination if the pair is valid, and the response is sent.
     fn record_and_respond(
         &mut self,
         request: &Request<'_>,

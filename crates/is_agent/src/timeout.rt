@@ -374,7 +374,7 @@ impl<H: Sha1HmacProvider + Drop, P: LocalPreference> Agent<H, P> {
         Ok(self.run_timeout_without_request(now, rng)?)
     }
 
-    /// Runs the agent's timers at time `now`. In New it emits the start event first and evaluates the state. It serves an
+    /// Runs the agent's timers at time `now`. In New it first emits the start event. It evaluates the state. It serves an
     /// early request, once the remote credentials are known. If there is none, it nominates a pair, removes pairs that are no
     /// longer possible, and checks the pair that is due first (RFC 8445, sections 6.1.4.2, 7.2.4 and 8.1.1). It allocates
     /// what the events and the packet that it issues need. If a pair may be nominated and its due time is not fixed, it
