@@ -7,7 +7,7 @@ over UDP sockets.
 
 from .address import Protocol, SocketAddress
 from .agent import IceAgent, line_refusal, new_creds
-from .candidate import Candidate, CandidateKind, KindPreferences, has_mdns_name
+from .candidate import AddResult, Candidate, CandidateKind, KindPreferences, has_mdns_name
 from .errors import (
     BadAddress,
     BadCandidate,
@@ -39,8 +39,8 @@ from .events import (
 )
 
 __all__ = [
-    "BadAddress", "BadCandidate", "BadLimit", "Candidate", "CandidateKind", "CredentialsTooLong", "DiscoveredRecv",
-    "HasAgent", "IceAgent", "IceAgentEvent", "IceAgentStats", "IceConnectionState", "IceConnectionStateChange",
+    "AddResult", "BadAddress", "BadCandidate", "BadLimit", "Candidate", "CandidateKind", "CredentialsTooLong",
+    "DiscoveredRecv", "HasAgent", "IceAgent", "IceAgentEvent", "IceAgentStats", "IceConnectionState", "IceConnectionStateChange",
     "IceCreds", "IceError", "IceRestart", "KindPreferences", "MtuTooSmall", "NoAgent", "NominatedPair", "NominatedSend",
     "NotUtf8", "OutOfMemory", "PairIdsExhausted", "PriorityTooHigh", "Protocol", "SocketAddress", "TooFewRandomBytes",
     "Transmit", "Unparsed", "WrongThread", "has_mdns_name", "line_refusal", "new_creds",

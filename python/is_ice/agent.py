@@ -5,6 +5,7 @@ from __future__ import annotations
 import ctypes
 import os
 import threading
+from collections import deque
 from collections.abc import Callable
 from ctypes import byref, c_size_t, c_uint64, create_string_buffer, string_at
 from functools import cached_property
@@ -12,7 +13,7 @@ from types import TracebackType
 
 from . import _abi
 from .address import Protocol, SocketAddress, address_of, in_range, socket_of
-from .candidate import Candidate, KindPreferences, struct_of, table_of
+from .candidate import AddResult, Candidate, KindPreferences, struct_of, table_of, ufrag_of
 from .errors import BUFFER_TOO_SHORT, BadCandidate, NoAgent, WrongThread, done, error_of
 from .events import (
     DiscoveredRecv,
@@ -81,6 +82,8 @@ class IceAgent:
         self._c = _library.calls
         self._buffer = create_string_buffer(2048)
         self._packet, self._event, self._time = _abi.Packet(), _abi.Event(), c_uint64()
+        self._events: deque[IceAgentEvent] = deque()  # that `nominated_pair` read before `poll_event`
+        self._selected: NominatedSend | None = None
         creds = creds or new_creds()
         tie = int.from_bytes(os.urandom(8), "little") if tie_breaker is None else in_range(tie_breaker, 64, "a tie-breaker")
         ufrag, pass_ = creds.ufrag.encode(), creds.pass_.encode()
@@ -95,6 +98,7 @@ class IceAgent:
 
     def close(self) -> None:
         """Frees the agent. Every later call raises NoAgent, except for another `close`."""
+        self._events.clear()
         self._c.is_ice_agent_free(self._at)
 
     def __enter__(self) -> IceAgent:
@@ -193,16 +197,23 @@ class IceAgent:
         after = self.local_candidates()
         return next((line for line in after if line not in before), after[-1])
 
-    def add_remote_candidate(self, line: str) -> None:
-        """Adds a candidate of the peer, by its text ("candidate:.."). BadCandidate says what is wrong with it.
+    def add_remote_candidate(self, line: str) -> AddResult:
+        """Adds a candidate of the peer, by its text ("candidate:.."), and returns whether it was added, known or ignored.
 
-        A candidate with an mDNS name is a BadCandidate too; `has_mdns_name` says what to do with it.
+        BadCandidate says what is wrong with it. A candidate with an mDNS name is a BadCandidate too; `has_mdns_name` says what to do
+        with it.
         """
+        before = self.remote_candidates()
         text = line.encode()
         code = self._c.is_ice_add_remote(self._at, text, len(text))
         if code == BadCandidate.code:
             raise error_of(code, line_refusal(line) or "")
         done(code)
+        if self.remote_candidates() != before:
+            return AddResult.ADDED
+        creds, ufrag = self.remote_credentials, ufrag_of(line)
+        is_other = creds is not None and ufrag is not None and ufrag != creds.ufrag
+        return AddResult.IGNORED if is_other or line.split()[1] != "1" else AddResult.KNOWN
 
     def invalidate_candidate(self, candidate: Candidate | str) -> bool:
         """Removes a candidate and its pairs, as when an interface is gone. Returns False if there is no such candidate."""
@@ -270,6 +281,9 @@ class IceAgent:
 
     def poll_event(self) -> IceAgentEvent | None:
         """Returns the next event and removes it from the agent, or None if there is none."""
+        return self._events.popleft() if self._events else self._next_event()
+
+    def _next_event(self) -> IceAgentEvent | None:
         event = self._event
         if not done(self._c.is_ice_poll_event(self._at, byref(event))):
             return None
@@ -279,7 +293,8 @@ class IceAgent:
             return IceConnectionStateChange(IceConnectionState(event.state))
         if event.kind == 3:
             return DiscoveredRecv(Protocol(event.protocol), socket_of(event.source))
-        return NominatedSend(Protocol(event.protocol), socket_of(event.source), socket_of(event.destination))
+        self._selected = NominatedSend(Protocol(event.protocol), socket_of(event.source), socket_of(event.destination))
+        return self._selected
 
     def ice_restart(self, creds: IceCreds, keep_local_candidates: bool) -> None:
         """Makes an ICE restart with new local credentials. Then set the peer's new credentials and candidates."""
@@ -336,11 +351,14 @@ class IceAgent:
 
     @property
     def nominated_pair(self) -> NominatedPair | None:
-        """Figures of the selected pair, or None if no pair was selected or it was removed."""
+        """Addresses and figures of the selected pair, or None if no pair was selected or it was removed."""
         pair = _abi.Nominated()
-        if not done(self._c.is_ice_nominated(self._at, byref(pair))):
+        while event := self._next_event():  # `poll_event` returns them later; the last NominatedSend has the addresses
+            self._events.append(event)
+        if not done(self._c.is_ice_nominated(self._at, byref(pair))) or self._selected is None:
             return None
-        return NominatedPair(pair.total_rtt, pair.responses, pair.rtt if pair.has_rtt else None)
+        return NominatedPair(pair.total_rtt, pair.responses, pair.rtt if pair.has_rtt else None, self._selected.source,
+                             self._selected.destination)
 
     def has_viable_remote_candidate(self, address: SocketAddress) -> bool:
         """Returns whether there is a valid pair whose remote candidate has this address."""

@@ -53,6 +53,24 @@ class KindPreferences:
     relayed: int
 
 
+class AddResult(enum.Enum):
+    """What became of a remote candidate.
+
+    KNOWN: it equals a remote candidate that the agent has. IGNORED: it is of another component than 1, or of another username fragment
+    than the peer's.
+    """
+
+    ADDED = enum.auto()
+    KNOWN = enum.auto()
+    IGNORED = enum.auto()
+
+
+def ufrag_of(line: str) -> str | None:
+    """Returns the extension `ufrag` of a candidate, or None if it has none."""
+    words = line.split()
+    return dict(zip(words[8::2], words[9::2])).get("ufrag")
+
+
 def has_mdns_name(line: str) -> bool:
     """Returns whether a candidate has an mDNS name, as `3f2b8c1e.local`, instead of an address, to hide it from the peer.
 

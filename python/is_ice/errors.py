@@ -43,7 +43,7 @@ class BadAddress(IceError):
 
 
 class Unparsed(IceError):
-    """The bytes are not a STUN message: media, most likely."""
+    """The bytes are not a STUN message, as media, or are one without MESSAGE-INTEGRITY, as a STUN server's response."""
 
     code, text = UNPARSED, "no STUN message"
 

@@ -103,8 +103,13 @@ class IceAgentStats:
 
 @dataclass(frozen=True)
 class NominatedPair:
-    """Figures of the selected pair. Times are nanoseconds. `rtt` is the last round-trip time, or None if there is none."""
+    """The selected pair. Times are nanoseconds. `rtt` is the last round-trip time, or None if there is none.
+
+    `source` and `destination` are those of its NominatedSend.
+    """
 
     total_rtt: int
     responses: int
     rtt: int | None
+    source: SocketAddress
+    destination: SocketAddress

@@ -3,107 +3,190 @@
 from __future__ import annotations
 
 import asyncio
+import socket
 import time
+from collections import deque
 from collections.abc import Callable
 
 from .address import SocketAddress
 from .agent import IceAgent
 from .candidate import Candidate
-from .errors import IceError, Unparsed
+from .demux import is_stun, is_stun_request
+from .errors import IceError, NoAgent, Unparsed
 from .events import IceAgentEvent
 
 # Time starts at 60 s: the agent gives a newly nominated pair a due time 60 s in the past.
 _BEGINNING = 60_000_000_000
+# The least pacing interval (RFC 8445, section 14.2): how long after a timeout a packet of the peer may bring the next one.
+_LEAST_PACING = 5_000_000
+_WITHOUT_TIMEOUT = 50_000_000
+_EARLY_CHECKS = 16
+_RECEIVE_BUFFER = 256 * 1024
+
+EventHandler = Callable[[IceAgentEvent], None]
+DatagramHandler = Callable[[SocketAddress, SocketAddress, bytes], None]
+Send = Callable[[SocketAddress, bytes], None]
 
 
 class _Socket(asyncio.DatagramProtocol):
-    def __init__(self, took: Callable[[SocketAddress, SocketAddress, bytes], None]) -> None:
-        self._took = took
+    def __init__(self, receive: DatagramHandler) -> None:
+        self._receive = receive
         self.local = SocketAddress("", 0)
 
     def connection_made(self, transport: asyncio.BaseTransport) -> None:
-        """Stores the local address."""
+        """Stores the local address, and makes room for bursts."""
         self.local = SocketAddress(*transport.get_extra_info("sockname"))
+        transport.get_extra_info("socket").setsockopt(socket.SOL_SOCKET, socket.SO_RCVBUF, _RECEIVE_BUFFER)
 
     def datagram_received(self, data: bytes, addr: tuple[str, int]) -> None:
         """Passes a datagram on with both addresses."""
-        self._took(SocketAddress(*addr), self.local, data)
+        self._receive(SocketAddress(*addr), self.local, data)
 
 
 class IceLoop:
-    """An agent, its sockets and its timer. Calls `on_event` with events, and `on_media` with datagrams that are not STUN messages."""
+    """An agent, its sockets and its timer.
 
-    def __init__(self, agent: IceAgent, on_event: Callable[[IceAgentEvent], None],
-                 on_media: Callable[[SocketAddress, SocketAddress, bytes], None]) -> None:
+    Calls `on_event` with events, `on_media` with datagrams that are not STUN messages, and `on_stun` with STUN messages that are not
+    for the agent, such as responses of STUN and TURN servers. The last two get the source, the local address and the bytes. If a
+    handler raises, the event loop's exception handler gets the exception, and the session goes on. A handler may close the loop
+    and the agent.
+    """
+
+    def __init__(self, agent: IceAgent, on_event: EventHandler, on_media: DatagramHandler,
+                 on_stun: DatagramHandler | None = None) -> None:
         self.agent = agent
-        self._on_event, self._on_media = on_event, on_media
+        self._on_event, self._on_media, self._on_stun = on_event, on_media, on_stun
         self._start = time.monotonic_ns()
-        self._sockets: dict[SocketAddress, asyncio.DatagramTransport] = {}
+        self._sends: dict[SocketAddress, Send] = {}
+        self._closes: list[Callable[[], None]] = []
+        self._early: deque[tuple[SocketAddress, SocketAddress, bytes]] = deque(maxlen=_EARLY_CHECKS)
         self._timer: asyncio.TimerHandle | None = None
-        self._began = False
+        self._last_timeout = 0
+        self._began = self._closed = False
 
     def now(self) -> int:
         """The current time for the agent, in nanoseconds."""
         return time.monotonic_ns() - self._start + _BEGINNING
 
-    async def bind(self, ip: str) -> str | None:
-        """Binds a socket at a local address, adds it as a host candidate, and returns that for signaling."""
+    async def open(self, ip: str, port: int = 0) -> SocketAddress:
+        """Binds a socket at a local address and returns that address, with the port. No candidate is added."""
         loop = asyncio.get_running_loop()
-        transport, socket = await loop.create_datagram_endpoint(lambda: _Socket(self._took), local_addr=(ip, 0))
-        self._sockets[socket.local] = transport
-        return self.agent.add_local_candidate(Candidate.host(socket.local))
+        transport, protocol = await loop.create_datagram_endpoint(lambda: _Socket(self.receive), local_addr=(ip, port))
+
+        def send(destination: SocketAddress, data: bytes) -> None:
+            transport.sendto(data, destination[:2] if destination.version == 4 else tuple(destination))
+
+        self.add_socket(protocol.local, send, transport.close)
+        return protocol.local
+
+    async def bind(self, ip: str, port: int = 0) -> str | None:
+        """Binds a socket at a local address, adds it as a host candidate, and returns that for signaling."""
+        return self.agent.add_local_candidate(Candidate.host(await self.open(ip, port)))
+
+    def add_socket(self, local: SocketAddress, send: Send, close: Callable[[], None] | None = None) -> None:
+        """Adds a socket of the caller's, such as a TURN allocation, whose local address is the relayed one.
+
+        The loop calls `send` with a destination and a datagram, and `close` when it is closed. Pass what arrives to `receive`.
+        """
+        if self._closed:
+            if close:
+                close()
+            return
+        self._sends[local] = send
+        if close:
+            self._closes.append(close)
 
     def begin(self) -> None:
-        """Starts the session: calls `handle_timeout` now, and at each later time that the agent asks for."""
-        self._began = True
-        self._told()
+        """Starts the session: calls `handle_timeout` now, and at each later time that `poll_timeout` returns.
+
+        Checks that came before, up to 16 of them, are passed to the agent.
+        """
+        self._began = not self._closed
+        self._timed_out()
+        while self._began and self._early:
+            self._take(*self._early.popleft())
 
     def wake(self) -> None:
         """Sends packets, reports events and sets the timer. Call it after each call of yours on the agent."""
-        if self._began:
-            self._turn()
+        self._turn(soon=True)
 
     def send(self, source: SocketAddress, destination: SocketAddress, data: bytes) -> None:
         """Sends a datagram from the socket at a local address. Without such a socket the datagram is lost."""
-        if transport := self._sockets.get(source):
-            transport.sendto(data, tuple(destination)[:2] if destination.version == 4 else tuple(destination))
+        if send := self._sends.get(source):
+            send(destination, data)
+
+    def receive(self, source: SocketAddress, local: SocketAddress, data: bytes) -> None:
+        """Takes a datagram that arrived at a local address. The loop's own sockets call it themselves."""
+        if self._closed:
+            return
+        if not is_stun(data):
+            self._on_media(source, local, data)
+        elif self._began:
+            self._take(source, local, data)
+        elif is_stun_request(data):
+            self._early.append((source, local, data))
+        else:
+            self._report(self._on_stun, source, local, data)
 
     def close(self) -> None:
         """Closes the sockets and stops the timer."""
-        self._began = False
+        self._began, self._closed = False, True
         if self._timer:
             self._timer.cancel()
-        for transport in self._sockets.values():
-            transport.close()
+        self._sends.clear()
+        while self._closes:
+            self._closes.pop()()
 
-    def _told(self) -> None:
-        try:
-            self.agent.handle_timeout(self.now())
-        except IceError:
-            pass  # as when out of memory: it is repeated at the next timeout
-        self._turn()
-
-    def _took(self, source: SocketAddress, local: SocketAddress, data: bytes) -> None:
+    def _timed_out(self) -> None:
         if not self._began:
             return
+        self._last_timeout = self.now()
         try:
-            self.agent.handle_packet(self.now(), source, local, data)
+            self.agent.handle_timeout(self._last_timeout)
+        except IceError:
+            pass  # as when out of memory: it is repeated at the next timeout
+        self._turn(soon=False)
+
+    def _take(self, source: SocketAddress, local: SocketAddress, data: bytes) -> None:
+        try:
+            accepted = self.agent.handle_packet(self.now(), source, local, data)
         except Unparsed:
-            self._on_media(source, local, data)
+            accepted = False  # a response without MESSAGE-INTEGRITY, as of a STUN server
+        except NoAgent:
+            self.close()
             return
         except IceError:
             return  # the agent is unchanged, as if the datagram had been lost
-        self._turn()
+        if accepted:
+            self._turn(soon=True)
+        else:
+            self._report(self._on_stun, source, local, data)
 
-    def _turn(self) -> None:
-        wake = self.agent.poll_timeout()  # before packets are polled
-        while packet := self.agent.poll_transmit():
-            self.send(packet.source, packet.destination, packet.contents)
-        while event := self.agent.poll_event():
-            self._on_event(event)
+    def _turn(self, soon: bool) -> None:
+        """`soon`: something changed, so the next timeout need not wait for the pacing interval that the agent has."""
         if not self._began:
             return
+        try:
+            self._set_timer(self.agent.poll_timeout(), soon)  # before packets are polled, and before handlers run
+            while self._began and (packet := self.agent.poll_transmit()):
+                self.send(packet.source, packet.destination, packet.contents)
+            while self._began and (event := self.agent.poll_event()):
+                self._report(self._on_event, event)
+        except NoAgent:
+            self.close()
+
+    def _set_timer(self, due: int | None, soon: bool) -> None:
+        now = self.now()
+        due = now + _WITHOUT_TIMEOUT if due is None else due
+        if soon:
+            due = min(due, self._last_timeout + _LEAST_PACING)
         if self._timer:
             self._timer.cancel()
-        wait = 0.05 if wake is None else max(0, wake - self.now()) / 1e9
-        self._timer = asyncio.get_running_loop().call_later(wait, self._told)
+        self._timer = asyncio.get_running_loop().call_later(max(0, due - now) / 1e9, self._timed_out)
+
+    def _report(self, handler: Callable[..., None] | None, *told: object) -> None:
+        try:
+            if handler:
+                handler(*told)
+        except Exception as error:
+            asyncio.get_running_loop().call_exception_handler({"message": "a handler of IceLoop raised", "exception": error})

@@ -14,6 +14,7 @@ from unittest import mock
 import is_ice
 from is_ice import _abi
 from is_ice import (
+    AddResult,
     BadAddress,
     BadCandidate,
     BadLimit,
@@ -93,7 +94,25 @@ class Sessions(unittest.TestCase):
         pair = a.nominated_pair
         assert pair is not None
         self.assertEqual(pair.rtt, 0)
+        self.assertEqual((pair.source, pair.destination), (HERE, THERE))
         self.assertTrue(a.has_viable_remote_candidate(THERE))
+
+    def test_the_selected_pair_has_its_addresses_before_its_event_is_polled(self) -> None:
+        a, b = two_agents()
+        for count in range(3):
+            now = BEGINNING + count * SECOND // 20
+            for agent, other in ((a, b), (b, a), (a, b)):
+                agent.handle_timeout(now)
+                while packet := agent.poll_transmit():
+                    other.handle_packet(now, packet.source, packet.destination, packet.contents)
+        pair = a.nominated_pair
+        assert pair is not None
+        self.assertEqual((pair.source, pair.destination), (HERE, THERE))
+        events = []
+        while event := a.poll_event():
+            events.append(event)
+        self.assertEqual(events[0], IceRestart(a.local_credentials))
+        self.assertIn(THERE, [event.destination for event in events if isinstance(event, NominatedSend)])
 
     def test_a_restart(self) -> None:
         a, b = two_agents()
@@ -181,6 +200,16 @@ class Values(unittest.TestCase):
         self.assertTrue(agent.invalidate_candidate(Candidate.server_reflexive(seen, HERE)))
         self.assertFalse(agent.invalidate_candidate(Candidate.server_reflexive(seen, HERE)))
         self.assertEqual(len(agent.local_candidates()), 3)
+
+    def test_a_remote_candidate_is_added_known_or_ignored(self) -> None:
+        agent = IceAgent()
+        agent.set_remote_credentials(IceCreds("BBBB", "Q" * 22))
+        agent.add_local_candidate(Candidate.host(HERE))
+        self.assertEqual(agent.add_remote_candidate(LINE_OF_THERE + " ufrag BBBB"), AddResult.ADDED)
+        self.assertEqual(agent.add_remote_candidate(LINE_OF_THERE), AddResult.KNOWN)
+        self.assertEqual(agent.add_remote_candidate(LINE_OF_THERE + " ufrag CCCC"), AddResult.IGNORED)
+        self.assertEqual(agent.add_remote_candidate(LINE_OF_THERE.replace("1 1 udp", "1 2 udp")), AddResult.IGNORED)
+        self.assertEqual(agent.add_remote_candidate(LINE_OF_THERE.replace("2000", "2002")), AddResult.ADDED)
 
     def test_addresses_print_as_in_scripts(self) -> None:
         self.assertEqual(str(SocketAddress("2001:db8::1", 80)), "[2001:db8::1]:80")

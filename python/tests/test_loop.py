@@ -1,0 +1,209 @@
+"""The loop over UDP sockets: handlers that raise or close, early checks, STUN of servers, sockets of the caller."""
+
+from __future__ import annotations
+
+import asyncio
+import socket
+import time
+import unittest
+from pathlib import Path
+from unittest import mock
+
+from is_ice import Candidate, IceAgent, IceCreds, NominatedSend, SocketAddress
+from is_ice.demux import PacketKind, is_stun, packet_kind
+from is_ice.loop import IceLoop
+
+COOKIE = bytes.fromhex("2112a442")
+BINDING_RESPONSE = b"\x01\x01\0\0" + COOKIE + bytes(12)  # without MESSAGE-INTEGRITY
+ALLOCATE_ERROR = b"\x01\x13\0\0" + COOKIE + bytes(12)
+BINDING_REQUEST = b"\x00\x01\0\0" + COOKIE + bytes(12)
+
+
+def nothing(*_: object) -> None:
+    """A handler."""
+
+
+class Side:
+    """An agent with its loop, and what it reported."""
+
+    def __init__(self, controlling: bool) -> None:
+        self.path: asyncio.Future[NominatedSend] = asyncio.get_running_loop().create_future()
+        self.media: list[bytes] = []
+        self.stun: list[tuple[SocketAddress, SocketAddress, bytes]] = []
+        self.agent = IceAgent()
+        self.agent.set_controlling(controlling)
+        self.loop = IceLoop(self.agent, self.note, lambda *told: self.media.append(told[2]), lambda *told: self.stun.append(told))
+
+    def note(self, event: object) -> None:
+        if isinstance(event, NominatedSend) and not self.path.done():
+            self.path.set_result(event)
+
+
+def signal(a: Side, b: Side) -> None:
+    for one, other in ((a, b), (b, a)):
+        one.agent.set_remote_credentials(other.agent.local_credentials)
+        for line in other.agent.local_candidates():
+            one.agent.add_remote_candidate(line)
+
+
+async def two_sides() -> tuple[Side, Side]:
+    sides = Side(True), Side(False)
+    for side in sides:
+        await side.loop.bind("127.0.0.1")
+    signal(*sides)
+    return sides
+
+
+def local_of(side: Side) -> SocketAddress:
+    words = side.agent.local_candidates()[0].split()
+    return SocketAddress(words[4], int(words[5]))
+
+
+class Handlers(unittest.IsolatedAsyncioTestCase):
+    async def test_a_handler_that_raises_does_not_stop_the_session(self) -> None:
+        errors: list[BaseException] = []
+        asyncio.get_running_loop().set_exception_handler(lambda _, context: errors.append(context["exception"]))
+
+        def fail(_: object) -> None:
+            raise RuntimeError("in a handler")
+
+        agent = IceAgent()
+        loop = IceLoop(agent, fail, nothing)
+        await loop.bind("127.0.0.1")
+        agent.add_remote_candidate("candidate:1 1 udp 5 127.0.0.1 9 typ host")
+        agent.set_remote_credentials(IceCreds("abcd", "p" * 22))
+        loop.begin()
+        await asyncio.sleep(0.5)
+        self.assertGreaterEqual(agent.stats.bind_request_sent, 2)
+        self.assertGreaterEqual(len(errors), 2)  # the event after the one that failed came too
+        loop.close()
+
+    async def test_a_handler_may_close_the_loop_and_the_agent(self) -> None:
+        for begun in (True, False):  # by the first event, and by a datagram
+            with self.subTest(begun=begun):
+                agent = IceAgent()
+                calls: list[object] = []
+
+                def end(*event: object) -> None:
+                    calls.append(event)
+                    agent.close()
+
+                loop = IceLoop(agent, end if begun else nothing, nothing, end)
+                await loop.bind("127.0.0.1")
+                loop.begin()
+                if not begun:
+                    loop.receive(SocketAddress("127.0.0.1", 9), SocketAddress("127.0.0.1", 10), BINDING_RESPONSE)
+                    loop.receive(SocketAddress("127.0.0.1", 9), SocketAddress("127.0.0.1", 10), BINDING_RESPONSE)
+                await asyncio.sleep(0.1)
+                self.assertEqual(len(calls), 1)
+                loop.close()
+
+    async def test_a_closed_loop_begins_nothing(self) -> None:
+        side = Side(True)
+        await side.loop.bind("127.0.0.1")
+        side.loop.close()
+        side.loop.begin()
+        side.loop.receive(SocketAddress("127.0.0.1", 9), SocketAddress("127.0.0.1", 10), b"media")
+        self.assertEqual((str(side.agent.state), side.media), ("State.New", []))
+
+
+class Datagrams(unittest.IsolatedAsyncioTestCase):
+    async def test_checks_before_the_session_are_served_at_its_start(self) -> None:
+        a, b = await two_sides()
+        a.loop.begin()
+        await asyncio.sleep(0.1)
+        b.loop.begin()
+        self.assertGreater(b.agent.stats.bind_request_recv, 0)
+        await asyncio.wait_for(asyncio.gather(a.path, b.path), 0.5)
+        a.loop.close()
+        b.loop.close()
+
+    async def test_the_last_16_early_checks_are_kept(self) -> None:
+        side = Side(False)
+        at = SocketAddress("127.0.0.1", 10)
+        for count in range(20):
+            side.loop.receive(SocketAddress("127.0.0.1", 1000 + count), at, BINDING_REQUEST)
+        with mock.patch.object(side.agent, "handle_packet", return_value=True) as taken:
+            side.loop.begin()
+        self.assertEqual([call.args[1].port for call in taken.call_args_list], list(range(1004, 1020)))
+        side.loop.close()
+
+    async def test_responses_of_servers_are_reported_before_and_after_the_start(self) -> None:
+        side = Side(False)
+        await side.loop.bind("127.0.0.1")
+        with socket.socket(socket.AF_INET, socket.SOCK_DGRAM) as server:
+            server.bind(("127.0.0.1", 0))
+            for begun in (False, True):
+                if begun:
+                    side.loop.begin()
+                for message in (BINDING_RESPONSE, ALLOCATE_ERROR, b"\x80 media"):
+                    server.sendto(message, local_of(side)[:2])
+                await asyncio.sleep(0.05)
+            source = SocketAddress(*server.getsockname())
+        self.assertEqual(side.stun, [(source, local_of(side), BINDING_RESPONSE), (source, local_of(side), ALLOCATE_ERROR)] * 2)
+        self.assertEqual(side.media, [b"\x80 media"] * 2)
+        side.loop.close()
+
+    async def test_sockets_of_the_caller(self) -> None:
+        sides = {SocketAddress("10.0.0.1", 1): Side(True), SocketAddress("10.0.0.2", 2): Side(False)}
+        closed: list[SocketAddress] = []
+        for local, side in sides.items():
+            def send(destination: SocketAddress, data: bytes, local: SocketAddress = local) -> None:
+                asyncio.get_running_loop().call_soon(sides[destination].loop.receive, local, destination, data)
+
+            side.loop.add_socket(local, send, lambda local=local: closed.append(local))  # type: ignore[misc]
+            side.agent.add_local_candidate(Candidate.host(local))
+        a, b = sides.values()
+        signal(a, b)
+        a.loop.begin()
+        b.loop.begin()
+        self.assertEqual((await asyncio.wait_for(a.path, 1)).destination, (await asyncio.wait_for(b.path, 1)).source)
+        a.loop.close()
+        b.loop.close()
+        self.assertEqual(closed, list(sides))
+
+    async def test_both_sides_have_a_path_within_a_pacing_interval(self) -> None:
+        took = [1.0]
+        while min(took) > 0.04 and len(took) < 10:  # the machine may be busy
+            a, b = await two_sides()
+            start = time.monotonic()
+            a.loop.begin()
+            b.loop.begin()
+            await asyncio.wait_for(asyncio.gather(a.path, b.path), 2)
+            took.append(time.monotonic() - start)
+            a.loop.close()
+            b.loop.close()
+        self.assertLess(min(took), 0.04)
+
+    async def test_a_burst_has_room(self) -> None:
+        most = Path("/proc/sys/net/core/rmem_max")
+        if not most.exists() or int(most.read_text()) < 212992:
+            self.skipTest("the system limits receive buffers")
+        side = Side(True)
+        await side.loop.bind("127.0.0.1")
+        with socket.socket(socket.AF_INET, socket.SOCK_DGRAM) as other:
+            for _ in range(150):
+                other.sendto(b"\x80" * 1200, local_of(side)[:2])
+        await asyncio.sleep(0.3)
+        self.assertEqual(len(side.media), 150)
+        side.loop.close()
+
+
+class Demultiplexing(unittest.TestCase):
+    def test_each_range_of_rfc_7983(self) -> None:
+        ends = {PacketKind.STUN: (0, 3), PacketKind.ZRTP: (16, 19), PacketKind.DTLS: (20, 63), PacketKind.TURN_CHANNEL: (64, 79),
+                PacketKind.RTP: (128, 191)}
+        for kind, (first, last) in ends.items():
+            self.assertEqual([packet_kind(bytes([byte])) for byte in (first, last)], [kind, kind])
+        for byte in (4, 15, 80, 127, 192, 255):
+            self.assertEqual(packet_kind(bytes([byte])), PacketKind.OTHER)
+        self.assertEqual(packet_kind(b""), PacketKind.OTHER)
+
+    def test_what_begins_as_a_stun_message(self) -> None:
+        self.assertTrue(is_stun(BINDING_REQUEST))
+        for other in (b"", b"\x01", BINDING_REQUEST[:19], b"\x00\x01\x00\x00" + bytes(40), b"\x80" + BINDING_REQUEST[1:]):
+            self.assertFalse(is_stun(other), other)
+
+
+if __name__ == "__main__":
+    unittest.main()
