@@ -1,0 +1,55 @@
+"""Two connections of the module or of aioice over loopback, for the tests of connections."""
+
+from __future__ import annotations
+
+import asyncio
+from typing import Any
+
+from is_ice.connection import Connection
+
+try:
+    import aioice
+except ImportError:
+    aioice = None
+
+LOOPBACK = ["127.0.0.1"]
+
+
+def agent(controlling: bool, **more: Any) -> Connection:
+    return Connection(controlling, addresses=LOOPBACK, **more)
+
+
+async def gather(a: Any, b: Any) -> None:
+    await asyncio.gather(a.gather_candidates(), b.gather_candidates())
+    for one, other in ((a, b), (b, a)):
+        one.remote_username, one.remote_password = other.local_username, other.local_password
+
+
+async def add_candidates(a: Any, b: Any, end: bool = True) -> None:
+    for one, other in ((a, b), (b, a)):
+        for candidate in other.local_candidates:
+            await one.add_remote_candidate(candidate)
+        if end:
+            await one.add_remote_candidate(None)
+
+
+async def join(a: Any, b: Any) -> None:
+    """Gathers, signals and connects."""
+    await gather(a, b)
+    await add_candidates(a, b)
+    await asyncio.gather(a.connect(), b.connect())
+
+
+async def talk(a: Any, b: Any) -> None:
+    """Sends a datagram each way; AssertionError if it does not arrive."""
+    for one, other in ((a, b), (b, a)):
+        # media, and bytes that begin as STUN or nothing
+        for data in (b"\x80 data", b"hello", b"\x01", b"\x00\x01\x00\x00" + bytes(40), bytes([255]) * 9000):
+            await one.send(data)
+            assert await asyncio.wait_for(other.recv(), 2) == data
+        await one.sendto(b"\x80 to", 1)
+        assert await asyncio.wait_for(other.recvfrom(), 2) == (b"\x80 to", 1)
+
+
+async def close(*connections: Any) -> None:
+    await asyncio.gather(*(connection.close() for connection in connections))
