@@ -108,7 +108,7 @@ class Connection:
         self._remote_candidates: list[CandidateAttribute] = []
         self._gathering: asyncio.Future[None] | None = None
         self._remote_end = self._connected = self._closed = False
-        self._has_unknown_host = False  # of a candidate with an mDNS name that was not resolved: its checks may come all the same
+        self._unknown_hosts = 0  # mDNS names that are not resolved: checks of these hosts may come all the same
         self._path: tuple[SocketAddress, SocketAddress] | None = None
         self._found: asyncio.Future[bool] | None = None
         self._event: asyncio.Future[Any] | None = None
@@ -202,6 +202,8 @@ class Connection:
         self._add_local(Candidate.relayed(allocation.local, allocation.base))
 
     def _add_local(self, candidate: Candidate) -> None:
+        if self._closed:
+            return
         try:
             line = self.agent.add_local_candidate(candidate)
         except IceError as error:
@@ -237,10 +239,11 @@ class Connection:
 
     async def _with_address(self, line: str) -> str:
         words = line.split()
+        self._unknown_hosts += 1
         address = await self._mdns.resolve(words[4])
         if address is None:
-            self._has_unknown_host = True
             raise ValueError("the name was not resolved")
+        self._unknown_hosts -= 1
         return " ".join([*words[:4], address, *words[5:]])
 
     # ---- the session
@@ -273,7 +276,7 @@ class Connection:
 
     def _may_not_connect(self) -> bool:
         """Whether nothing is left to try: no candidate comes any more, and there is none."""
-        return self._remote_end and not self._remote_candidates and not self._has_unknown_host
+        return self._remote_end and not self._remote_candidates and not self._unknown_hosts
 
     def _on_event(self, event: IceAgentEvent) -> None:
         if isinstance(event, NominatedSend):
@@ -284,7 +287,7 @@ class Connection:
         elif isinstance(event, IceConnectionStateChange) and event.state.is_disconnected():
             if self._connected:
                 self._closing = asyncio.ensure_future(self.close())
-            elif self._remote_end and not self._has_unknown_host:
+            elif self._remote_end and not self._unknown_hosts:
                 self._finish(False)
 
     def _on_stun(self, source: SocketAddress, local: SocketAddress, data: bytes) -> None:
@@ -345,10 +348,14 @@ class Connection:
         return await self.recv(), 1
 
     async def send(self, data: bytes) -> None:
-        """Sends a datagram. ConnectionError if there is no path."""
-        if self._path is None:
+        """Sends a datagram. ConnectionError if the connection is not connected, or is closed.
+
+        If consent for the path was lost and another path is being checked, the datagram is lost (RFC 7675).
+        """
+        if not self._connected:
             raise ConnectionError("not connected")
-        self._loop.send(*self._path, data)
+        if self._path:
+            self._loop.send(*self._path, data)
 
     async def sendto(self, data: bytes, component: int) -> None:
         """Sends a datagram on component 1."""
@@ -357,10 +364,17 @@ class Connection:
         await self.send(data)
 
     def set_selected_pair(self, component: int, local_foundation: str, remote_foundation: str) -> None:
-        """Uses a path without checks, for a peer without ICE."""
-        local = next(c for c in self._local_candidates if c.foundation == local_foundation)
-        remote = next(c for c in self._remote_candidates if c.foundation == remote_foundation)
+        """Uses a path without checks, for a peer without ICE. ValueError if there is no candidate with such a foundation."""
+        local = _with_foundation(self._local_candidates, local_foundation)
+        remote = _with_foundation(self._remote_candidates, remote_foundation)
         base = SocketAddress(local.host, local.port)
         if local.type == "srflx" and local.related_address is not None and local.related_port is not None:
             base = SocketAddress(local.related_address, local.related_port)
         self._path, self._connected = (base, SocketAddress(remote.host, remote.port)), True
+
+
+def _with_foundation(candidates: list[CandidateAttribute], foundation: str) -> CandidateAttribute:
+    for candidate in candidates:
+        if candidate.foundation == foundation:
+            return candidate
+    raise ValueError(f"no candidate has the foundation {foundation}")

@@ -8,7 +8,7 @@ import unittest
 from unittest import mock
 
 import is_ice.connection
-from is_ice import SocketAddress
+from is_ice import IceConnectionState, IceConnectionStateChange, NominatedSend, Protocol, SocketAddress
 from is_ice.attribute import CandidateAttribute
 from is_ice.connection import Connection, ConnectionClosed, TransportPolicy
 from is_ice.gather import MdnsResolver
@@ -78,10 +78,36 @@ class Sessions(unittest.IsolatedAsyncioTestCase):
         self.assertEqual((b.remote_username, b.remote_password), ("mine", "m" * 22))
         await close(a, b)
 
+    async def test_a_lite_peer(self) -> None:
+        a, b = agent(False), agent(False)
+        b.agent.set_ice_lite(True)
+        a.remote_is_lite = True
+        await join(a, b)
+        self.assertEqual((a.ice_controlling, b.ice_controlling), (True, False))
+        await talk(a, b)
+        await close(a, b)
+
+    async def test_names_that_are_being_resolved_keep_the_session_open(self) -> None:
+        a, b = agent(True), agent(False)
+        await gather(a, b)
+        resolved = asyncio.get_running_loop().create_future()
+        with mock.patch.object(MdnsResolver, "resolve", lambda _, name: resolved):
+            adding = asyncio.ensure_future(a.add_remote_candidate(HIDDEN.format(port=b.local_candidates[0].port)))
+            await asyncio.sleep(0)
+            await a.add_remote_candidate(None)
+            both = asyncio.gather(a.connect(), b.connect())
+            await asyncio.sleep(0.01)
+            resolved.set_result("127.0.0.1")
+            await adding
+        await asyncio.wait_for(both, 2)
+        await talk(a, b)
+        await close(a, b)
+
     async def test_a_pair_without_checks(self) -> None:
         a, b = agent(True), agent(False)
         await gather(a, b)
         await add_candidates(a, b)
+        self.assertRaises(ValueError, a.set_selected_pair, 1, "other", "other")
         for one in (a, b):
             one.set_selected_pair(1, one.local_candidates[0].foundation, one.remote_candidates[0].foundation)
         await talk(a, b)
@@ -159,6 +185,18 @@ class Failures(unittest.IsolatedAsyncioTestCase):
             await data
         with self.assertRaises(ConnectionError):
             await a.send(b"x")
+
+    async def test_nothing_is_sent_without_consent(self) -> None:
+        a, b = agent(True), agent(False)
+        await join(a, b)
+        path = a._path
+        assert path is not None
+        a._on_event(IceConnectionStateChange(IceConnectionState.CHECKING))
+        await a.send(b"lost")
+        a._on_event(NominatedSend(Protocol.UDP, *path))  # another path, or this one again
+        await a.send(b"sent")
+        self.assertEqual(await asyncio.wait_for(b.recv(), 1), b"sent")
+        await close(a, b)
 
     async def test_close_ends_what_other_tasks_wait_for(self) -> None:
         a, b = agent(True), agent(False)
