@@ -26,7 +26,7 @@ from typing import Any, Protocol, Union
 from .address import SocketAddress
 from .agent import IceAgent
 from .attribute import CandidateAttribute
-from .candidate import Candidate, has_mdns_name
+from .candidate import AddResult, Candidate, has_mdns_name
 from .errors import IceError
 from .events import IceAgentEvent, IceConnectionState, IceConnectionStateChange, IceCreds, NominatedSend
 from .gather import Allocation, MdnsResolver, ServerAddress, TurnServer, allocate, server_reflexive_candidates, turn_client
@@ -199,7 +199,14 @@ class Connection:
             _log.warning("no relayed candidate: %s", error)
             return
         self._allocations.append(allocation)
-        self._add_local(Candidate.relayed(allocation.local, allocation.base))
+        candidate = Candidate.relayed(allocation.local, allocation.base)
+        self._add_local(candidate)
+        allocation.closed.add_done_callback(lambda _: self._remove_local(candidate))
+
+    def _remove_local(self, candidate: Candidate) -> None:
+        if not self._closed:
+            self.agent.invalidate_candidate(candidate)
+            self._loop.wake()
 
     def _add_local(self, candidate: Candidate) -> None:
         if self._closed:
@@ -223,18 +230,22 @@ class Connection:
             raise ValueError("a candidate after end-of-candidates")
         if remote_candidate is None:
             self._remote_end = True
+            if self._found and not self._found.done() and (self._may_not_connect() or self.agent.state.is_disconnected()):
+                self._finish(False)
             return
         sdp = remote_candidate if isinstance(remote_candidate, str) else remote_candidate.to_sdp()
         line = "candidate:" + sdp.removeprefix("candidate:")
         try:
             if has_mdns_name(line):
                 line = await self._with_address(line)
-            ipaddress.ip_address(CandidateAttribute.from_sdp(line).host)
-            self.agent.add_remote_candidate(line)
+            attribute = CandidateAttribute.from_sdp(line)
+            ipaddress.ip_address(attribute.host)
+            result = self.agent.add_remote_candidate(line)
         except (IceError, ValueError) as error:
             _log.info("left out %s: %s", line, error)
             return
-        self._remote_candidates.append(CandidateAttribute.from_sdp(line))
+        if result is not AddResult.IGNORED and attribute not in self._remote_candidates:
+            self._remote_candidates.append(attribute)
         self._loop.wake()
 
     async def _with_address(self, line: str) -> str:

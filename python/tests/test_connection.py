@@ -151,6 +151,23 @@ class Failures(unittest.IsolatedAsyncioTestCase):
             await asyncio.wait_for(a.connect(), 5)  # all checks failed
         await a.close()
 
+    async def test_the_end_of_candidates_comes_late(self) -> None:
+        for line in (None, NOBODY):  # without a candidate, and after all checks of one failed
+            a = agent(True)
+            a.agent.set_max_stun_retransmits(1)
+            a.agent.set_max_stun_rto(10_000_000)
+            await a.gather_candidates()
+            a.remote_username, a.remote_password = "abcd", "p" * 22
+            if line:
+                await a.add_remote_candidate(line)
+            connecting = asyncio.ensure_future(a.connect())
+            await asyncio.sleep(1)
+            self.assertFalse(connecting.done())
+            await a.add_remote_candidate(None)
+            with self.assertRaises(ConnectionError):
+                await asyncio.wait_for(connecting, 1)
+            await a.close()
+
     async def test_connect_ends(self) -> None:
         for patience, after in ((0.2, 10.0), (30.0, 0.2)):  # by its time limit, and by `close`
             a = agent(False)
@@ -166,8 +183,8 @@ class Failures(unittest.IsolatedAsyncioTestCase):
 
     async def test_malformed_candidates_are_left_out(self) -> None:
         a = agent(True)
-        for line in ("1 1 udp 1 not.an.address 1 typ host", "1 1 udp 1 127.0.0.1 1 typ odd", "1 1 udp", "1 x udp 1 127.0.0.1 1 typ host",
-                     "candidate:2 1 UDP 7 127.0.0.1 7 typ host generation 0 network-cost 999"):
+        for line in ("1 2 udp 1 127.0.0.1 1 typ host", "1 1 udp 1 not.an.address 1 typ host", "1 1 udp 1 127.0.0.1 1 typ odd", "1 1 udp",
+                     "1 x udp 1 127.0.0.1 1 typ host", "candidate:2 1 UDP 7 127.0.0.1 7 typ host generation 0 network-cost 999"):
             await a.add_remote_candidate(line)
         self.assertEqual([c.to_sdp() for c in a.remote_candidates], ["2 1 UDP 7 127.0.0.1 7 typ host generation 0"])
         await a.close()
@@ -241,6 +258,13 @@ class Gathering(unittest.IsolatedAsyncioTestCase):
         await talk(a, b)
         await close(a, b)
         self.assertEqual(server.freed, 2)
+
+        c = agent(True, **more)
+        await c.gather_candidates()
+        c._allocations[0].connection_lost(None)
+        await asyncio.sleep(0)
+        self.assertEqual(c.agent.local_candidates(), [])
+        await c.close()
         server.close()
 
     async def test_a_turn_server_without_aioice(self) -> None:
