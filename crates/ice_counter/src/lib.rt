@@ -1,4 +1,4 @@
-//! The random source of a script: words that count up from zero, so that every run prints the same.
+//! The random source of a script: words that count up from zero, so that every execution prints the same.
 #![tactic(auto)]
 
 ghost use Rattle.std.specs.Prelude.{◌≡◌, ◌+◌, ◌%◌, ◌^◌, ℕ};

@@ -1,4 +1,4 @@
-//! Plays a script of agent calls: reads it from standard input, prints answers, packets, events and wake-ups.
+//! Plays a script of agent calls: reads it from standard input, prints results, packets, events and next timeouts.
 #![tactic(auto)]
 
 use ice_script::play;

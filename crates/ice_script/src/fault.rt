@@ -2,20 +2,20 @@
 use std::alloc::{AllocError, AllocFailed};
 use std::{fmt, io};
 
-/// What is wrong with a line. The first that applies, in this order, is told.
+/// What is wrong with a line: the first fault that applies, in this order.
 #[derive(Clone, Copy, Debug, PartialEq, Eq)]
 pub enum Fault {
-    /// No JSON object, a fraction anywhere in it, no text `call`, or an `on` that names no agent.
+    /// No JSON object, a fraction anywhere in it, no text `call`, or an `on` that is not the name of an agent.
     NotAScriptLine,
-    /// `call` is no word of the table.
+    /// `call` is not in the table of calls.
     UnknownCall,
     /// No agent was made on this side.
     NoAgent,
-    /// The first field of the call, in the table's order, that is not there.
+    /// The first field of the call, in the table's order, that is missing.
     Missing(&'static str),
-    /// The first field of the call, in the table's order, whose value is none of its kind.
+    /// The first field of the call, in the table's order, whose value is not of its kind.
     Bad(&'static str),
-    /// No packet of the number was sent.
+    /// No packet with this number was sent.
     NoPacket,
 }
 
@@ -32,12 +32,12 @@ impl fmt::Display for Fault {
     }
 }
 
-/// Why no further line is taken.
+/// Why no further line is played.
 #[derive(Clone, Copy, Debug, PartialEq, Eq)]
 pub enum Stop {
     /// The line has this fault.
     Line(Fault),
-    /// Memory was refused, a read or a write failed, or the input is too long or no UTF-8.
+    /// Out of memory, a read or a write failed, or the input is too long or not UTF-8.
     Broken,
 }
 

@@ -1,4 +1,4 @@
-//! The fields of a script line, each read as what it stands for.
+//! The fields of a script line, each read as the value that it encodes.
 use crate::fault::{Fault, Stop};
 use hex::FromHexError;
 use is::{Duration, IceCreds, Instant, Protocol, SocketText, Text};
@@ -6,14 +6,14 @@ use serde_json::Value;
 use std::alloc::Global;
 use std::net::SocketAddr;
 
-/// The fields of a line. A field that is not there, or is none of the kind asked for, is `bad`.
+/// The fields of a line. A field that is missing, or not of the requested kind, is `Bad`.
 #[derive(Clone, Copy)]
 pub struct Fields<'a> {
     object: &'a Value,
 }
 
 impl<'a> Fields<'a> {
-    /// The fields of the object, none of these missing.
+    /// The fields of the object. Fails with `Missing` if one of these is missing.
     pub fn of(object: &'a Value, names: &[&'static str]) -> Result<Fields<'a>, Fault> {
         for name in names {
             if object.get(*name).is_none() {
@@ -23,7 +23,7 @@ impl<'a> Fields<'a> {
         Ok(Fields { object })
     }
 
-    /// A text as it stands in the line.
+    /// A text as it is in the line.
     pub fn line(&self, name: &'static str) -> Result<&'a str, Fault> {
         self.object
             .get(name)
@@ -51,7 +51,7 @@ impl<'a> Fields<'a> {
             .ok_or(Fault::Bad(name))
     }
 
-    /// A truth value.
+    /// A Boolean value.
     pub fn flag(&self, name: &'static str) -> Result<bool, Fault> {
         self.object
             .get(name)
@@ -80,7 +80,7 @@ impl<'a> Fields<'a> {
         Ok(Duration(self.number(name)?))
     }
 
-    /// A moment, in nanoseconds.
+    /// A time, in nanoseconds.
     pub fn moment(&self, name: &'static str) -> Result<Instant, Fault> {
         Ok(Instant(self.number(name)?))
     }
@@ -98,7 +98,7 @@ impl<'a> Fields<'a> {
         }
     }
 
-    /// Bytes as two digits each, in either case.
+    /// Bytes as two hexadecimal digits each, in either case.
     pub fn bytes(&self, alloc: Global, name: &'static str) -> Result<Vec<u8>, Stop> {
         match hex::decode(alloc, self.line(name)?) {
             Ok(bytes) => Ok(bytes),

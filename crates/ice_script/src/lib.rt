@@ -1,5 +1,5 @@
-//! Scripts of agent calls: [`play`] reads one, makes its calls of two agents, and prints answers, packets, events and
-//! wake-ups.
+//! Scripts of agent calls: [`play`] reads one, makes its calls of two agents, and prints results, packets, events and next
+//! timeouts.
 #![tactic(auto)]
 
 mod fault;

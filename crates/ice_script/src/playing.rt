@@ -9,11 +9,11 @@ use std::io::{Read, Write};
 
 type Agent = IceAgent<DefaultSha1HmacProvider>;
 
-/// Plays a script, and gives the exit status: 0 where every line was taken; 1 where one could not be,
-/// whose number and fault are then written to `errors`; 2 where memory was refused, where a read or a
-/// write failed, or where the input is longer than 16777216 bytes or no UTF-8.
+/// Plays a script, and returns the exit status: 0 if every line was played; 1 if one could not be, whose number and fault are
+/// then written to `errors`; 2 if it runs out of memory, if a read or a write fails, or if the input is longer than 16777216
+/// bytes or not UTF-8.
 ///
-/// The whole input is read before the first line is taken.
+/// The whole input is read before the first line is played.
 pub fn play<R: Read, W: Write, E: Write>(
     alloc: Global,
     input: &mut R,
@@ -58,7 +58,7 @@ struct Shared {
     sent: Vec<Sent>,
 }
 
-/// Plays the lines of a script, from no agents on.
+/// Plays the lines of a script, starting without agents.
 fn play_text<W: Write>(alloc: Global, text: &str, output: &mut W) -> Result<(), Ended> {
     let mut agents = Agents { a: None, b: None };
     let mut shared = Shared {
@@ -68,7 +68,7 @@ fn play_text<W: Write>(alloc: Global, text: &str, output: &mut W) -> Result<(), 
     play_lines(alloc, text, &mut agents, &mut shared, output)
 }
 
-/// Plays the lines in turn, until one can't be taken.
+/// Plays the lines in turn, until one can't be played.
 fn play_lines<W: Write>(
     alloc: Global,
     text: &str,
@@ -116,7 +116,7 @@ fn play_on<W: Write>(
     }
     let call = line.call(alloc, &shared.sent)?;
     let answer = answer(alloc, agent, call, &mut shared.random)?;
-    // a call issues one packet at most; from here on no memory is refused, so that a line is printed whole or not at all
+    // a call issues at most one packet; after this no allocation can fail, so that a line is printed whole or not at all
     shared.sent.reserve(1)?;
     let answer = AnswerText(&answer);
     writeln!(output, "{} {} {answer}", line.side, line.word())?;
@@ -139,7 +139,7 @@ fn answer(
     }
 }
 
-/// Makes or replaces an agent. A refusal leaves the one that was there.
+/// Makes or replaces an agent. If this fails, the previous agent stays.
 fn make(
     alloc: Global,
     agent: &mut Option<Agent>,
@@ -175,7 +175,7 @@ fn make_call(
     }
 }
 
-/// The answer of a refusal, but for want of memory, which ends the script.
+/// The result of a call that fails, except out of memory, which ends the script.
 fn refused(error: IceError) -> Result<Answer, Stop> {
     match error {
         IceError::OutOfMemory => Err(Stop::Broken),
@@ -183,7 +183,7 @@ fn refused(error: IceError) -> Result<Answer, Stop> {
     }
 }
 
-/// Prints what the agent has to hand out: packets, then events, then its wake-up.
+/// Prints what the agent returns: packets, then events, then its next timeout.
 fn poll<W: Write>(
     side: Side,
     agent: &mut Agent,

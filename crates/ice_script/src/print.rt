@@ -1,8 +1,8 @@
-//! What a script prints: answers, packets, events and wake-ups, each as one line's text.
+//! What a script prints: results, packets, events and next timeouts, each as one line's text.
 use is::{Answer, IceAgentEvent, IceError, Instant, SocketText};
 use std::fmt;
 
-/// The name of a refusal.
+/// The name of an error.
 fn refusal_name(error: &IceError) -> &'static str {
     match error {
         IceError::BadCandidate(_) => "BadCandidate",
@@ -14,7 +14,7 @@ fn refusal_name(error: &IceError) -> &'static str {
     }
 }
 
-/// A call's answer. What only polls answer is printed in lines of its own.
+/// A call's result. What only polls return is printed in lines of its own.
 #[derive(Clone, Copy)]
 pub struct AnswerText<'a>(pub &'a Answer);
 
@@ -32,7 +32,7 @@ impl fmt::Display for AnswerText<'_> {
     }
 }
 
-/// Bytes as two digits each, in lower case.
+/// Bytes as two hexadecimal digits each, in lower case.
 #[derive(Clone, Copy)]
 pub struct HexText<'a>(pub &'a [u8]);
 
@@ -45,7 +45,7 @@ impl fmt::Display for HexText<'_> {
     }
 }
 
-/// An event by its word and what it names.
+/// An event: its word and its values.
 #[derive(Clone, Copy)]
 pub struct EventText<'a>(pub &'a IceAgentEvent);
 
@@ -69,7 +69,7 @@ impl fmt::Display for EventText<'_> {
     }
 }
 
-/// When the agent wants to be called, in nanoseconds.
+/// The next timeout, in nanoseconds.
 #[derive(Clone, Copy)]
 pub struct WakeText(pub Option<Instant>);
 

@@ -1,4 +1,4 @@
-//! Script lines: each is one JSON object that names a call, an agent and the call's fields.
+//! Script lines: each is one JSON object with the name of a call, an agent and the call's fields.
 use crate::fault::{Fault, Stop};
 use crate::fields::Fields;
 use is::{Call, Candidate, IceCreds, IceError, Transmit};
@@ -8,7 +8,7 @@ use std::alloc::Global;
 use std::fmt;
 use std::io::Read;
 
-/// The most bytes that a script may have.
+/// The greatest length of a script in bytes.
 const LIMIT: u64 = 16777216;
 
 /// The agent that gets a call.
@@ -55,11 +55,11 @@ pub enum CallName {
 struct Row {
     word: &'static str,
     name: CallName,
-    /// In the order in which their faults are told.
+    /// In the order in which their faults are reported.
     fields: &'static [&'static str],
 }
 
-/// The calls of scripts: the word of each, and the fields that it takes.
+/// The calls of scripts: the word of each, and its fields.
 static CALLS: [Row; 18] = [
     Row {
         word: "agent",
@@ -153,18 +153,18 @@ static CALLS: [Row; 18] = [
     },
 ];
 
-/// What a line asks for.
+/// The content of a line.
 #[derive(Drop)]
 pub enum ScriptCall {
     /// Makes or replaces the agent.
     Agent { creds: IceCreds, tie_breaker: u64 },
     /// Makes this call of the agent.
     Call(Call),
-    /// The candidate that the call needs was refused.
+    /// The candidate that the call needs is invalid.
     Refused(IceError),
 }
 
-/// A packet that an agent sent. Its number is its place among all of them.
+/// A packet that an agent sent. Its number is its index among all of them.
 #[derive(Drop)]
 pub struct Sent {
     pub side: Side,
@@ -180,7 +180,7 @@ pub struct ScriptLine {
 }
 
 impl ScriptLine {
-    /// Which call of which agent the line is. Refused as no script line, or as an unknown call.
+    /// Which call of which agent the line is. Fails with `NotAScriptLine` or `UnknownCall`.
     pub fn read(alloc: Global, text: &str) -> Result<ScriptLine, Stop> {
         let object = object_of(alloc, text)?;
         let side = side_of(&object)?;
@@ -198,8 +198,7 @@ impl ScriptLine {
         self.row.name == CallName::Agent
     }
 
-    /// What the line asks for, where these packets were sent before. Refused where a field is missing, else where
-    /// one is bad.
+    /// The content of the line, if these packets were sent before. Fails if a field is missing, else if one is bad.
     pub fn call(&self, alloc: Global, sent: &[Sent]) -> Result<ScriptCall, Stop> {
         let fields = Fields::of(&self.object, self.row.fields)?;
         let name = self.row.name;
@@ -229,7 +228,7 @@ fn agent_call(alloc: Global, fields: Fields<'_>) -> Result<ScriptCall, Stop> {
     })
 }
 
-/// The local candidate of a `host`, `srflx` or `relay` call, or its refusal.
+/// The local candidate of a `host`, `srflx` or `relay` call, or its error.
 fn local_candidate(
     alloc: Global,
     name: CallName,
@@ -248,7 +247,7 @@ fn local_candidate(
     })
 }
 
-/// The call on a candidate. Want of memory ends the script; any other refusal is the call's answer.
+/// The call on a candidate. Out of memory ends the script; any other error is the call's result.
 fn on_candidate(name: CallName, made: Result<Candidate, IceError>) -> Result<ScriptCall, Stop> {
     match made {
         Ok(candidate) => Ok(ScriptCall::Call(match name {
@@ -308,7 +307,7 @@ fn delivery(side: Side, fields: Fields<'_>, sent: &[Sent]) -> Result<ScriptCall,
     }))
 }
 
-/// A call of numbers and truth values alone.
+/// A call that has only numbers and Boolean values.
 fn plain_call(name: CallName, fields: Fields<'_>) -> Result<Call, Fault> {
     Ok(match name {
         CallName::Controlling => Call::SetControlling(fields.flag("flag")?),
@@ -322,7 +321,7 @@ fn plain_call(name: CallName, fields: Fields<'_>) -> Result<Call, Fault> {
     })
 }
 
-/// The whole input, where it is UTF-8 of at most the limit.
+/// The whole input, if it is UTF-8 and not longer than the limit.
 pub fn read_script<R: Read>(alloc: Global, input: &mut R) -> Result<String, Stop> {
     let mut bytes = Vec::new(alloc);
     input.take(LIMIT + 1).read_to_end(&mut bytes)?;

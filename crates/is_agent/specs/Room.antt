@@ -1,4 +1,4 @@
--- Room for what a call can add.
+-- Reserved capacity for what a call can add.
 use Rattle.std.specs.Prelude.{◌≡◌, ℕ, ◌+◌, ◌≤◌, ◌<◌, true, IfSome, length, vec_len, vec_capacity, string_bytes}
 use Rattle.std.specs.VecDeque.{deque_len, deque_capacity}
 use Rattle.is_pair.specs.Checklists as checklists
@@ -10,11 +10,11 @@ use Rattle.is_rules.specs.Due.{may_fall_due}
 use Rattle.is_agent.specs.View.{record_of}
 
 module _ {H P : Type 0} where
-  -- so many events more
+  -- this many events more
   abbrev pub HasEventRoom : ℕ → Agent H P → Type 0
   HasEventRoom n a = deque_len a.events + n ≤ deque_capacity a.events
 
-  -- one more source, and so many events
+  -- one more source, and this many events
   abbrev pub HasNewsRoom : ℕ → Agent H P → Type 0
   HasNewsRoom n a = (vec_len a.discovered_sources < vec_capacity a.discovered_sources) × HasEventRoom n a
 
@@ -34,37 +34,37 @@ module _ {H P : Type 0} where
   abbrev pub HasServingRoom : Agent H P → Type 0
   HasServingRoom a = (vec_len a.remote < vec_capacity a.remote) × HasRoom 1 a.pairs × HasPacketRoom a
 
-  -- one more local candidate, and so many pairs
+  -- one more local candidate, and this many pairs
   abbrev pub HasLocalRoom : ℕ → Agent H P → Type 0
   HasLocalRoom pairs a = (vec_len a.local < vec_capacity a.local) × HasRoom pairs a.pairs
 
-  -- so many pairs more
+  -- this many pairs more
   abbrev pub HasPairRoom : ℕ → Agent H P → Type 0
   HasPairRoom n a = HasRoom n a.pairs
 
-  -- one more request that waits
+  -- one more early request
   abbrev pub HasQueueRoom : Agent H P → Type 0
   HasQueueRoom a = deque_len a.queue < deque_capacity a.queue
 
-  -- one more candidate of the peer's, and so many pairs
+  -- one more remote candidate, and this many pairs
   abbrev pub HasFormingRoom : ℕ → Agent H P → Type 0
   HasFormingRoom pairs a = (vec_len a.remote < vec_capacity a.remote) × HasRoom pairs a.pairs
 
-  -- where the peer is known, the user name of a check
+  -- if the peer is known, the USERNAME of a check
   abbrev pub HasUsername : Agent H P → Type 0
   HasUsername a = IfSome a.remote_creds (λ peer. string_bytes a.username ≡ username_between peer a.local_creds)
 
-  -- and bytes for the longest one
+  -- and a buffer for the longest one
   abbrev pub HasContents : Agent H P → Type 0
   HasContents a = IfSome a.remote_creds (λ _. length a.contents.items ≡ MTU_FLOOR)
 
   abbrev pub IsPrepared : Agent H P → Type 0
   IsPrepared a = HasUsername a × HasContents a
 
-  -- one more packet, one more check of any pair, and what the packet says
+  -- one more packet, one more check of any pair, and the content of the packet
   abbrev pub HasCheckRoom : Agent H P → Type 0
   HasCheckRoom a = HasPacketRoom a × checklists.HasCheckRoom a.pairs × IsPrepared a
 
-  -- the same, where a check may be due at this moment
+  -- the same, if a check may be due at this time
   abbrev pub HasCheckRoomAt : ℕ → Agent H P → Type 0
   HasCheckRoomAt now a = may_fall_due now (record_of a) ≡ true → HasCheckRoom a

@@ -1,4 +1,4 @@
--- The record of an agent.
+-- The abstract state of an agent.
 use Rattle.std.specs.Prelude.{map, option_map, Result, Ok, Err}
 use Rattle.is_proto.specs.declared.error.IceError.{IceError}
 use Rattle.is_proto.specs.Packets.{packet_of}
@@ -36,11 +36,11 @@ record_of a = record {
   stats = a.stats;
 }
 
--- what the last packet made the agent issue and announce
+-- what the agent issued and selected at the last packet or `handle_timeout` call
 abbrev pub emitted_of : {H P : Type 0} → code.Agent H P → Emitted
 emitted_of a = a.emitted
 
--- the record of what a constructor made
+-- the abstract state of what a constructor made
 abbrev pub made : {H P : Type 0} → Result (code.Agent H P) IceError → Result (AgentRecord H P) IceError
 made (Ok a) = Ok (record_of a)
 made (Err e) = Err e

@@ -22,7 +22,7 @@ use is_rules::request::{Request, packet_path};
 use is_stun::stun::{Class, Method, StunMessage, StunPacket};
 
 impl<H: Sha1HmacProvider + Drop, P: LocalPreference> Agent<H, P> {
-    /// The user fragment is the peer's, where one is known.
+    /// The username fragment is the peer's, if that is known.
     fn names_peer(&self, ufrag: &str) -> bool
         ensures { IsTrue result ↔ IfSome (record_of self.now).remote_creds (λ peer. ufrag.now ≡ peer.ufrag) }
     {
@@ -32,7 +32,7 @@ impl<H: Sha1HmacProvider + Drop, P: LocalPreference> Agent<H, P> {
         }
     }
 
-    /// The user name is the agent's own fragment, a colon and the peer's, where one is known.
+    /// The USERNAME is the agent's own username fragment, a colon and the peer's, if that is known.
     fn is_addressed(&self, message: &StunMessage<'_>) -> bool
         ensures { IsTrue result ↔ IsAddressed (record_of self.now) (message_view message.now) }
     {
@@ -51,10 +51,10 @@ impl<H: Sha1HmacProvider + Drop, P: LocalPreference> Agent<H, P> {
         self.is_addressed(message) && message.verify(password, &self.by_local_key())
     }
 
-    /// Whether the agent takes the message, as far as the message tells: a Binding request whose user name is the agent's own
-    /// user fragment, a colon and the peer's fragment, where one is known, and which is signed with the agent's password
-    /// (RFC 8445, section 7.3); or a Binding success or failure with the id of a check that is kept, signed with the peer's
-    /// password. Takes no memory. What was built and not read is never accepted.
+    /// Whether the agent accepts the message, as far as the message shows: a Binding request whose USERNAME is the agent's
+    /// own username fragment, a colon and the peer's fragment, if that is known, and which is signed with the agent's
+    /// password (RFC 8445, section 7.3); or a Binding success or error response with the ID of a stored check, signed with
+    /// the peer's password. Does not allocate. A message that was built, not parsed, is never accepted.
     pub fn accepts_message(&self, message: &StunMessage<'_>) -> bool
         ensures { IsTrue result ↔ IsAccepted H.mac (record_of self.now) (message_view message.now) }
     {
@@ -70,8 +70,8 @@ impl<H: Sha1HmacProvider + Drop, P: LocalPreference> Agent<H, P> {
         }
     }
 
-    /// Whether `handle_packet` takes the packet: the message is accepted (`accepts_message`), and an answer came back on
-    /// the path of the pair that keeps its check, from the remote address to the local base. Takes no memory.
+    /// Whether `handle_packet` accepts the packet: the message is accepted (`accepts_message`), and a response was received
+    /// on the reverse path of the pair that stores its check, from the remote address to the local base. Does not allocate.
     pub fn accepts_packet(&self, packet: &StunPacket<'_>) -> bool
         ensures { IsTrue result ↔ IsAcceptedOn H.mac (record_of self.now) (packet_path packet.now) (message_view packet.now.message) }
     {
@@ -88,7 +88,7 @@ impl<H: Sha1HmacProvider + Drop, P: LocalPreference> Agent<H, P> {
         }
     }
 
-    /// Tells of the source of a packet, where it was not told of since the last restart.
+    /// Emits `DiscoveredRecv` for the source of a packet, if it was not emitted for it since the last ICE restart.
     fn emit_discovered(&mut self, path: &Path)
         requires { HasNewsRoom 1 self.old }
         ensures { record_of self.new ≡ discovered_emitted path.now (record_of self.old) }
@@ -108,12 +108,13 @@ impl<H: Sha1HmacProvider + Drop, P: LocalPreference> Agent<H, P> {
         self.stats.discovered_recv_count = self.stats.discovered_recv_count.saturating_add(1);
     }
 
-    /// Takes a packet that came at this moment, and answers whether it was accepted (`accepts_packet`). One that is not
-    /// changes nothing and takes no memory. An accepted request is answered, or dropped, or waits for remote credentials;
-    /// an answer is recorded at its pair; what there is to send is polled, and so are the events.
+    /// Handles a packet that was received at time `now`, and returns whether it was accepted (`accepts_packet`). A packet
+    /// that is not accepted changes nothing and allocates nothing. An accepted request gets a response, or is dropped, or is
+    /// queued until the remote credentials are known. An accepted response is recorded at its pair. Poll the packets and
+    /// events that result.
     ///
-    /// Refused with `PairIdsExhausted` where a pair must be added and no number is left, and with `OutOfMemory`; the
-    /// agent is then as it was.
+    /// Fails with `PairIdsExhausted` if a pair must be added and no number is left, and with `OutOfMemory`. The agent is then
+    /// unchanged.
     pub fn handle_packet(&mut self, now: Instant, packet: StunPacket<'_>) -> Result<bool, IceError>
         ensures { HandlesPacket H.mac now.0 (record_of self.old) (packet_path packet.entry) (message_view packet.entry.message) result
             (emitted_of self.new) (record_of self.new) }
@@ -135,7 +136,7 @@ impl<H: Sha1HmacProvider + Drop, P: LocalPreference> Agent<H, P> {
         }
     }
 
-    /// What becomes of a packet; nothing where it is not accepted.
+    /// What a packet makes the agent emit; None if it is not accepted.
     fn take_packet(
         &mut self,
         now: Instant,
@@ -174,7 +175,7 @@ impl<H: Sha1HmacProvider + Drop, P: LocalPreference> Agent<H, P> {
         Ok(Some(emitted))
     }
 
-    /// A request is served, or waits until remote credentials are known.
+    /// Serves a request, or queues it until the remote credentials are known.
     fn take_request(&mut self, request: &Request<'_>) -> Result<Emitted, IceError>
         ensures taken { IfOk result (λ emitted. TakesRequest H.mac (request_view request.now) (record_of self.old) emitted (record_of self.new)) }
         ensures room { OnOk result (HasNewsRoom 1 self.new) }

@@ -1,4 +1,4 @@
-//! The agent, and how it is made.
+//! The agent, and its constructors.
 
 ghost use Rattle.std.specs.Prelude.{◌≡◌, ◌<◌, None, true, false, IfOk};
 ghost use Rattle.is_rules.specs.Fitting.{are_too_long};
@@ -20,70 +20,70 @@ use is_stun::stun::StunTiming;
 use std::alloc::Global;
 use std::collections::VecDeque;
 
-/// How many pairs forming leaves at most, until another limit is set (RFC 8445, section 6.1.2.5).
+/// The greatest number of pairs after forming, until another limit is set (RFC 8445, section 6.1.2.5).
 pub const DEFAULT_MAX_PAIRS: usize = 100;
 
-/// How long a packet may be, until another length is set.
+/// The greatest length of a packet in bytes, until another length is set.
 const DEFAULT_MTU: usize = 1150;
 
-/// From which length on packets are warned of, until another one is set.
+/// The length in bytes from which packets cause a warning, until another one is set.
 const DEFAULT_MTU_WARN: usize = 1280;
 
-/// An ICE agent that signs by the provider `H`, and whose local candidates may be preferred by a boxed object.
+/// An ICE agent that signs with the provider `H`. A boxed object may set the preferences of its local candidates.
 pub type IceAgent<H> = Agent<H, Box<dyn LocalPreference>>;
 
-/// An ICE agent that signs by `H`, and whose local candidates may be preferred by an object of `P`.
+/// An ICE agent that signs with `H`. An object of type `P` may set the preferences of its local candidates.
 #[derive(Drop)]
 pub struct Agent<H, P> {
     pub(crate) provider: H,
     pub(crate) preference: Option<P>,
-    /// How many pairs forming leaves at most.
+    /// The greatest number of pairs after forming.
     pub(crate) max_pairs: usize,
     pub(crate) timing: StunTiming,
     pub(crate) timing_advance: Duration,
-    /// The agent has host candidates alone, and answers checks without making any (RFC 8445, section 2.5).
+    /// The agent has only host candidates, and responds to checks without sending any (RFC 8445, section 2.5).
     pub(crate) lite: bool,
-    /// How long a packet may be.
+    /// The greatest length of a packet in bytes.
     pub(crate) mtu: usize,
-    /// From which length on packets are warned of.
+    /// The length in bytes from which packets cause a warning.
     pub(crate) mtu_warn: usize,
     pub(crate) local_creds: IceCreds,
     pub(crate) remote_creds: Option<IceCreds>,
-    /// What is kept of the agent's own password as a key. No fact ties it to the password: it is looked at with each use.
+    /// The prepared key of the agent's own password. No invariant ties it to the password: it is verified at each use.
     pub(crate) local_key: HmacKey,
-    /// The same of the peer's password, and of an empty one where there is none.
+    /// The same for the peer's password, or for an empty one if there is none.
     pub(crate) remote_key: HmacKey,
     pub(crate) controlling: bool,
     pub(crate) tie_breaker: u64,
     pub(crate) local: Vec<Candidate>,
     pub(crate) remote: Vec<Candidate>,
     pub(crate) pairs: Checklist,
-    /// The user name of the next check, written anew at each moment.
+    /// The USERNAME of the next check, written again at each `handle_timeout` call that may send one.
     pub(crate) username: String,
-    /// The bytes that the next check is written to.
+    /// The buffer to which the next check is written.
     pub(crate) contents: Vec<u8>,
-    /// The number of the next pair. No number is given twice.
+    /// The number of the next pair. No number is used twice.
     pub(crate) next_number: u64,
-    /// The number of the pair that was announced last.
+    /// The number of the pair that was selected last.
     pub(crate) selected_pair: Option<u64>,
-    /// The requests that wait for remote credentials.
+    /// The early requests: received before the remote credentials.
     pub(crate) queue: VecDeque<Waiting>,
     pub(crate) state: IceConnectionState,
-    /// The last moment that the agent was told of.
+    /// The time of the last `handle_timeout` call.
     pub(crate) last_moment: Option<Instant>,
     pub(crate) packets: VecDeque<Transmit>,
     pub(crate) events: VecDeque<IceAgentEvent>,
-    /// The sources that were told of.
+    /// The sources for which `DiscoveredRecv` was emitted.
     pub(crate) discovered_sources: Vec<Source>,
     pub(crate) stats: IceAgentStats,
     pub(crate) emitted: Emitted,
-    // a check's user name can be written
+    // the USERNAME of a check can be written
     ghost credentials_fit: { are_too_long local_creds remote_creds ≡ false },
-    // with each remote candidate a local one has a pair priority that fits 64 bits
+    // a local candidate has, with each remote candidate, a pair priority that fits 64 bits
     ghost none_too_high: { NoneTooHigh local.items },
-    // a pair keeps a check at least
+    // a pair stores at least one check
     ghost retransmits: { 0 < timing.max_retransmits },
-    // the next number is no pair's
+    // no pair has the next number
     ghost numbered: { are_below next_number (bag_of pairs) ≡ true },
 }
 
@@ -93,7 +93,7 @@ impl<P: LocalPreference> Agent<DefaultSha1HmacProvider, P> {
     ghost use Rattle.is_agent.specs.View.{made, emitted_of};
     ghost use Rattle.is_proto.specs.declared.hmac_provider.DefaultSha1HmacProvider.{DefaultSha1HmacProvider};
 
-    /// A controlled agent without candidates that signs by HMAC-SHA1. See `with_hmac`.
+    /// A controlled agent without candidates that signs with HMAC-SHA1. See `with_hmac`.
     pub fn new(alloc: Global, creds: IceCreds, tie_breaker: u64) -> Result<Self, IceError>
         ensures record { MakesAgent (record {}) creds tie_breaker (made result) }
         ensures emitted { IfOk result (λ a. emitted_of a ≡ nothing_emitted) }
@@ -107,10 +107,10 @@ impl<H: Sha1HmacProvider + Drop, P: LocalPreference> Agent<H, P> {
     ghost use Rattle.is_rules.specs.Emitted.{nothing_emitted};
     ghost use Rattle.is_agent.specs.View.{made, record_of, emitted_of};
 
-    /// A controlled agent without candidates, under these credentials, that signs by this provider. The tie-breaker is
-    /// a random number that settles role conflicts (RFC 8445, section 7.3.1.1).
+    /// A controlled agent without candidates, with these credentials, that signs with this provider. The tie-breaker is a
+    /// random number that resolves role conflicts (RFC 8445, section 7.3.1.1).
     ///
-    /// Refused with `CredentialsTooLong` where the user fragment and a colon are longer than 508 bytes.
+    /// Fails with `CredentialsTooLong` if the username fragment and a colon are longer than 508 bytes.
     pub fn with_hmac(
         alloc: Global,
         creds: IceCreds,

@@ -1,6 +1,6 @@
 //! Responses to the agent's checks (RFC 8445, section 7.2.5); the rules: `is_rules::answers`.
 //!
-//! A response counts only on the path that its check went.
+//! A response counts only if it is received on the reverse of its check's path.
 
 ghost use Rattle.std.specs.Prelude.{◌≡◌, ◌<◌, ◌↔◌, IsTrue, IsSomeAnd, IfOk, IfErr, IfSome, IfNone, OnOk, true, is_some, vec_len, vec_capacity};
 ghost use Rattle.std.specs.List.{list_any};
@@ -12,7 +12,6 @@ ghost use Rattle.is_stun.specs.Integrity.{IsSignedBy};
 ghost use Rattle.is_stun.specs.MessageView.{message_view};
 ghost use Rattle.is_rules.specs.Emitted.{nothing_emitted};
 ghost use Rattle.is_agent.specs.View.{record_of};
-ghost use Rattle.is_rules.specs.Kept.{TOO_HIGH};
 ghost use Rattle.is_agent.specs.Room.{HasEventRoom, HasNewsRoom, UsesNews};
 ghost use Rattle.is_rules.specs.Due.{KeepsCheckOn, IsRecorded, IsSentUnder};
 ghost use Rattle.is_rules.specs.Accepting.{IsAwaited};
@@ -31,10 +30,11 @@ use is_stun::stun::{StunMessage, TransId};
 use std::alloc::AllocError;
 use std::net::SocketAddr;
 
-// ---- which answers are awaited
+// ---- which responses are expected
 
 impl<H: Sha1HmacProvider + Drop, P: LocalPreference> Agent<H, P> {
-    /// The number of such a pair, where there is one.
+    /// The number of a pair that stores a check with this ID, and on the reverse of whose path the packet was received, if
+    /// there is one.
     fn pair_awaiting(&self, path: &Path, id: TransId) -> Option<u64>
         ensures any { list_any (keeps_check_on (record_of self.now) path.now id.0) (record_of self.now).pairs ≡ is_some result }
         ensures kept { IfSome result (λ number. KeepsCheckOn (record_of self.now) path.now id.0 number) }
@@ -58,8 +58,8 @@ impl<H: Sha1HmacProvider + Drop, P: LocalPreference> Agent<H, P> {
         }
     }
 
-    /// The number of the pair that the answer is for: it keeps a check of its id, the answer came back on its path, and
-    /// the peer signed it.
+    /// The number of the pair that the response is for: it stores a check with the same ID, the response was received on the
+    /// reverse of its path, and the peer signed it.
     pub(crate) fn awaited_pair(&self, path: &Path, message: &StunMessage<'_>) -> Option<u64>
         ensures awaited { IfSome result (λ _. IsAwaited H.mac (keeps_check_on (record_of self.now) path.now (message_view message.now).id)
             (record_of self.now) (message_view message.now)) }
@@ -76,10 +76,10 @@ impl<H: Sha1HmacProvider + Drop, P: LocalPreference> Agent<H, P> {
     }
 }
 
-// ---- success
+// ---- success responses
 
 impl<H: Sha1HmacProvider + Drop, P: LocalPreference> Agent<H, P> {
-    /// The place of the local candidate of the pair of the number.
+    /// The index of the local candidate of the pair with this number.
     fn local_place_of(&self, number: u64) -> usize
         ensures { IfSome (pair_numbered number (record_of self.now).pairs) (λ p. result ≡ p.local) }
     {
@@ -89,8 +89,8 @@ impl<H: Sha1HmacProvider + Drop, P: LocalPreference> Agent<H, P> {
         }
     }
 
-    /// The candidate that an unknown mapped address becomes: of the protocol and the base of the pair's local candidate,
-    /// which stands at this place, with the priority that its checks name (RFC 8445, section 7.2.5.3.1).
+    /// The candidate that an unknown mapped address becomes. It has the protocol and the base of the pair's local candidate,
+    /// which is at this index, and the priority in that candidate's checks (RFC 8445, section 7.2.5.3.1).
     fn mapped_candidate(&self, l: usize, mapped: SocketAddr) -> Result<Candidate, AllocError>
         ensures made { (p : PairRecord) → l ≡ p.local → IfOk result (λ c. c ≡ mapped_candidate (record_of self.now) p mapped) }
         ensures low { IfOk result (λ c. candidate_priority c < TOO_HIGH) }
@@ -106,7 +106,7 @@ impl<H: Sha1HmacProvider + Drop, P: LocalPreference> Agent<H, P> {
         ))
     }
 
-    /// The candidate that the mapped address adds, where no local candidate has it.
+    /// The candidate that the mapped address adds, if no local candidate has that address.
     fn learnt(&self, l: usize, mapped: Option<SocketAddr>) -> Result<Option<Candidate>, AllocError>
         ensures learnt { (p : PairRecord) → l ≡ p.local → IfOk result (λ c. joined_by c self.now.local.items
             ≡ local_with p mapped (success_counted (record_of self.now))) }
@@ -121,7 +121,7 @@ impl<H: Sha1HmacProvider + Drop, P: LocalPreference> Agent<H, P> {
         Ok(Some(self.mapped_candidate(l, mapped)?))
     }
 
-    /// Makes room for what a success can add: a local candidate, a source, and three events.
+    /// Reserves capacity for what a success response can add: a local candidate, a source, and three events.
     fn take_success_room(&mut self) -> Result<(), AllocError>
         ensures record { record_of self.new ≡ record_of self.old }
         ensures local { OnOk result (vec_len self.new.local < vec_capacity self.new.local) }
@@ -133,7 +133,7 @@ impl<H: Sha1HmacProvider + Drop, P: LocalPreference> Agent<H, P> {
         Ok(())
     }
 
-    /// The pair of the number takes the answer, which counts, and the candidate is learnt.
+    /// The pair with this number records the response, the response is counted, and the candidate is added.
     fn record(&mut self, number: u64, now: Instant, id: TransId, mapped: Option<Candidate>)
         requires kept { keeps id.0 number (record_of self.old).pairs ≡ true }
         requires low { IfSome mapped (λ c. candidate_priority c < TOO_HIGH) }
@@ -146,7 +146,7 @@ impl<H: Sha1HmacProvider + Drop, P: LocalPreference> Agent<H, P> {
         self.stats.bind_success_recv = self.stats.bind_success_recv.saturating_add(1);
     }
 
-    /// Nomination and state are evaluated.
+    /// Evaluates nomination and state.
     fn conclude(&mut self, now: Instant) -> Emitted
         requires room { HasEventRoom 2 self.old }
         ensures concludes { Concludes now.0 (record_of self.old) result (record_of self.new) }
@@ -157,7 +157,8 @@ impl<H: Sha1HmacProvider + Drop, P: LocalPreference> Agent<H, P> {
         Emitted::announced_only(path)
     }
 
-    /// The pair of the number takes the success, the mapped address is learnt, and nomination and state are evaluated.
+    /// The pair with this number records the success response, the mapped address is added as a candidate if it is unknown,
+    /// and nomination and state are evaluated.
     pub(crate) fn take_success(
         &mut self,
         number: u64,
@@ -179,10 +180,10 @@ impl<H: Sha1HmacProvider + Drop, P: LocalPreference> Agent<H, P> {
     }
 }
 
-// ---- failure
+// ---- error responses
 
 impl<H: Sha1HmacProvider + Drop, P: LocalPreference> Agent<H, P> {
-    /// The pair of the number keeps a check of the id that was sent under the present role.
+    /// The check with this ID that the pair with this number stores was sent in the current role.
     fn is_of_present_role(&self, number: u64, id: TransId) -> bool
         requires kept { IfSome (pair_numbered number (record_of self.now).pairs) (λ p. IsTrue (is_kept id.0 p.checks)) }
         ensures { IfSome (pair_numbered number (record_of self.now).pairs) (λ p. IsSentUnder p id.0 self.now.controlling result) }
@@ -193,8 +194,7 @@ impl<H: Sha1HmacProvider + Drop, P: LocalPreference> Agent<H, P> {
         }
     }
 
-    /// The role switches where the check of the pair of the number was sent under the present one (RFC 8445,
-    /// section 7.2.5.1).
+    /// Switches the role if the check of the pair with this number was sent in the current role (RFC 8445, section 7.2.5.1).
     fn give_up_role(&mut self, number: u64, path: &Path, message: &StunMessage<'_>)
         requires kept { KeepsCheckOn (record_of self.old) path.now (message_view message.now).id number }
         ensures gives_up { GivesUpRole (record_of self.old) path.now (message_view message.now) nothing_emitted (record_of self.new) }
@@ -205,7 +205,7 @@ impl<H: Sha1HmacProvider + Drop, P: LocalPreference> Agent<H, P> {
         }
     }
 
-    /// A failure of code 487 may switch the role, and any other does nothing.
+    /// An error response with code 487 may switch the role. Any other one does nothing.
     pub(crate) fn take_failure(&mut self, number: u64, path: &Path, message: &StunMessage<'_>)
         requires kept { KeepsCheckOn (record_of self.old) path.now (message_view message.now).id number }
         ensures taken { TakesFailure (record_of self.old) path.now (message_view message.now) nothing_emitted (record_of self.new) }

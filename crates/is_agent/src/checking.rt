@@ -25,7 +25,7 @@ use is_stun::laws::checks_fit;
 use is_stun::stun::{StunMessage, TransId};
 
 impl<H: Sha1HmacProvider + Drop, P: LocalPreference> Agent<H, P> {
-    /// From the local candidate's base to the remote candidate's address.
+    /// The path from the local candidate's base to the remote candidate's address.
     pub(crate) fn path_between(&self, l: usize, r: usize) -> Path
         ensures { result ≡ path_between (record_of self.now) l r }
     {
@@ -42,7 +42,7 @@ impl<H: Sha1HmacProvider + Drop, P: LocalPreference> Agent<H, P> {
         self.path_between(pair.local_idx(), pair.remote_idx())
     }
 
-    /// What a check of the pair says.
+    /// The content of a check of the pair.
     pub(crate) fn draft(&self, pair: &CandidatePair) -> Draft
         ensures { Drafts (record_of self.now) pair.now result }
     {
@@ -53,7 +53,7 @@ impl<H: Sha1HmacProvider + Drop, P: LocalPreference> Agent<H, P> {
         }
     }
 
-    /// Writes a check, signed with the peer's password, over the front of the bytes, and cuts them to its length.
+    /// Writes a check, signed with the peer's password, to the front of the buffer, and truncates the buffer to its length.
     fn write_check(&self, contents: &mut Vec<u8>, check: StunMessage<'_>, password: &str)
         requires fits { refusal (Some password.now) (length contents.old.items) (message_view check) ≡ None }
         requires class { IsClass (message_view check).class }
@@ -64,7 +64,7 @@ impl<H: Sha1HmacProvider + Drop, P: LocalPreference> Agent<H, P> {
         write_signed(contents, check, password, &self.by_remote_key());
     }
 
-    /// The bytes of the check, written over these.
+    /// The bytes of the check, written to this buffer.
     pub(crate) fn check_bytes(&self, mut contents: Vec<u8>, id: TransId, draft: Draft) -> Vec<u8>
         requires username { HasUsername self.now }
         requires contents { IfSome self.now.remote_creds (λ _. length contents.items ≡ MTU_FLOOR) }

@@ -13,21 +13,21 @@ impl<H: Sha1HmacProvider + Drop, P: LocalPreference> Agent<H, P> {
     ghost use Rattle.is_agent.specs.View.{record_of};
     ghost use Rattle.is_rules.specs.Credentials.{SetsLocal, SetsRemote};
 
-    /// The credentials under which the agent is addressed, and under which it answers.
+    /// The agent's own credentials: the peer addresses its requests to them, and the agent signs its responses with them.
     pub fn local_credentials(&self) -> &IceCreds
         ensures { result.now ≡ (record_of self.now).local_creds }
     {
         &self.local_creds
     }
 
-    /// The credentials of the other agent, where they are known.
+    /// The peer's credentials, if they are known.
     pub fn remote_credentials(&self) -> Option<&IceCreds>
         ensures { option_copied result ≡ (record_of self.now).remote_creds }
     {
         self.remote_creds.as_ref()
     }
 
-    /// The provider with what is kept of the agent's own password: it signs replies and verifies requests.
+    /// The provider with the prepared key of the agent's own password: it signs responses and verifies requests.
     pub(crate) fn by_local_key(&self) -> KeptProvider<'_, H>
         ensures { H.mac result.provider.now ≡ H.mac self.now.provider }
     {
@@ -37,7 +37,7 @@ impl<H: Sha1HmacProvider + Drop, P: LocalPreference> Agent<H, P> {
         }
     }
 
-    /// The provider with what is kept of the peer's password: it signs checks and verifies their answers.
+    /// The provider with the prepared key of the peer's password: it signs checks and verifies the responses to them.
     pub(crate) fn by_remote_key(&self) -> KeptProvider<'_, H>
         ensures { H.mac result.provider.now ≡ H.mac self.now.provider }
     {
@@ -47,9 +47,9 @@ impl<H: Sha1HmacProvider + Drop, P: LocalPreference> Agent<H, P> {
         }
     }
 
-    /// Sets the agent's own credentials. They are in use from now on; candidates keep their user fragments.
+    /// Sets the agent's own credentials. They are in use from now on; candidates keep their username fragments.
     ///
-    /// Refused with `CredentialsTooLong` where both user fragments and a colon are longer than 508 bytes.
+    /// Fails with `CredentialsTooLong` if both username fragments and a colon are longer than 508 bytes.
     pub fn set_local_credentials(&mut self, creds: IceCreds) -> Result<(), IceError>
         ensures { SetsLocal (record_of self.old) creds result (record_of self.new) }
     {
@@ -61,9 +61,9 @@ impl<H: Sha1HmacProvider + Drop, P: LocalPreference> Agent<H, P> {
         Ok(())
     }
 
-    /// Sets the credentials of the other agent, as signalling tells of them. They are in use from now on.
+    /// Sets the peer's credentials, as received by signaling. They are in use from now on.
     ///
-    /// Refused with `CredentialsTooLong` where both user fragments and a colon are longer than 508 bytes.
+    /// Fails with `CredentialsTooLong` if both username fragments and a colon are longer than 508 bytes.
     pub fn set_remote_credentials(&mut self, creds: IceCreds) -> Result<(), IceError>
         ensures { SetsRemote (record_of self.old) creds result (record_of self.new) }
     {

@@ -1,4 +1,4 @@
-//! Discarding candidates: each keeps its place, its pairs go; the rules: `is_rules::discarding`.
+//! Discarding candidates: each keeps its index, and its pairs are removed; the rules: `is_rules::discarding`.
 
 ghost use Rattle.std.specs.Prelude.{◌≡◌, ℕ, ◌<◌, length, IfSome, vec_len, vec_capacity};
 ghost use Rattle.is_agent.specs.View.{record_of};
@@ -11,7 +11,7 @@ use is_proto::Sha1HmacProvider;
 use is_rules::discarding::{LocalAt, RemoteAt, discard_at, place_to_discard};
 
 impl<H: Sha1HmacProvider + Drop, P: LocalPreference> Agent<H, P> {
-    /// The local candidate at the place goes.
+    /// Discards the local candidate at the index.
     pub(crate) fn discard_local(&mut self, place: usize)
         requires { place < length self.old.local.items }
         ensures discarded { record_of self.new ≡ local_discarded place (record_of self.old) }
@@ -45,9 +45,10 @@ impl<H: Sha1HmacProvider + Drop, P: LocalPreference> Agent<H, P> {
         place_to_discard(&self.remote, candidate)
     }
 
-    /// A candidate that is gone, as an interface that went away: the first local candidate that equals it in address,
-    /// base, protocol, kind and related address, where that one is not discarded, else the first remote one likewise, is
-    /// discarded, and its pairs go. Whether there was one. Takes no memory.
+    /// Discards a candidate that is no longer usable, for example because its interface was removed. It discards the first
+    /// local candidate that equals this one in address, base, protocol, kind and related address, if that one is not
+    /// discarded; else the first such remote candidate, likewise. The pairs of the discarded candidate are removed. Returns
+    /// whether there was one. Does not allocate.
     pub fn invalidate_candidate(&mut self, candidate: &Candidate) -> bool
         ensures { Invalidates (record_of self.old) candidate.now result (record_of self.new) }
     {

@@ -1,7 +1,7 @@
 //! The ICE agent (RFC 8445) without sockets, clocks or threads; its rules: `is_rules`.
 //!
-//! Calls go in, packets and events come out. A call reads and makes room first, then changes; so a refused call leaves the
-//! agent as it was. A file of the same name in `is_rules` has the rules of a subject.
+//! Calls go in, packets and events come out. A call first reads and reserves capacity, then changes the agent; so a call that
+//! fails leaves the agent unchanged. A file of the same name in `is_rules` has the rules of a subject.
 #![tactic(auto)]
 
 pub mod accepting;

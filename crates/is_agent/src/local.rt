@@ -50,7 +50,7 @@ impl<H: Sha1HmacProvider + Drop, P: LocalPreference> Agent<H, P> {
         preference_for(&self.preference, candidate, &self.local)
     }
 
-    /// The first place of a candidate of equal address, base and protocol.
+    /// The first index of a candidate with the same address, base and protocol.
     fn place_of_same(&self, candidate: &Candidate) -> Option<usize>
         ensures place { result ≡ position (is_same_place candidate.now) (record_of self.now).local }
         ensures within { IfSome result (λ place. place < length self.now.local.items) }
@@ -72,7 +72,7 @@ impl<H: Sha1HmacProvider + Drop, P: LocalPreference> Agent<H, P> {
         has_numbers_for(self.next_number, candidate, &self.remote)
     }
 
-    /// The same, of the candidate at the place.
+    /// The same for the candidate at the index.
     fn has_numbers_again(&self, place: usize) -> bool
         requires { place < length self.now.local.items }
         ensures { IsTrue result ↔ HasNumbersAt (record_of self.now) (candidate_at (record_of self.now).local place) }
@@ -87,10 +87,10 @@ impl<H: Sha1HmacProvider + Drop, P: LocalPreference> Agent<H, P> {
     }
 }
 
-// ---- room
+// ---- capacity
 
 impl<H: Sha1HmacProvider + Drop, P: LocalPreference> Agent<H, P> {
-    /// Makes room for one more local candidate and so many pairs.
+    /// Reserves capacity for one more local candidate and this many pairs.
     fn take_local_room(&mut self, pairs: usize) -> Result<(), AllocError>
         ensures record { record_of self.new ≡ record_of self.old }
         ensures room { OnOk result (HasLocalRoom pairs self.new) }
@@ -100,7 +100,7 @@ impl<H: Sha1HmacProvider + Drop, P: LocalPreference> Agent<H, P> {
         Ok(())
     }
 
-    /// Makes what the candidate takes to be stored.
+    /// Allocates what is needed to store the candidate.
     fn newcomer(&self, candidate: Candidate) -> Result<Newcomer, AllocError>
         requires low { candidate_priority candidate < TOO_HIGH }
         ensures own { IfOk result (λ n. n.own ≡ as_own (record_of self.now) candidate) }
@@ -114,7 +114,7 @@ impl<H: Sha1HmacProvider + Drop, P: LocalPreference> Agent<H, P> {
         Ok(Newcomer { own, all })
     }
 
-    /// The combinations of the discarded candidate at the place.
+    /// The combinations of the discarded candidate at the index.
     fn combinations_again(&self, place: usize) -> Result<Vec<(usize, usize)>, AllocError>
         requires { place < length self.now.local.items }
         ensures all { IfOk result (λ all. all.items ≡ local_combinations (candidate_at self.now.local.items place) place self.now.remote.items) }
@@ -142,7 +142,7 @@ impl<H: Sha1HmacProvider + Drop, P: LocalPreference> Agent<H, P> {
         place
     }
 
-    /// The candidate comes behind the others.
+    /// Appends the candidate after the others.
     fn enter_last(&mut self, candidate: Candidate) -> Result<Option<usize>, Refusal>
         requires low { candidate_priority candidate < TOO_HIGH }
         ensures { EntersNew (record_of self.old) candidate (record_of self.old) (widened result) (record_of self.new) }
@@ -155,7 +155,7 @@ impl<H: Sha1HmacProvider + Drop, P: LocalPreference> Agent<H, P> {
         Ok(Some(self.store_local(own, &all)))
     }
 
-    /// The candidate comes in the place of the one there, which is discarded.
+    /// Discards the candidate at the index, and appends this one.
     fn supersede(&mut self, place: usize, candidate: Candidate) -> Result<Option<usize>, Refusal>
         requires within { place < length self.old.local.items }
         requires low { candidate_priority candidate < TOO_HIGH }
@@ -170,7 +170,7 @@ impl<H: Sha1HmacProvider + Drop, P: LocalPreference> Agent<H, P> {
         Ok(Some(self.store_local(own, &all)))
     }
 
-    /// The discarded candidate at the place comes again.
+    /// The discarded candidate at the index is enabled again.
     fn enable_again(&mut self, place: usize) -> Result<Option<usize>, Refusal>
         requires within { place < length self.old.local.items }
         ensures { EntersAgain (record_of self.old) place (widened result) (record_of self.new) }
@@ -204,7 +204,7 @@ impl<H: Sha1HmacProvider + Drop, P: LocalPreference> Agent<H, P> {
         }
     }
 
-    /// The candidate gets its preference, and is enrolled.
+    /// The candidate gets its preference, then `enrol` decides.
     fn enrol_preferred(&mut self, candidate: Candidate) -> Result<Option<usize>, Refusal>
         requires low { candidate_priority candidate < TOO_HIGH }
         ensures { EnrolsPreferred P.answers (record_of self.old) candidate (widened result) (record_of self.new) }
@@ -213,7 +213,7 @@ impl<H: Sha1HmacProvider + Drop, P: LocalPreference> Agent<H, P> {
         self.enrol(preferred(candidate, preference))
     }
 
-    /// Adds a local candidate, and tells its place; see `add_local_candidate`.
+    /// Adds a local candidate, and returns its index; see `add_local_candidate`.
     pub(crate) fn add_local(&mut self, candidate: Candidate) -> Result<Option<usize>, Refusal>
         ensures { AddsLocal P.answers (record_of self.old) candidate (widened result) (record_of self.new) }
     {
@@ -226,7 +226,7 @@ impl<H: Sha1HmacProvider + Drop, P: LocalPreference> Agent<H, P> {
         self.enrol_preferred(candidate)
     }
 
-    /// Adds a local candidate and lends it; see `add_local_candidate`. The refusals own no memory.
+    /// Adds a local candidate and returns a reference to it; see `add_local_candidate`. The errors own no memory.
     pub(crate) fn lend_local(&mut self, candidate: Candidate) -> Result<Option<&Candidate>, Refusal>
         ensures* step { sem 𝓛 (EndsAs (the_row H.row P.row) self.entry (λ after. LendsLocal P.answers (record_of self.old) candidate
             (widened result) (record_of after))) }
@@ -235,16 +235,17 @@ impl<H: Sha1HmacProvider + Drop, P: LocalPreference> Agent<H, P> {
         Ok(lent_at(&self.local, place))
     }
 
-    /// Adds a local candidate, under the agent's user fragment, and lends it (RFC 8445, section 5.1). Its local
-    /// preference is what the object that was set answers for it and the number of local candidates of its kind and IP
-    /// version, discarded ones too, or the default one. Under lite a candidate that is no host is not added.
+    /// Adds a local candidate, with the agent's username fragment, and returns a reference to it (RFC 8445, section 5.1). Its
+    /// local preference is what the object that was set returns for it and the number of local candidates of its kind and IP
+    /// version, including discarded ones, or the default one. A lite agent adds only host candidates.
     ///
-    /// The first local candidate of its address, base and protocol decides: a discarded one of its kind and related address
-    /// is enabled again and stands for it; a greater one stays, and the answer is None; else that one is discarded, and its
-    /// pairs go. Pairs are formed with the remote candidates (RFC 8445, section 6.1.2).
+    /// The first local candidate with the same address, base and protocol decides. If it is discarded and has the same kind
+    /// and related address, it is enabled again and used instead. Otherwise, if its priority is greater than the new one's,
+    /// it stays, and the call returns None. Else it is discarded, and its pairs are removed. Pairs are formed with the remote
+    /// candidates (RFC 8445, section 6.1.2).
     ///
-    /// Refused with `PriorityTooHigh` where its priority is 4294967295, with `PairIdsExhausted` where no number is left for
-    /// a pair, and with `OutOfMemory`; the agent is then as it was.
+    /// Fails with `PriorityTooHigh` if the candidate's priority is 4294967295, with `PairIdsExhausted` if no number is left
+    /// for a pair, and with `OutOfMemory`. The agent is then unchanged.
     pub fn add_local_candidate(
         &mut self,
         candidate: Candidate,
@@ -256,7 +257,7 @@ impl<H: Sha1HmacProvider + Drop, P: LocalPreference> Agent<H, P> {
     }
 }
 
-/// The refusal as an error.
+/// The failure as an error.
 fn widen<'a>(
     lent: Result<Option<&'a Candidate>, Refusal>,
 ) -> Result<Option<&'a Candidate>, IceError>
@@ -268,7 +269,7 @@ fn widen<'a>(
     }
 }
 
-/// Adds a local candidate, and tells its place, as `add_local_candidate` does for who needs no loan.
+/// Adds a local candidate, and returns its index, like `add_local_candidate` for callers that need no reference.
 pub fn add_local<H: Sha1HmacProvider + Drop, P: LocalPreference>(
     agent: &mut Agent<H, P>,
     candidate: Candidate,

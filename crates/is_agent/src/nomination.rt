@@ -1,6 +1,6 @@
-//! Nomination (RFC 8445, section 8.1.1): announcing the path of a pair; the rules: `is_rules::nomination`.
+//! Nomination (RFC 8445, section 8.1.1): selecting a pair; the rules: `is_rules::nomination`.
 //!
-//! Of the eligible pairs, one of greatest priority is announced.
+//! Of the eligible pairs, one with the greatest priority is selected.
 
 ghost use Rattle.std.specs.Prelude.{◌≡◌, ℕ};
 ghost use Rattle.is_agent.specs.View.{record_of};
@@ -16,7 +16,7 @@ use is_rules::nomination::select_pair;
 use is_rules::sides::Sides;
 
 impl<H: Sha1HmacProvider + Drop, P: LocalPreference> Agent<H, P> {
-    /// The path was announced, where there is one.
+    /// Emits `NominatedSend` for the path, if there is one.
     pub(crate) fn emit_nominated(&mut self, path: Option<Path>)
         requires room { HasEventRoom 1 self.old }
         ensures emitted { record_of self.new ≡ nominated_emitted path (record_of self.old) }
@@ -34,8 +34,8 @@ impl<H: Sha1HmacProvider + Drop, P: LocalPreference> Agent<H, P> {
         self.stats.nomination_send_count = self.stats.nomination_send_count.saturating_add(1);
     }
 
-    /// Of the eligible pairs, one of greatest priority is announced, unless the announced one has that priority. Tells
-    /// the path that was announced.
+    /// Selects an eligible pair with the greatest priority, unless the pair that was selected last has that priority. Returns
+    /// the path that was selected.
     pub(crate) fn evaluate_nomination(&mut self) -> Option<Path>
         requires room { HasEventRoom 1 self.old }
         ensures nominates { Nominates (record_of self.old) result (record_of self.new) }
@@ -54,7 +54,7 @@ impl<H: Sha1HmacProvider + Drop, P: LocalPreference> Agent<H, P> {
         path
     }
 
-    /// Nomination is evaluated, where it is to be.
+    /// Evaluates nomination if `evaluates` is true.
     pub(crate) fn nominate_where(&mut self, evaluates: bool) -> Option<Path>
         requires room { HasEventRoom 1 self.old }
         ensures nominates { NominatesWhere evaluates (record_of self.old) result (record_of self.new) }

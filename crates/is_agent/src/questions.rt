@@ -68,7 +68,7 @@ impl<'a> Iterator for LocalCandidates<'a> {
     }
 }
 
-/// The remote candidates that are not discarded, in the order in which they came: each once, and then none.
+/// The remote candidates that are not discarded, in the order in which they were added: each once, and then none.
 #[derive(Clone, Drop)]
 pub struct RemoteCandidates<'a> {
     live: LiveCandidates<'a>,
@@ -108,7 +108,7 @@ impl PairTest for ViableAt<'_> {
 }
 
 impl<H: Sha1HmacProvider + Drop, P: LocalPreference> Agent<H, P> {
-    /// The local candidates that are not discarded. Takes no memory.
+    /// The local candidates that are not discarded. Does not allocate.
     pub fn local_candidates(&self) -> LocalCandidates<'_>
         ensures { local_left result ≡ live (record_of self.now).local }
     {
@@ -118,7 +118,7 @@ impl<H: Sha1HmacProvider + Drop, P: LocalPreference> Agent<H, P> {
         }
     }
 
-    /// The remote candidates that are not discarded. Takes no memory.
+    /// The remote candidates that are not discarded. Does not allocate.
     pub fn remote_candidates(&self) -> RemoteCandidates<'_>
         ensures { remote_left result ≡ live (record_of self.now).remote }
     {
@@ -128,14 +128,14 @@ impl<H: Sha1HmacProvider + Drop, P: LocalPreference> Agent<H, P> {
         }
     }
 
-    /// How often things happened since the last restart.
+    /// Counters since the last ICE restart.
     pub fn stats(&self) -> IceAgentStats
         ensures { result ≡ (record_of self.now).stats }
     {
         self.stats
     }
 
-    /// Whether a check succeeded on a pair whose remote candidate has this address. Takes no memory.
+    /// Whether a check succeeded on a pair whose remote candidate has this address. Does not allocate.
     pub fn has_viable_remote_candidate(&self, address: SocketAddr) -> bool
         ensures { result ≡ has_viable_remote (record_of self.now) address }
     {
@@ -143,8 +143,8 @@ impl<H: Sha1HmacProvider + Drop, P: LocalPreference> Agent<H, P> {
         self.pairs.any(&ViableAt { remote, address })
     }
 
-    /// A pair whose remote candidate equals this one in address, base, protocol, kind and related address: one of greatest
-    /// priority among them. Takes no memory.
+    /// A pair whose remote candidate equals this one in address, base, protocol, kind and related address: one with the
+    /// greatest priority among them. Does not allocate.
     pub fn find_pair_for_equivalent_remote_candidate(
         &self,
         candidate: &Candidate,
@@ -155,31 +155,31 @@ impl<H: Sha1HmacProvider + Drop, P: LocalPreference> Agent<H, P> {
         self.pairs.greatest(&Equivalent { remote, candidate })
     }
 
-    /// The pair that was announced last, while it stands.
+    /// The pair that was selected last, if it still exists.
     fn nominated_pair(&self) -> Option<&CandidatePair>
         ensures { option_copied result ≡ nominated_pair (record_of self.now) }
     {
         pair_selected(self.selected_pair, &self.pairs)
     }
 
-    /// How long the last answered check took of the pair that was announced last. None where that pair is gone, or has
-    /// no answered check.
+    /// The round-trip time of the last answered check of the pair that was selected last. None if that pair no longer exists,
+    /// or has no answered check.
     pub fn nominated_pair_rtt(&self) -> Option<Duration>
         ensures { option_map (λ time. time.0) result ≡ nominated_rtt (record_of self.now) }
     {
         self.nominated_pair()?.last_successful_rtt()
     }
 
-    /// How long all answered checks took together of the pair that was announced last, each answer counted. None where
-    /// that pair is gone.
+    /// The sum of the round-trip times of all answered checks of the pair that was selected last; each response counts. None
+    /// if that pair no longer exists.
     pub fn nominated_pair_total_rtt(&self) -> Option<Duration>
         ensures { option_map (λ time. time.0) result ≡ nominated_total_rtt (record_of self.now) }
     {
         Some(self.nominated_pair()?.total_round_trip_time())
     }
 
-    /// How many answers came to checks of the pair that was announced last, repeated ones counted. None where that pair
-    /// is gone.
+    /// The number of responses to checks of the pair that was selected last, including repeated ones. None if that pair no
+    /// longer exists.
     pub fn nominated_pair_responses_received(&self) -> Option<u64>
         ensures { result ≡ nominated_responses (record_of self.now) }
     {

@@ -27,7 +27,7 @@ impl<H: Sha1HmacProvider + Drop, P: LocalPreference> Agent<H, P> {
         }
     }
 
-    /// The remote candidate of a pair equals this one.
+    /// A pair has a remote candidate that equals this one.
     fn is_paired(&self, candidate: &Candidate) -> bool
         ensures { result ≡ list_any (has_equivalent (record_of self.now).remote candidate.now) (record_of self.now).pairs }
     {
@@ -41,7 +41,7 @@ impl<H: Sha1HmacProvider + Drop, P: LocalPreference> Agent<H, P> {
         component(candidate) != 1 || self.has_other_ufrag(candidate) || self.is_paired(candidate)
     }
 
-    /// The combinations become pairs, within the room that there is, and then the limit holds.
+    /// The combinations become pairs, within the reserved capacity, and then the limit is applied.
     pub(crate) fn form(&mut self, all: &[(usize, usize)])
         requires room { HasRoom (length all.now) self.old.pairs }
         requires numbers { HasNumbers self.old.next_number (length all.now) }
@@ -63,12 +63,11 @@ impl<H: Sha1HmacProvider + Drop, P: LocalPreference> Agent<H, P> {
         );
     }
 
-    /// Adds a candidate of the peer's, and forms pairs with it (RFC 8445, section 6.1.2). It takes the place of one that a
-    /// request from its address brought. A candidate of another component than 1, or of another user fragment than the
-    /// peer's, is ignored, and so is one that equals the remote candidate of a pair.
+    /// Adds a candidate of the peer, and forms pairs with it (RFC 8445, section 6.1.2). It replaces a candidate that a
+    /// request from its address added. A candidate is ignored if its component is not 1, if its username fragment is not the
+    /// peer's, or if it equals the remote candidate of a pair.
     ///
-    /// Refused with `PairIdsExhausted` where no number is left for a pair, and with `OutOfMemory`; the agent is then as it
-    /// was.
+    /// Fails with `PairIdsExhausted` if no number is left for a pair, and with `OutOfMemory`. The agent is then unchanged.
     pub fn add_remote_candidate(&mut self, candidate: Candidate) -> Result<(), IceError>
         ensures { AddsRemote (record_of self.old) candidate result (record_of self.new) }
     {
@@ -85,7 +84,7 @@ impl<H: Sha1HmacProvider + Drop, P: LocalPreference> Agent<H, P> {
         place_of_placeholder(&self.remote, candidate)
     }
 
-    /// Makes room for one more candidate and so many pairs.
+    /// Reserves capacity for one more candidate and this many pairs.
     fn take_forming_room(&mut self, pairs: usize) -> Result<(), IceError>
         ensures record { record_of self.new ≡ record_of self.old }
         ensures room { OnOk result (HasFormingRoom pairs self.new) }
@@ -96,7 +95,7 @@ impl<H: Sha1HmacProvider + Drop, P: LocalPreference> Agent<H, P> {
         Ok(())
     }
 
-    /// Stores the candidate at its place, and forms pairs with it.
+    /// Stores the candidate at its index, and forms pairs with it.
     fn join_remote(&mut self, candidate: Candidate) -> Result<(), IceError>
         ensures { JoinsRemote (record_of self.old) candidate result (record_of self.new) }
     {
@@ -112,7 +111,7 @@ impl<H: Sha1HmacProvider + Drop, P: LocalPreference> Agent<H, P> {
         Ok(())
     }
 
-    /// Stores the candidate at this place, and forms these combinations.
+    /// Stores the candidate at this index, and forms these combinations.
     fn store_at(&mut self, candidate: Candidate, place: Option<usize>, all: &[(usize, usize)])
         requires room { HasFormingRoom (length all.now) self.old }
         requires within { IfSome place (λ place. place < length self.old.remote.items) }

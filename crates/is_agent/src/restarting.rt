@@ -1,4 +1,4 @@
-//! ICE restarts (RFC 8445, section 9), and pairs that are formed anew; the rules: `is_rules::restarting`.
+//! ICE restarts (RFC 8445, section 9), and pairs that are formed again; the rules: `is_rules::restarting`.
 
 ghost use Rattle.std.specs.Prelude.{◌≡◌, ◌+◌, ◌↔◌, IsTrue, None, false, IfOk, OnOk};
 ghost use Rattle.is_rules.specs.Fitting.{are_too_long};
@@ -18,7 +18,7 @@ use is_rules::restarting::kept_local;
 use is_rules::states::emit_state;
 use std::alloc::AllocError;
 
-/// What a restart takes.
+/// What an ICE restart needs.
 #[derive(Drop)]
 struct Beginning {
     local: Vec<Candidate>,
@@ -43,7 +43,7 @@ impl<H: Sha1HmacProvider + Drop, P: LocalPreference> Agent<H, P> {
         self.events.reserve(events)
     }
 
-    /// A session begins anew.
+    /// Restarts the session.
     fn begin(&mut self, creds: IceCreds, keep: bool, beginning: Beginning)
         requires fit { are_too_long creds None ≡ false }
         requires room { HasEventRoom 2 self.old }
@@ -76,12 +76,12 @@ impl<H: Sha1HmacProvider + Drop, P: LocalPreference> Agent<H, P> {
         );
     }
 
-    /// Restarts the session under new credentials (RFC 8445, section 9): remote credentials, remote candidates, pairs,
-    /// packets, events, sources and statistics go. Local candidates stay, under the new user fragment, or go too. Role,
-    /// requests that wait, and the count of pairs stay.
+    /// Restarts the session with new credentials (RFC 8445, section 9). Remote credentials, remote candidates, pairs,
+    /// packets, events, sources and statistics are removed. Local candidates stay, with the new username fragment, if `keep`
+    /// is true; else they are removed too. Role, early requests, and the number of the next pair stay.
     ///
-    /// Refused with `CredentialsTooLong` where the user fragment and a colon are longer than 508 bytes, and with
-    /// `OutOfMemory`; the agent is then as it was.
+    /// Fails with `CredentialsTooLong` if the username fragment and a colon are longer than 508 bytes, and with
+    /// `OutOfMemory`. The agent is then unchanged.
     pub fn ice_restart(&mut self, creds: IceCreds, keep: bool) -> Result<(), IceError>
         ensures { Restarts (record_of self.old) creds keep result (record_of self.new) }
     {
@@ -94,7 +94,7 @@ impl<H: Sha1HmacProvider + Drop, P: LocalPreference> Agent<H, P> {
         Ok(())
     }
 
-    // ---- pairs anew
+    // ---- pairs formed again
 
     fn has_numbers_for_all(&self) -> bool
         ensures { IsTrue result ↔ HasNumbersForAll (record_of self.now) }
@@ -108,7 +108,7 @@ impl<H: Sha1HmacProvider + Drop, P: LocalPreference> Agent<H, P> {
         live_combinations(*self.local.allocator(), &self.local, &self.remote)
     }
 
-    /// Makes room for so many pairs and an event.
+    /// Reserves capacity for this many pairs and an event.
     fn take_recreation_room(&mut self, pairs: usize) -> Result<(), AllocError>
         ensures record { record_of self.new ≡ record_of self.old }
         ensures room { OnOk result (HasPairRoom pairs self.new × HasEventRoom 1 self.new) }
@@ -118,10 +118,9 @@ impl<H: Sha1HmacProvider + Drop, P: LocalPreference> Agent<H, P> {
         Ok(())
     }
 
-    /// Forms pairs anew, of all candidates that are not discarded; the state is Checking then.
+    /// Forms all pairs again, of all candidates that are not discarded. The state is then Checking.
     ///
-    /// Refused with `PairIdsExhausted` where no number is left for a pair, and with `OutOfMemory`; the agent is then as it
-    /// was.
+    /// Fails with `PairIdsExhausted` if no number is left for a pair, and with `OutOfMemory`. The agent is then unchanged.
     pub fn recreate_candidate_pairs(&mut self) -> Result<(), IceError>
         ensures { Recreates (record_of self.old) result (record_of self.new) }
     {

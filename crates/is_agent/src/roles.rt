@@ -14,7 +14,7 @@ use is_rules::roles::{Conflict, conflict_by, reprioritize_all};
 use is_rules::sides::Sides;
 
 impl<H: Sha1HmacProvider + Drop, P: LocalPreference> Agent<H, P> {
-    /// The tie-breaker of a sender that claims the role that the agent has.
+    /// The tie-breaker of a sender that claims the agent's role.
     fn rival(&self, request: &Request<'_>) -> Option<u64>
         ensures { result ≡ rival (record_of self.now) (request_view request.now) }
     {
@@ -31,7 +31,7 @@ impl<H: Sha1HmacProvider + Drop, P: LocalPreference> Agent<H, P> {
         conflict_by(self.tie_breaker, self.rival(request))
     }
 
-    /// The agent takes the other role, and all priorities are computed anew.
+    /// The agent switches to the other role, and all priorities are computed again.
     pub(crate) fn switch_role(&mut self)
         ensures record { record_of self.new ≡ switched (record_of self.old) }
         ensures room { HasServingRoom self.old → HasServingRoom self.new }

@@ -1,7 +1,7 @@
 //! Serving a Binding request (RFC 8445, section 7.3); the rules: `is_rules::serving`.
 //!
-//! There is a function for each rule, in the order in which they act. Each ends in a call of the next one.
-//! Choices are made and room is taken before anything changes; what follows can't be refused.
+//! There is a function for each rule, in the order in which they apply. Each ends in a call of the next one. Choices are made
+//! and capacity is reserved before anything changes; what follows can't fail.
 
 ghost use Rattle.std.specs.Prelude.{◌≡◌, ◌<◌, ◌&&◌, Some, None, true, false, not, length, IfOk, IfErr, OnOk, IsOkUnless};
 ghost use Rattle.is_candidate.specs.Candidates.{candidate_at};
@@ -53,7 +53,7 @@ impl<H: Sha1HmacProvider + Drop, P: LocalPreference> Agent<H, P> {
         }
     }
 
-    /// Where the request can be served, if it gets to a local candidate.
+    /// The candidates and the pair at which the request can be served, if a local candidate received it.
     pub(crate) fn places_of(&self, request: &Request<'_>) -> Option<Places>
         ensures { Chooses (record_of self.now) (request_view request.now) result }
     {
@@ -70,7 +70,7 @@ impl<H: Sha1HmacProvider + Drop, P: LocalPreference> Agent<H, P> {
         })
     }
 
-    /// A pair must be added there, by the conflict of roles and the role behind it.
+    /// A pair must be added there, given the role conflict and the role after it.
     fn wants_pair(&self, request: &Request<'_>, at: Places) -> bool
         ensures { result ≡ wants_pair (record_of self.now) (request_view request.now) at }
     {
@@ -88,10 +88,10 @@ impl<H: Sha1HmacProvider + Drop, P: LocalPreference> Agent<H, P> {
     }
 }
 
-// ---- room
+// ---- capacity
 
 impl<H: Sha1HmacProvider + Drop, P: LocalPreference> Agent<H, P> {
-    /// Makes room for one more source and its event.
+    /// Reserves capacity for one more source and its event.
     pub(crate) fn take_source_room(&mut self) -> Result<(), IceError>
         ensures record { record_of self.new ≡ record_of self.old }
         ensures room { OnOk result (HasNewsRoom 1 self.new) }
@@ -102,7 +102,7 @@ impl<H: Sha1HmacProvider + Drop, P: LocalPreference> Agent<H, P> {
         Ok(())
     }
 
-    /// Makes room for all that serving a request can add.
+    /// Reserves capacity for all that serving a request can add.
     fn take_serving_room(&mut self) -> Result<(), IceError>
         ensures record { record_of self.new ≡ record_of self.old }
         ensures room { OnOk result (HasServingRoom self.new × HasNewsRoom 2 self.new) }
@@ -116,7 +116,7 @@ impl<H: Sha1HmacProvider + Drop, P: LocalPreference> Agent<H, P> {
         Ok(())
     }
 
-    /// The peer reflexive candidate that an unknown sender becomes (RFC 8445, section 7.3.1.3).
+    /// The peer-reflexive candidate that an unknown sender becomes (RFC 8445, section 7.3.1.3).
     fn sender_at(
         &self,
         request: &Request<'_>,
@@ -142,7 +142,7 @@ impl<H: Sha1HmacProvider + Drop, P: LocalPreference> Agent<H, P> {
         }
     }
 
-    /// Makes what serving the request takes.
+    /// Allocates what serving the request needs.
     pub(crate) fn supplies_for(
         &self,
         request: &Request<'_>,
@@ -160,7 +160,7 @@ impl<H: Sha1HmacProvider + Drop, P: LocalPreference> Agent<H, P> {
 // ---- the rules
 
 impl<H: Sha1HmacProvider + Drop, P: LocalPreference> Agent<H, P> {
-    /// The reply goes out on the path.
+    /// Sends the response on the path.
     fn send_reply(&mut self, path: Path, contents: Vec<u8>)
         requires packets { HasPacketRoom self.old }
         ensures sent { record_of self.new ≡ with_packet path contents.items (record_of self.old) }
@@ -174,7 +174,8 @@ impl<H: Sha1HmacProvider + Drop, P: LocalPreference> Agent<H, P> {
         });
     }
 
-    /// The success reply goes out on the path, signed with the local password (RFC 8445, section 7.3.1.2; RFC 8489, section 9.1.3).
+    /// Sends the success response on the path, signed with the local password (RFC 8445, section 7.3.1.2; RFC 8489, section
+    /// 9.1.3).
     fn reply(&mut self, request: &Request<'_>, path: Path, mut reply: Vec<u8>)
         requires packets { HasPacketRoom self.old }
         requires reply { length reply.items ≡ LONGEST_REPLY }
@@ -194,7 +195,7 @@ impl<H: Sha1HmacProvider + Drop, P: LocalPreference> Agent<H, P> {
         self.send_reply(path, reply);
     }
 
-    /// A request at the pair has nomination evaluated (RFC 8445, section 7.3.1.5).
+    /// Whether a request at the pair causes nomination to be evaluated (RFC 8445, section 7.3.1.5).
     fn evaluates_at(&self, number: u64) -> bool
         ensures { result ≡ (self.now.controlling && is_valid_at number (record_of self.now).pairs) }
     {
@@ -215,7 +216,7 @@ impl<H: Sha1HmacProvider + Drop, P: LocalPreference> Agent<H, P> {
         serve_pair(&mut self.pairs, number, request, standing);
     }
 
-    /// The pair records the request, a controlling agent evaluates nomination if the pair is valid, and the response goes out.
+    /// The pair records the request, a controlling agent evaluates nomination if the pair is valid, and the response is sent.
     fn record_and_respond(
         &mut self,
         request: &Request<'_>,
@@ -239,7 +240,7 @@ impl<H: Sha1HmacProvider + Drop, P: LocalPreference> Agent<H, P> {
         Emitted::by(Some(issued), announced, None)
     }
 
-    /// The pair of two places, under the next number.
+    /// The pair of the two candidates, with the next number.
     fn formed(&self, l: usize, r: usize) -> CandidatePair
         ensures { result ≡ formed (record_of self.now) l r }
     {
@@ -252,7 +253,7 @@ impl<H: Sha1HmacProvider + Drop, P: LocalPreference> Agent<H, P> {
         pair_of(*self.packets.allocator(), sides, (l, r), self.next_number)
     }
 
-    /// It is added, without limit or redundancy.
+    /// Adds this pair, without limit or redundancy check.
     fn add_pair(&mut self, l: usize, r: usize)
         requires pairs { HasRoom 1 self.old.pairs }
         requires packets { HasPacketRoom self.old }
@@ -358,7 +359,7 @@ impl<H: Sha1HmacProvider + Drop, P: LocalPreference> Agent<H, P> {
         self.add_unknown_sender(request, at, supplies)
     }
 
-    /// The 487 goes back on the reverse path of the request, signed with the local password (RFC 8445, section 7.3.1.1).
+    /// Sends the 487 on the reverse path of the request, signed with the local password (RFC 8445, section 7.3.1.1).
     fn send_role_conflict(&mut self, request: &Request<'_>, supplies: Supplies) -> Emitted
         requires packets { HasPacketRoom self.old }
         requires reply { length supplies.reply.items ≡ LONGEST_REPLY }
@@ -407,7 +408,8 @@ impl<H: Sha1HmacProvider + Drop, P: LocalPreference> Agent<H, P> {
         }
     }
 
-    /// Serves a request (RFC 8445, section 7.3), or drops it, and tells what came of it. Numbers are looked at before memory.
+    /// Serves a request (RFC 8445, section 7.3), or drops it, and returns what was emitted. Numbers are checked before
+    /// memory.
     pub(crate) fn serve(&mut self, request: &Request<'_>) -> Result<Emitted, IceError>
         ensures served { IfOk result (λ emitted. Serves H.mac (request_view request.now) (record_of self.old) emitted (record_of self.new)) }
         ensures room { OnOk result (HasNewsRoom 1 self.new) }

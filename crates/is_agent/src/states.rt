@@ -27,7 +27,7 @@ impl<H: Sha1HmacProvider + Drop, P: LocalPreference> Agent<H, P> {
             || self.remote.is_empty()
     }
 
-    /// What the state is when it is evaluated at this moment.
+    /// The state that results if it is evaluated at time `now`.
     pub(crate) fn state_at(&self, now: Instant) -> IceConnectionState
         ensures { result ≡ next_state (record_of self.now).state (has_nominated (record_of self.now))
             (has_possible now.0 (record_of self.now)) (record_of self.now).lite }
@@ -40,7 +40,7 @@ impl<H: Sha1HmacProvider + Drop, P: LocalPreference> Agent<H, P> {
         )
     }
 
-    /// The state is evaluated at this moment.
+    /// Evaluates the state at time `now`.
     pub(crate) fn evaluate_state(&mut self, now: Instant)
         requires room { HasEventRoom 1 self.old }
         ensures evaluated { record_of self.new ≡ evaluated now.0 (record_of self.old) }
@@ -50,7 +50,7 @@ impl<H: Sha1HmacProvider + Drop, P: LocalPreference> Agent<H, P> {
         emit_state(&mut self.state, &mut self.events, state);
     }
 
-    /// The connection state. Takes no memory.
+    /// The connection state. Does not allocate.
     pub fn state(&self) -> IceConnectionState
         ensures { result ≡ (record_of self.now).state }
     {

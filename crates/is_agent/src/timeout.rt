@@ -1,6 +1,6 @@
-//! What `handle_timeout` does: nomination, giving up pairs, and a check; the rules: `is_rules::timeout`.
+//! What `handle_timeout` does: nomination, removal of failed pairs, and a check; the rules: `is_rules::timeout`.
 //!
-//! Room for all of it is made before the agent changes; what follows can't be refused.
+//! Capacity for all of it is reserved before the agent changes; what follows can't fail.
 
 ghost use Rattle.std.specs.Prelude.{◌≡◌, ℕ, Option, Some, true, IfOk, IfSome, option_map, None, IfErr, OnOk, MatchOption};
 ghost use Rattle.std.specs.List.{list_any};
@@ -39,7 +39,7 @@ use is_stun::stun::{Class, TransId};
 use rand_core::Rng;
 use std::alloc::AllocError;
 
-// ---- pairs that are given up
+// ---- pairs that are removed after timeout
 
 impl<H: Sha1HmacProvider + Drop, P: LocalPreference> Agent<H, P> {
     fn any_given_up(&self, now: Instant) -> bool
@@ -73,8 +73,8 @@ impl<H: Sha1HmacProvider + Drop, P: LocalPreference> Agent<H, P> {
         emit_state(&mut self.state, &mut self.events, state);
     }
 
-    /// Pairs that are given up go, and nomination and state are evaluated. It stands apart, so that moments at which none is cost
-    /// nothing for it.
+    /// Removes the pairs that failed, and evaluates nomination and state. It is a separate function, so that calls that
+    /// remove no pair do not pay for it.
     #[inline(never)]
     fn give_up_and_emit(&mut self, first: Option<Path>, now: Instant)
         requires room { HasEventRoom 2 self.old }
@@ -88,8 +88,8 @@ impl<H: Sha1HmacProvider + Drop, P: LocalPreference> Agent<H, P> {
         self.emitted = Emitted::by(None, first, second);
     }
 
-    /// Pairs that are not possible any more go; where one does, nomination and state are evaluated. What is announced is told of
-    /// behind the path that was before.
+    /// Removes the pairs that are no longer possible. If there is one, nomination and state are evaluated. A path that this
+    /// selects is emitted after the path that was selected before.
     fn give_up(&mut self, first: Option<Path>, now: Instant)
         requires room { HasEventRoom 2 self.old }
         ensures given_up { (second : Option Path) × GivesUp now.0 (record_of self.old) second (record_of self.new)
@@ -107,7 +107,7 @@ impl<H: Sha1HmacProvider + Drop, P: LocalPreference> Agent<H, P> {
 // ---- a check
 
 impl<H: Sha1HmacProvider + Drop, P: LocalPreference> Agent<H, P> {
-    /// The check goes out, and counts.
+    /// Sends the check, and counts it.
     fn send(&mut self, draft: Draft, id: TransId) -> Issued
         requires packets { HasPacketRoom self.old }
         requires prepared { IsPrepared self.old }
@@ -134,7 +134,7 @@ impl<H: Sha1HmacProvider + Drop, P: LocalPreference> Agent<H, P> {
         Issued::new(path, Class::Request, id)
     }
 
-    /// The pair of the number is checked, as its draft says.
+    /// Checks the pair with this number, with the content of its draft.
     fn check<R: Rng>(&mut self, number: u64, draft: Draft, now: Instant, rng: &mut R) -> Issued
         requires has { has_number number (record_of self.old).pairs ≡ true }
         requires room { HasCheckRoom self.old }
@@ -150,7 +150,7 @@ impl<H: Sha1HmacProvider + Drop, P: LocalPreference> Agent<H, P> {
         self.send(draft, id)
     }
 
-    /// What a check of the pair of the number says.
+    /// The content of a check of the pair with this number.
     fn draft_of(&self, number: u64) -> Draft
         requires { has_number number (record_of self.now).pairs ≡ true }
         ensures { (p : PairRecord) → pair_numbered number (record_of self.now).pairs ≡ Some p → Drafts (record_of self.now) p result }
@@ -161,8 +161,8 @@ impl<H: Sha1HmacProvider + Drop, P: LocalPreference> Agent<H, P> {
         }
     }
 
-    /// The pair of the number is checked, and that is told of beside the paths that were. It stands apart, so that moments without
-    /// a check cost nothing for it.
+    /// Checks the pair with this number, and records the packet next to the paths that were selected. It is a separate
+    /// function, so that calls without a check do not pay for it.
     #[inline(never)]
     fn check_and_emit<R: Rng>(&mut self, number: u64, now: Instant, rng: &mut R)
         requires has { has_number number (record_of self.old).pairs ≡ true }
@@ -191,7 +191,7 @@ impl<H: Sha1HmacProvider + Drop, P: LocalPreference> Agent<H, P> {
         }
     }
 
-    /// The pair that is due first is checked, where one is, and that is told of.
+    /// Checks the pair that is due first, if there is one, and records the packet.
     fn check_next<R: Rng>(&mut self, now: Instant, rng: &mut R)
         requires room { list_any (is_due now.0 self.old.timing) (record_of self.old).pairs ≡ true → HasCheckRoom self.old }
         ensures { (peer : model.IceCreds) (first second : Option Path) → self.old.remote_creds ≡ Some peer
@@ -204,7 +204,7 @@ impl<H: Sha1HmacProvider + Drop, P: LocalPreference> Agent<H, P> {
         }
     }
 
-    /// The same, where the peer is known: each pair is asked for its due moment first. A lite agent sends no check.
+    /// The same if the peer is known; the due time of each pair is fixed first. A lite agent sends no check.
     fn may_check<R: Rng>(&mut self, now: Instant, rng: &mut R)
         requires { HasCheckRoomAt now.0 self.old }
         ensures { (first second : Option Path) → emitted_of self.old ≡ emitted_by None first second → (issued : Option Issued)
@@ -225,10 +225,10 @@ impl<H: Sha1HmacProvider + Drop, P: LocalPreference> Agent<H, P> {
     }
 }
 
-// ---- room
+// ---- capacity
 
 impl<H: Sha1HmacProvider + Drop, P: LocalPreference> Agent<H, P> {
-    /// A check may be due at this moment.
+    /// A check may be due at time `now`.
     fn may_fall_due(&self, now: Instant) -> bool
         ensures { result ≡ may_fall_due now.0 (record_of self.now) }
     {
@@ -241,7 +241,7 @@ impl<H: Sha1HmacProvider + Drop, P: LocalPreference> Agent<H, P> {
             })
     }
 
-    /// Makes ready what a check says, once the peer is known.
+    /// Prepares the USERNAME and the buffer of a check, once the peer is known.
     fn prepare_check(&mut self) -> Result<(), AllocError>
         ensures record { record_of self.new ≡ record_of self.old }
         ensures prepared { OnOk result (IsPrepared self.new) }
@@ -253,7 +253,7 @@ impl<H: Sha1HmacProvider + Drop, P: LocalPreference> Agent<H, P> {
         self.contents.resize(MTU_FLOOR, 0)
     }
 
-    /// Makes room for a packet, and for one more check of any pair, where a check may be due at this moment.
+    /// Reserves capacity for a packet, and for one more check of any pair, if a check may be due at time `now`.
     fn take_check_room(&mut self, now: Instant) -> Result<(), AllocError>
         ensures record { record_of self.new ≡ record_of self.old }
         ensures room { OnOk result (HasCheckRoomAt now.0 self.new) }
@@ -266,7 +266,7 @@ impl<H: Sha1HmacProvider + Drop, P: LocalPreference> Agent<H, P> {
         self.pairs.reserve_check()
     }
 
-    /// Makes room for five events, and for a check where one may be due.
+    /// Reserves capacity for five events, and for a check if one may be due.
     fn take_round_room(&mut self, now: Instant) -> Result<(), AllocError>
         ensures record { record_of self.new ≡ record_of self.old }
         ensures events { OnOk result (HasEventRoom 5 self.new) }
@@ -277,10 +277,10 @@ impl<H: Sha1HmacProvider + Drop, P: LocalPreference> Agent<H, P> {
     }
 }
 
-// ---- the moment
+// ---- the call
 
 impl<H: Sha1HmacProvider + Drop, P: LocalPreference> Agent<H, P> {
-    /// Nomination, removal of failed pairs and a check, with room for them. What they emit is written where it is kept.
+    /// Nomination, removal of failed pairs and a check, within the reserved capacity. What they emit is stored in the agent.
     fn maintain_pairs<R: Rng>(&mut self, now: Instant, rng: &mut R)
         requires events { HasEventRoom 3 self.old }
         requires checks { HasCheckRoomAt now.0 self.old }
@@ -292,7 +292,8 @@ impl<H: Sha1HmacProvider + Drop, P: LocalPreference> Agent<H, P> {
         self.may_check(now, rng);
     }
 
-    /// The state and the early requests are updated, then the pairs, with room for both. `IceRestart` was emitted before.
+    /// Updates the state and the early requests, then the pairs, within the reserved capacity. `IceRestart` was emitted
+    /// before.
     fn update_and_maintain_pairs<R: Rng>(&mut self, now: Instant, rng: &mut R)
         requires events { HasEventRoom 4 self.old }
         requires checks { HasCheckRoomAt now.0 self.old }
@@ -373,14 +374,14 @@ impl<H: Sha1HmacProvider + Drop, P: LocalPreference> Agent<H, P> {
         Ok(self.run_timeout_without_request(now, rng)?)
     }
 
-    /// Tells the agent of a moment. In New the start is told of, and the state is evaluated. A request that waited is
-    /// served, once remote credentials are known; where there is none, a pair is nominated, pairs that are not possible any
-    /// more go, and the pair that is due first is checked (RFC 8445, sections 6.1.4.2, 7.2.4 and 8.1.1). It allocates what
-    /// the events and the packet that it issues take; where a pair may be nominated and was not asked for its moment, room for
-    /// its check too.
+    /// Runs the agent's timers at time `now`. In New it first emits the start event. It evaluates the state. It serves an
+    /// early request, once the remote credentials are known. If there is none, it nominates a pair, removes pairs that are no
+    /// longer possible, and checks the pair that is due first (RFC 8445, sections 6.1.4.2, 7.2.4 and 8.1.1). It allocates
+    /// what the events and the packet that it issues need. If a pair may be nominated and its due time is not fixed, it
+    /// reserves capacity for its check too.
     ///
-    /// Refused with `PairIdsExhausted` where a request is served, a pair must be added and no number is left, and with
-    /// `OutOfMemory`; the agent is then as it was, and nothing was drawn.
+    /// Fails with `PairIdsExhausted` if a request is served, a pair must be added and no number is left, and with
+    /// `OutOfMemory`. The agent is then unchanged, and no random words were drawn.
     pub fn handle_timeout<R: Rng>(&mut self, now: Instant, rng: &mut R) -> Result<(), IceError>
         ensures { TimesOut H.mac now.0 (record_of self.old) (R.stream rng.old) result (emitted_of self.new) (record_of self.new) (R.stream rng.new) }
     {

@@ -1,4 +1,4 @@
-//! How `handle_timeout` begins: the event of the start, the state, queued requests; the rules: `is_rules::timeout_start`.
+//! How a `handle_timeout` call starts: the start event, the state, early requests; the rules: `is_rules::timeout_start`.
 
 ghost use Rattle.std.specs.Prelude.{◌≡◌, ℕ, ◌<◌, ◌+◌, true, false, IfOk, IfErr, IfSome, OnOk, IsOkUnless, MatchOption, option_map, slice_get};
 ghost use Rattle.is_rules.specs.RequestView.{request_view, waiting_view};
@@ -23,7 +23,7 @@ use is_rules::timeout_start::{emit_start, waiting_at};
 use std::alloc::AllocError;
 
 impl<H: Sha1HmacProvider + Drop, P: LocalPreference> Agent<H, P> {
-    /// The event that tells of the start, in New.
+    /// The start event, in New.
     pub(crate) fn start_event(&self) -> Result<Option<IceAgentEvent>, AllocError>
         ensures { IfOk result (λ event. event ≡ start_event (record_of self.now).state (record_of self.now).local_creds) }
     {
@@ -42,7 +42,7 @@ impl<H: Sha1HmacProvider + Drop, P: LocalPreference> Agent<H, P> {
         }
     }
 
-    /// The start is told of, where there is one, within room for an event.
+    /// Emits the start event, if there is one, within the reserved capacity for an event.
     pub(crate) fn emit_start(&mut self, start: Option<IceAgentEvent>)
         requires start { start ≡ start_event (record_of self.old).state (record_of self.old).local_creds }
         requires room { HasEventRoom 1 self.old }
@@ -54,7 +54,7 @@ impl<H: Sha1HmacProvider + Drop, P: LocalPreference> Agent<H, P> {
         emit_start(&mut self.events, start);
     }
 
-    /// The state is evaluated, within room for an event, and outdated requests go.
+    /// Evaluates the state, within the reserved capacity for an event, and removes outdated requests.
     pub(crate) fn update_state_and_queue(&mut self, now: Instant)
         requires room { HasEventRoom 1 self.old }
         ensures timeout_begun { record_of self.new ≡ queue_cleared now.0 (evaluated now.0 (record_of self.old)) }
@@ -79,7 +79,7 @@ impl<H: Sha1HmacProvider + Drop, P: LocalPreference> Agent<H, P> {
         }
     }
 
-    /// A copy of the request at the place, where there is one. Numbers are looked at before memory.
+    /// A copy of the early request at the index, if there is one. Numbers are checked before memory.
     fn early_request_at(&self, place: usize) -> Result<Option<Waiting>, IceError>
         ensures copy { IfOk result (λ copy. option_map waiting_view copy ≡ option_map waiting_view (slice_get self.now.queue.items place)) }
         ensures has { IfOk result (λ copy. IfSome copy (λ q. ¬ AlwaysLacksNumber (record_of self.now) (waiting_view q))) }
@@ -101,7 +101,7 @@ impl<H: Sha1HmacProvider + Drop, P: LocalPreference> Agent<H, P> {
         }
     }
 
-    /// A copy of the early request that this call serves, if there is one. Numbers are looked at before memory.
+    /// A copy of the early request that this call serves, if there is one. Numbers are checked before memory.
     pub(crate) fn early_request(&self, now: Instant) -> Result<Option<Waiting>, IceError>
         ensures copy { IfOk result (λ copy. option_map waiting_view copy ≡ request_at now.0 (record_of self.now)) }
         ensures has { IfOk result (λ copy. IfSome copy (λ q. ¬ AlwaysLacksNumber (record_of self.now) (waiting_view q))) }
@@ -113,7 +113,7 @@ impl<H: Sha1HmacProvider + Drop, P: LocalPreference> Agent<H, P> {
         }
     }
 
-    /// The moment begins, and the request, the first that is left, is served.
+    /// Starts the call, and serves the request, which is the first one left.
     pub(crate) fn serve_waiting(
         &mut self,
         now: Instant,
@@ -130,7 +130,7 @@ impl<H: Sha1HmacProvider + Drop, P: LocalPreference> Agent<H, P> {
         self.serve_early_request(now, start, &request)
     }
 
-    /// The moment begins, within room for two events, and the first request that is left goes.
+    /// Starts the call, within the reserved capacity for two events, and removes the first request that is left.
     fn begin_and_dequeue(&mut self, now: Instant, start: Option<IceAgentEvent>)
         requires start { start ≡ start_event (record_of self.old).state (record_of self.old).local_creds }
         requires room { HasEventRoom 2 self.old }
@@ -152,7 +152,7 @@ impl<H: Sha1HmacProvider + Drop, P: LocalPreference> Agent<H, P> {
         Ok(())
     }
 
-    /// Makes room for all that the moment and serving a request that waited can add.
+    /// Reserves capacity for all that the call and serving an early request can add.
     fn take_early_request_room(&mut self) -> Result<(), IceError>
         ensures record { record_of self.new ≡ record_of self.old }
         ensures room { OnOk result (HasServingRoom self.new × HasNewsRoom 4 self.new) }
@@ -166,7 +166,7 @@ impl<H: Sha1HmacProvider + Drop, P: LocalPreference> Agent<H, P> {
         Ok(())
     }
 
-    /// The moment begins, and the request, the first that is left, is served. Numbers are looked at before memory.
+    /// Starts the call, and serves the request, which is the first one left. Numbers are checked before memory.
     fn serve_early_request(
         &mut self,
         now: Instant,

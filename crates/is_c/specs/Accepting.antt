@@ -1,4 +1,4 @@
--- Which datagrams are for an agent, as C asks.
+-- Which datagrams are for an agent, as C queries it.
 use Rattle.std.specs.Prelude.{◌≡◌, ◌⊎◌, ◌↔◌, ℕ, Bool, List, Option, Some, None, IsTrue, ℤ}
 use Rattle.is_proto.specs.declared.error.StunError.{StunError}
 use Rattle.is_stun.specs.Message.{Message}
@@ -9,7 +9,7 @@ use Rattle.is_c.specs.Codes.{BAD_ADDRESS, UNPARSED, found_code}
 use Rattle.is_c.specs.Held.{Held, HomeRecord}
 use Rattle.is_c.specs.Packets.{Mac}
 
--- OK exactly where the bytes read as a message of which P holds, UNPARSED exactly where they read as none
+-- OK exactly if the bytes encode a message of which P holds, UNPARSED exactly if they encode none
 abbrev pub AnswersWhether : (Message → Type 0) → List ℕ → ℤ → Type 0
 AnswersWhether P bytes code =
     ((e : StunError) × FailsBy bytes e × (code ≡ UNPARSED))

@@ -1,4 +1,4 @@
--- Credentials in and out.
+-- Credentials: set, made and read.
 use Rattle.std.specs.Prelude.{◌≡◌, ◌≢◌, ℕ, ◌⊎◌, List, length, take, nat_lt, Option, Some, None, Result, Ok, Err, MatchBool, MatchResult, ℤ}
 use Rattle.std.specs.Str.{IsUtf8}
 use Rattle.is_proto.specs.declared.error.IceError.{IceError}
@@ -21,7 +21,7 @@ CallsWith Does ufrag pass old code new =
     (made : Result IceCreds ℤ) × MakesCreds ufrag pass made
     × MatchResult made (λ creds. Calls (λ a r b. Does a creds r b) done_code old code new) (λ why. Refuses why old code new)
 
--- the low six bits of 16 bytes choose the user fragment, those of the next 22 the password
+-- the low six bits of 16 bytes select the username fragment, those of the next 22 the password
 abbrev pub drawn : List ℕ → IceCreds
 drawn random = record { ufrag = ice_text (given 16 random).0; pass = ice_text (given 22 (given 16 random).1).0 }
 
@@ -38,7 +38,8 @@ Draws random code ufrag pass =
 abbrev pub Tells : (Held → List ℕ) → List ℕ → List ℕ → ℕ → HomeRecord → ℤ → HomeRecord → Type 0
 Tells text before after count old code new = Puts (text old.agent) before code after count × (new ≡ old)
 
--- `is_ice_agent_new`: OK is answered for a fresh agent in a slot that held none, and any other answer leaves the slot as it was
+-- `is_ice_agent_new`: it returns OK for a newly created agent in a slot that was empty; after any other code the slot is
+-- unchanged
 abbrev pub MakesAt : List ℕ → List ℕ → ℕ → Option HomeRecord → ℤ → Option HomeRecord → Type 0
 MakesAt ufrag pass tie_breaker old code new =
     (code ≡ OK → (old ≡ None) × (new ≡ Some record { agent = fresh (record {}) record { ufrag = ufrag; pass = pass } tie_breaker; waiting = None }))

@@ -1,4 +1,4 @@
--- Events, as C is told of them.
+-- Events, as C gets them.
 use Rattle.std.specs.Prelude.{◌≡◌, Option, Some, None, ℤ, pos}
 use Rattle.is_rules.specs.declared.event.IceAgentEvent.{IceAgentEvent}
 use Rattle.is_rules.specs.declared.event.IceAgentEvent.TheVariants.{IceRestart, IceConnectionStateChange, DiscoveredRecv, NominatedSend}
@@ -17,7 +17,7 @@ state_number Connected = pos 2
 state_number Completed = pos 3
 state_number Disconnected = pos 4
 
--- what C is told of an event, by its kind
+-- what C gets of an event, by its kind
 abbrev pub IsEvent : IceAgentEvent → Event → Type 0
 IsEvent (IceRestart creds) event = event.kind ≡ pos 1
 IsEvent (IceConnectionStateChange state) event = (event.kind ≡ pos 2) × (event.state ≡ state_number state)

@@ -1,4 +1,4 @@
--- What a slot holds, and what the clauses of the exports have in common.
+-- What a slot holds, and what the contracts of the exports have in common.
 use Rattle.std.specs.Prelude.{◌≡◌, Option, Some, None, option_map, ℤ}
 use Rattle.is_proto.specs.declared.hmac_provider.DefaultSha1HmacProvider.{DefaultSha1HmacProvider}
 use Rattle.is_proto.specs.Packets.{Packet, packet_of}
@@ -23,21 +23,21 @@ home_of h = record { agent = record_of h.agent; waiting = option_map packet_of h
 abbrev pub held_by : Slot → Option HomeRecord
 held_by slot = option_map home_of slot.handle.home
 
--- what an export answers and does: with no agent nothing, and it says so
+-- what an export returns and does: without an agent nothing, and it returns `NO_AGENT`
 abbrev pub At : (HomeRecord → ℤ → HomeRecord → Type 0) → Option HomeRecord → ℤ → Option HomeRecord → Type 0
 At Does None code new = (code ≡ NO_AGENT) × (new ≡ None)
 At Does (Some old) code None = ⊥
 At Does (Some old) code (Some new) = Does old code new
 
--- a call that is done in any case
+-- a call that always succeeds
 abbrev pub Becomes : (Held → Held) → HomeRecord → ℤ → HomeRecord → Type 0
 Becomes change old code new = (code ≡ OK) × (new ≡ record old { agent = change old.agent })
 
--- a call of the library, whose result the code tells
+-- a call of the library, whose result the code contains
 abbrev pub Calls : {R : Type 0} → (Held → R → Held → Type 0) → (R → ℤ) → HomeRecord → ℤ → HomeRecord → Type 0
 Calls {R} Does to_code old code new =
     (r : R) × Does old.agent r new.agent × (code ≡ to_code r) × (new.waiting ≡ old.waiting)
 
--- a call that the library was not asked for
+-- a call that fails before the library is called
 abbrev pub Refuses : ℤ → HomeRecord → ℤ → HomeRecord → Type 0
 Refuses why old code new = (code ≡ why) × (new ≡ old)

@@ -1,4 +1,4 @@
--- Packets, moments, and sessions begun anew.
+-- Packets, `handle_timeout` calls, and ICE restarts.
 use Rattle.std.specs.Prelude.{◌≡◌, ◌≢◌, ℕ, List, ◌∷◌, length, take, nat_lt, ◌⊎◌, Bool, Option, Some, None, option_map, MatchBool}
 use Rattle.std.specs.Prelude.{MatchOption, MatchResult, Result, Ok, Err, ℤ}
 use Rattle.std.specs.Option.{option_and_then}
@@ -28,9 +28,9 @@ use Rattle.is_c.specs.Random.{given_steps}
 abbrev pub Mac : Type 0
 Mac = DefaultSha1HmacProvider → List ℕ → List ℕ → List ℕ
 
--- ---- packets that came
+-- ---- received packets
 
--- the way of a packet: from where and to where, as C says
+-- the path of a packet: its source and its destination, as C passes them
 abbrev pub packet_path : ℕ → Address → Address → Option Path
 packet_path protocol source destination =
     option_and_then (λ proto.
@@ -38,11 +38,11 @@ packet_path protocol source destination =
     (socket_of source))
     (protocol_of protocol)
 
--- the bytes read as a message that the agent accepts on the way that they came
+-- the bytes encode a message that the agent accepts on the path on which they were received
 abbrev pub Accepts : Mac → Held → Path → List ℕ → Type 0
 Accepts mac a path bytes = (m : Message) × Reads bytes m × IsAcceptedOn mac a path m
 
--- bytes that do not read change nothing; those that read are a step of the agent
+-- bytes that encode no message change nothing; those that do are a transition of the agent
 abbrev pub TakesBytes : Mac → ℕ → Path → List ℕ → HomeRecord → ℤ → HomeRecord → Type 0
 TakesBytes mac now path bytes old code new =
     ((e : StunError) × FailsBy bytes e × Refuses UNPARSED old code new)
@@ -54,18 +54,18 @@ abbrev pub Receives : Mac → ℕ → Option Path → List ℕ → HomeRecord �
 Receives mac now None bytes old code new = Refuses BAD_ADDRESS old code new
 Receives mac now (Some path) bytes old code new = TakesBytes mac now path bytes old code new
 
--- the bytes are accepted on a way that C names
+-- the bytes are accepted on a path that C passes
 abbrev pub AcceptsOn : Mac → Held → Option Path → List ℕ → Type 0
 AcceptsOn mac a None bytes = ⊥
 AcceptsOn mac a (Some path) bytes = Accepts mac a path bytes
 
--- OK is answered for accepted bytes alone, and after any other answer all is as it was
+-- OK is returned only for accepted bytes, and after any other code the state is unchanged
 abbrev pub IsSettled : Mac → Option Path → List ℕ → HomeRecord → ℤ → HomeRecord → Type 0
 IsSettled mac path bytes old code new = (code ≡ OK → AcceptsOn mac old.agent path bytes) × (code ≢ OK → new ≡ old)
 
--- ---- moments
+-- ---- timeouts
 
--- `is_ice_handle_timeout`: what is drawn are the random bytes, in order
+-- `is_ice_handle_timeout`: the random bytes are drawn in order
 abbrev pub TimesOutBy : Mac → ℕ → List ℕ → HomeRecord → ℤ → HomeRecord → Type 0
 TimesOutBy mac now random old code new =
     MatchBool (nat_lt (length random) 12)
@@ -79,23 +79,24 @@ WakesAt before after old code new =
     (wake : Option ℕ) × PollsTimeout old.agent wake new.agent × (new.waiting ≡ old.waiting)
     × MatchOption wake ((code ≡ NOTHING) × (after ≡ before)) (λ at. (code ≡ OK) × (after ≡ at))
 
--- ---- packets to be sent
+-- ---- packets to send
 
 abbrev pub queued : Option packets.Packet → List packets.Packet → List packets.Packet
 queued None ps = ps
 queued (Some p) ps = p ∷ ps
 
--- what waits goes first
+-- the packet that waits is first
 abbrev pub queue_of : HomeRecord → List packets.Packet
 queue_of h = queued h.waiting h.agent.packets
 
--- C is told of this packet
+-- C gets this packet
 abbrev pub IsTold : packets.Packet → Packet → Type 0
 IsTold p packet =
     (packet.length ≡ length p.contents) × (protocol_of packet.protocol ≡ Some p.proto)
     × (socket_of packet.source ≡ Some p.source) × (socket_of packet.destination ≡ Some p.destination)
 
--- the first packet goes to the caller: its bytes are in front of the buffer, and it is gone; or the buffer is too short, and it stays
+-- the first packet goes to the caller: its bytes are at the front of the buffer, and it is removed; or the buffer is too
+-- short, and it stays
 abbrev pub GivesFirst : List ℕ → List ℕ → packets.Packet → List packets.Packet → ℤ → List packets.Packet → Type 0
 GivesFirst before after p rest code new =
     MatchBool (nat_lt (length before) (length p.contents))
@@ -106,14 +107,14 @@ abbrev pub GivesOf : Option packets.Packet → List packets.Packet → List ℕ 
 GivesOf None rest before after packet code new = (code ≡ NOTHING) × (new ≡ rest)
 GivesOf (Some p) rest before after packet code new = IsTold p packet × GivesFirst before after p rest code new
 
--- `is_ice_poll_transmit`: nothing of the agent changes but what is to be sent
+-- `is_ice_poll_transmit`: nothing of the agent changes except the packets to send
 abbrev pub Gives : List ℕ → List ℕ → Packet → HomeRecord → ℤ → HomeRecord → Type 0
 Gives before after packet old code new =
     ((first : Option packets.Packet) × ((rest : List packets.Packet) × IsPolled (queue_of old) first rest
     × GivesOf first rest before after packet code (queue_of new)))
     × (new.agent ≡ record old.agent { packets = new.agent.packets })
 
--- ---- sessions begun anew
+-- ---- ICE restarts
 
 abbrev pub unless_done : {A : Type 0} → Result (Unit {0}) IceError → Option A → Option A
 unless_done (Ok _) kept = None
@@ -122,7 +123,7 @@ unless_done (Err e) kept = kept
 abbrev pub Restarted : Bool → IceCreds → HomeRecord → Result (Unit {0}) IceError → HomeRecord → Type 0
 Restarted keep creds old r new = Restarts old.agent creds keep r new.agent × (new.waiting ≡ unless_done r old.waiting)
 
--- `is_ice_restart`: a packet of the old session that waits goes too
+-- `is_ice_restart`: a packet of the old session that waits for a longer buffer is removed too
 abbrev pub RestartsWith : Bool → List ℕ → List ℕ → HomeRecord → ℤ → HomeRecord → Type 0
 RestartsWith keep ufrag pass old code new =
     (made : Result IceCreds ℤ) × MakesCreds ufrag pass made

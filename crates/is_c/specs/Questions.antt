@@ -1,4 +1,4 @@
--- What C is told of an agent, which stays as it is.
+-- What C can query of an agent, which is unchanged.
 use Rattle.std.specs.Prelude.{◌≡◌, ℕ, true, false, List, Option, Some, None, MatchOption, slice_get, unwrap_or, ◌⊎◌, ℤ}
 use Rattle.is_candidate.specs.Candidates.{CandidateRecord}
 use Rattle.is_candidate.specs.Sdp.{sdp_text}
@@ -37,7 +37,7 @@ stats_of s = record {
 abbrev pub TellsStats : Stats → HomeRecord → ℤ → HomeRecord → Type 0
 TellsStats stats old code new = (code ≡ OK) × (stats_of stats ≡ old.agent.stats) × (new ≡ old)
 
--- `is_ice_nominated`: what is known of the pair that was announced last, while it stands
+-- `is_ice_nominated`: the figures of the pair that was selected last, if it still exists
 abbrev pub IsRtt : Option ℕ → Nominated → Type 0
 IsRtt None n = n.has_rtt ≡ false
 IsRtt (Some time) n = (n.has_rtt ≡ true) × (n.rtt ≡ time)
@@ -50,12 +50,13 @@ TellsNominated before after old code new =
     × IsRtt (nominated_rtt old.agent) after)
     × (new ≡ old)
 
--- the line of a candidate, in the caller's buffer
+-- the candidate attribute of a candidate, in the caller's buffer
 abbrev pub PutsLine : Option CandidateRecord → List ℕ → ℤ → List ℕ → ℕ → Type 0
 PutsLine None before code after count = (code ≡ NOTHING) × (after ≡ before)
 PutsLine (Some c) before code after count = ((code ≡ OUT_OF_MEMORY) × (after ≡ before)) ⊎ Puts (sdp_text c) before code after count
 
--- `is_ice_local_candidate` and `is_ice_remote_candidate`: candidates are counted from 0 in the order in which they came, discarded ones left out
+-- `is_ice_local_candidate` and `is_ice_remote_candidate`: candidates are counted from 0 in the order in which they were
+-- added, without the discarded ones
 abbrev pub TellsLine : (Held → List CandidateRecord) → ℕ → List ℕ → List ℕ → ℕ → HomeRecord → ℤ → HomeRecord → Type 0
 TellsLine candidates index before after count old code new =
     PutsLine (slice_get (live (candidates old.agent)) index) before code after count × (new ≡ old)
@@ -68,7 +69,7 @@ AnswersViable address a code =
 abbrev pub TellsViable : Address → HomeRecord → ℤ → HomeRecord → Type 0
 TellsViable address old code new = AnswersViable address old.agent code × (new ≡ old)
 
--- a text of the remote credentials, where they are known
+-- a text of the remote credentials, if they are known
 abbrev pub PutsOf : (IceCreds → List ℕ) → Option IceCreds → List ℕ → ℤ → List ℕ → ℕ → Type 0
 PutsOf text None before code after count = (code ≡ NOTHING) × (after ≡ before)
 PutsOf text (Some creds) before code after count = Puts (text creds) before code after count

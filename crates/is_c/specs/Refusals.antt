@@ -1,4 +1,4 @@
--- The messages of refused candidates, in the caller's buffer.
+-- The error messages of invalid candidates, in the caller's buffer.
 use Rattle.std.specs.Prelude.{◌≡◌, ℕ, List, Option, Some, None, MatchOption, Result, Ok, Err, ℤ, string_bytes}
 use Rattle.is_proto.specs.declared.error.IceError.{IceError}
 use Rattle.is_proto.specs.declared.error.IceError.TheVariants as errors
@@ -8,7 +8,7 @@ use Rattle.is_c.specs.Candidates.{Made, MakesCandidate, ReadsBytes}
 use Rattle.is_c.specs.Codes.{NOTHING, NOT_UTF8, BAD_ADDRESS, code_of}
 use Rattle.is_c.specs.Texts.{Puts}
 
--- the refusal of a candidate has a message, and no other refusal
+-- the error of an invalid candidate has a message, and no other error has one
 abbrev pub message_of : IceError → Option (List ℕ)
 message_of (errors.BadCandidate message) = Some (string_bytes message)
 message_of errors.OutOfMemory = None
@@ -25,7 +25,7 @@ abbrev pub PutsRefusal : Result CandidateRecord IceError → List ℕ → ℤ �
 PutsRefusal (Ok c) before code after count = (code ≡ NOTHING) × (after ≡ before)
 PutsRefusal (Err e) before code after count = PutsMessage e before code after count
 
--- where no candidate can be asked for, the code that says why
+-- if no candidate can be made, the code for the reason
 abbrev pub TellsWhy : ℤ → Made → List ℕ → ℤ → List ℕ → ℕ → Type 0
 TellsWhy why made before code after count =
     MatchOption made ((code ≡ why) × (after ≡ before)) (λ outcome. PutsRefusal outcome before code after count)

@@ -1,4 +1,4 @@
-//! Which datagrams are for an agent, asked before one is handed in: as where several agents share a socket.
+//! Which datagrams are for an agent, queried before one is passed in: for example if several agents share a socket.
 ghost use Rattle.is_rules.specs.Accepting.{IsAccepted, IsAcceptedOn};
 ghost use Rattle.is_agent.specs.View.{record_of};
 ghost use Rattle.is_c.specs.Accepting.{AnswersWhether, AsksOn, AsksWay, AsksMessage};
@@ -41,7 +41,7 @@ fn accepts_via(home: &Home, path: Option<Path>, bytes: &[u8]) -> i32
     }
 }
 
-/// Whether `is_ice_handle_packet` would accept the datagram. The agent stays as it was.
+/// Whether `is_ice_handle_packet` would accept the datagram. The agent is unchanged.
 #[unsafe(no_mangle)]
 pub extern "C" fn is_ice_accepts_packet(
     alloc: Global,
@@ -71,7 +71,7 @@ fn accepts_message(home: &Home, bytes: &[u8]) -> i32
     }
 }
 
-/// Whether the message is one for this agent, wherever it came from. The agent stays as it was.
+/// Whether the message is for this agent, whatever its source. The agent is unchanged.
 #[unsafe(no_mangle)]
 pub extern "C" fn is_ice_accepts_message(alloc: Global, slot: &mut Slot, bytes: &[u8]) -> i32
     ensures { At (AsksMessage ⟦<DefaultSha1HmacProvider as Sha1HmacProvider>⟧.mac bytes.now) (held_by slot.old) result (held_by slot.new) }

@@ -1,4 +1,4 @@
-//! Candidates added, taken away and told.
+//! Candidates: added and removed.
 
 ghost use Rattle.is_rules.specs.Discarding.{Invalidates};
 ghost use Rattle.is_rules.specs.Local.{AddsLocal};
@@ -52,7 +52,7 @@ fn add_line(alloc: Global, home: &mut Home, line: &[u8]) -> i32
     }
 }
 
-/// Adds a candidate of the other agent's, by its line.
+/// Adds a remote candidate, by its candidate attribute.
 #[unsafe(no_mangle)]
 pub extern "C" fn is_ice_add_remote(alloc: Global, slot: &mut Slot, line: &[u8]) -> i32
     ensures { At (CallsRead AddsRemote done_code line.now) (held_by slot.old) result (held_by slot.new) }
@@ -75,7 +75,7 @@ fn invalidate(alloc: Global, home: &mut Home, candidate: &LocalCandidate) -> i32
     }
 }
 
-/// Takes away a candidate that equals this one.
+/// Discards a candidate that equals this one.
 #[unsafe(no_mangle)]
 pub extern "C" fn is_ice_invalidate_local(
     alloc: Global,
@@ -102,7 +102,7 @@ fn invalidate_line(alloc: Global, home: &mut Home, line: &[u8]) -> i32
     }
 }
 
-/// Takes away a candidate that equals that of the line.
+/// Discards a candidate that equals the one of the candidate attribute.
 #[unsafe(no_mangle)]
 pub extern "C" fn is_ice_invalidate(alloc: Global, slot: &mut Slot, line: &[u8]) -> i32
     ensures { At (CallsRead Invalidates found_code line.now) (held_by slot.old) result (held_by slot.new) }

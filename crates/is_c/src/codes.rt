@@ -1,13 +1,13 @@
-//! What the exports answer.
+//! The return codes of the exports.
 
 ghost use Rattle.std.specs.Prelude.{◌≡◌};
 ghost use Rattle.is_c.specs.Codes as code;
 
 use is_proto::IceError;
 
-/// Done; of a poll: something was given; of a packet: it was accepted.
+/// Done. Of a poll: there was something to return. Of a packet: it was accepted.
 pub const OK: i32 = 0;
-/// Nothing to give; the packet was not accepted; the candidate was not added, or is none of the agent's.
+/// Nothing to return; the packet was not accepted; the candidate was not added, or the agent does not have it.
 pub const NOTHING: i32 = 1;
 /// The slot holds no agent.
 pub const NO_AGENT: i32 = -1;
@@ -19,9 +19,9 @@ pub const NOT_UTF8: i32 = -3;
 pub const BAD_ADDRESS: i32 = -4;
 /// The bytes are no STUN message.
 pub const UNPARSED: i32 = -5;
-/// The buffer is too short; the length that is wanted was told.
+/// The buffer is too short; the required length was returned.
 pub const BUFFER_TOO_SHORT: i32 = -6;
-/// See `IceError`, for this and those below.
+/// See `IceError`, for this and the codes below.
 pub const OUT_OF_MEMORY: i32 = -7;
 
 pub const BAD_CANDIDATE: i32 = -8;
@@ -35,7 +35,7 @@ pub const CREDENTIALS_TOO_LONG: i32 = -11;
 pub const PRIORITY_TOO_HIGH: i32 = -12;
 /// A limit of no retransmits.
 pub const BAD_LIMIT: i32 = -13;
-/// Fewer random bytes than the call may draw.
+/// Fewer random bytes than the call may use.
 pub const TOO_FEW_RANDOM_BYTES: i32 = -14;
 
 pub(crate) fn code_of(error: &IceError) -> i32
@@ -51,7 +51,7 @@ pub(crate) fn code_of(error: &IceError) -> i32
     }
 }
 
-/// The code of a call that is done or refused.
+/// The code of a call that succeeds or fails.
 pub(crate) fn done_code(outcome: Result<(), IceError>) -> i32
     ensures { result ≡ code.done_code outcome }
 {
@@ -61,7 +61,7 @@ pub(crate) fn done_code(outcome: Result<(), IceError>) -> i32
     }
 }
 
-/// The code of a call that answers yes or no.
+/// The code of a call that returns yes or no.
 pub(crate) fn flag_code(outcome: Result<bool, IceError>) -> i32
     ensures { result ≡ code.flag_code outcome }
 {
@@ -83,7 +83,7 @@ pub(crate) fn added_code(outcome: Result<Option<usize>, IceError>) -> i32
     }
 }
 
-/// The code of a question, or of a candidate that is looked for.
+/// The code of a query, or of a candidate that is looked up.
 pub(crate) fn found_code(found: bool) -> i32
     ensures { result ≡ code.found_code found }
 {

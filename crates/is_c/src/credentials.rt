@@ -1,4 +1,4 @@
-//! Credentials in and out.
+//! Credentials: set, made and read.
 
 ghost use Rattle.std.specs.Prelude.{◌≡◌, IfOk};
 ghost use Rattle.is_c.specs.Credentials.{MakesCreds, CallsWith, drawn, Draws, Tells};
@@ -14,7 +14,7 @@ use is_agent::IceCreds;
 use is_proto::{IceError, Text};
 use std::alloc::Global;
 
-/// The credentials of two texts.
+/// The credentials with these two texts.
 pub(crate) fn creds_of(alloc: Global, ufrag: &[u8], pass: &[u8]) -> Result<IceCreds, i32>
     ensures { MakesCreds ufrag.now pass.now result }
 {
@@ -63,7 +63,7 @@ fn set_remote(alloc: Global, home: &mut Home, ufrag: &[u8], pass: &[u8]) -> i32
     }
 }
 
-/// Sets the credentials of the other agent.
+/// Sets the peer's credentials.
 #[unsafe(no_mangle)]
 pub extern "C" fn is_ice_set_remote_credentials(
     alloc: Global,
@@ -83,7 +83,7 @@ pub extern "C" fn is_ice_set_remote_credentials(
 
 // ---- random credentials
 
-/// How many bytes credentials are made of.
+/// How many random bytes credentials need.
 const WANTED: usize = 38;
 
 #[tactic(auto, using(crate::proofs::Drawn::drawn_again))]
@@ -94,7 +94,7 @@ fn drawn(alloc: Global, random: &[u8]) -> Result<IceCreds, IceError>
     IceCreds::new(alloc, &mut given)
 }
 
-/// Makes credentials of 38 random bytes: a user fragment of 16 characters, and a password of 22.
+/// Makes credentials from 38 random bytes: a username fragment of 16 characters, and a password of 22.
 #[unsafe(no_mangle)]
 pub extern "C" fn is_ice_make_credentials(
     alloc: Global,
@@ -117,9 +117,9 @@ pub extern "C" fn is_ice_make_credentials(
     put(creds.pass.as_str().as_bytes(), pass, &mut length)
 }
 
-// ---- told
+// ---- reading
 
-/// Tells the agent's own user fragment.
+/// Writes the agent's own username fragment to the buffer.
 #[unsafe(no_mangle)]
 pub extern "C" fn is_ice_local_ufrag(
     alloc: Global,
@@ -138,7 +138,7 @@ pub extern "C" fn is_ice_local_ufrag(
     code
 }
 
-/// Tells the agent's own password.
+/// Writes the agent's own password to the buffer.
 #[unsafe(no_mangle)]
 pub extern "C" fn is_ice_local_pass(
     alloc: Global,

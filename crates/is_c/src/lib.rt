@@ -1,6 +1,7 @@
 //! The agent for C: one export for each call, and C's view of addresses, candidates, packets and events.
 //!
-//! C holds an agent in a slot of its own. An export takes what the slot holds, makes the library's call, and puts it back.
+//! C holds an agent in a slot of its own. An export takes the agent out of the slot, makes the library's call, and puts the
+//! agent back.
 #![tactic(auto)]
 
 mod accepting;

@@ -1,4 +1,4 @@
-//! Agents, made and freed.
+//! Agents: made and freed.
 
 ghost use Rattle.std.specs.Prelude.{◌≡◌, ◌≢◌, None, IfOk, IfErr};
 ghost use Rattle.is_rules.specs.Agent.{fresh};
@@ -28,7 +28,7 @@ fn boxed_agent(alloc: Global, creds: IceCreds, tie_breaker: u64) -> Result<Box<H
     }
 }
 
-/// Makes a controlled agent in a slot that holds none.
+/// Makes a controlled agent in an empty slot.
 #[unsafe(no_mangle)]
 pub extern "C" fn is_ice_agent_new(
     alloc: Global,
@@ -64,7 +64,7 @@ pub extern "C" fn is_ice_agent_free(alloc: Global, slot: &mut Slot)
     drop(slot.take(alloc));
 }
 
-/// The version of this interface, which its header names too.
+/// The version of this interface. The header has the same number.
 #[unsafe(no_mangle)]
 pub extern "C" fn is_ice_version() -> u32
     ensures { result ≡ 1 }

@@ -1,4 +1,4 @@
-//! Packets that came, moments, and packets to be sent.
+//! Received packets, `handle_timeout` calls, and packets to send.
 
 ghost use Rattle.std.specs.Prelude.{◌≡◌, None, option_map};
 ghost use Rattle.is_rules.specs.Polls.{IsPolled};
@@ -16,7 +16,7 @@ use is_rules::emitted::Path;
 use is_stun::stun::{StunMessage, StunPacket};
 use std::alloc::Global;
 
-/// A packet to be sent. Its bytes are in the buffer that was given.
+/// A packet to send. Its bytes are in the buffer that the caller passed.
 #[repr(C)]
 #[derive(Clone, Copy)]
 pub struct Packet {
@@ -28,9 +28,9 @@ pub struct Packet {
     pub protocol: u8,
 }
 
-// ---- packets that came
+// ---- received packets
 
-/// The way of a packet: from where and to where, as C says.
+/// The path of a packet: its source and its destination, as C passes them.
 pub(crate) fn packet_path(protocol: u8, source: &Address, destination: &Address) -> Option<Path>
     ensures { result ≡ packet_path protocol source.now destination.now }
 {
@@ -77,7 +77,7 @@ fn receive(
     }
 }
 
-/// Takes a datagram that came at this moment.
+/// Handles a datagram that was received at time `now`.
 #[unsafe(no_mangle)]
 pub extern "C" fn is_ice_handle_packet(
     alloc: Global,
@@ -101,9 +101,9 @@ pub extern "C" fn is_ice_handle_packet(
     code
 }
 
-// ---- moments
+// ---- timeouts
 
-/// How many random bytes a moment draws at most.
+/// How many random bytes a `handle_timeout` call uses at most.
 const WANTED: usize = 12;
 
 fn time_out(home: &mut Home, now: u64, random: &[u8]) -> i32
@@ -116,7 +116,7 @@ fn time_out(home: &mut Home, now: u64, random: &[u8]) -> i32
     codes::done_code(home.agent.handle_timeout(Instant(now), &mut given))
 }
 
-/// Tells the agent of a moment, with 12 random bytes for the check that it may send.
+/// Runs the agent's timers at time `now`, with 12 random bytes for the check that it may send.
 #[unsafe(no_mangle)]
 pub extern "C" fn is_ice_handle_timeout(
     alloc: Global,
@@ -146,7 +146,7 @@ fn wake(home: &mut Home, at: &mut u64) -> i32
     }
 }
 
-/// The moment at which the agent wants to be called next.
+/// The time of the next `is_ice_handle_timeout` call.
 #[unsafe(no_mangle)]
 pub extern "C" fn is_ice_poll_timeout(alloc: Global, slot: &mut Slot, at: &mut u64) -> i32
     ensures { At (WakesAt at.old at.new) (held_by slot.old) result (held_by slot.new) }
@@ -159,9 +159,9 @@ pub extern "C" fn is_ice_poll_timeout(alloc: Global, slot: &mut Slot, at: &mut u
     code
 }
 
-// ---- packets to be sent
+// ---- packets to send
 
-/// The first packet to be sent: that which waits, or the agent's first.
+/// The first packet to send: the one that waits for a longer buffer, or the agent's first.
 fn next_packet(home: &mut Home) -> Option<Transmit>
     ensures first { IsPolled (queue_of (home_of home.old)) (option_map packet_of result) (queue_of (home_of home.new)) }
     ensures agent { (home_of home.new).agent ≡ record (home_of home.old).agent { packets = (home_of home.new).agent.packets } }
@@ -184,7 +184,7 @@ fn told(next: &Transmit) -> Packet
     }
 }
 
-/// The packet goes to the front of the buffer; where that is too short, it waits.
+/// The packet is written to the front of the buffer. If the buffer is too short, the packet waits.
 fn hand_over(home: &mut Home, next: Transmit, buffer: &mut [u8]) -> i32
     requires { home.old.waiting ≡ None }
     ensures given { GivesFirst buffer.old buffer.new (packet_of next) (queue_of (home_of home.old)) result (queue_of (home_of home.new)) }
@@ -209,7 +209,7 @@ fn transmit(home: &mut Home, buffer: &mut [u8], packet: &mut Packet) -> i32
     hand_over(home, next, buffer)
 }
 
-/// The next packet to send: its bytes go to the front of the buffer. One that is longer than the buffer stays.
+/// The next packet to send: its bytes are written to the front of the buffer. One that is longer than the buffer stays.
 #[unsafe(no_mangle)]
 pub extern "C" fn is_ice_poll_transmit(
     alloc: Global,

@@ -1,4 +1,4 @@
-//! What the caller may ask, with no change of the agent.
+//! What the caller may query, without a change of the agent.
 
 ghost use Rattle.std.specs.Prelude.{◌≡◌, slice_get};
 ghost use Rattle.std.specs.Option.{option_copied};
@@ -17,7 +17,7 @@ use crate::text::put;
 use is_candidate::Candidate;
 use std::alloc::Global;
 
-/// How the agent is set, and how far it has come.
+/// The agent's settings and its connection state.
 #[repr(C)]
 #[derive(Clone, Copy)]
 pub struct Status {
@@ -27,11 +27,11 @@ pub struct Status {
     pub lite: bool,
     pub mtu: usize,
     pub mtu_warn: usize,
-    /// How long a pair is checked in vain before it is given up, in nanoseconds.
+    /// How long a pair is checked without a response before it is removed, in nanoseconds.
     pub ice_timeout: u64,
 }
 
-/// How often things happened since the last restart.
+/// Counters since the last ICE restart.
 #[repr(C)]
 #[derive(Clone, Copy)]
 pub struct Stats {
@@ -42,14 +42,14 @@ pub struct Stats {
     pub nomination_send_count: u64,
 }
 
-/// What is known of the pair that was announced last. Times are nanoseconds.
+/// Figures of the pair that was selected last. Times are in nanoseconds.
 #[repr(C)]
 #[derive(Clone, Copy)]
 pub struct Nominated {
-    /// Of all answered checks together.
+    /// The sum over all answered checks.
     pub total_rtt: u64,
     pub responses: u64,
-    /// Of the last answered check, where there is one.
+    /// Of the last answered check, if there is one.
     pub rtt: u64,
     pub has_rtt: bool,
 }
@@ -68,7 +68,7 @@ fn told_status(home: &Home) -> Status
     }
 }
 
-/// Tells how the agent is set, and how far it has come.
+/// Writes the agent's settings and its connection state.
 #[unsafe(no_mangle)]
 pub extern "C" fn is_ice_status(alloc: Global, slot: &mut Slot, figures: &mut Status) -> i32
     ensures { At (TellsStatus figures.new) (held_by slot.old) result (held_by slot.new) }
@@ -94,7 +94,7 @@ fn told_stats(home: &Home) -> Stats
     }
 }
 
-/// Tells how often things happened since the last restart.
+/// Writes the counters since the last ICE restart.
 #[unsafe(no_mangle)]
 pub extern "C" fn is_ice_stats(alloc: Global, slot: &mut Slot, figures: &mut Stats) -> i32
     ensures { At (TellsStats figures.new) (held_by slot.old) result (held_by slot.new) }
@@ -126,7 +126,7 @@ fn tell_nominated(home: &mut Home, figures: &mut Nominated) -> i32
     codes::OK
 }
 
-/// Tells what is known of the pair that was announced last.
+/// Writes the figures of the pair that was selected last.
 #[unsafe(no_mangle)]
 pub extern "C" fn is_ice_nominated(alloc: Global, slot: &mut Slot, figures: &mut Nominated) -> i32
     ensures { At (TellsNominated figures.old figures.new) (held_by slot.old) result (held_by slot.new) }
@@ -141,7 +141,7 @@ pub extern "C" fn is_ice_nominated(alloc: Global, slot: &mut Slot, figures: &mut
 
 // ---- candidates
 
-/// Writes the line of the candidate, where there is one.
+/// Writes the candidate attribute of the candidate, if there is one.
 fn put_line(
     alloc: Global,
     candidate: Option<&Candidate>,
@@ -171,7 +171,8 @@ fn remote_at(home: &Home, index: usize) -> Option<&Candidate>
     home.agent.remote_candidates().nth(index)
 }
 
-/// Tells the line of a local candidate, for signalling: counted from 0, discarded ones left out.
+/// Writes the candidate attribute of a local candidate, for signaling. Candidates are counted from 0, without the discarded
+/// ones.
 #[unsafe(no_mangle)]
 pub extern "C" fn is_ice_local_candidate(
     alloc: Global,
@@ -190,7 +191,7 @@ pub extern "C" fn is_ice_local_candidate(
     code
 }
 
-/// Tells the line of a remote candidate: counted from 0, discarded ones left out.
+/// Writes the candidate attribute of a remote candidate. Candidates are counted from 0, without the discarded ones.
 #[unsafe(no_mangle)]
 pub extern "C" fn is_ice_remote_candidate(
     alloc: Global,
@@ -231,7 +232,7 @@ pub extern "C" fn is_ice_has_viable_remote(alloc: Global, slot: &mut Slot, addre
     code
 }
 
-// ---- the other agent's credentials
+// ---- the peer's credentials
 
 fn put_remote_ufrag(home: &Home, buffer: &mut [u8], length: &mut usize) -> i32
     ensures { PutsOf (λ creds. creds.ufrag) (record_of home.now.agent).remote_creds buffer.old result buffer.new length.new }
@@ -242,7 +243,7 @@ fn put_remote_ufrag(home: &Home, buffer: &mut [u8], length: &mut usize) -> i32
     }
 }
 
-/// Tells the user fragment of the other agent.
+/// Writes the peer's username fragment to the buffer.
 #[unsafe(no_mangle)]
 pub extern "C" fn is_ice_remote_ufrag(
     alloc: Global,
@@ -269,7 +270,7 @@ fn put_remote_pass(home: &Home, buffer: &mut [u8], length: &mut usize) -> i32
     }
 }
 
-/// Tells the password of the other agent.
+/// Writes the peer's password to the buffer.
 #[unsafe(no_mangle)]
 pub extern "C" fn is_ice_remote_pass(
     alloc: Global,

@@ -1,4 +1,4 @@
-//! The messages of refused candidates, which a code alone does not tell.
+//! The error messages of invalid candidates, which a code does not contain.
 ghost use Rattle.is_c.specs.Refusals.{PutsMessage, PutsRefusal, TellsOfLine, TellsOfCandidate};
 
 use crate::candidate::{LocalCandidate, line_candidate, local_candidate};
@@ -26,7 +26,8 @@ fn put_refusal(outcome: &Result<Candidate, IceError>, buffer: &mut [u8], length:
     }
 }
 
-/// Tells why a line is refused: the line, a colon and its first fault. NOTHING: it reads as a candidate.
+/// Writes why a candidate attribute is invalid: the attribute, a colon and its first fault. NOTHING: it can be parsed as a
+/// candidate.
 #[unsafe(no_mangle)]
 pub extern "C" fn is_ice_line_refusal(
     alloc: Global,
@@ -42,7 +43,7 @@ pub extern "C" fn is_ice_line_refusal(
     }
 }
 
-/// Tells why a candidate is refused. NOTHING: it can be added.
+/// Writes why a candidate is invalid. NOTHING: it can be added.
 #[unsafe(no_mangle)]
 pub extern "C" fn is_ice_candidate_refusal(
     alloc: Global,

@@ -1,4 +1,4 @@
-//! Sessions begun anew.
+//! ICE restarts.
 ghost use Rattle.is_rules.specs.Restarting.{Recreates};
 ghost use Rattle.is_c.specs.Codes.{done_code};
 ghost use Rattle.is_c.specs.Held.{home_of, held_by, At, Calls};
@@ -12,7 +12,7 @@ use is_agent::IceCreds;
 use is_proto::IceError;
 use std::alloc::Global;
 
-/// Begins the session anew: a packet that waits is one of the old session, and goes.
+/// Restarts the session. A packet that waits for a longer buffer belongs to the old session, and is removed.
 fn begin(home: &mut Home, creds: IceCreds, keep: bool) -> Result<(), IceError>
     ensures { Restarted keep creds (home_of home.old) result (home_of home.new) }
 {
@@ -30,7 +30,7 @@ fn restart(alloc: Global, home: &mut Home, ufrag: &[u8], pass: &[u8], keep: bool
     }
 }
 
-/// Restarts the session under new credentials; local candidates stay or go.
+/// Restarts the session with new credentials; local candidates stay or are removed.
 #[unsafe(no_mangle)]
 pub extern "C" fn is_ice_restart(
     alloc: Global,
@@ -49,7 +49,7 @@ pub extern "C" fn is_ice_restart(
     code
 }
 
-/// Forms pairs anew, of all candidates that are not discarded.
+/// Forms all pairs again, of all candidates that are not discarded.
 #[unsafe(no_mangle)]
 pub extern "C" fn is_ice_recreate_pairs(alloc: Global, slot: &mut Slot) -> i32
     ensures { At (Calls (λ a r b. Recreates a r b) done_code) (held_by slot.old) result (held_by slot.new) }

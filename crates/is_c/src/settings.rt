@@ -1,4 +1,4 @@
-//! What the caller may set.
+//! Settings that the caller may change.
 
 ghost use Rattle.std.specs.Prelude.{◌==◌, Some, MatchBool};
 ghost use Rattle.is_rules.specs.Settings.{SetsMtu, with_rtos, with_retransmits, numbers_skipped};
@@ -26,7 +26,7 @@ pub extern "C" fn is_ice_set_controlling(alloc: Global, slot: &mut Slot, control
     codes::OK
 }
 
-/// Makes the agent a lite one, or a full one.
+/// Makes the agent a lite agent, or a full one.
 #[unsafe(no_mangle)]
 pub extern "C" fn is_ice_set_lite(alloc: Global, slot: &mut Slot, lite: bool) -> i32
     ensures { At (Becomes (λ a. record a { lite = lite })) (held_by slot.old) result (held_by slot.new) }
@@ -39,7 +39,7 @@ pub extern "C" fn is_ice_set_lite(alloc: Global, slot: &mut Slot, lite: bool) ->
     codes::OK
 }
 
-/// Sets the number that settles role conflicts.
+/// Sets the number that resolves role conflicts.
 #[unsafe(no_mangle)]
 pub extern "C" fn is_ice_set_tie_breaker(alloc: Global, slot: &mut Slot, tie_breaker: u64) -> i32
     ensures { At (Becomes (λ a. record a { tie_breaker = tie_breaker })) (held_by slot.old) result (held_by slot.new) }
@@ -52,7 +52,7 @@ pub extern "C" fn is_ice_set_tie_breaker(alloc: Global, slot: &mut Slot, tie_bre
     codes::OK
 }
 
-/// Sets how many pairs forming leaves at most.
+/// Sets the greatest number of pairs after forming.
 #[unsafe(no_mangle)]
 pub extern "C" fn is_ice_set_max_pairs(alloc: Global, slot: &mut Slot, limit: usize) -> i32
     ensures { At (Becomes (λ a. record a { max_pairs = limit })) (held_by slot.old) result (held_by slot.new) }
@@ -65,7 +65,7 @@ pub extern "C" fn is_ice_set_max_pairs(alloc: Global, slot: &mut Slot, limit: us
     codes::OK
 }
 
-/// Sets the pace of what the agent sends.
+/// Sets the pacing interval of what the agent sends, in nanoseconds.
 #[unsafe(no_mangle)]
 pub extern "C" fn is_ice_set_timing_advance(alloc: Global, slot: &mut Slot, nanoseconds: u64) -> i32
     ensures { At (Becomes (λ a. record a { timing_advance = nanoseconds })) (held_by slot.old) result (held_by slot.new) }
@@ -78,7 +78,7 @@ pub extern "C" fn is_ice_set_timing_advance(alloc: Global, slot: &mut Slot, nano
     codes::OK
 }
 
-/// Sets the delay behind a pair's first check.
+/// Sets the RTO after a pair's first check, in nanoseconds.
 #[unsafe(no_mangle)]
 pub extern "C" fn is_ice_set_initial_rto(alloc: Global, slot: &mut Slot, nanoseconds: u64) -> i32
     ensures { At (Becomes (λ a. with_rtos nanoseconds a.timing.max_rto.0 a)) (held_by slot.old) result (held_by slot.new) }
@@ -91,7 +91,7 @@ pub extern "C" fn is_ice_set_initial_rto(alloc: Global, slot: &mut Slot, nanosec
     codes::OK
 }
 
-/// Sets the greatest delay behind a check.
+/// Sets the greatest RTO after a check, in nanoseconds.
 #[unsafe(no_mangle)]
 pub extern "C" fn is_ice_set_max_rto(alloc: Global, slot: &mut Slot, nanoseconds: u64) -> i32
     ensures { At (Becomes (λ a. with_rtos a.timing.initial_rto.0 nanoseconds a)) (held_by slot.old) result (held_by slot.new) }
@@ -104,7 +104,7 @@ pub extern "C" fn is_ice_set_max_rto(alloc: Global, slot: &mut Slot, nanoseconds
     codes::OK
 }
 
-/// Has the next pair take this number at least.
+/// Makes the number of the next pair at least this one.
 #[unsafe(no_mangle)]
 pub extern "C" fn is_ice_skip_pair_ids(alloc: Global, slot: &mut Slot, number: u64) -> i32
     ensures { At (Becomes (numbers_skipped number)) (held_by slot.old) result (held_by slot.new) }
@@ -117,7 +117,7 @@ pub extern "C" fn is_ice_skip_pair_ids(alloc: Global, slot: &mut Slot, number: u
     codes::OK
 }
 
-/// Sets how long packets may be, and from which length on they are warned of.
+/// Sets how long packets may be, and the length from which they cause a warning, in bytes.
 #[unsafe(no_mangle)]
 pub extern "C" fn is_ice_set_mtu(alloc: Global, slot: &mut Slot, mtu: usize, warn: usize) -> i32
     ensures { At (Calls (λ a r b. SetsMtu a mtu warn r b) done_code) (held_by slot.old) result (held_by slot.new) }
@@ -130,7 +130,7 @@ pub extern "C" fn is_ice_set_mtu(alloc: Global, slot: &mut Slot, mtu: usize, war
     code
 }
 
-/// Has local candidates that are added from now on preferred by this number.
+/// Sets this number as the preference of local candidates that are added from now on.
 #[unsafe(no_mangle)]
 pub extern "C" fn is_ice_set_local_preference(
     alloc: Global,
@@ -148,7 +148,7 @@ pub extern "C" fn is_ice_set_local_preference(
     codes::OK
 }
 
-/// Has local candidates that are added from now on preferred by this table.
+/// Sets this table for the preferences of local candidates that are added from now on.
 #[unsafe(no_mangle)]
 pub extern "C" fn is_ice_set_preference_table(
     alloc: Global,
@@ -165,7 +165,7 @@ pub extern "C" fn is_ice_set_preference_table(
     codes::OK
 }
 
-/// Has local candidates that are added from now on preferred as by default.
+/// Resets the preferences of local candidates that are added from now on to the default.
 #[unsafe(no_mangle)]
 pub extern "C" fn is_ice_reset_local_preference(alloc: Global, slot: &mut Slot) -> i32
     ensures { At (Becomes (λ a. record a { preference = Some ByDefault })) (held_by slot.old) result (held_by slot.new) }
@@ -178,7 +178,7 @@ pub extern "C" fn is_ice_reset_local_preference(alloc: Global, slot: &mut Slot) 
     codes::OK
 }
 
-/// Sets how many checks a pair sends that go unanswered.
+/// Sets how many checks a pair sends without a response.
 fn limit_retransmits(home: &mut Home, limit: usize) -> i32
     ensures { MatchBool (limit == 0) (Refuses BAD_LIMIT (home_of home.old) result (home_of home.new))
         (Becomes (with_retransmits limit) (home_of home.old) result (home_of home.new)) }
@@ -190,7 +190,7 @@ fn limit_retransmits(home: &mut Home, limit: usize) -> i32
     codes::OK
 }
 
-/// Sets how many checks a pair sends that go unanswered, before it is given up: one at least.
+/// Sets how many checks a pair sends without a response before it is removed. Fails with `BAD_LIMIT` if the limit is 0.
 #[unsafe(no_mangle)]
 pub extern "C" fn is_ice_set_max_retransmits(alloc: Global, slot: &mut Slot, limit: usize) -> i32
     ensures { At (λ old code new. MatchBool (limit == 0) (Refuses BAD_LIMIT old code new) (Becomes (with_retransmits limit) old code new))

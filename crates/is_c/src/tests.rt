@@ -1,4 +1,4 @@
-//! The exports as C calls them, on stories that the library's own tests tell too.
+//! The exports as C calls them, in stories that the library's own tests have too.
 
 use crate::accepting::{is_ice_accepts_message, is_ice_accepts_packet};
 use crate::address::Address;
