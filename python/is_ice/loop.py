@@ -54,7 +54,7 @@ class IceLoop:
         return self.agent.add_local_candidate(Candidate.host(socket.local))
 
     def begin(self) -> None:
-        """Starts the session: calls `handle_timeout` now, and at each later time that the agent asks for."""
+        """Starts the session: calls `handle_timeout` now, and at each later time that `poll_timeout` returns."""
         self._began = True
         self._told()
 
