@@ -127,6 +127,13 @@ def exports_only_calls(library):
         raise Failed(f"{library}: calls and exports differ: {sorted(exported ^ declared())}")
 
 
+def needs_only_libc(library):
+    """Fails if the shared library needs another library than the system's C library."""
+    needed = re.findall(r"\(NEEDED\).*\[(.+)\]", run("readelf", "-d", "-W", library, env={**os.environ, "LC_ALL": "C"}))
+    if needed != ["libc.so.6"]:
+        raise Failed(f"{library} needs {' '.join(needed)}")
+
+
 def suits_level(library):
     """Fails if the shared library has an instruction that a processor of LEVEL need not have."""
     code = run("objdump", "-d", "--no-show-raw-insn", library)
@@ -203,6 +210,7 @@ def deb(files, number, glibc, when):
     control = {
         "./control": filled("control.in", VERSION=number, GLIBC=glibc, KIB=-(-size // 1024) + len({*files, *folders(files)})),
         "./md5sums": "".join(sums).encode(),
+        "./shlibs": f"libis_ice {interface()} libis-ice-dev\n".encode(),
         "./triggers": b"activate-noawait ldconfig\n",
     }
     packed = {"control.tar.gz": tar_gz(control, when), "data.tar.gz": tar_gz(below(".", files), when)}
@@ -235,6 +243,7 @@ def release(stage, ci_line=None):
     archive, soname = stage / "lib" / "libis_ice.a", f"libis_ice.so.{interface()}"
     dynamic = shared(archive, soname, stage / "lib" / soname)
     exports_only_calls(dynamic)
+    needs_only_libc(dynamic)
     suits_level(dynamic)
     glibc = lowest_glibc(dynamic)
     tag = f"py3-none-manylinux_{glibc.replace('.', '_')}_x86_64"

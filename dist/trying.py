@@ -1,4 +1,6 @@
 """Installs each release file in an empty folder, and runs its quick start there."""
+import hashlib
+import importlib.util
 import os
 import pathlib
 import re
@@ -108,6 +110,14 @@ def compiled(place, example, headers, libraries, env):
 
 # ---- steps: each returns a text for its line of output
 
+def step_sums(_, out):
+    lines = [line.split("  ") for line in the(out, "SHA256SUMS").read_text().splitlines()]
+    wrong = [name for digest, name in lines if hashlib.sha256(the(out, name).read_bytes()).hexdigest() != digest]
+    if wrong:
+        raise Failed(f"other contents: {' '.join(wrong)}")
+    return f"{len(lines)} files"
+
+
 def moved(place, out):
     """The unpacked release for C, moved to another folder."""
     return unpacked(the(out, "is_ice-*-linux-x86_64.tar.gz"), place / "unpacked").rename(place / "moved")
@@ -122,7 +132,7 @@ def step_tarball(place, out):
 def step_cmake(place, out):
     require("cmake", CC)
     root = moved(place, out)
-    version = run("pkg-config", "--modversion", root / "lib" / "pkgconfig" / "is_ice.pc", env=bare()).strip()
+    version = re.search("(?m)^Version: (.+)$", (root / "lib" / "pkgconfig" / "is_ice.pc").read_text())[1]
     (place / "CMakeLists.txt").write_text(CMAKE.format(version=version))
     shutil.copy(root / "share" / "doc" / "is_ice" / "examples" / "two.c", place)
     build = place / "build"
@@ -133,6 +143,8 @@ def step_cmake(place, out):
 
 
 def step_wheel(place, out):
+    if importlib.util.find_spec("ensurepip") is None:
+        raise Skipped("venv is not installed")
     run(sys.executable, "-m", "venv", place / "venv", env=bare())
     python = place / "venv" / "bin" / "python"
     begun = time.monotonic()
@@ -188,7 +200,7 @@ def step_dpkg(place, out):
     return "dpkg -i and dpkg --verify; the shared library was found without variables"
 
 
-STEPS = ("tarball", "cmake", "wheel", "rust", "deb", "dpkg")
+STEPS = ("sums", "tarball", "cmake", "wheel", "rust", "deb", "dpkg")
 
 
 def taken(name, out):
