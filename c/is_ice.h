@@ -276,9 +276,9 @@ IS_ICE_QUIET_CALL int32_t is_ice_set_tie_breaker(is_ice_agent *agent, uint64_t t
  * priority are removed. IS_ICE_OK. Value: 100. */
 IS_ICE_QUIET_CALL int32_t is_ice_set_max_pairs(is_ice_agent *agent, size_t limit);
 
-/* is_ice_set_timing_advance - sets the pacing interval Ta (RFC 8445, section 14.2): how long after the last
- * is_ice_handle_timeout call is_ice_poll_timeout asks for the next one, at the least. Each such call sends at most one
- * packet. IS_ICE_OK. Value: 50 ms. */
+/* is_ice_set_timing_advance - sets the pacing interval Ta (RFC 8445, section 14.2): the least time from the last
+ * is_ice_handle_timeout call to the next one that is_ice_poll_timeout returns. Each is_ice_handle_timeout call sends at
+ * most one packet. IS_ICE_OK. Value: 50 ms. */
 IS_ICE_QUIET_CALL int32_t is_ice_set_timing_advance(is_ice_agent *agent, uint64_t nanoseconds);
 
 /* is_ice_set_initial_rto - sets the time from a pair's first check until the second one is due. It doubles with each
@@ -308,8 +308,8 @@ IS_ICE_QUIET_CALL int32_t is_ice_skip_pair_ids(is_ice_agent *agent, uint64_t num
 IS_ICE_QUIET_CALL int32_t is_ice_set_local_preference(is_ice_agent *agent, uint16_t preference);
 
 /* is_ice_set_preference_table - sets the local preference of local candidates that are added after this call, by a
- * table: the value for the candidate's kind and IP version, less one for each earlier local candidate of the same kind
- * and version, and at least 0. The table is copied. IS_ICE_OK. */
+ * table. It is the value for the candidate's kind and IP version, less one for each earlier local candidate of the same
+ * kind and version, and at least 0. The table is copied. IS_ICE_OK. */
 IS_ICE_QUIET_CALL int32_t is_ice_set_preference_table(is_ice_agent *agent, const is_ice_preference_table *table);
 
 /* is_ice_reset_local_preference - returns to the default local preference of a new agent: host before reflexive before

@@ -1,4 +1,4 @@
-"""What the scripts of this folder share: the crates that a crate stands on, copies of them with what checks kept, and messages."""
+"""What the scripts of this folder share: the crates that a crate uses, copies of them with what checks stored, and messages."""
 import pathlib
 import re
 import shutil
@@ -22,7 +22,7 @@ def closure(crate):
 
 
 def copy_crate(name, folder, *left_out):
-    """Copies a crate anew, with what checks kept in out/, but for the folders that are left out."""
+    """Copies a crate again, with what checks stored in out/, except the folders that are left out."""
     shutil.rmtree(folder / "crates" / name, ignore_errors=True)
     skip = shutil.ignore_patterns("must-fail", "*.o", *left_out)
     shutil.copytree(top / "crates" / name, folder / "crates" / name, ignore=skip)
@@ -40,5 +40,5 @@ def copy_lower(crate, folder):
 
 
 def messages(said):
-    """What was said, a message a line: what follows a line with blanks before it belongs to it."""
+    """The messages of an output, one a line: an indented line belongs to the one before it."""
     return re.sub(r"\n[ \t]+", " ", said).split("\n")

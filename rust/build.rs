@@ -1,7 +1,14 @@
-//! Links the library: the archive that IS_ICE_LIB names, else that of `pkg-config is_ice`.
+//! Links the library: the archive next to this file in lib/, which a release has, else that of IS_ICE_LIB, else that of
+//! `pkg-config is_ice`.
 
 use std::path::{Path, PathBuf};
 use std::process::{Command, exit};
+
+/// The archive of a release of this crate.
+fn released() -> Option<PathBuf> {
+    let archive = Path::new(&std::env::var_os("CARGO_MANIFEST_DIR")?).join("lib").join("libis_ice.a");
+    archive.exists().then_some(archive)
+}
 
 /// The archive that `c/run install` installed, if PKG_CONFIG_PATH has the folder of its is_ice.pc.
 fn installed() -> Option<PathBuf> {
@@ -25,7 +32,8 @@ fn link_name(archive: &Path) -> Option<&str> {
 fn main() {
     println!("cargo:rerun-if-env-changed=IS_ICE_LIB");
     println!("cargo:rerun-if-env-changed=PKG_CONFIG_PATH");
-    let archive = std::env::var_os("IS_ICE_LIB").map(PathBuf::from).or_else(installed);
+    let named = || std::env::var_os("IS_ICE_LIB").map(PathBuf::from);
+    let archive = released().or_else(named).or_else(installed);
     let archive = archive.unwrap_or_else(|| stop("IS_ICE_LIB is not set, and pkg-config does not find is_ice"));
     let Ok(path) = archive.canonicalize() else {
         stop(&format!("{} does not exist", archive.display()));

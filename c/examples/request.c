@@ -1,4 +1,4 @@
-/* The shortest program: an agent receives a Binding request of 100 bytes with MESSAGE-INTEGRITY, and the program prints the
+/* One agent, step by step: it receives a Binding request of 100 bytes with MESSAGE-INTEGRITY, and the program prints the
  * response. On the way it shows an error of each kind. The status is 0, or the program names the first unexpected result. */
 #include "is_ice.h"
 #include <stdio.h>

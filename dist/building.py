@@ -1,0 +1,262 @@
+"""Builds the release files of one version from the proved library. dist/README.md lists them."""
+import base64
+import datetime
+import hashlib
+import os
+import pathlib
+import re
+import shutil
+import subprocess
+import tomllib
+
+from packing import Link, ar, folders, tar_gz, zipped
+
+here = pathlib.Path(__file__).resolve().parent
+top = here.parent
+CC = os.environ.get("CC", "cc")
+LICENSES = ("LICENSE-APACHE", "LICENSE-MIT")
+MULTIARCH = "usr/lib/x86_64-linux-gnu"
+LEVEL = "x86-64-v2"
+# Instructions that a processor of this level need not have. Those of AVX and later begin with v. TZCNT is not among them: older
+# processors run it as BSF, and compilers use it as such.
+BEYOND = re.compile(r"v(?!err|erw)\w+|andn|bextr|bls(?:i|r|msk)|bzhi|mulx|pdep|pext|rorx|s[ah][lr]x|lzcnt|movbe|ad[co]x"
+                    r"|sha(?:1|256)\w+|aes\w+|pclmul\w+|rd(?:rand|seed)")
+
+
+class Failed(Exception):
+    pass
+
+
+def run(*words, env=None, cwd=None):
+    """Runs a command and returns its standard output."""
+    words = [str(word) for word in words]
+    try:
+        ran = subprocess.run(words, capture_output=True, text=True, env=env, cwd=cwd)
+    except FileNotFoundError:
+        raise Failed(f"{words[0]} is not installed") from None
+    if ran.returncode != 0:
+        raise Failed(f"{' '.join(words)}: status {ran.returncode}\n{ran.stdout}{ran.stderr}".rstrip())
+    return ran.stdout
+
+
+def filled(name, **values):
+    """A template of this folder with a value for each @NAME@."""
+    text = (here / name).read_text()
+    for key, value in values.items():
+        text = text.replace(f"@{key}@", str(value))
+    return text.encode()
+
+
+def contents(folder, *patterns):
+    """The files of a folder that match the patterns, by their paths in it."""
+    paths = sorted(path for pattern in patterns for path in folder.glob(pattern) if path.is_file())
+    return {str(path.relative_to(folder)): path.read_bytes() for path in paths}
+
+
+def below(folder, files):
+    return {f"{folder}/{name}": file for name, file in files.items()}
+
+
+def licenses():
+    return contents(top, *LICENSES)
+
+
+# ---- what the release is named after
+
+def version():
+    """The version, which the C, Rust and Python packages have to agree on."""
+    python = tomllib.loads((top / "python" / "pyproject.toml").read_text())["project"]["version"]
+    rust = tomllib.loads((top / "rust" / "Cargo.toml").read_text())["package"]["version"]
+    c = re.search(r'(?m)^VERSION = "(.+)"$', (top / "c" / "run").read_text())[1]
+    if not python == rust == c:
+        raise Failed(f"versions differ: python/pyproject.toml {python}, rust/Cargo.toml {rust}, c/run {c}")
+    return c
+
+
+def interface():
+    """The number of the C interface, which is that of the shared library's name."""
+    return re.search(r"(?m)^#define IS_ICE_VERSION\s+\D*(\d+)", (top / "c" / "is_ice.h").read_text())[1]
+
+
+def git(*words):
+    return run("git", "-C", top, *words).strip()
+
+
+def date():
+    """The date of the commit, or SOURCE_DATE_EPOCH, in seconds."""
+    return int(os.environ.get("SOURCE_DATE_EPOCH") or git("log", "-1", "--format=%ct"))
+
+
+def kit():
+    return run("rt", "version").strip() if shutil.which("rt") else None
+
+
+# ---- the libraries
+
+def proved():
+    """The library that IS_ICE_LIB names, else the one that `rt lib` built. It has to be from the kit on the path, if there is one."""
+    library = pathlib.Path(os.environ.get("IS_ICE_LIB") or top / "crates" / "is_c" / "out" / "libis_c.a").resolve()
+    if not library.exists():
+        raise Failed(f"{library} does not exist: run `rt lib` in crates/is_c, or set IS_ICE_LIB")
+    built_by = re.search(r"logic=([0-9a-f]+)", run("readelf", "-p", ".comment", library))
+    present = re.search(r"logic ([0-9a-f]+)", kit() or "")
+    if present and not (built_by and built_by[1].startswith(present[1])):
+        raise Failed(f"{library} is not from the kit that `rt version` names")
+    return library
+
+
+def shared(archive, soname, target):
+    """Links the shared library. It has no start files, so its bytes depend on the archive and the linker only."""
+    options = ["--whole-archive", archive, "--no-whole-archive", "--no-undefined", "--as-needed", "--gc-sections", "--build-id=sha1"]
+    options += ["-soname", soname, f"--version-script={here / 'exports.map'}", "-z", "relro", "-z", "now", "-z", "noexecstack"]
+    run(CC, "-shared", "-nostartfiles", "-s", "-o", target, *(word for option in options for word in ("-Xlinker", option)))
+    return target
+
+
+def declared():
+    """The calls that the header declares."""
+    header = re.sub(r"(?s)/\*.*?\*/", "", (top / "c" / "is_ice.h").read_text())
+    return set(re.findall(r"\b(?:u?int32_t|void)\s+(is_ice_\w+)\(", header))
+
+
+def exports_only_calls(library):
+    """Fails unless the shared library exports the calls of the header and nothing else."""
+    lines = run("nm", "-D", "--defined-only", library).splitlines()
+    exported = {line.split()[-1].split("@")[0] for line in lines if " A " not in line}
+    if exported != declared():
+        raise Failed(f"{library}: calls and exports differ: {sorted(exported ^ declared())}")
+
+
+def needs_only_libc(library):
+    """Fails if the shared library needs another library than the system's C library."""
+    needed = re.findall(r"\(NEEDED\).*\[(.+)\]", run("readelf", "-d", "-W", library, env={**os.environ, "LC_ALL": "C"}))
+    if needed != ["libc.so.6"]:
+        raise Failed(f"{library} needs {' '.join(needed)}")
+
+
+def suits_level(library):
+    """Fails if the shared library has an instruction that a processor of LEVEL need not have."""
+    code = run("objdump", "-d", "--no-show-raw-insn", library)
+    others = {line.split("\t")[1].split()[0] for line in code.splitlines() if line.count("\t") and line.split("\t")[1].strip()}
+    others = sorted(name for name in others if BEYOND.fullmatch(name))
+    if others:
+        raise Failed(f"{library} is not for {LEVEL}: {' '.join(others)}")
+
+
+def lowest_glibc(library):
+    """The lowest version of glibc that has each symbol that the shared library needs. Wheels begin at 2.5."""
+    needed = re.findall(r"\bGLIBC_(\d+)\.(\d+)", run("readelf", "-V", "-W", library))
+    needed = max([(2, 5), *((int(major), int(minor)) for major, minor in needed)])
+    return f"{needed[0]}.{needed[1]}"
+
+
+# ---- the packages: each is a dictionary of files
+
+def for_c(libraries, soname, number, deb=False):
+    """Header, libraries, pkg-config and CMake files, examples and licenses, below usr/ in a Debian package."""
+    root, place = ("usr/", MULTIARCH) if deb else ("", "lib")
+    docs = f"{root}share/doc/" + ("libis-ice-dev" if deb else "is_ice")
+    major, minor = number.split(".")[:2]
+    template = (top / "c" / "is_ice.pc.in").read_text().replace("@VERSION@", number)
+    if deb:
+        template = template.replace("${prefix}/lib", "${prefix}/" + MULTIARCH.removeprefix("usr/"))
+    package = template.replace("@PREFIX@", "/usr" if deb else "${pcfiledir}/../..").encode()
+    headers = ("../" if deb else "") + "../include"
+    return {
+        f"{root}include/is_ice.h": (top / "c" / "is_ice.h").read_bytes(),
+        **below(place, libraries),
+        f"{place}/libis_ice.so": Link(soname),
+        f"{place}/pkgconfig/is_ice.pc": package,
+        f"{place}/cmake/is_ice/is_ice-config.cmake": filled("is_ice-config.cmake.in", INCLUDE=headers, SONAME=soname),
+        f"{place}/cmake/is_ice/is_ice-config-version.cmake":
+            filled("is_ice-config-version.cmake.in", VERSION=number, MAJOR=major, MINOR=minor),
+        **below(f"{docs}/examples", contents(top / "c" / "examples", "*.[ch]")),
+        **({f"{docs}/copyright": b"\n".join(licenses().values())} if deb else below(docs, licenses())),
+        **({} if deb else {f"{docs}/README.md": filled("unpacked.md")}),
+    }
+
+
+def wheel(library, number, tag):
+    """The module with the shared library, and the metadata of a wheel. RECORD, the last file, has the hash of each."""
+    project = tomllib.loads((top / "python" / "pyproject.toml").read_text())["project"]
+    info = f"is_ice-{number}.dist-info"
+    readme = (top / "python" / project["readme"]).read_text()
+    extras = "".join(f"Provides-Extra: {name}\n" + "".join(f'Requires-Dist: {needed}; extra == "{name}"\n' for needed in packages)
+                     for name, packages in project.get("optional-dependencies", {}).items())
+    metadata = (f"Metadata-Version: 2.1\nName: {project['name']}\nVersion: {number}\nSummary: {project['description']}\n"
+                f"License: {project['license']['text']}\nRequires-Python: {project['requires-python']}\n{extras}"
+                f"Description-Content-Type: text/markdown\n\n{readme}")
+    files = below("is_ice", contents(top / "python" / "is_ice", "*.py", "py.typed"))
+    files["is_ice/libis_ice.so"] = library
+    files |= below(f"{info}/licenses", licenses())
+    files[f"{info}/METADATA"] = metadata.encode()
+    files[f"{info}/WHEEL"] = f"Wheel-Version: 1.0\nGenerator: dist\nRoot-Is-Purelib: false\nTag: {tag}\n".encode()
+    record = ""
+    for name, file in files.items():
+        digest = base64.urlsafe_b64encode(hashlib.sha256(file).digest()).rstrip(b"=").decode()
+        record += f"{name},sha256={digest},{len(file)}\n"
+    return {**files, f"{info}/RECORD": f"{record}{info}/RECORD,,\n".encode()}
+
+
+def for_rust(archive):
+    """The crate with the static library in lib/. It is no workspace of its own, so that it may be a member of the user's."""
+    files = contents(top / "rust", "build.rs", "src/**/*.rs", "examples/*.rs", "README.md") | licenses()
+    manifest = (top / "rust" / "Cargo.toml").read_text().replace("\n[workspace]\n", "")
+    return {**files, "Cargo.toml": manifest.encode(), "lib/libis_ice.a": archive}
+
+
+def deb(files, number, glibc, when):
+    """A Debian package: an ar archive of its format, its control files, and its files."""
+    size = sum(len(file) for file in files.values() if not isinstance(file, Link))
+    sums = (f"{hashlib.md5(file).hexdigest()}  {name}\n" for name, file in sorted(files.items()) if not isinstance(file, Link))
+    control = {
+        "./control": filled("control.in", VERSION=number, GLIBC=glibc, KIB=-(-size // 1024) + len({*files, *folders(files)})),
+        "./md5sums": "".join(sums).encode(),
+        "./shlibs": f"libis_ice {interface()} libis-ice-dev\n".encode(),
+        "./triggers": b"activate-noawait ldconfig\n",
+    }
+    packed = {"control.tar.gz": tar_gz(control, when), "data.tar.gz": tar_gz(below(".", files), when)}
+    return ar({"debian-binary": b"2.0\n", **packed}, when)
+
+
+# ---- all of them
+
+def built(number, library, glibc, when, ci_line):
+    """What was built from what."""
+    commit = git("rev-parse", "HEAD") + (" with changes that are not committed" if git("status", "--porcelain") else "")
+    rows = {
+        "version": number,
+        "commit": commit,
+        "date": datetime.datetime.fromtimestamp(when, datetime.timezone.utc).strftime("%Y-%m-%d %H:%M:%S UTC"),
+        "kit": kit() or "unknown: rt is not on the path",
+        "library": f"libis_c.a, SHA-256 {hashlib.sha256(library.read_bytes()).hexdigest()}",
+        "linker": run(CC, "-Wl,--version").splitlines()[0],
+        "processor": LEVEL,
+        "glibc": f"{glibc} or later",
+        "proof run": ci_line or "not given",
+    }
+    return "".join(f"{name + ':':<11}{value}\n" for name, value in rows.items()).encode()
+
+
+def release(stage, ci_line=None):
+    """Builds all release files in memory: a dictionary from their names to their bytes. The folder `stage` gets the libraries."""
+    number, when, library = version(), date(), proved()
+    run(top / "c" / "run", "install", stage, env={**os.environ, "IS_ICE_LIB": str(library)})
+    archive, soname = stage / "lib" / "libis_ice.a", f"libis_ice.so.{interface()}"
+    dynamic = shared(archive, soname, stage / "lib" / soname)
+    exports_only_calls(dynamic)
+    needs_only_libc(dynamic)
+    suits_level(dynamic)
+    glibc = lowest_glibc(dynamic)
+    tag = f"py3-none-manylinux_{glibc.replace('.', '_')}_x86_64"
+    libraries = {"libis_ice.a": archive.read_bytes(), soname: dynamic.read_bytes()}
+    name, crate = f"is_ice-{number}-linux-x86_64", f"is-{number}"
+    files = {
+        f"{name}.tar.gz": tar_gz(below(name, for_c(libraries, soname, number)), when),
+        f"is_ice-{number}-{tag}.whl": zipped(wheel(libraries[soname], number, tag), when),
+        f"{crate}-rust-linux-x86_64.tar.gz": tar_gz(below(crate, for_rust(libraries["libis_ice.a"])), when),
+        f"libis-ice-dev_{number}_amd64.deb": deb(for_c(libraries, soname, number, deb=True), number, glibc, when),
+        "BUILT": built(number, library, glibc, when, ci_line),
+    }
+    sums = "".join(f"{hashlib.sha256(file).hexdigest()}  {name}\n" for name, file in files.items())
+    return {**files, "SHA256SUMS": sums.encode()}

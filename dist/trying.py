@@ -1,0 +1,226 @@
+"""Installs each release file in an empty folder, and runs its quick start there."""
+import hashlib
+import importlib.util
+import os
+import pathlib
+import re
+import shutil
+import subprocess
+import sys
+import tarfile
+import tempfile
+import time
+import zipfile
+
+from building import CC, MULTIARCH, Failed, run
+
+top = pathlib.Path(__file__).resolve().parent.parent
+PATHS = ["10.0.0.1:5000 -> 10.0.0.2:5000", "10.0.0.2:5000 -> 10.0.0.1:5000"]
+# Variables that could lead to a library, module or flag from elsewhere.
+LEADING = re.compile(r"IS_ICE_|PYTHON|PIP_|PKG_CONFIG|LD_|C?CFLAGS|LDFLAGS|LIBRARY_PATH|CPATH|C_INCLUDE|CMAKE_|RUSTFLAGS"
+                     r"|CARGO_(?!HOME)|VIRTUAL_ENV")
+CMAKE = """cmake_minimum_required(VERSION 3.15)
+project(two C)
+find_package(is_ice {version} REQUIRED CONFIG)
+add_executable(two_shared two.c)
+target_link_libraries(two_shared is_ice::is_ice)
+add_executable(two_static two.c)
+target_link_libraries(two_static is_ice::static)
+"""
+# Makes changes below these folders go to memory, in a mount namespace of its own.
+OVERLAID = """set -e
+mount -t tmpfs none "$1"
+for folder in usr etc var; do
+    mkdir -p "$1/$folder/upper" "$1/$folder/work"
+    mount -t overlay overlay -o "lowerdir=/$folder,upperdir=$1/$folder/upper,workdir=$1/$folder/work" "/$folder"
+done
+shift
+exec "$@"
+"""
+# Installs the package, and compiles and runs two.c with the shared library.
+INSTALLED = """set -e
+dpkg -i "$1" >&2
+dpkg --verify libis-ice-dev
+"$2" -o "$3" /usr/share/doc/libis-ice-dev/examples/two.c $(pkg-config --cflags --libs is_ice)
+readelf -d "$3" | grep -q libis_ice.so
+exec "$3"
+"""
+
+
+class Skipped(Exception):
+    pass
+
+
+def require(*programs):
+    for program in programs:
+        if shutil.which(program) is None:
+            raise Skipped(f"{program} is not installed")
+
+
+def bare(**more):
+    """The environment without variables that could lead elsewhere."""
+    return {**{name: value for name, value in os.environ.items() if not LEADING.match(name)}, **more}
+
+
+def the(out, pattern):
+    """The one release file whose name matches the pattern."""
+    found = list(out.glob(pattern))
+    if len(found) != 1:
+        raise Failed(f"{out} has {len(found)} files {pattern}: run dist/run")
+    return found[0]
+
+
+def found_paths(said):
+    """Fails unless both agents found the path to the other."""
+    if sorted(re.split(r"\n| \| ", said.strip())) != PATHS:
+        raise Failed(f"expected {PATHS}, got: {said}")
+
+
+def unpacked(archive, folder):
+    """Unpacks a tar.gz and returns its one folder."""
+    with tarfile.open(archive) as tar:
+        tar.extractall(folder)
+    return next(folder.iterdir())
+
+
+def both(programs, libraries):
+    """Runs the program with the shared library, and the one with the static library, which must not need the shared one."""
+    shared, static = programs
+    for program, needs in ((shared, True), (static, False)):
+        if ("libis_ice.so" in run("readelf", "-d", program)) != needs:
+            raise Failed(f"{program.name}: linked with the wrong library")
+    found_paths(run(shared, env=bare(LD_LIBRARY_PATH=str(libraries))))
+    found_paths(run(static, env=bare()))
+
+
+def compiled(place, example, headers, libraries, env):
+    """Compiles two.c with the flags of pkg-config, and with the static library, and runs both."""
+    require(CC, "pkg-config")
+    flags = run("pkg-config", "--cflags", "--libs", "is_ice", env=env).split()
+    if f"-I{headers}" not in {os.path.normpath(flag) for flag in flags}:
+        raise Failed(f"pkg-config names other headers: {flags}")
+    archive = libraries / "libis_ice.a"
+    strict = ["-std=c99", "-Wall", "-Wextra", "-Werror"]
+    run(CC, *strict, "-o", place / "two_shared", example, *flags, env=bare())
+    run(CC, *strict, "-o", place / "two_static", example, *(flag for flag in flags if flag[:2] == "-I"), archive, env=bare())
+    both((place / "two_shared", place / "two_static"), libraries)
+    sizes = [(place / name).stat().st_size for name in ("two_shared", "two_static")]
+    return f"two.c with the shared library: {sizes[0]} bytes; with the static one: {sizes[1]}"
+
+
+# ---- steps: each returns a text for its line of output
+
+def step_sums(_, out):
+    lines = [line.split("  ") for line in the(out, "SHA256SUMS").read_text().splitlines()]
+    wrong = [name for digest, name in lines if hashlib.sha256(the(out, name).read_bytes()).hexdigest() != digest]
+    if wrong:
+        raise Failed(f"other contents: {' '.join(wrong)}")
+    return f"{len(lines)} files"
+
+
+def moved(place, out):
+    """The unpacked release for C, moved to another folder."""
+    return unpacked(the(out, "is_ice-*-linux-x86_64.tar.gz"), place / "unpacked").rename(place / "moved")
+
+
+def step_tarball(place, out):
+    root = moved(place, out)
+    env = bare(PKG_CONFIG_PATH=str(root / "lib" / "pkgconfig"))
+    return compiled(place, root / "share" / "doc" / "is_ice" / "examples" / "two.c", root / "include", root / "lib", env)
+
+
+def step_cmake(place, out):
+    require("cmake", CC)
+    root = moved(place, out)
+    version = re.search("(?m)^Version: (.+)$", (root / "lib" / "pkgconfig" / "is_ice.pc").read_text())[1]
+    (place / "CMakeLists.txt").write_text(CMAKE.format(version=version))
+    shutil.copy(root / "share" / "doc" / "is_ice" / "examples" / "two.c", place)
+    build = place / "build"
+    run("cmake", "-S", place, "-B", build, f"-DCMAKE_PREFIX_PATH={root}", env=bare())
+    run("cmake", "--build", build, env=bare())
+    both((build / "two_shared", build / "two_static"), root / "lib")
+    return f"find_package(is_ice {version})"
+
+
+def step_wheel(place, out):
+    if importlib.util.find_spec("ensurepip") is None:
+        raise Skipped("venv is not installed")
+    run(sys.executable, "-m", "venv", place / "venv", env=bare())
+    python = place / "venv" / "bin" / "python"
+    begun = time.monotonic()
+    run(python, "-m", "pip", "install", "--no-index", "--disable-pip-version-check", the(out, "*.whl"), env=bare(PATH=str(python.parent)))
+    took = time.monotonic() - begun
+    shutil.copy(top / "python" / "examples" / "quick.py", place)
+    found_paths(run(python, place / "quick.py", env=bare(), cwd=place))
+    where = run(python, "-c", "import is_ice._abi; print(is_ice._abi.library_path())", env=bare(), cwd=place).strip()
+    if not pathlib.Path(where).is_relative_to(place.resolve()):
+        raise Failed(f"another library was loaded: {where}")
+    with zipfile.ZipFile(the(out, "*.whl")) as archive:
+        size = sum(entry.file_size for entry in archive.infolist())
+    return f"pip install: {took:.1f} s, {size} bytes unpacked"
+
+
+def step_rust(place, out):
+    require("cargo", CC)
+    crate = unpacked(the(out, "is-*-rust-linux-x86_64.tar.gz"), place / "unpacked")
+    package, env = place / "package", bare()
+    run("cargo", "new", "--quiet", "--vcs", "none", "--name", "two", package, env=env)
+    run("cargo", "add", "--quiet", "--offline", "--path", crate, cwd=package, env=env)
+    shutil.copy(top / "rust" / "examples" / "two.rs", package / "src" / "main.rs")
+    begun = time.monotonic()
+    found_paths(run("cargo", "run", "--quiet", "--offline", "--jobs", "1", cwd=package, env=env))
+    return f"cargo run: {time.monotonic() - begun:.1f} s"
+
+
+def step_deb(place, out):
+    require("dpkg-deb")
+    root = place / "root"
+    run("dpkg-deb", "-x", the(out, "*.deb"), root)
+    libraries = root / MULTIARCH
+    env = bare(PKG_CONFIG_LIBDIR=str(libraries / "pkgconfig"), PKG_CONFIG_SYSROOT_DIR=str(root), PKG_CONFIG_ALLOW_SYSTEM_CFLAGS="1",
+               PKG_CONFIG_ALLOW_SYSTEM_LIBS="1")
+    example = root / "usr" / "share" / "doc" / "libis-ice-dev" / "examples" / "two.c"
+    return compiled(place, example, root / "usr" / "include", libraries, env)
+
+
+def overlaid(place, *words):
+    """Runs a command in a mount namespace of its own, in which changes to the system are made in memory only."""
+    return run("unshare", "--mount", "sh", "-c", OVERLAID, "sh", place, *words, env=bare(LC_ALL="C", DEBIAN_FRONTEND="noninteractive"))
+
+
+def step_dpkg(place, out):
+    require("dpkg", "unshare", "pkg-config", CC)
+    memory, program = place / "memory", place / "two"
+    memory.mkdir()
+    try:
+        overlaid(memory, "true")
+    except Failed:
+        raise Skipped("a mount namespace with overlays needs root") from None
+    found_paths(overlaid(memory, "sh", "-c", INSTALLED, "sh", the(out, "*.deb"), CC, program))
+    return "dpkg -i and dpkg --verify; the shared library was found without variables"
+
+
+STEPS = ("sums", "tarball", "cmake", "wheel", "rust", "deb", "dpkg")
+
+
+def taken(name, out):
+    """Runs a step in an empty folder and prints its result. Returns 'passed', 'skipped' or 'failed'."""
+    begun = time.monotonic()
+    try:
+        with tempfile.TemporaryDirectory() as folder:
+            said = globals()[f"step_{name}"](pathlib.Path(folder).resolve(), out)
+    except Skipped as why:
+        print(f"{name}: skipped, {why}", flush=True)
+        return "skipped"
+    except Failed as why:
+        print(f"{name}: FAILED, {why}", flush=True)
+        return "failed"
+    print(f"{name}: ok, {time.monotonic() - begun:.1f} s, {said}", flush=True)
+    return "passed"
+
+
+def all_of(names, out):
+    """Runs the steps and returns the status of the program."""
+    results = [taken(name, out) for name in names]
+    print(f"{results.count('passed')} passed, {results.count('skipped')} skipped, {results.count('failed')} failed")
+    return 1 if "failed" in results else 0
