@@ -31,15 +31,15 @@ class Sessions(unittest.IsolatedAsyncioTestCase):
                 await talk(a, b)
                 await close(a, b)
 
-    async def test_it_connects_within_25_ms(self) -> None:
+    async def test_it_connects_within_a_pacing_interval(self) -> None:
         took = [1.0]
-        while min(took) > 0.025 and len(took) < 10:  # the machine may be busy
+        while min(took) > 0.04 and len(took) < 10:  # the machine may be busy
             a, b = agent(True), agent(False)
             start = time.monotonic()
             await join(a, b)
             took.append(time.monotonic() - start)
             await close(a, b)
-        self.assertLess(min(took), 0.025)
+        self.assertLess(min(took), 0.04)
 
     async def test_one_side_connects_earlier(self) -> None:
         for first in (0, 1):
@@ -165,7 +165,7 @@ class Failures(unittest.IsolatedAsyncioTestCase):
             self.assertFalse(connecting.done())
             await a.add_remote_candidate(None)
             with self.assertRaises(ConnectionError):
-                await asyncio.wait_for(connecting, 1)
+                await asyncio.wait_for(connecting, 5)
             await a.close()
 
     async def test_connect_ends(self) -> None:
