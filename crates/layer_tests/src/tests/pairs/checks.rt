@@ -7,7 +7,7 @@ use is_proto::Duration;
 use std::alloc::Global;
 use std::test::Fail;
 
-/// So many milliseconds, as a present value.
+/// So many milliseconds, in `Some`.
 fn took(millis: u64) -> Option<Duration> {
     Some(Duration::from_millis(millis))
 }
