@@ -54,7 +54,7 @@ fn off_its_path_nothing_comes_of_an_answer(player: &mut Player) -> Told {
     ])
 }
 
-/// The next event selects the pair of this path.
+/// The next event reports this path as selected.
 fn announces(player: &mut Player, from: SocketAddr, to: SocketAddr) -> bool {
     match player.agent.poll_event() {
         Some(

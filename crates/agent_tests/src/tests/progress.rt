@@ -82,7 +82,7 @@ fn answer_check_to(player: &mut Player, ms: u64, address: SocketAddr) -> bool {
     player.expects_answer(at(1, 1000)) && player.takes(ms.saturating_add(10), address, at(1, 1000))
 }
 
-/// Polls all events; whether one selected the path to the address.
+/// Polls all events; whether the last `NominatedSend` has this destination.
 fn announces(player: &mut Player, address: SocketAddr) -> bool {
     let mut announced = false;
     for _ in 0..8 {
