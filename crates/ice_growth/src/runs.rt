@@ -122,8 +122,8 @@ fn play_agent<W: Write>(alloc: Global, output: &mut W) -> io::Result<bool> {
     }
 }
 
-/// Makes the run, and then each failed call once more, outside the run. Prints each call's result and what it issued.
-/// Returns false if there was no memory to set up the agent's pair.
+/// Makes the run, and then each call that ran out of memory once more, outside the run. Prints each
+/// call's result and what it issued. Returns false if there was no memory to set up the agent's pair.
 fn play_calls<W: Write>(agent: &mut Agent, alloc: Global, output: &mut W) -> io::Result<bool> {
     if pair_up(agent, alloc).is_err() {
         return Ok(false);
