@@ -46,7 +46,7 @@ use Rattle.is_rules.proofs.Moving.{Matches, matches-on, follows-map}
 abbrev pub NoneValid : List PairRecord → Type 0
 NoneValid ps = (p : PairRecord) → Has ps p → is_valid p ≡ false
 
--- the pair is due as it was, with the due time computed at another time as before, or at this one
+-- the pair is due as it was; computed at another time, its due time is the old pair's at that time, or at this one
 pub record DueAlike (at : ℕ) (t : StunTiming) (p q : PairRecord) : Type 0 where
   pub matches : Matches p q
   pub checks : q.checks ≡ p.checks
@@ -67,7 +67,7 @@ due-on at t p q r a b = record {
   ];
 }
 
--- if a pair is due by a time whenever its due time is computed later, it is due by it when computed at this one
+-- a pair that is due by a time, as computed at any later time, is also due by it as computed at this one
 abbrev pub Held : ℕ → ℕ → StunTiming → List PairRecord → Type 0
 Held by at t ps = (p : PairRecord) → Has ps p → (m : ℕ) → by < m → due_moment m t p ≤ by → due_moment at t p ≤ by
 

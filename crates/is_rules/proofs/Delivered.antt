@@ -180,7 +180,7 @@ module _ {H P : Type 0} (mac : H → List ℕ → List ℕ → List ℕ) (answer
     joins_at l Barred s new emitted live met h = absurd (met refl)
     joins_at l Unknown s new emitted live met (number, between, h) = takes_at l (length s.remote) number (with_sender q s) new emitted live h
 
-    -- the address that it came from does not have only discarded candidates
+    -- if no candidate at its source address was discarded, its remote place is not `Barred`
     meets : (remote : List CandidateRecord) (place : RemotePlace) → list_any (is_gone_at q.path) remote ≡ false → IsRemotePlace remote q place → place ≡ Barred → ⊥
     meets remote place none (Some live, greatest, is) barred = let wrong : Known live ≡ Barred = sym is ∙ barred in cc
     meets remote place none (None, greatest, is) barred = senders remote none greatest (list_any (is_sender q) remote) refl (sym is ∙ barred) where

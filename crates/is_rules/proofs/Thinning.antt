@@ -50,7 +50,7 @@ alike-on p q r a b = record {
   valid = b.valid ∙ a.valid;
 }
 
--- its due time is fixed at this time, or earlier
+-- its due time, if it is fixed, is at most this time
 abbrev pub is_fixed_by : ℕ → PairRecord → Bool
 is_fixed_by by p = nat_le (unwrap_or p.due 0) by
 
