@@ -1,4 +1,4 @@
-//! Tests of the ICE agent as its user meets it: through the public surface of `is` alone. The library itself is empty.
+//! Tests of the ICE agent through its public API only, the one in `is`. The library itself is empty.
 #![tactic(auto)]
 
 #[cfg(test)]

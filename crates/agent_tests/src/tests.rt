@@ -1,4 +1,5 @@
-//! An agent as its user meets it: short stories of calls and of what is seen. One test tells those of one subject.
+//! The public API of an agent: short stories of calls and of their visible results. One test runs the stories of one
+//! subject.
 
 mod answers;
 mod calls;
@@ -30,7 +31,7 @@ use std::net::{Ipv4Addr, SocketAddr, SocketAddrV4};
 use std::test::Fail;
 use story::{Story, Subject, Told, same, same_in, tell};
 
-/// A Binding request of 100 bytes: user name `p9KA:SQAt`, network cost (1, 10), controlling, USE-CANDIDATE, priority
+/// A Binding request of 100 bytes: USERNAME `p9KA:SQAt`, network cost (1, 10), controlling, USE-CANDIDATE, priority
 /// 1853824767, signed with `xJcE9AQAR7kczUDVOXRUCl`.
 const REQUEST: [u8; 100] = [
     0x00, 0x01, 0x00, 0x50, 0x21, 0x12, 0xa4, 0x42, 0x6a, 0x75, 0x63, 0x31, 0x35, 0x75, 0x78, 0x55,
@@ -42,11 +43,11 @@ const REQUEST: [u8; 100] = [
     0x36, 0x0e, 0x21, 0x9f,
 ];
 
-/// What signed that request.
+/// The password of that request's MESSAGE-INTEGRITY.
 const PASSWORD: &str = "xJcE9AQAR7kczUDVOXRUCl";
 
-/// What a success reply to the request from 10.0.0.2:2000 begins with: 64 bytes in all, the id, the mapped address and
-/// the header of the integrity.
+/// How a success response to the request from 10.0.0.2:2000 begins, out of 64 bytes: the id, the mapped address and
+/// the header of MESSAGE-INTEGRITY.
 const REPLY: [u8; 36] = [
     0x01, 0x01, 0x00, 0x2c, 0x21, 0x12, 0xa4, 0x42, 0x6a, 0x75, 0x63, 0x31, 0x35, 0x75, 0x78, 0x55,
     0x6e, 0x67, 0x47, 0x63, 0x00, 0x20, 0x00, 0x08, 0x00, 0x01, 0x26, 0xc2, 0x2b, 0x12, 0xa4, 0x40,

@@ -1,5 +1,5 @@
-//! Agents: what a request, an answer, a moment with a check and an idle moment cost, by the number of pairs, and local candidates by
-//! theirs.
+//! Agents: the cost of a request, of a response, and of a `handle_timeout` call with a check or without work, by the
+//! number of pairs; the cost of local candidates, by their number.
 
 use crate::checksum::Checksum;
 use crate::messages::BROWSER_REQUEST;
@@ -18,22 +18,22 @@ const PASSWORD: &str = "xJcE9AQAR7kczUDVOXRUCl";
 
 const PEER_PASSWORD: &str = "VOkJxbRl1RmTxUk/WvJxBt";
 
-/// When a case begins: late enough for a nominated pair to go before the others by its 60 s.
+/// When a case begins: late enough for a nominated pair to be due 60 s earlier than the others.
 const START: Instant = Instant(60_000_000_000);
 
-/// The port of the first of several addresses. The others follow it.
+/// The port of the first of several addresses. The others have the ports after it.
 const FIRST_PORT: u16 = 2000;
 
 /// What happens in each round.
 #[derive(Clone, Copy, Debug, PartialEq, Eq)]
 pub enum Turn {
-    /// The request of the pair that came last is read, taken and answered.
+    /// The request of the last pair is parsed, passed to the agent and answered.
     Request,
-    /// The answer to the check of the pair that came last is read and taken.
+    /// The response to the check of the last pair is parsed and passed to the agent.
     Answer,
-    /// The agent is told of a moment, and checks a pair.
+    /// A `handle_timeout` call that checks a pair.
     Check,
-    /// The agent is told of a moment, and has nothing to do.
+    /// A `handle_timeout` call that has nothing to do.
     Idle,
 }
 
@@ -87,8 +87,8 @@ fn add_hosts(
     Ok(())
 }
 
-/// Makes an agent with so many pairs, and then takes that many turns. Only this function and `host_candidates` own an agent; the others
-/// borrow it.
+/// Makes an agent with so many pairs, and then runs so many rounds. Only this function and `host_candidates` own an
+/// agent; the others borrow it.
 pub fn turns(
     alloc: Global,
     turn: Turn,
@@ -106,7 +106,7 @@ fn make(alloc: Global) -> Result<Box<Agent>, IceError> {
     Ok(Box::new(alloc, agent)?)
 }
 
-/// The agent is the one that the request is for, at 10.0.0.1:1000, and is met by so many pairs.
+/// Sets up the agent that the request is for, at 10.0.0.1:1000, with so many pairs.
 fn set_up(agent: &mut Agent, alloc: Global, pairs: u16) -> Result<(), IceError> {
     agent.set_remote_credentials(creds(alloc, "SQAt", PEER_PASSWORD)?)?;
     agent.set_max_candidate_pairs(usize::from(pairs.max(100)));
@@ -114,7 +114,7 @@ fn set_up(agent: &mut Agent, alloc: Global, pairs: u16) -> Result<(), IceError> 
     meet(agent, pairs)
 }
 
-/// A request comes from each of so many ports of 10.0.0.2, and so the agent has a pair for each.
+/// A request arrives from each of so many ports of 10.0.0.2, so the agent has a pair for each.
 fn meet(agent: &mut Agent, pairs: u16) -> Result<(), IceError> {
     let mut unused = Checksum(0);
     for pair in 0..pairs {
@@ -163,7 +163,7 @@ fn answers(agent: &mut Agent, pairs: u16, rounds: u64, sum: &mut Checksum) -> Re
 }
 
 fn checks(agent: &mut Agent, rounds: u64, sum: &mut Checksum) -> Result<(), IceError> {
-    // a pair that was checked is due again at once, and the peer was heard of too lately for it to be given up
+    // a checked pair is due again at once, and the peer's last packet is too recent for the pair to be removed
     agent.set_initial_stun_rto(Duration(0));
     let mut rng = Pcg32::seed_from_u64(1);
     for round in 0..rounds {
@@ -188,7 +188,7 @@ fn idle_moments(
     Ok(())
 }
 
-/// Each of so many pairs is checked once. The last check.
+/// Checks each of so many pairs once. Returns the last check.
 fn check_each(agent: &mut Agent, pairs: u16) -> Result<Option<Transmit>, IceError> {
     let mut rng = Pcg32::seed_from_u64(1);
     let mut last = None;
@@ -199,7 +199,7 @@ fn check_each(agent: &mut Agent, pairs: u16) -> Result<Option<Transmit>, IceErro
     Ok(last)
 }
 
-/// The signed answer to the check, and nothing where there is none.
+/// The signed response to the check; empty if there is none.
 fn answer_to<'a>(check: &Option<Transmit>, buf: &'a mut [u8; 128]) -> &'a [u8] {
     let Some(check) = check else { return &[] };
     let Ok(message) = StunMessage::parse(&check.contents) else {
@@ -231,7 +231,7 @@ fn port_of(pairs: u16) -> u16 {
 
 // ---- the calls, without their contracts
 
-/// The bytes come from this port of 10.0.0.2. Whether they were for the agent.
+/// The bytes arrive from this port of 10.0.0.2. Returns whether they were for the agent.
 fn take(agent: &mut Agent, port: u16, bytes: &[u8]) -> Result<bool, IceError> {
     let Ok(message) = StunMessage::parse(bytes) else {
         return Ok(false);
@@ -253,7 +253,7 @@ fn packet_of(agent: &mut Agent) -> Option<Transmit> {
     agent.poll_transmit()
 }
 
-/// Adds the next packet, where there is one, and whether there is an event.
+/// Adds the next packet, if there is one, and whether there is an event.
 fn poll(agent: &mut Agent, sum: &mut Checksum) {
     if let Some(packet) = agent.poll_transmit() {
         sum.add_bytes(&packet.contents);
@@ -261,7 +261,7 @@ fn poll(agent: &mut Agent, sum: &mut Checksum) {
     sum.add(u64::from(agent.poll_event().is_some()));
 }
 
-/// The moment of the next call.
+/// The next timeout.
 fn wake(agent: &mut Agent) -> u64 {
     match agent.poll_timeout() {
         Some(at) => at.0,

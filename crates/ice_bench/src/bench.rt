@@ -1,4 +1,4 @@
-//! The lines of the input, and which case each names.
+//! The lines of the input, and the case that each names.
 
 use crate::checksum::Checksum;
 use crate::{agents, candidates, messages, pairs};
@@ -9,8 +9,8 @@ use std::io::{Read, Write};
 /// The longest input, in bytes.
 const LIMIT: u64 = 65536;
 
-/// Runs the case of each line, and gives the exit status: 0 where each line named one; 1 where one did not; 2 where memory, a
-/// read or a write was refused, or where the input is longer than 65536 bytes or no UTF-8.
+/// Runs the case of each line, and returns the exit status: 0 if each line named a case; 1 if one did not; 2 if
+/// memory ran out, a read or a write failed, or the input is longer than 65536 bytes or not UTF-8.
 pub fn bench<R: Read, W: Write>(alloc: Global, input: &mut R, output: &mut W) -> u8 {
     let Some(text) = read_lines(alloc, input) else {
         return 2;
@@ -46,7 +46,7 @@ fn case_of(line: &str) -> Option<(&str, u64)> {
     Some((name, rounds.parse::<u64>().ok()?))
 }
 
-/// The checksum of the case of this name after so many rounds, or none where no case has the name.
+/// The checksum of the case with this name after so many rounds; `None` if no case has the name.
 fn sum_of(alloc: Global, name: &str, rounds: u64) -> Result<Option<u64>, IceError> {
     let mut sum = Checksum(0);
     match name {

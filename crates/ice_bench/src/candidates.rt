@@ -1,4 +1,4 @@
-//! Candidates as lines and as JSON texts.
+//! Candidates as attributes (RFC 8839) and as JSON texts.
 
 use crate::checksum::Checksum;
 use is_candidate::{Candidate, JsonScratch};
@@ -7,7 +7,7 @@ use std::alloc::Global;
 
 const LINE: &str = "candidate:1 1 udp 2113929471 203.0.113.100 10100 typ host";
 
-/// The line as a browser signals it.
+/// The candidate as a browser signals it.
 const INFO: &str =
     "{\"candidate\":\"candidate:1 1 udp 2113929471 203.0.113.100 10100 typ host\",\"sdpMid\":null,\"sdpMLineIndex\":0,\"usernameFragment\":null}";
 

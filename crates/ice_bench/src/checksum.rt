@@ -1,6 +1,6 @@
-//! What a case adds up, so that none of its results can be left out.
+//! The sum of all results of a case, so that none of them can be optimized away.
 
-/// A sum in which each number and its place count.
+/// A sum in which each number and its position count.
 #[derive(Clone, Copy)]
 pub struct Checksum(pub u64);
 

@@ -1,6 +1,6 @@
-//! Runs cases of the library for measuring. Each line of standard input names a case and a number of rounds; for each the case, its
-//! rounds and a checksum of the results are printed. No clock is read: run a case with two numbers of rounds, and divide the
-//! difference of the times by that of the rounds.
+//! Runs benchmark cases of the library. Each line of standard input names a case and a number of rounds. For each
+//! line the case, its rounds and a checksum of the results are printed. No clock is read: run a case with two numbers
+//! of rounds, and divide the difference of the times by that of the rounds.
 #![tactic(auto)]
 
 mod agents;

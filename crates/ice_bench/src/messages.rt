@@ -1,4 +1,4 @@
-//! Messages: reading, verifying, writing, the CRC of fingerprints and HMAC-SHA1.
+//! Messages: parsing, verifying, writing, the CRC of fingerprints and HMAC-SHA1.
 
 use crate::checksum::Checksum;
 use is_proto::{DefaultSha1HmacProvider, HmacKey, KeptProvider, Sha1HmacProvider};
@@ -18,8 +18,8 @@ pub const BROWSER_REQUEST: [u8; 100] = [
 
 const BROWSER_PASSWORD: &[u8; 22] = b"xJcE9AQAR7kczUDVOXRUCl";
 
-/// The provider of one who signs or verifies more than one message with a password, as an agent does: what HMAC computes of the
-/// password is kept.
+/// A provider for signing or verifying more than one message with the same password, as an agent does: HMAC's
+/// intermediate state for the password is stored.
 fn keeping(kept: &HmacKey) -> KeptProvider<'_, DefaultSha1HmacProvider> {
     KeptProvider {
         provider: &DefaultSha1HmacProvider,
@@ -69,7 +69,7 @@ pub fn parse_reply(rounds: u64, sum: &mut Checksum) {
     }
 }
 
-/// The message is verified under a key that is kept.
+/// The message is verified with a stored key.
 pub fn verify_request(rounds: u64, sum: &mut Checksum) {
     let kept = HmacKey::new(BROWSER_PASSWORD);
     let provider = keeping(&kept);
@@ -82,7 +82,7 @@ pub fn verify_request(rounds: u64, sum: &mut Checksum) {
     }
 }
 
-/// Adds what was written of the message.
+/// Adds the bytes of the written message.
 fn write<H: Sha1HmacProvider>(
     message: StunMessage<'_>,
     password: Option<&[u8]>,
@@ -95,7 +95,7 @@ fn write<H: Sha1HmacProvider>(
     }
 }
 
-/// Each check is signed with a key that is kept.
+/// Each check is signed with a stored key.
 pub fn write_request(rounds: u64, sum: &mut Checksum) {
     let kept = HmacKey::new(BROWSER_PASSWORD);
     let provider = keeping(&kept);
@@ -110,7 +110,7 @@ fn reply_of(round: u64) -> StunMessage<'static> {
     StunMessage::binding_reply(id_of(round), SocketAddr::V4(address))
 }
 
-/// Each reply is signed with a key that is kept.
+/// Each response is signed with a stored key.
 pub fn write_reply(rounds: u64, sum: &mut Checksum) {
     let kept = HmacKey::new(BROWSER_PASSWORD);
     let provider = keeping(&kept);
@@ -125,7 +125,7 @@ pub fn write_unsigned(rounds: u64, sum: &mut Checksum) {
     }
 }
 
-/// An unsigned message of 200 bytes of data: most of it is the CRC.
+/// A message with 200 bytes of data, without MESSAGE-INTEGRITY: most of the work is the CRC.
 pub fn crc(rounds: u64, sum: &mut Checksum) {
     let data = [7; 200];
     for round in 0..rounds {
@@ -139,7 +139,7 @@ pub fn crc(rounds: u64, sum: &mut Checksum) {
     }
 }
 
-/// The MAC is under a key that is kept.
+/// The MAC is computed with a stored key.
 pub fn hmac(rounds: u64, sum: &mut Checksum) {
     let kept = HmacKey::new(BROWSER_PASSWORD);
     let provider = keeping(&kept);

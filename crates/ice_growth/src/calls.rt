@@ -1,4 +1,4 @@
-//! The calls of an agent, each made from what is known of it. What a call is given by value is made anew each time.
+//! The calls of an agent. An argument that a call takes by value is made again each time.
 
 use crate::lists::Step;
 use crate::packets::{BROWSER_REQUEST, answer_to, at, numbered_request, packet_of};
@@ -13,7 +13,7 @@ pub type Agent = IceAgent<DefaultSha1HmacProvider>;
 
 const MILLISECOND: u64 = 1_000_000;
 
-/// What a call answered, as a word; or its refusal.
+/// The result of a call, as a word; or its error.
 pub type Outcome = Result<&'static str, IceError>;
 
 pub fn moment(ms: u64) -> Instant {
@@ -71,7 +71,7 @@ pub fn truth(flag: bool) -> &'static str {
     if flag { "true" } else { "false" }
 }
 
-/// The answer to the first check is taken.
+/// Passes the response to the first check to the agent.
 pub fn take_answer(agent: &mut Agent, ms: u64, first: Option<TransId>, password: &str) -> Outcome {
     match first {
         Some(id) => take_bytes(agent, ms, 1000, answer_to(id, password).bytes()),
@@ -104,7 +104,7 @@ pub fn copy_pair(agent: &Agent, candidate: &Candidate) -> Outcome {
     Ok(if same { "equal" } else { "another" })
 }
 
-/// The calls that take a packet.
+/// The calls that pass a packet.
 pub fn take_packet(agent: &mut Agent, step: Step, first: Option<TransId>) -> Outcome {
     match step {
         Step::Browser(port) => take_bytes(agent, 0, port, &BROWSER_REQUEST),

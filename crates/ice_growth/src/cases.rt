@@ -11,8 +11,8 @@ use std::io::{Read, Write};
 /// The longest input, in bytes.
 const LIMIT: usize = 512;
 
-/// Plays the list of each line, and gives the exit status: 0 where each line named one; 1 where one did not; 2 where a read or a
-/// write failed, or where the input is longer than 512 bytes or no UTF-8. Reading takes no memory.
+/// Plays the list of each line, and returns the exit status: 0 if each line named a list; 1 if one did not; 2 if a
+/// read or a write failed, or if the input is longer than 512 bytes or not UTF-8. Reading does not allocate.
 pub fn play_all<R: Read, W: Write>(alloc: Global, input: &mut R, output: &mut W) -> u8 {
     let mut bytes = [0; LIMIT];
     let Some(len) = read_all(input, &mut bytes) else {
@@ -31,7 +31,7 @@ pub fn play_all<R: Read, W: Write>(alloc: Global, input: &mut R, output: &mut W)
     0
 }
 
-/// How many bytes were read; none where a read fails or there are too many.
+/// How many bytes were read; `None` if a read fails or there are too many.
 fn read_all<R: Read>(input: &mut R, bytes: &mut [u8; LIMIT]) -> Option<usize> {
     let mut len = 0usize;
     for _ in 0..LIMIT {
@@ -61,7 +61,7 @@ fn play_line<W: Write>(alloc: Global, line: &str, output: &mut W) -> io::Result<
     Ok(known)
 }
 
-/// Takes a piece of memory behind the list: the first request behind those of the list's calls.
+/// Allocates once after the list: this is the first allocation after those of the list's calls.
 fn end_list<W: Write>(alloc: Global, output: &mut W) -> io::Result<()> {
     if Box::new(alloc, 0u64).is_err() {
         writeln!(output, "refused end")?;
@@ -69,7 +69,7 @@ fn end_list<W: Write>(alloc: Global, output: &mut W) -> io::Result<()> {
     writeln!(output, "end")
 }
 
-/// Takes so many pieces of memory, one after the other.
+/// Allocates so many times, one after the other.
 fn take_memory(alloc: Global, pieces: u64) {
     for number in 0..pieces {
         let _ = Box::new(alloc, number);
@@ -102,7 +102,7 @@ fn play_steps<W: Write>(stage: &mut Stage, steps: &[Step], output: &mut W) -> io
     Ok(())
 }
 
-/// 101 requests come before the peer is known, of which the agent keeps the last 100.
+/// 101 early requests arrive, of which the agent stores the last 100.
 fn play_flood<W: Write>(stage: &mut Stage, output: &mut W) -> io::Result<bool> {
     play_steps(stage, &FLOOD_BEFORE, output)?;
     for number in 1..102 {

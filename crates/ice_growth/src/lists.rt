@@ -1,10 +1,10 @@
 //! The lists of calls.
 
-/// A call of a list, or what is looked at between calls. Moments are in milliseconds. The agent is at 10.0.0.1:1000, and its peer at
-/// 10.0.0.2:2000.
+/// A call of a list, or what is printed between calls. Times are in milliseconds. The agent is at 10.0.0.1:1000, and
+/// its peer at 10.0.0.2:2000.
 #[derive(Clone, Copy)]
 pub enum Step {
-    /// Makes the agent: its user fragment and its password.
+    /// Makes the agent, with this username fragment and this password.
     Agent(&'static str, &'static str),
     /// `set_controlling(true)`.
     Controlling,
@@ -14,39 +14,39 @@ pub enum Step {
     Local(&'static str, &'static str),
     /// `set_remote_credentials`.
     Remote(&'static str, &'static str),
-    /// `add_local_candidate` of the agent's address.
+    /// `add_local_candidate` with the agent's address.
     Host,
-    /// `add_remote_candidate` of a line.
+    /// `add_remote_candidate` with a candidate attribute.
     Candidate(&'static str),
     /// `handle_timeout`.
     Timeout(u64),
-    /// `handle_timeout` at a moment at which no check is due, behind another such moment.
+    /// `handle_timeout` at a time at which no check is due, after another such time.
     Idle(u64),
-    /// `handle_packet` at 0 of a browser's request to this port.
+    /// `handle_packet` at 0 with a browser's request to this port.
     Browser(u16),
-    /// `handle_packet` at 0 of a request whose transaction id ends with this number.
+    /// `handle_packet` at 0 with a request whose transaction id ends with this number.
     Numbered(u8),
-    /// `handle_packet` of the answer to the first check.
+    /// `handle_packet` with the response to the first check.
     Answer(u64),
-    /// `handle_packet` of that answer under another password, which is not accepted.
+    /// `handle_packet` with that response signed with another password, which is not accepted.
     Stranger(u64),
     /// `ice_restart` that keeps the local candidates.
     Restart(&'static str, &'static str),
     /// `recreate_candidate_pairs`.
     Recreate,
-    /// `try_clone` of the pair of a candidate line.
+    /// `try_clone` of the pair of a candidate attribute.
     CopyPair,
-    /// Reads the candidate that `Invalidate` names and that `CopyPair` looks for.
+    /// Parses the candidate that `Invalidate` names and that `CopyPair` looks for.
     Keep(&'static str),
     /// `invalidate_candidate`.
     Invalidate,
-    /// Reads and writes messages.
+    /// Parses and writes messages.
     Messages,
-    /// Prints what the getters answer.
+    /// Prints what the getters return.
     Getters,
     /// Polls the packets.
     Packets,
-    /// Polls the packets, the events and the wake-up.
+    /// Polls the packets, the events and the next timeout.
     Polls,
 }
 
@@ -258,10 +258,10 @@ pub static LISTS: [List; 9] = [
     },
 ];
 
-/// What comes before the requests of a flood.
+/// The calls before the requests of a flood.
 pub static FLOOD_BEFORE: [Step; 2] = [Step::Agent("AAAA", "PPPP"), Step::Host];
 
-/// What comes behind them.
+/// The calls after them.
 pub static FLOOD_BEHIND: [Step; 6] = [
     Step::Polls,
     Step::Remote("BBBB", "QQQQ"),

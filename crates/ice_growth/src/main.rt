@@ -1,8 +1,8 @@
-//! Makes lists of calls, each call once more where memory was refused, and prints what became of each. So the output is the same
-//! whichever request for memory is refused, but for one line that names the call that met the refusal.
+//! Makes lists of calls. A call that runs out of memory is made once more. The result of each call is printed. So the
+//! output is the same whichever allocation fails, except for one line that names the call with the failed allocation.
 //!
-//! Each line of standard input names a list. A number behind the name is how many pieces of memory are taken before the list
-//! begins, so that one build whose Nth request is refused tries each request of a list.
+//! Each line of standard input names a list. A number after the name is how many allocations are made before the list
+//! begins. So a single build whose Nth allocation fails can test each allocation of a list.
 #![tactic(auto)]
 
 mod calls;

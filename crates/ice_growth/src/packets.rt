@@ -1,4 +1,4 @@
-//! The packets that are given to an agent. None takes memory.
+//! The packets that are passed to an agent. None of them allocates.
 
 use is::stun::{StunMessage, StunPacket, TransId};
 use is::{DefaultSha1HmacProvider, Protocol};
@@ -42,19 +42,19 @@ fn write(message: StunMessage<'_>, password: &str) -> Written {
     }
 }
 
-/// A request of BBBB to AAAA with USE-CANDIDATE, whose transaction id ends with this number.
+/// A request from BBBB to AAAA with USE-CANDIDATE, whose transaction id ends with this number.
 pub fn numbered_request(number: u8) -> Written {
     let id = TransId([0, 0, 0, 0, 0, 0, 0, 0, 0, 0, 0, number]);
     let request = StunMessage::binding_request("AAAA:BBBB", id, true, 2, 1862270719, true);
     write(request, "PPPP")
 }
 
-/// The answer to a check, under this password.
+/// The response to a check, signed with this password.
 pub fn answer_to(id: TransId, password: &str) -> Written {
     write(StunMessage::binding_reply(id, at(1, 1000)), password)
 }
 
-/// The bytes as a packet from the peer to this port, where they read as a message.
+/// The bytes as a packet from the peer to this port, if they parse as a message.
 pub fn packet_of(bytes: &[u8], port: u16) -> Option<StunPacket<'_>> {
     match StunMessage::parse(bytes) {
         Ok(message) => Some(StunPacket {

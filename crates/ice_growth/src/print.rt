@@ -1,4 +1,4 @@
-//! What is printed: packets, events, wake-ups, and what the getters answer.
+//! What is printed: packets, events, timeouts, and what the getters return.
 
 use crate::calls::Agent;
 use crate::packets::at;
@@ -8,7 +8,7 @@ use is::{IceAgentEvent, IceError, Instant, SocketText, Transmit};
 use std::io::Write;
 use std::{fmt, io};
 
-/// The name of a refusal.
+/// The name of an error.
 pub fn refusal_name(error: &IceError) -> &'static str {
     match error {
         IceError::BadCandidate(_) => "BadCandidate",
@@ -33,7 +33,7 @@ impl fmt::Display for HexText<'_> {
     }
 }
 
-/// Prints the packets that wait, and keeps the id of the first check, where none is kept.
+/// Prints the queued packets, and stores the id of the first check, if none is stored.
 pub fn print_packets<W: Write>(
     agent: &mut Agent,
     first: &mut Option<TransId>,
@@ -48,7 +48,7 @@ pub fn print_packets<W: Write>(
     Ok(())
 }
 
-/// The id of the message, where it is a request.
+/// The id of the message, if it is a request.
 fn check_id(bytes: &[u8]) -> Option<TransId> {
     let Ok(message) = StunMessage::parse(bytes) else {
         return None;
@@ -71,7 +71,7 @@ fn print_packet<W: Write>(packet: &Transmit, output: &mut W) -> io::Result<()> {
     )
 }
 
-/// Prints the events that wait, and the wake-up.
+/// Prints the queued events, and the next timeout.
 pub fn print_events<W: Write>(agent: &mut Agent, output: &mut W) -> io::Result<()> {
     while let Some(event) = agent.poll_event() {
         print_event(&event, output)?;

@@ -1,4 +1,4 @@
-//! A run of calls. No call of it depends on an earlier one, so that one that was refused can be made behind the run.
+//! A run of calls. No call of it depends on an earlier one, so a call that failed can be made after the run.
 
 use crate::calls::{Agent, add_host, add_remote, creds, make_agent, moment, name_peer};
 use crate::packets::{at, numbered_request};
@@ -16,7 +16,7 @@ const CALLS: usize = 6;
 /// The candidate that the agent knows.
 const LINE: &str = "candidate:1 1 udp 2130706175 10.0.0.2 2000 typ host";
 
-/// One that no local candidate has the protocol of.
+/// A candidate whose protocol no local candidate has.
 const TCP_LINE: &str = "candidate:1 1 tcp 2105524479 10.0.0.3 9 typ host tcptype active";
 
 /// The call of this number.
@@ -57,7 +57,7 @@ fn one_call(alloc: Global, number: usize) -> Result<Vec<Call>, IceError> {
     Ok(calls)
 }
 
-/// The agent of the run knows its peer and one pair then.
+/// The agent of the run gets its peer and one pair.
 fn pair_up(agent: &mut Agent, alloc: Global) -> Result<(), IceError> {
     name_peer(agent, alloc, "BBBB", "QQQQ")?;
     add_host(agent, alloc)?;
@@ -65,7 +65,7 @@ fn pair_up(agent: &mut Agent, alloc: Global) -> Result<(), IceError> {
     Ok(())
 }
 
-/// What was made, where memory was refused at most once.
+/// The calls of the run; making them is tried twice.
 fn calls_twice<W: Write>(alloc: Global, output: &mut W) -> io::Result<Option<Vec<Call>>> {
     if let Ok(calls) = calls_of(alloc) {
         return Ok(Some(calls));
@@ -77,7 +77,7 @@ fn calls_twice<W: Write>(alloc: Global, output: &mut W) -> io::Result<Option<Vec
     }
 }
 
-/// Makes the run; where room for its entries is refused it is made once more.
+/// Makes the run. If memory for its log entries runs out, it is made once more.
 fn run_twice<W: Write>(
     agent: &mut Agent,
     random: &mut Pcg32,
@@ -102,7 +102,7 @@ fn run_twice<W: Write>(
     }
 }
 
-/// Makes a run of calls, with another agent where memory for the first was refused.
+/// Makes a run of calls. If memory for the first agent ran out, another agent is made.
 pub fn play_run<W: Write>(alloc: Global, output: &mut W) -> io::Result<bool> {
     if play_agent(alloc, output)? {
         return Ok(true);
@@ -114,7 +114,7 @@ pub fn play_run<W: Write>(alloc: Global, output: &mut W) -> io::Result<bool> {
     Ok(true)
 }
 
-/// Makes the run with an agent of its own; whether there was memory for the agent.
+/// Makes the run with its own agent. Returns whether there was memory for the agent.
 fn play_agent<W: Write>(alloc: Global, output: &mut W) -> io::Result<bool> {
     match make_agent(alloc, "AAAA", "PPPP") {
         Ok(mut agent) => play_calls(&mut agent, alloc, output),
@@ -122,8 +122,8 @@ fn play_agent<W: Write>(alloc: Global, output: &mut W) -> io::Result<bool> {
     }
 }
 
-/// Makes the run, and each refused call once more, alone. Prints each call's answer and what it issued. False where there was no
-/// memory to pair the agent.
+/// Makes the run, and then each call that ran out of memory once more, outside the run. Prints each
+/// call's result and what it issued. Returns false if there was no memory to set up the agent's pair.
 fn play_calls<W: Write>(agent: &mut Agent, alloc: Global, output: &mut W) -> io::Result<bool> {
     if pair_up(agent, alloc).is_err() {
         return Ok(false);
@@ -159,7 +159,7 @@ fn print_log<W: Write>(
     print_end(agent, output)
 }
 
-/// Makes the call of this number, whose entry says that memory was refused.
+/// Makes the call of this number, whose log entry is an out-of-memory error.
 fn make_alone<W: Write>(
     agent: &mut Agent,
     random: &mut Pcg32,
@@ -208,7 +208,7 @@ fn count_events(agent: &mut Agent) -> u64 {
     count
 }
 
-/// Prints how many packets and events wait, and the wake-up.
+/// Prints how many packets and events are queued, and the next timeout.
 fn print_end<W: Write>(agent: &mut Agent, output: &mut W) -> io::Result<()> {
     let packets = count_packets(agent);
     let events = count_events(agent);

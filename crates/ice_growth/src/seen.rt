@@ -1,10 +1,10 @@
-//! What an agent shows to its getters.
+//! What an agent's getters show.
 
 use crate::calls::Agent;
 use crate::packets::at;
 use is::{Candidate, Duration, IceAgentStats, IceConnectionState, IceCreds, Instant};
 
-/// What the getters of an agent answer at one time.
+/// What the getters of an agent return at one time.
 #[derive(Clone, Copy, Debug, PartialEq, Eq)]
 pub struct Seen {
     state: IceConnectionState,
@@ -53,7 +53,7 @@ pub fn nominated(agent: &Agent) -> (Option<Duration>, Option<Duration>, Option<u
     )
 }
 
-/// A sum in which each number and its place count.
+/// A sum in which each number and its position count.
 fn with_number(sum: u64, number: u64) -> u64 {
     sum.rotate_left(5) ^ number
 }

@@ -1,4 +1,4 @@
-//! An agent and what stands about it while a list is played.
+//! An agent and the state that belongs to it while a list is played.
 
 use crate::calls::{self, Agent, Outcome};
 use crate::lists::Step;
@@ -34,7 +34,7 @@ impl Stage {
         }
     }
 
-    /// What a refused call must leave: what the agent shows, and the state of the random source.
+    /// What a failed call must leave unchanged: what the agent shows, and the state of the random source.
     fn seen(&mut self) -> (Option<Seen>, u64) {
         let shown = match &mut self.agent {
             Some(agent) => Some(Seen::of(agent)),
@@ -44,8 +44,8 @@ impl Stage {
     }
 }
 
-/// Takes the step, once more where memory was refused, and prints what it answered. A refused call is told of, and so is one that
-/// changed anything.
+/// Makes the step, once more if memory ran out, and prints its result. A line reports a call that ran out of memory,
+/// and another one reports it if that call changed anything.
 pub fn take<W: Write>(stage: &mut Stage, step: Step, output: &mut W) -> io::Result<()> {
     match step {
         Step::Packets => return poll_packets(stage, output),
@@ -134,7 +134,7 @@ fn grow(agent: &mut Agent, alloc: Global, step: Step) -> Outcome {
     }
 }
 
-/// Writes an answer to the first check, reads it, and looks whether it is signed by the password.
+/// Writes a response to the first check, parses it, and verifies it with the password.
 fn use_messages(first: Option<TransId>) -> &'static str {
     let Some(id) = first else {
         return "no check";
@@ -146,7 +146,7 @@ fn use_messages(first: Option<TransId>) -> &'static str {
     }
 }
 
-/// Prints the packets that wait, and keeps the id of the first check.
+/// Prints the queued packets, and stores the id of the first check.
 fn poll_packets<W: Write>(stage: &mut Stage, output: &mut W) -> io::Result<()> {
     match &mut stage.agent {
         Some(agent) => print_packets(agent, &mut stage.first, output),

@@ -1,4 +1,4 @@
-//! The calls that make values: candidates, their texts and JSON, credentials, and an agent of a given provider.
+//! The calls that make values: candidates, their texts and JSON, credentials, and an agent with a given provider.
 
 use crate::calls::{Agent, creds};
 use crate::packets::at;
@@ -52,7 +52,7 @@ static MAKINGS: [(&str, Making); 13] = [
     ("set_ufrag", Making::Ufrag),
 ];
 
-/// What the calls are given.
+/// The arguments of the calls.
 #[derive(Drop)]
 struct Stock {
     candidate: Candidate,
@@ -70,11 +70,11 @@ enum Made {
     Creds(IceCreds),
     Text(String),
     Json(Value),
-    /// The stock's candidate has another user fragment.
+    /// The stock's candidate has another username fragment.
     Renamed,
 }
 
-/// Makes each call, once more where memory was refused, and prints what it made.
+/// Makes each call, once more if memory ran out, and prints what it made.
 pub fn play_values<W: Write>(alloc: Global, output: &mut W) -> io::Result<bool> {
     let Some(mut stock) = stock_twice(alloc, output)? else {
         writeln!(output, "no stock")?;
@@ -108,7 +108,7 @@ fn stock_twice<W: Write>(alloc: Global, output: &mut W) -> io::Result<Option<Sto
     }
 }
 
-/// Whether a refused call left what it was lent.
+/// Whether a failed call left its borrowed arguments unchanged.
 fn is_untouched(stock: &Stock, state: u64) -> bool {
     stock.random.state() == state && stock.candidate.ufrag() == Some("EsAw")
 }

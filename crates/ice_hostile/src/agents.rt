@@ -1,5 +1,5 @@
-//! The agent that is played against, and what is done to it: each call in a function of its own that promises nothing, as the
-//! program prints what came of it. An attack puts a new agent in the place of the last one, which its caller lends it.
+//! The agent under attack, and what is done to it. Each call has a function of its own without guarantees, since the
+//! program prints the results. An attack borrows the last agent from its caller, and replaces it by a new one.
 use crate::broken::Broken;
 use crate::request::{PASSWORD, PEER, UFRAG};
 use is::stun::{StunMessage, StunPacket};
@@ -14,7 +14,7 @@ use std::net::{Ipv4Addr, SocketAddr, SocketAddrV4};
 
 pub type Agent = IceAgent<DefaultSha1HmacProvider>;
 
-/// The fragments and passwords of the checking agent and of its peer.
+/// The username fragments and passwords of the checking agent and of its peer.
 pub const NEAR: &str = "near";
 
 pub const NEAR_PASS: &str = "nearpass";
@@ -26,16 +26,16 @@ pub const FAR_PASS: &str = "farpass";
 /// The peer's host candidate.
 pub const FAR_LINE: &str = "candidate:1 1 udp 2130706175 10.0.0.2 2000 typ host";
 
-/// What became of bytes that an agent was given.
+/// The result of passing bytes to an agent.
 #[derive(Clone, Copy, Debug, PartialEq, Eq)]
 pub enum Taken {
-    /// They read as no message, so the agent never saw them.
+    /// They did not parse as a message, so the agent never got them.
     Unparsed,
     /// They were not for the agent.
     False,
     /// They were for the agent.
     True,
-    /// The agent refused them for want of pair numbers.
+    /// The call failed, since no pair number is left.
     Refused,
 }
 
@@ -44,7 +44,7 @@ pub fn at(host: u8, port: u16) -> SocketAddr {
     SocketAddr::V4(SocketAddrV4::new(Ipv4Addr::new(10, 0, 0, host), port))
 }
 
-/// The moment so many milliseconds from the beginning.
+/// The time so many milliseconds after the beginning.
 pub fn ms(number: u64) -> Instant {
     Instant(number.saturating_mul(1_000_000))
 }
@@ -56,12 +56,12 @@ pub fn creds(alloc: Global, ufrag: &str, pass: &str) -> Result<IceCreds, Broken>
     })
 }
 
-/// An agent with nothing but credentials and a tie-breaker of 1.
+/// An agent that has only credentials and a tie-breaker of 1.
 pub fn make(alloc: Global, ufrag: &str, pass: &str) -> Result<Agent, Broken> {
     Ok(Agent::new(alloc, creds(alloc, ufrag, pass)?, 1)?)
 }
 
-/// Puts such an agent in the place of the last one.
+/// Replaces the last agent by such an agent.
 pub fn renew(agent: &mut Agent, alloc: Global, ufrag: &str, pass: &str) -> Result<(), Broken> {
     *agent = make(alloc, ufrag, pass)?;
     Ok(())
@@ -78,7 +78,7 @@ pub fn add_host(agent: &mut Agent, alloc: Global, address: SocketAddr) -> Result
     Ok(())
 }
 
-/// Adds the remote candidate of a line, and answers whether it was taken.
+/// Adds the remote candidate of a line, and returns whether it was added.
 pub fn hear_of(agent: &mut Agent, alloc: Global, line: &str) -> Result<bool, Broken> {
     match agent.add_remote_candidate(Candidate::from_sdp_string(alloc, line)?) {
         Ok(()) => Ok(true),
@@ -87,14 +87,14 @@ pub fn hear_of(agent: &mut Agent, alloc: Global, line: &str) -> Result<bool, Bro
     }
 }
 
-/// A new agent that the seen request is for.
+/// A new agent that the observed request is for.
 pub fn renew_asked(agent: &mut Agent, alloc: Global) -> Result<(), Broken> {
     renew(agent, alloc, UFRAG, PASSWORD)?;
     tell_peer(agent, alloc, PEER, "x")?;
     add_host(agent, alloc, at(1, 1000))
 }
 
-/// A new controlling agent with host 10.0.0.1:1000 that knows the peer's credentials.
+/// A new controlling agent with host 10.0.0.1:1000 that has the peer's credentials.
 pub fn renew_lonely(agent: &mut Agent, alloc: Global) -> Result<(), Broken> {
     renew(agent, alloc, NEAR, NEAR_PASS)?;
     tell_peer(agent, alloc, FAR, FAR_PASS)?;
@@ -102,7 +102,7 @@ pub fn renew_lonely(agent: &mut Agent, alloc: Global) -> Result<(), Broken> {
     add_host(agent, alloc, at(1, 1000))
 }
 
-/// The same, which knows the peer's candidate 10.0.0.2:2000 too.
+/// The same, which has the peer's candidate 10.0.0.2:2000 too.
 pub fn renew_paired(agent: &mut Agent, alloc: Global) -> Result<(), Broken> {
     renew_lonely(agent, alloc)?;
     if hear_of(agent, alloc, FAR_LINE)? {
@@ -116,7 +116,7 @@ pub fn take_role(agent: &mut Agent, controlling: bool) {
     agent.set_controlling(controlling);
 }
 
-/// Gives the bytes to the agent, as a UDP packet between the addresses.
+/// Passes the bytes to the agent, as a UDP packet between the addresses.
 pub fn take(
     agent: &mut Agent,
     now: Instant,
@@ -141,12 +141,12 @@ pub fn take(
     }
 }
 
-/// Gives the bytes to the agent, as a UDP packet from 10.0.0.2:2000 to 10.0.0.1:1000.
+/// Passes the bytes to the agent, as a UDP packet from 10.0.0.2:2000 to 10.0.0.1:1000.
 pub fn take_here(agent: &mut Agent, now: Instant, bytes: &[u8]) -> Result<Taken, Broken> {
     take(agent, now, at(2, 2000), at(1, 1000), bytes)
 }
 
-/// Tells the agent the moment. Its random words are those of the seed.
+/// Calls `handle_timeout` at this time, with random words from the seed.
 pub fn wake(agent: &mut Agent, now: Instant, seed: u64) -> Result<(), Broken> {
     let mut random = Pcg32::seed_from_u64(seed);
     Ok(agent.handle_timeout(now, &mut random)?)
@@ -164,7 +164,8 @@ pub fn next_timeout(agent: &mut Agent) -> Option<Instant> {
     agent.poll_timeout()
 }
 
-/// A letter for an event: R for a restart, the first one of the state, S for a new source, N for a nomination.
+/// A letter for an event: R for a restart, the first letter of the state, S for a discovered source, N for a selected
+/// pair.
 fn in_flight_of(event: &IceAgentEvent) -> char {
     match event {
         IceAgentEvent::IceRestart(_) => 'R',
@@ -180,7 +181,7 @@ fn in_flight_of(event: &IceAgentEvent) -> char {
     }
 }
 
-/// The events that wait, as letters; `-` where none does.
+/// The queued events, as letters; `-` if there are none.
 pub fn events(agent: &mut Agent, alloc: Global) -> Result<String, Broken> {
     let mut letters = String::new(alloc);
     for _ in 0..u64::MAX {
@@ -195,7 +196,7 @@ pub fn events(agent: &mut Agent, alloc: Global) -> Result<String, Broken> {
     Ok(letters)
 }
 
-/// How many packets wait. They are gone then.
+/// How many packets are queued. All of them are polled.
 pub fn packets(agent: &mut Agent) -> u64 {
     let mut count = 0u64;
     for _ in 0..u64::MAX {

@@ -1,4 +1,4 @@
-//! Answers that are not the peer's, answers off their path, and an answer that comes twice.
+//! Responses that are not the peer's, responses off their path, and a response that arrives twice.
 use crate::agents::{
     Agent, FAR_LINE, FAR_PASS, NEAR_PASS, Taken, at, events, ms, next_packet, packets,
     renew_paired, signed, take, wake,
@@ -10,14 +10,14 @@ use is::{Candidate, Duration};
 use std::alloc::Global;
 use std::io::Write;
 
-/// An answer to the check of 10.0.0.1:1000 to 10.0.0.2:2000.
+/// A response to the check from 10.0.0.1:1000 to 10.0.0.2:2000.
 #[derive(Clone, Copy)]
 struct Forgery {
     name: &'static str,
-    /// It is a 487, and no success.
+    /// It is a 487, not a success response.
     conflict: bool,
     pass: &'static str,
-    /// It has the id of the check, and no other.
+    /// It has the id of the check, not another one.
     known: bool,
     /// It comes from 10.0.0.N at this port.
     source: (u8, u16),
@@ -25,7 +25,7 @@ struct Forgery {
     destination: (u8, u16),
 }
 
-/// A true answer.
+/// An authentic response.
 const TRUE: Forgery = Forgery {
     name: "that is true",
     conflict: false,
@@ -93,7 +93,7 @@ struct Check<'a> {
     peer: &'a Candidate,
 }
 
-/// A new agent sends its check at 0, whose id is answered, and the events until then are gone.
+/// A new agent sends its check at 0. Returns the id of the check; the events until then are polled.
 fn begin(agent: &mut Agent, alloc: Global) -> Result<TransId, Broken> {
     renew_paired(agent, alloc)?;
     wake(agent, ms(0), 1)?;
@@ -114,7 +114,7 @@ fn other_id(id: TransId) -> TransId {
     TransId(bytes)
 }
 
-/// The bytes of an answer. A success maps the agent to its own address.
+/// The bytes of a response. The mapped address of a success response is the agent's own address.
 fn forge(alloc: Global, forgery: &Forgery, id: TransId) -> Result<Vec<u8>, Broken> {
     let id = if forgery.known { id } else { other_id(id) };
     let message = if forgery.conflict {
@@ -125,7 +125,7 @@ fn forge(alloc: Global, forgery: &Forgery, id: TransId) -> Result<Vec<u8>, Broke
     signed(alloc, message, forgery.pass)
 }
 
-/// Polls all packets and events; whether there was none, and the agent is as it was seen.
+/// Polls all packets and events. Returns whether there was none, and the agent is as it was observed before.
 fn stays_as(
     agent: &mut Agent,
     alloc: Global,
@@ -152,7 +152,7 @@ fn give(
     take(agent, ms(now), source, destination, &bytes)
 }
 
-/// The answer comes at 50 ms.
+/// The response arrives at 50 ms.
 fn write_forgery<W: Write>(
     agent: &mut Agent,
     alloc: Global,
@@ -188,7 +188,7 @@ fn write_true<W: Write>(
     Ok(())
 }
 
-/// The answer comes, and the true one behind it.
+/// The response arrives, and the authentic one after it.
 fn try_forgery<W: Write>(
     agent: &mut Agent,
     alloc: Global,
@@ -201,7 +201,7 @@ fn try_forgery<W: Write>(
     write_true(agent, alloc, id, 50, output)
 }
 
-/// Prints the figures of the announced pair.
+/// Prints the figures of the selected pair.
 fn write_figures<W: Write>(agent: &Agent, output: &mut W) -> Result<(), Broken> {
     let last = agent.nominated_pair_rtt().unwrap_or(Duration(0));
     let total = agent.nominated_pair_total_rtt().unwrap_or(Duration(0));
@@ -215,7 +215,7 @@ fn write_figures<W: Write>(agent: &Agent, output: &mut W) -> Result<(), Broken> 
     Ok(())
 }
 
-/// The true answer comes at 50 ms, and once more at 60 ms.
+/// The authentic response arrives at 50 ms, and again at 60 ms.
 fn try_again<W: Write>(agent: &mut Agent, alloc: Global, output: &mut W) -> Result<(), Broken> {
     let id = begin(agent, alloc)?;
     writeln!(output, "answer given twice:")?;

@@ -1,4 +1,4 @@
-//! Bytes bred from others: flipped, cut, with attributes swapped or repeated.
+//! Bytes derived from others: with flipped bits, cut, or with attributes swapped or repeated.
 use crate::broken::Broken;
 use rand_core::Rng;
 use rand_pcg::Pcg32;
@@ -7,7 +7,7 @@ use std::alloc::Global;
 /// Where the attributes of a message begin.
 const HEADER: usize = 20;
 
-/// A number below the limit; 0 where the limit is 0.
+/// A number below the limit; 0 if the limit is 0.
 pub fn below(random: &mut Pcg32, limit: usize) -> usize {
     if limit == 0 {
         0
@@ -23,7 +23,7 @@ fn flip(bytes: &mut [u8], random: &mut Pcg32) {
     }
 }
 
-/// Writes into the header how long the rest is.
+/// Writes the length of the rest into the header.
 fn tell_length(bytes: &mut [u8]) {
     let len = bytes.len().saturating_sub(HEADER).min(65535) as u16;
     let [high, low] = len.to_be_bytes();
@@ -35,7 +35,7 @@ fn tell_length(bytes: &mut [u8]) {
     }
 }
 
-/// From where to where the attribute at this place reaches, where it lies within the bytes.
+/// The range of the attribute at this index, if it is within the bytes.
 fn attribute_at(bytes: &[u8], place: usize) -> Option<(usize, usize)> {
     let high = bytes.get(place.saturating_add(2))?;
     let low = bytes.get(place.saturating_add(3))?;
@@ -48,7 +48,7 @@ fn attribute_at(bytes: &[u8], place: usize) -> Option<(usize, usize)> {
     }
 }
 
-/// The attributes, as far as they can be told apart.
+/// The attributes, as far as they can be separated.
 fn attributes(alloc: Global, bytes: &[u8]) -> Result<Vec<(usize, usize)>, Broken> {
     let mut cuts = Vec::new(alloc);
     let mut place = HEADER;
@@ -69,7 +69,7 @@ fn push_cut(bred: &mut Vec<u8>, bytes: &[u8], cut: Option<&(usize, usize)>) -> R
     Ok(())
 }
 
-/// Two attributes change places.
+/// Two attributes are swapped.
 fn swapped(alloc: Global, bytes: &[u8], random: &mut Pcg32) -> Result<Vec<u8>, Broken> {
     let cuts = attributes(alloc, bytes)?;
     let one = below(random, cuts.len());
@@ -89,7 +89,7 @@ fn swapped(alloc: Global, bytes: &[u8], random: &mut Pcg32) -> Result<Vec<u8>, B
     Ok(bred)
 }
 
-/// An attribute stands at the end once more.
+/// An attribute is repeated at the end.
 fn repeated(alloc: Global, bytes: &[u8], random: &mut Pcg32) -> Result<Vec<u8>, Broken> {
     let cuts = attributes(alloc, bytes)?;
     let mut bred = Vec::from_slice(alloc, bytes)?;
@@ -99,7 +99,7 @@ fn repeated(alloc: Global, bytes: &[u8], random: &mut Pcg32) -> Result<Vec<u8>, 
     Ok(bred)
 }
 
-/// The first bytes, with a header that says so or not.
+/// The first bytes, with a header that has the new length or the old one.
 fn cut(alloc: Global, bytes: &[u8], random: &mut Pcg32) -> Result<Vec<u8>, Broken> {
     let len = below(random, bytes.len());
     let len = if below(random, 2) == 0 {
@@ -122,7 +122,7 @@ fn flipped(alloc: Global, bytes: &[u8], random: &mut Pcg32) -> Result<Vec<u8>, B
     Ok(bred)
 }
 
-/// A child of the bytes.
+/// New bytes, derived from these by a random change.
 pub fn breed(alloc: Global, bytes: &[u8], random: &mut Pcg32) -> Result<Vec<u8>, Broken> {
     match below(random, 5) {
         0 => swapped(alloc, bytes, random),

@@ -3,7 +3,7 @@ use is::{IceError, StunError};
 use std::alloc::{AllocError, AllocFailed};
 use std::io;
 
-/// Memory was refused, a write failed, or an agent could not be set up.
+/// Memory ran out, a write failed, or an agent could not be set up.
 #[derive(Clone, Copy, Debug)]
 pub struct Broken;
 

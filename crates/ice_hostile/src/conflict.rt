@@ -1,4 +1,4 @@
-//! Two agents that both claim to be controlling, and a 487 that the network keeps back and then delivers three times.
+//! Two agents that both claim to be controlling, and a 487 that the network delays and then delivers three times.
 use crate::agents::{at, creds, ms};
 use crate::broken::Broken;
 use is::{
@@ -51,7 +51,7 @@ fn host(alloc: Global, side: Side) -> Result<Candidate, Broken> {
     Ok(Candidate::host(alloc, at(host_of(side), 1000), Protocol::Udp)?)
 }
 
-/// An agent learns of its peer, and is told the moment 0: three calls and one more.
+/// An agent gets its peer, and handles a timeout at 0: three calls and one more.
 fn introduce(alloc: Global, side: Side, events: &mut Vec<WorldEvent>) -> Result<(), Broken> {
     let peer = creds(alloc, ufrag_of(other(side)), "password")?;
     events.push(WorldEvent::Call(side, Call::SetRemoteCredentials(peer)))?;
@@ -84,7 +84,7 @@ fn begin(alloc: Global, events: &mut Vec<WorldEvent>) -> Result<(), Broken> {
     Ok(())
 }
 
-/// 50 events in which B waits, checks again and sends.
+/// 50 events in which B handles timeouts, checks again and sends.
 fn wait(events: &mut Vec<WorldEvent>) -> Result<(), Broken> {
     for turn in 1..26u64 {
         let now = ms(turn.saturating_mul(100));
@@ -94,7 +94,7 @@ fn wait(events: &mut Vec<WorldEvent>) -> Result<(), Broken> {
     Ok(())
 }
 
-/// What the log says of the roles.
+/// What the log reports of the roles.
 #[derive(Clone, Copy)]
 struct Roles {
     a: bool,
@@ -162,7 +162,7 @@ fn run(pair: &mut Pair, events: Vec<WorldEvent>) -> WorldLog {
     pair.run(events, &mut random)
 }
 
-/// Runs the events with a pair of their own, of which the greater tie-breaker is A's.
+/// Runs the events with two new agents, of which A has the greater tie-breaker.
 fn run_anew(alloc: Global, events: Vec<WorldEvent>) -> Result<WorldLog, Broken> {
     let a = spec(alloc, "aaaa", 10)?;
     let b = spec(alloc, "bbbb", 5)?;
@@ -172,7 +172,7 @@ fn run_anew(alloc: Global, events: Vec<WorldEvent>) -> Result<WorldLog, Broken> 
     }
 }
 
-/// The 487 arrives behind the 50 events, three times. A's check arrives at B before them, or not at all.
+/// The 487 arrives after the 50 events, three times. A's check arrives at B before them, or not at all.
 fn keep_back(alloc: Global, met: bool) -> Result<WorldLog, Broken> {
     let mut events = Vec::new(alloc);
     begin(alloc, &mut events)?;

@@ -1,4 +1,4 @@
-//! The request cut short, as it came and with a header that says its new length.
+//! The request cut short, both with the original header and with a header that has the new length.
 use crate::broken::Broken;
 use crate::request::{PASSWORD, REQUEST};
 use is::stun::StunMessage;
@@ -6,13 +6,13 @@ use is::{DefaultSha1HmacProvider, ParseFault, StunError};
 use std::fmt;
 use std::io::Write;
 
-/// What bytes read as.
+/// The result of parsing bytes.
 #[derive(Clone, Copy, PartialEq, Eq)]
 enum Outcome {
     Fault(ParseFault),
-    /// They read, and verify with the password or do not.
+    /// They parse; the flag is whether they verify with the password.
     Read(bool),
-    /// Reading gave another error.
+    /// Parsing returned another error.
     Other,
 }
 
@@ -42,7 +42,7 @@ fn cut(len: usize) -> Outcome {
     outcome_of(REQUEST.get(..len).unwrap_or(&[]))
 }
 
-/// The same, with what follows the header for its length.
+/// The same, with the length of the rest in the header.
 fn shortened(len: usize) -> Outcome {
     let mut bytes = REQUEST;
     let [high, low] = (len.saturating_sub(20).min(65535) as u16).to_be_bytes();
@@ -51,7 +51,7 @@ fn shortened(len: usize) -> Outcome {
     outcome_of(bytes.get(..len).unwrap_or(&[]))
 }
 
-/// Neighbours of one outcome share a line.
+/// Adjacent lengths with the same outcome share a line.
 fn write_cuts<W: Write>(output: &mut W) -> Result<(), Broken> {
     let mut first = 0;
     for len in 0..100usize {
@@ -73,7 +73,7 @@ fn write_shortened<W: Write>(output: &mut W) -> Result<(), Broken> {
     Ok(())
 }
 
-/// The lengths between whole words.
+/// The lengths that are not a multiple of a word.
 fn write_uneven<W: Write>(output: &mut W) -> Result<(), Broken> {
     let mut tried = 0u32;
     let mut uneven = 0u32;

@@ -7,7 +7,7 @@ use is::{Candidate, IceAgentEvent, Instant, Protocol};
 use std::alloc::Global;
 use std::io::Write;
 
-/// The parts of the request, from place to place.
+/// The parts of the request, with first and last offsets.
 const PARTS: [(&str, usize, usize); 13] = [
     ("type", 0, 1),
     ("length", 2, 3),
@@ -24,7 +24,7 @@ const PARTS: [(&str, usize, usize); 13] = [
     ("FINGERPRINT value", 96, 99),
 ];
 
-/// How often what came of a changed request.
+/// How often each outcome of a changed request occurred.
 #[derive(Clone, Copy)]
 struct Tally {
     unparsed: u32,
@@ -59,7 +59,7 @@ impl Tally {
     }
 }
 
-/// The agent has the reply to send, and tells of the source.
+/// The agent sends the response, and emits the discovered source.
 fn answers(agent: &mut Agent) -> bool {
     let Some(reply) = next_packet(agent) else {
         return false;
@@ -75,7 +75,8 @@ fn emits_nothing(agent: &mut Agent) -> bool {
     next_packet(agent).is_none() && next_event(agent).is_none()
 }
 
-/// A new agent is given the changed request: it answers as it does the request, or nothing changes and it answers the request then.
+/// A new agent gets the changed request. Either it responds as to the original request, or nothing changes and it
+/// then responds to the original request.
 fn try_flip(
     agent: &mut Agent,
     alloc: Global,

@@ -1,4 +1,4 @@
-//! More requests than an agent keeps, before it knows its peer.
+//! More early requests than an agent stores.
 use crate::agents::{
     Agent, FAR, FAR_PASS, NEAR, NEAR_PASS, Taken, add_host, at, events, ms, next_packet,
     next_timeout, packets, renew, signed, take_here, tell_peer, wake,
@@ -14,14 +14,14 @@ fn id_of(number: u8) -> TransId {
     TransId([b'f', b'l', b'o', b'o', b'd', 0, 0, 0, 0, 0, 0, number])
 }
 
-/// The peer's request of this number, under the user name `near:farr`.
+/// The peer's request of this number, with the USERNAME `near:farr`.
 fn request(alloc: Global, number: u8) -> Result<Vec<u8>, Broken> {
     let name = "near:farr";
     let message = StunMessage::binding_request(name, id_of(number), true, 9, 1862270719, false);
     signed(alloc, message, NEAR_PASS)
 }
 
-/// A new controlled agent that does not know its peer yet is given requests 1 to 101. How many it takes is answered.
+/// A new controlled agent without the peer's credentials gets requests 1 to 101. Returns how many it accepts.
 fn flood(agent: &mut Agent, alloc: Global) -> Result<u32, Broken> {
     renew(agent, alloc, NEAR, NEAR_PASS)?;
     add_host(agent, alloc, at(1, 1000))?;
@@ -35,7 +35,7 @@ fn flood(agent: &mut Agent, alloc: Global) -> Result<u32, Broken> {
     Ok(taken)
 }
 
-/// The packet is a success reply to the request of this number.
+/// The packet is a success response to the request of this number.
 fn replies_to(packet: Option<Transmit>, number: u8) -> bool {
     let Some(packet) = packet else {
         return false;
@@ -50,7 +50,7 @@ fn replies_to(packet: Option<Transmit>, number: u8) -> bool {
     }
 }
 
-/// At 0, 1, .. 39 ms one request is answered each, from the second on, and no wake-up is told.
+/// At 0, 1, .. 39 ms one request is answered each, from the second one on, and `poll_timeout` returns none.
 fn write_replies<W: Write>(agent: &mut Agent, output: &mut W) -> Result<(), Broken> {
     let mut replies = 0u32;
     let mut wakes = 0u32;
@@ -83,7 +83,7 @@ fn write_packet<W: Write>(agent: &mut Agent, now: u64, output: &mut W) -> Result
     Ok(())
 }
 
-/// What else it sends, and when it wants to be called.
+/// The other packets that it sends, and its next timeout.
 fn write_wake<W: Write>(agent: &mut Agent, output: &mut W) -> Result<(), Broken> {
     let more = packets(agent);
     match next_timeout(agent) {
@@ -105,7 +105,7 @@ fn write_events<W: Write>(agent: &mut Agent, alloc: Global, output: &mut W) -> R
     Ok(())
 }
 
-/// The peer is known now, and what waited is answered as long as it is not too old.
+/// The agent has the peer's credentials now, and each early request is answered unless it is too old.
 fn answer<W: Write>(agent: &mut Agent, alloc: Global, output: &mut W) -> Result<(), Broken> {
     tell_peer(agent, alloc, FAR, FAR_PASS)?;
     write_replies(agent, output)?;

@@ -1,4 +1,4 @@
-//! Pair numbers, pair limits and priorities at their ends.
+//! Pair numbers, pair limits and priorities at their bounds.
 use crate::agents::{
     Agent, FAR_LINE, NEAR_PASS, Taken, hear_of, ms, renew_lonely, signed, take_here, take_role,
 };
@@ -9,14 +9,14 @@ use is::stun::{StunMessage, TransId};
 use std::alloc::Global;
 use std::io::Write;
 
-/// Other candidates of the peer's.
+/// Other candidates of the peer.
 const THIRD_LINE: &str = "candidate:1 1 udp 2130706175 10.0.0.3 2000 typ host";
 
 const TCP_LINE: &str = "candidate:1 1 tcp 2130706175 10.0.0.2 2000 typ host tcptype passive";
 
 const LEAST_LINE: &str = "candidate:1 1 udp 0 10.0.0.2 2000 typ host";
 
-/// Has the next pair take this number at least.
+/// The next pair gets at least this number.
 fn skip(agent: &mut Agent, number: u64) {
     agent.skip_pair_ids(number);
 }
@@ -25,7 +25,7 @@ fn allow_pairs(agent: &mut Agent, number: usize) {
     agent.set_max_candidate_pairs(number);
 }
 
-/// How many candidates of the peer's are known.
+/// How many of the peer's candidates are stored.
 fn known(agent: &Agent) -> u32 {
     let mut count = 0u32;
     for _ in agent.remote_candidates() {
@@ -34,7 +34,7 @@ fn known(agent: &Agent) -> u32 {
     count
 }
 
-/// The priority of the pair with the candidate of the line, where there is one.
+/// The priority of the pair with the candidate of the line, if there is one.
 pub fn pair_prio(agent: &Agent, alloc: Global, line: &str) -> Result<Option<u64>, Broken> {
     let candidate = Candidate::from_sdp_string(alloc, line)?;
     match agent.find_pair_for_equivalent_remote_candidate(&candidate) {
@@ -54,7 +54,7 @@ fn paired(agent: &Agent, alloc: Global) -> Result<u32, Broken> {
     Ok(count)
 }
 
-/// Prints what came of a candidate or of a request.
+/// Prints the result of a candidate or of a request.
 fn write_step<W: Write>(
     agent: &Agent,
     alloc: Global,
@@ -82,7 +82,7 @@ fn try_candidate<W: Write>(
     write_step(agent, alloc, name, taken, output)
 }
 
-/// No pair number is left: a UDP candidate can't be paired, and a TCP one need not be.
+/// No pair number is left: a UDP candidate can't be paired, and a TCP one needs no pair.
 fn write_used_up<W: Write>(agent: &mut Agent, alloc: Global, output: &mut W) -> Result<(), Broken> {
     renew_lonely(agent, alloc)?;
     skip(agent, 18446744073709551615);
@@ -127,7 +127,7 @@ fn try_request<W: Write>(
     write_step(agent, alloc, name, taken, output)
 }
 
-/// No pair is allowed: forming leaves none, and a request adds one until pairs are formed next.
+/// No pair is allowed: forming leaves none, and a request adds one until pairs are formed again.
 fn write_no_pairs<W: Write>(
     agent: &mut Agent,
     alloc: Global,

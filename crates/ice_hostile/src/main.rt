@@ -1,4 +1,4 @@
-//! Plays an attacker against STUN messages, an agent and two agents, and prints what came of each thing that it tried.
+//! Attacks STUN messages, an agent and two agents, and prints the result of each attempt.
 #![tactic(auto)]
 
 mod agents;
@@ -23,7 +23,7 @@ use std::io;
 use std::io::Write;
 use std::process::ExitCode;
 
-/// Tries everything, a subject behind another.
+/// Tries everything, one subject after another.
 fn play<W: Write>(agent: &mut Agent, alloc: Global, output: &mut W) -> Result<(), Broken> {
     cuts::play(output)?;
     flips::play(agent, alloc, output)?;

@@ -1,4 +1,4 @@
-//! Moments and delays at their ends.
+//! Times and delays at their bounds.
 use crate::agents::{
     Agent, FAR_LINE, events, ms, next_packet, next_timeout, packets, renew_lonely, renew_paired,
     wake,
@@ -9,13 +9,13 @@ use is::{Duration, Instant};
 use std::alloc::Global;
 use std::io::Write;
 
-/// What ten times of one moment came to.
+/// The results of ten `handle_timeout` calls with one time.
 #[derive(Clone, Copy)]
 struct Ten {
     checks: u32,
-    /// How often that moment was told as the next one to wake up at.
+    /// How often that time was the next timeout.
     wakes: u32,
-    /// The pair was there behind the ninth, and is there behind the tenth.
+    /// Whether the pair existed after the ninth call, and after the tenth.
     ninth: bool,
     tenth: bool,
 }
@@ -24,7 +24,7 @@ fn is_paired(agent: &Agent, alloc: Global) -> Result<bool, Broken> {
     Ok(pair_prio(agent, alloc, FAR_LINE)?.is_some())
 }
 
-/// Tells the moment, and counts what came of it.
+/// Calls `handle_timeout`, and counts the results.
 fn count(agent: &mut Agent, now: Instant, ten: &mut Ten) -> Result<(), Broken> {
     wake(agent, now, 1)?;
     if next_packet(agent).is_some() {
@@ -70,7 +70,7 @@ fn set_rto(agent: &mut Agent, nanoseconds: u64) {
     agent.set_initial_stun_rto(Duration(nanoseconds));
 }
 
-/// With a first delay of 0 no check waits for its answer.
+/// With an initial RTO of 0 no check waits for its response.
 fn write_no_delay<W: Write>(
     agent: &mut Agent,
     alloc: Global,
@@ -85,7 +85,7 @@ fn write_no_delay<W: Write>(
     write_ten(ten, told.as_str(), output)
 }
 
-/// At the last moment of all there is none to wait for.
+/// At the greatest time there is no later timeout.
 fn write_last_moment<W: Write>(
     agent: &mut Agent,
     alloc: Global,
@@ -98,7 +98,7 @@ fn write_last_moment<W: Write>(
     write_ten(ten, told.as_str(), output)
 }
 
-/// A moment before the last one: the pair stays due behind its check.
+/// A time before the last one: the pair stays due after its check.
 fn write_back_in_time<W: Write>(
     agent: &mut Agent,
     alloc: Global,

@@ -11,7 +11,7 @@ use rand_pcg::Pcg32;
 use std::alloc::Global;
 use std::net::SocketAddr;
 
-/// What stands about an agent: its peer, the moment, and what went between them last.
+/// The state next to an agent: its peer, the time, and the last packets between them.
 #[derive(Drop)]
 pub struct Session {
     pub peer: Candidate,
@@ -19,28 +19,28 @@ pub struct Session {
     pub now: u64,
     /// The last packet that the agent sent.
     pub sent: Vec<u8>,
-    /// The last bytes that it was given.
+    /// The last bytes that it received.
     pub given: Vec<u8>,
 }
 
-/// What became of a call.
+/// The result of a call.
 #[derive(Clone, Copy, Debug, PartialEq, Eq)]
 pub enum Did {
-    /// The agent did it.
+    /// The call succeeded.
     Done,
-    /// It took the packet.
+    /// The agent accepted the packet.
     Took,
-    /// It answered false, or none.
+    /// The call returned false, or none.
     False,
-    /// The bytes did not read.
+    /// The bytes did not parse.
     Unparsed,
-    /// It refused.
+    /// The call failed.
     Refused,
-    /// It took a packet that it had not said that it would, or the other way round.
+    /// The agent accepted a packet although it had reported that it would not, or the reverse.
     Disagreed,
 }
 
-/// A new agent that the seen request is for, in a random role, that knows its peer's credentials or not.
+/// A new agent that the observed request is for, in a random role, with its peer's credentials or without them.
 pub fn start(agent: &mut Agent, alloc: Global, random: &mut Pcg32) -> Result<(), Broken> {
     renew(agent, alloc, UFRAG, PASSWORD)?;
     take_role(agent, below(random, 2) == 0);
@@ -51,7 +51,7 @@ pub fn start(agent: &mut Agent, alloc: Global, random: &mut Pcg32) -> Result<(),
     Ok(())
 }
 
-/// Nothing went between the agent and its peer yet.
+/// A session before any packet between the agent and its peer.
 pub fn begin(alloc: Global) -> Result<Session, Broken> {
     let peer = Candidate::host(alloc, at(2, 2000), Protocol::Udp)?;
     Ok(Session {
@@ -70,7 +70,7 @@ fn what_became(answer: Result<(), IceError>) -> Result<Did, Broken> {
     }
 }
 
-/// Some time passes, or some is taken back.
+/// A `handle_timeout` call, mostly at a later time and sometimes at an earlier one.
 fn moment(agent: &mut Agent, session: &mut Session, random: &mut Pcg32) -> Result<Did, Broken> {
     let now = session.now;
     session.now = match below(random, 8) {
@@ -93,7 +93,7 @@ fn id_of(session: &Session) -> TransId {
     }
 }
 
-/// The request that was seen, an answer to the last packet, that packet itself, or the bytes that were given last.
+/// The observed request, a response to the last packet, that packet itself, or the bytes that were received last.
 fn parent(session: &Session, alloc: Global, random: &mut Pcg32) -> Result<Vec<u8>, Broken> {
     let id = id_of(session);
     match below(random, 8) {
@@ -109,7 +109,7 @@ fn parent(session: &Session, alloc: Global, random: &mut Pcg32) -> Result<Vec<u8
     }
 }
 
-/// Whether the agent says that it would take the bytes.
+/// Whether the agent reports that it would accept the bytes.
 fn would_take(agent: &Agent, source: SocketAddr, destination: SocketAddr, bytes: &[u8]) -> bool {
     match StunMessage::parse(bytes) {
         Ok(message) => agent.accepts_packet(&StunPacket {
@@ -122,7 +122,7 @@ fn would_take(agent: &Agent, source: SocketAddr, destination: SocketAddr, bytes:
     }
 }
 
-/// What became of bytes, where the agent had said that it would take them, or that it would not.
+/// The result for bytes, if the agent had reported whether it would accept them.
 fn came_of(taken: Taken, accepted: bool) -> Did {
     match (taken, accepted) {
         (Taken::True, true) => Did::Took,
@@ -133,7 +133,7 @@ fn came_of(taken: Taken, accepted: bool) -> Did {
     }
 }
 
-/// A packet comes, mostly on the way of the peer's.
+/// A packet arrives, mostly on the path from the peer.
 fn packet(
     agent: &mut Agent,
     session: &mut Session,
@@ -159,7 +159,7 @@ fn packet(
     Ok(came_of(taken, accepted))
 }
 
-/// The host candidate of a random address on this side.
+/// A host candidate at a random address of the agent or peer with this number.
 fn host(alloc: Global, number: u8, random: &mut Pcg32) -> Result<Candidate, Broken> {
     let port = match below(random, 3) {
         0 => 1000,
@@ -190,7 +190,7 @@ fn invalidate(agent: &mut Agent, candidate: &Candidate) -> Did {
     }
 }
 
-/// A candidate comes or goes.
+/// A candidate is added or invalidated.
 fn candidate(agent: &mut Agent, alloc: Global, random: &mut Pcg32) -> Result<Did, Broken> {
     let number = match below(random, 2) {
         0 => 1,
@@ -208,7 +208,7 @@ fn restart(agent: &mut Agent, alloc: Global, keep: bool) -> Result<Did, Broken> 
     what_became(agent.ice_restart(creds(alloc, UFRAG, PASSWORD)?, keep))
 }
 
-/// Credentials that are longer than any that are taken.
+/// Sets credentials that are longer than any allowed ones.
 fn tell_too_long(agent: &mut Agent, alloc: Global) -> Result<Did, Broken> {
     let ufrag = "u".repeat(alloc, 509)?;
     let peer = creds(alloc, ufrag.as_str(), FAR_PASS)?;
@@ -224,13 +224,13 @@ fn recreate(agent: &mut Agent) -> Result<Did, Broken> {
     what_became(agent.recreate_candidate_pairs())
 }
 
-/// The end of the pair numbers comes near.
+/// Skips almost to the end of the pair numbers.
 fn skip(agent: &mut Agent) -> Did {
     agent.skip_pair_ids(18446744073709551612);
     Did::Done
 }
 
-/// What the user does that is no candidate.
+/// The other calls of the user, without candidates.
 fn setting(agent: &mut Agent, alloc: Global, random: &mut Pcg32) -> Result<Did, Broken> {
     match below(random, 8) {
         0 => restart(agent, alloc, true),

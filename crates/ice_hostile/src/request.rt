@@ -1,7 +1,7 @@
-//! The Binding request that an attacker has seen, and what it is answered with.
+//! The Binding request that an attacker has observed, and the response to it.
 
-/// A Binding request as a browser sends it: user name `p9KA:SQAt`, network cost (1, 10), controlling, USE-CANDIDATE, priority
-/// 1853824767, signed with the password.
+/// A Binding request as a browser sends it: USERNAME `p9KA:SQAt`, network cost (1, 10), controlling, USE-CANDIDATE,
+/// priority 1853824767, signed with the password.
 pub const REQUEST: [u8; 100] = [
     0x00, 0x01, 0x00, 0x50, 0x21, 0x12, 0xa4, 0x42, 0x6a, 0x75, 0x63, 0x31, 0x35, 0x75, 0x78, 0x55,
     0x6e, 0x67, 0x47, 0x63, 0x00, 0x06, 0x00, 0x09, 0x70, 0x39, 0x4b, 0x41, 0x3a, 0x53, 0x51, 0x41,
@@ -12,16 +12,16 @@ pub const REQUEST: [u8; 100] = [
     0x36, 0x0e, 0x21, 0x9f,
 ];
 
-/// The user fragment that the request is for.
+/// The username fragment of the agent that the request is for.
 pub const UFRAG: &str = "p9KA";
 
 /// The password that it is signed with.
 pub const PASSWORD: &str = "xJcE9AQAR7kczUDVOXRUCl";
 
-/// The user fragment that it comes from.
+/// The username fragment of the agent that sent it.
 pub const PEER: &str = "SQAt";
 
-/// The success reply to the request from 10.0.0.2:2000, as HMAC-SHA1 and CRC-32 of another library make it.
+/// The success response to the request from 10.0.0.2:2000, as HMAC-SHA1 and CRC-32 of another library make it.
 pub const REPLY: [u8; 64] = [
     0x01, 0x01, 0x00, 0x2c, 0x21, 0x12, 0xa4, 0x42, 0x6a, 0x75, 0x63, 0x31, 0x35, 0x75, 0x78, 0x55,
     0x6e, 0x67, 0x47, 0x63, 0x00, 0x20, 0x00, 0x08, 0x00, 0x01, 0x26, 0xc2, 0x2b, 0x12, 0xa4, 0x40,

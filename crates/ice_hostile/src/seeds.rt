@@ -1,4 +1,4 @@
-//! Random lists of calls: what the agent does not do changes nothing that its caller can see.
+//! Random lists of calls: a call that is not done changes nothing that the agent's caller can observe.
 use crate::agents::{Agent, next_event, next_packet};
 use crate::breeding::below;
 use crate::broken::Broken;
@@ -12,7 +12,7 @@ use std::io::Write;
 
 const SEEDS: u64 = 10_000;
 
-/// How often what came of the calls.
+/// How often each outcome of a call occurred.
 #[derive(Clone, Copy)]
 struct Tally {
     done: u32,
@@ -52,7 +52,7 @@ impl Tally {
         }
     }
 
-    /// Each outcome came a thousand times at least, so the lists were no idle ones.
+    /// Each outcome occurred at least a thousand times, so the lists exercise the agent.
     fn is_lively(&self) -> bool {
         self.done.min(self.took).min(self.false_or_none) >= 1000
             && self.unparsed.min(self.refused) >= 1000
@@ -60,7 +60,7 @@ impl Tally {
     }
 }
 
-/// Takes the packets that wait, keeps the last, and answers how many there were.
+/// Polls all queued packets, stores the last, and returns how many there were.
 fn take_packets(agent: &mut Agent, session: &mut Session, tally: &mut Tally) -> u32 {
     let mut count = 0u32;
     for _ in 0..u64::MAX {
@@ -74,7 +74,7 @@ fn take_packets(agent: &mut Agent, session: &mut Session, tally: &mut Tally) -> 
     count
 }
 
-/// Takes the events that wait, and answers how many there were.
+/// Polls all queued events, and returns how many there were.
 fn take_events(agent: &mut Agent, tally: &mut Tally) -> u32 {
     let mut count = 0u32;
     for _ in 0..u64::MAX {
@@ -89,8 +89,8 @@ fn take_events(agent: &mut Agent, tally: &mut Tally) -> u32 {
     count
 }
 
-/// A call that was not done changes no getter, and issues nothing. One that was done issues one packet at most. A packet is taken
-/// where the agent says that it would take it, and nowhere else.
+/// A call that is not done changes no getter, and issues nothing. A call that is done issues at most one packet. A
+/// packet is accepted exactly if the agent reports that it would accept it.
 fn try_call(
     agent: &mut Agent,
     session: &mut Session,

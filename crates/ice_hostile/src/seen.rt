@@ -1,9 +1,9 @@
-//! What a caller sees of an agent without taking anything out of it.
+//! What a caller can observe of an agent without taking packets or events from it.
 use crate::agents::Agent;
 use is::pair::CheckState;
 use is::{Candidate, Duration, IceAgentStats, IceConnectionState, IceCreds, Instant};
 
-/// What the getters of an agent answer, candidates and credentials as sums.
+/// What the getters of an agent return, with candidates and credentials as sums.
 #[derive(Clone, Copy, PartialEq, Eq)]
 pub struct Seen {
     role: bool,
@@ -17,7 +17,7 @@ pub struct Seen {
     pair: PeerPair,
 }
 
-/// The figures of the pair that was announced last.
+/// The figures of the pair that was selected last.
 #[derive(Clone, Copy, PartialEq, Eq)]
 struct Nominated {
     last: Option<Duration>,
@@ -25,7 +25,7 @@ struct Nominated {
     answers: Option<u64>,
 }
 
-/// The pair of the peer's candidate.
+/// The pair with the peer's candidate.
 #[derive(Clone, Copy, PartialEq, Eq)]
 struct PeerPair {
     viable: bool,
@@ -35,7 +35,7 @@ struct PeerPair {
     nominated: bool,
 }
 
-/// A number in which each byte and its place count.
+/// A number in which each byte and its position count.
 fn sum_of(bytes: &[u8]) -> u64 {
     let mut sum = 0u64;
     for byte in bytes {
@@ -106,7 +106,7 @@ fn pair_of(agent: &Agent, peer: &Candidate) -> PeerPair {
     }
 }
 
-/// What is seen of the agent, and of its pair with the peer's candidate.
+/// What is observed of the agent, and of its pair with the peer's candidate.
 pub fn look(agent: &mut Agent, peer: &Candidate) -> Seen {
     let wake = agent.poll_timeout();
     Seen {

@@ -1,4 +1,4 @@
--- Bytes that are not accepted change nothing, and those that are get a yes.
+-- Bytes that are not accepted change nothing, and the result for accepted bytes is `true`.
 use Rattle.std.proofs.Common.{◌≡◌, ℕ, Bool, true, false, List, Ok, Err, Result, inl, inr, ap, sym, ◌∙◌, subst}
 use Rattle.rand_core.specs.Stream.{Stream}
 use Rattle.is_proto.specs.declared.error.IceError.{IceError}

@@ -1,5 +1,5 @@
--- In rounds in which the network delivers, a controlling side announces a path.
--- The premises that refused/laws turns are read by tactics where they are used: so a weaker one leaves that goal open.
+-- In rounds in which the network delivers, a controlling side selects a path. The preconditions that refused/laws
+-- changes are read by tactics where they are used: if one of them is weaker, that goal stays unproved.
 use Rattle.std.proofs.Common.{◌≡◌, ℕ, suc, ◌+◌, true, false, not, List, [], ◌∷◌, ◌++◌, length, Some, inl, inr, refl, ap, sym, ◌∙◌, subst, arith}
 use Rattle.rand_core.specs.Stream.{Stream}
 use Rattle.is_proto.specs.Lists.{Has}
@@ -33,7 +33,7 @@ only_self A x = inl refl
 only_self B x = inl refl
 
 module _ {H P : Type 0} (mac : H → List ℕ → List ℕ → List ℕ) (answers : P → CandidateRecord → ℕ → ℕ → Type 0) where
-  -- ---- a packet that is handed over
+  -- ---- a packet that is delivered
 
   pub handed : (side : Side) (packet : Packet) (w w' : WorldRecord H P) (s t : Stream) (x : Logged P) → (h : Hands side packet w x) → Happens mac answers w s x.event x.outcome w' t
       → Turns mac answers w s side (agent.ReceivePacket h.now (via_out packet) packet.contents) x.outcome w' t
@@ -66,21 +66,21 @@ module _ {H P : Type 0} (mac : H → List ℕ → List ℕ → List ℕ) (answer
       (turn_other mac answers w w' s t (other side) (agent.ReceivePacket h.now (via_out packet) packet.contents) x.outcome (handed (other side) packet w w' s t x h happens))
 
   module _ (side : Side) where
-    -- ---- the premises
+    -- ---- the preconditions
 
     is_apart : (x : Logged P) → AreApart side x → (role_in side x ≡ true) × (role_in (other side) x ≡ false)
     is_apart x apart = search apart
 
-    -- ---- the way back
+    -- ---- the reverse path
 
-    -- an accepted success among what the side did
+    -- an accepted success response among the side's log entries
     abbrev Met : List (agent.Call P × Entry) → Type 0
     Met xs = (y : agent.Call P × Entry) × Has xs y × AcceptsSuccess y.0 y.1
 
     met_later : (xs ys : List (agent.Call P × Entry)) → Met ys → Met (xs ++ ys)
     met_later xs ys (y, has, success) = (y, Has-rear xs ys y has, success)
 
-    -- the reply is accepted, whatever comes before it
+    -- the response is accepted, whatever happens before it
     abbrev Returned : Packet → AgentRecord H P → Type 0
     Returned reply near =
         (mid taken : AgentRecord H P) (ys : List (agent.Call P × Entry)) (back : ℕ) (returned : Entry) → AreBetween ys → Course mac answers ys near mid
@@ -105,7 +105,7 @@ module _ {H P : Type 0} (mac : H → List ℕ → List ℕ → List ℕ) (answer
         (course_on mac answers ys (acts side w x.event x.outcome.entry) near (at side w) (at side mid) course (acts_course mac answers w mid s u side x happens))
         (λ y has. polls y (inr has)) later)
 
-    -- ---- there and back
+    -- ---- the check and its response
 
     module _ (paths : PathLaw {H = H} {P = P} mac answers) (trades : TradeLaw {H = H} {P = P} mac answers) (succeeds : ExchangesSucceed {H = H} {P = P} mac answers) where
       module _ (a sent : AgentRecord H P) (s₀ t₀ : Stream) (now : ℕ) (moment : Entry) (check : Packet) (id : List ℕ) (sound_a : IsSound a) (role_a : a.controlling ≡ true)

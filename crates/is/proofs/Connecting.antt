@@ -1,4 +1,5 @@
--- Both of two agents come to a path in rounds in which the network delivers. The premises that refused/laws turns are read by tactics.
+-- Both of two agents select a path in rounds in which the network delivers. The preconditions that refused/laws
+-- changes are read by tactics.
 use Rattle.std.proofs.Common.{◌≡◌, ℕ, suc, Bool, true, false, List, [], ◌∷◌, ◌++◌, length, Option, Some, None, inl, inr, ◌⊎◌, refl, ap, sym, ◌∙◌, subst, arith, if◌then◌else◌, append_assoc}
 use Rattle.std.specs.Prelude.{slice_get}
 use Rattle.rand_core.specs.Stream.{Stream}
@@ -82,13 +83,13 @@ module _ {H P : Type 0} (mac : H → List ℕ → List ℕ → List ℕ) (answer
   are_passed side by (r ∷ later) kept c (inl is) = subst (λ (z : CourseRound P). IsPassed by z) is (is_passed side by r (kept r (inl refl)))
   are_passed side by (r ∷ later) kept c (inr has) = are_passed side by later (λ y there. kept y (inr there)) c has
 
-  -- a round of the course is one of the world
+  -- a round of the per-agent execution is one of the two-agent network model
   back : (side : Side) (rounds : List (Round H P)) (c : CourseRound P) → Has (rounds_of side rounds) c → (r : Round H P) × Has rounds r × (round_of side r ≡ c)
   back side [] c has = absurd has
   back side (r ∷ later) c (inl is) = (r, inl refl, is)
   back side (r ∷ later) c (inr has) = let k = back side later c has in (k.0, inr k.1, k.2)
 
-  -- ---- a check goes out in one of them, or the path is answered in one
+  -- ---- a check is sent in one of them, or the path is answered in one
 
   abbrev Checks : Side → Path → List (Round H P) → Type 0
   Checks side path rounds =
@@ -125,7 +126,7 @@ module _ {H P : Type 0} (mac : H → List ℕ → List ℕ → List ℕ) (answer
         | inr (x, has, is) ↦ (let r = back side rounds x has in inr (r.0, r.1, subst (λ (z : CourseRound P). IsAnsweredAlong z.behind path) (sym r.2) is))
       ]
 
-  -- ---- a round in a part
+  -- ---- a round in an execution segment
 
   place : (rounds : List (Round H P)) (r : Round H P) → Has rounds r → (xs ys : List (Occurrence H P)) × (all_of rounds ≡ xs ++ r.moment ∷ (r.behind ++ ys))
   place [] r has = absurd has
@@ -150,7 +151,7 @@ module _ {H P : Type 0} (mac : H → List ℕ → List ℕ → List ℕ) (answer
 
   module _ (side : Side) (path : Path) (part : List (Occurrence H P)) (start last : WorldRecord H P) (sound : AreSound start) (follow : Follow mac answers start part last)
       (k : HasRounds side path part last) where
-    -- the round of a check stands in the part
+    -- the round of a check is in the segment
     record Stood (r : Round H P) (id : List ℕ) : Type 0 where
       pub ahead : List (Occurrence H P)
       pub rear : List (Occurrence H P)
@@ -194,7 +195,7 @@ module _ {H P : Type 0} (mac : H → List ℕ → List ℕ → List ℕ) (answer
       reached = h.reached;
     }
 
-  -- ---- a success in the rounds
+  -- ---- a success response in the rounds
 
   poll_accepts : (answer : Answer) (ps : List Packet) (path : Path) (y : agent.Call P × Entry) → Has (polled_as answer ps) y → AcceptsSuccessOn y.0 y.1 path → ⊥
   poll_accepts (Refused error) ps path y has accepts = has

@@ -1,4 +1,4 @@
--- A run of a world is one of the world as each agent is met by the other one.
+-- An execution of the two-agent network model is one of the model with external views.
 use Rattle.std.proofs.Common.{◌≡◌, ℕ, zero, suc, Bool, true, false, List, [], ◌∷◌, ◌++◌, map, Option, Some, None, option_map, inl, inr, refl, ap, sym, ◌∙◌, subst, append-nil}
 use Rattle.std.specs.Prelude.{◌||◌, MatchBool, slice_get}
 use Rattle.std.specs.List.{list_any}
@@ -72,7 +72,7 @@ passing test (x ∷ xs) h = elim (test x) as (λ b. test x ≡ b → b || list_a
   | false ↦ λ is k. (let more = passing test xs k in (more.0, inr more.1, more.2))
 ] refl h
 
--- ---- what is seen of a world
+-- ---- what is observed of a network model
 
 abbrev pub in_flight_as : InFlightRecord → InFlight
 in_flight_as l = record { sender = l.sender; mail = mail_in l.packet }
@@ -128,7 +128,7 @@ moved_mail None m x h =
     (mail_of m, refl, ap (λ (y : Moved). y.class) same, ap (λ (y : Moved). y.id) same)
 moved_mail (Some fault) m x h = absurd (let wrong : None ≡ Some x = h in cc)
 
--- calls of a world but deliveries
+-- calls of a network model except deliveries
 module _ {P : Type 0} where
   unaccepting : (c : agent.Call P) (answer : Answer) → in_world c ≡ true → accepted_by c answer ≡ None
   unaccepting (agent.ReceivePacket now via bytes) answer h = absurd (let wrong : false ≡ true = h in cc)
@@ -159,7 +159,7 @@ module _ {H P : Type 0} where
       (subst (λ (x : PairRecord). Has (map (kept_as (path_of a x)) x.checks) (kept_as (path_of a p) c)) (sym e) (Has-mapped (kept_as (path_of a p)) p.checks c keeps))
   kept_to a (q ∷ ps) p c (inr h) keeps = Has-rear (map (kept_as (path_of a q)) q.checks) (all_kept a ps) (kept_as (path_of a p) c) (kept_to a ps p c h keeps)
 
-  -- an accepted success has the id of a check that is kept on the path by which it came back
+  -- an accepted success response has the id of a check that is stored on the reverse path
   awaits : (a : AgentRecord H P) (d : Deed) (via : Path) (id : List ℕ) → list_any (keeps_check_on a via id) a.pairs ≡ true → d.via ≡ Some via → IsAwaited (standing_of a) d id
   awaits a d via id keeps came =
       let p = passing (keeps_check_on a via id) a.pairs keeps in
@@ -204,7 +204,7 @@ module _ {H P : Type 0} where
 
 -- ---- events
 
--- what an event comes to
+-- the result of an event
 pub record Comes {H P : Type 0} (w w' : WorldRecord H P) (x : Logged P) : Type 0 where
   pub kind : Kind
   pub happens : seen.Happens (seen_of w) kind (emitted_at x) (seen_of w')
@@ -212,7 +212,7 @@ pub record Comes {H P : Type 0} (w w' : WorldRecord H P) (x : Logged P) : Type 0
   pub full : (side : Side) → StaysFull side x.event → seen.StaysFull side kind
   pub sound : AreSound w'
 
--- what a side does, and the letters that move into the bag
+-- what a side does, and the in-flight packets that are added to the multiset
 record Did {H P : Type 0} (w : WorldRecord H P) (side : Side) (d : Deed) (e : Emitted) (new : AgentRecord H P) (bag posted : List InFlightRecord) : Type 0 where
   effect : RoleEffect (standing_of (world.at side w)) d (standing_of new)
   bag_is : bag ≡ w.bag ++ posted
@@ -281,7 +281,7 @@ module _ {H P : Type 0} where
   module _ (mac : H → List ℕ → List ℕ → List ℕ) (answers : P → CandidateRecord → ℕ → ℕ → Type 0) (paths : PathLaw {H = H} {P = P} mac answers) (roles : RoleLaw {H = H} {P = P} mac answers) where
     -- ---- a call, and a delivery
 
-    -- what is known of a deed's packet, by the call
+    -- what the call implies for the event's packet
     record Packets (w : WorldRecord H P) (side : Side) (c : agent.Call P) (x : Logged P) : Type 0 where
       delivered : (m : Mail) → accepted_by c x.outcome.entry.answer ≡ Some m → (l : InFlightRecord) × Has w.bag l × (l.sender ≡ other side) × (mail_in l.packet ≡ Some m) × (is_yes x.outcome.entry.answer ≡ true)
           × (option_map moved_as x.outcome.moved ≡ Some record { class = m.class; id = m.id })
@@ -393,7 +393,7 @@ module _ {H P : Type 0} where
       no_one : (s' : Side) (c : agent.Call P) → Makes w x.event s' c → ⊥
       no_one s' c made = subst (λ v. Makes w v s' c) event_is made
 
-      -- what the agent did, whatever it handed out
+      -- what the agent did, whatever it returned
       polled_so : (new : AgentRecord H P) (bag posted : List InFlightRecord) (answer : Answer) (given : Option Packet) → PollsTransmit (world.at side w) given new
           → x.outcome ≡ plain answer (Some side) (world.roles_of (record (world.put side new w) { bag = bag })) → bag ≡ w.bag ++ posted
           → ((l : InFlight) → Has (map in_flight_as posted) l → (l.sender ≡ side) × Has (standing_of (world.at side w)).packets l.mail)
@@ -443,7 +443,7 @@ module _ {H P : Type 0} where
             | inr none ↦ absurd none
           ])
 
-    -- ---- runs
+    -- ---- executions
 
     pub event : (w w' : WorldRecord H P) (s t : Stream) (x : Logged P) → AreSound w → Happens mac answers w s x.event x.outcome w' t → Comes w w' x
     event w w' s t x sound h = by x.event refl h where
@@ -457,7 +457,7 @@ module _ {H P : Type 0} where
       by (world.Poll side) is k = polls w w' s t side x sound is k
       by (world.Deliver place now via) is k = delivers (slice_get w.bag place) w w' s t place now via x is refl sound k
 
-    -- a run, as it is seen
+    -- an execution, as it is observed
     pub record Follows (first : WorldRecord H P) (log : List (Logged P)) (last : WorldRecord H P) : Type 0 where
       pub seen_log : List Happening
       pub ran : seen.Run (seen_of first) seen_log (seen_of last)

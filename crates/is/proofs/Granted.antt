@@ -1,5 +1,6 @@
--- A path that the controlled one of two agents was asked for, and that was answered, is announced by its next moment.
--- The premises that refused/laws turns are read by tactics where they are used: so a weaker one leaves that goal open.
+-- A path of the controlled one of two agents that was nominated by the peer and answered is selected by its next
+-- `handle_timeout` call. The preconditions that refused/laws changes are read by tactics where they are used: if one
+-- of them is weaker, that goal stays unproved.
 use Rattle.std.proofs.Common.{◌≡◌, ℕ, suc, Bool, true, false, not, List, [], ◌∷◌, ◌++◌, Option, Some, None, is_some, inl, inr, ◌⊎◌, refl, ap, sym, ◌∙◌, subst, if◌then◌else◌, append_assoc}
 use Rattle.std.specs.Prelude.{slice_get}
 use Rattle.rand_core.specs.Stream.{Stream}
@@ -58,7 +59,7 @@ module _ {H P : Type 0} (mac : H → List ℕ → List ℕ → List ℕ) (answer
   cut [] ys w last more = (w, refl, more)
   cut (x ∷ xs) ys w last (from, s, t, happens, more) = let k = cut xs ys x.behind last more in (k.0, (from, s, t, happens, k.1), k.2)
 
-  -- one of them, what leads to it and what comes behind
+  -- one of them, what leads to it and what follows it
   pub record Met (w last : WorldRecord H P) (xs : List (Occurrence H P)) (x : Occurrence H P) (ys : List (Occurrence H P)) : Type 0 where
     pub led : Follow w xs x.before
     pub s : Stream
@@ -112,7 +113,7 @@ module _ {H P : Type 0} (mac : H → List ℕ → List ℕ → List ℕ) (answer
     | inr k ↦ (let m = own_emitted side rest x.behind last more y k emitted in (m.0, inr m.1, m.2))
   ]
 
-  -- what is handed to a side is a call of it
+  -- a packet that is delivered to a side is a call of it
   handed_is : (side : Side) (packet : Packet) (w : WorldRecord H P) (x : Logged P) → (h : Hands side packet w x)
       → acts side w x.event x.outcome.entry ≡ (agent.ReceivePacket h.now (via_out packet) packet.contents, x.outcome.entry) ∷ []
   handed_is side packet w x h =
@@ -120,7 +121,7 @@ module _ {H P : Type 0} (mac : H → List ℕ → List ℕ → List ℕ) (answer
       (subst (λ o. handed_as {P = P} side h.now (via_out packet) x.outcome.entry o ≡ (agent.ReceivePacket h.now (via_out packet) packet.contents, x.outcome.entry) ∷ []) (sym h.sent)
       (only_one side (agent.ReceivePacket h.now (via_out packet) packet.contents, x.outcome.entry)))
 
-  -- ---- the premises
+  -- ---- the preconditions
 
   pub apart_at : (side : Side) (all : List (Occurrence H P)) (x : Occurrence H P) → IsControlled side all → Has all x → ((at side x.before).controlling ≡ false) × ((at (other side) x.before).controlling ≡ true)
   apart_at side all x roles has = search (roles x has)
@@ -168,13 +169,13 @@ module _ {H P : Type 0} (mac : H → List ℕ → List ℕ → List ℕ) (answer
   sent_in : (from : Side) (path : Path) (all : List (Occurrence H P)) → (k : HandedCheck mac from path all) → Has all k.sent
   sent_in from path all k = subst (λ xs. Has xs k.sent) (sym k.split) (middle k.before k.behind k.sent)
 
-  -- the hand-over and what comes behind it are in the part
+  -- the delivery and what follows it are in the segment
   behind_in : (from : Side) (path : Path) (all : List (Occurrence H P)) → (k : HandedCheck mac from path all) → (x : Occurrence H P) → Has (k.comes.handed ∷ k.comes.rest) x → Has all x
   behind_in from path all k x has =
       subst (λ xs. Has xs x) (sym k.split) (Has-rear k.before (k.sent ∷ k.behind) x
       (inr (subst (λ xs. Has xs x) (sym k.comes.split) (Has-rear k.comes.between (k.comes.handed ∷ k.comes.rest) x has))))
 
-  -- ---- the side is asked
+  -- ---- the side is nominated by the peer
 
   grants : PathLaw {H = H} {P = P} mac answers → ChecksAsk {H = H} {P = P} mac answers → (from : Side) (path : Path) (all : List (Occurrence H P)) (last : WorldRecord H P) (k : HandedCheck mac from path all)
       → Checked from path all last k → AreNominatedOn (at from k.sent.behind) path → (at from k.sent.before).controlling ≡ true → (at (other from) k.comes.handed.before).controlling ≡ false
@@ -188,7 +189,7 @@ module _ {H P : Type 0} (mac : H → List ℕ → List ℕ → List ℕ) (answer
       (subst (λ w. IsReachedBy (at (other from) handed.before) w) (sym k.on) k.reached)
       (delivered mac answers (other from) k.check handed.before handed.behind c.u c.v handed.entry k.comes.hands c.happens))
 
-  -- ---- courses that may end a pair where something occurred
+  -- ---- per-agent executions that may end a pair after something occurred
 
   module _ (side : Side) (path : Path) (whole : List (Occurrence H P)) where
     abbrev Found : Type 0
@@ -212,7 +213,7 @@ module _ {H P : Type 0} (mac : H → List ℕ → List ℕ → List ℕ) (answer
         let k = granted_on xs ys mid b c (on, λ e. ends (inr e)) more in
         ((mid, s, t, based, step, k.0), (λ e. elim e [ inl here ↦ ends (inl here) | inr later ↦ k.1 later ]), inr k.2)
 
-    -- the first call grants the path
+    -- the first call accepts the nomination of the path
     grants_first : (x : agent.Call P × Entry) (ys : List (agent.Call P × Entry)) (a b c : AgentRecord H P) → Owned (x ∷ []) a b → Owned ys b c → Grants a x.0 x.1 path → b.controlling ≡ false
         → Granted (x ∷ ys) a c
     grants_first x ys a b c ((mid, s, t, based, step, is), ends) more grants controlled =
@@ -280,7 +281,7 @@ module _ {H P : Type 0} (mac : H → List ℕ → List ℕ → List ℕ) (answer
         (granted_on (acts_at side y) (own side (xs ++ x ∷ ys)) (at side y.before) (at side y.behind) (at side last) (act_owned y s t happens (among y (inl refl)))
         (granted xs ys x y.behind last c more (λ z has. among z (inr has)) is grants controlled))
 
-  -- the role before the next one, and so behind this one
+  -- the role before the next one, and so after this one
   role_next : (side : Side) (ys : List (Occurrence H P)) (w last : WorldRecord H P) → Follow w ys last → ((x : Occurrence H P) → Has ys x → (at side x.before).controlling ≡ false)
       → (at side last).controlling ≡ false → (at side w).controlling ≡ false
   role_next side [] w last is roles role = subst (λ (v : WorldRecord H P). (at side v).controlling ≡ false) is role
@@ -337,7 +338,7 @@ module _ {H P : Type 0} (mac : H → List ℕ → List ℕ → List ℕ) (answer
             (back.hands.now, via_out reply, taken.0, taken.1, taken.2, goes),
           )
 
-  -- what was told in the course was announced in the world
+  -- what was selected in the per-agent execution was selected in the network model
   emitted_back : (side : Side) (before part : List (Occurrence H P)) (moment : Occurrence H P) (first start near : WorldRecord H P) (c d : agent.Call P) → Follow first before start → Follow start part near
       → moment.entry.outcome.side ≡ Some side → AnnouncesAlong ((c, quiet Done) ∷ (own side before ++ (own side part ++ (d, moment.entry.outcome.entry) ∷ [])))
       → (x : Occurrence H P) × Has (before ++ (part ++ moment ∷ [])) x × Announces side x.entry
@@ -354,7 +355,7 @@ module _ {H P : Type 0} (mac : H → List ℕ → List ℕ → List ℕ) (answer
     ]
   ]
 
-  -- where the side is asked, and the part answers the path, however it does
+  -- the case in which the peer nominates the path, and the segment answers it in whichever way
   pub announced_where : PathLaw {H = H} {P = P} mac answers → FreshIsSound H P → ChecksAsk {H = H} {P = P} mac answers → ExchangesSucceed {H = H} {P = P} mac answers → GrantedAreAnnounced {H = H} {P = P} mac answers
       → (first last : WorldRecord H P) (s : Stream) (before part rest : List (Occurrence H P)) (moment : Occurrence H P) (now : ℕ) (side : Side) (path : Path)
       → ((x : Side) → IsNewAgent (at x first)) → Follow first (before ++ ((part ++ moment ∷ []) ++ rest)) last

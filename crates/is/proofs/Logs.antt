@@ -29,13 +29,13 @@ logged-none log [] = refl
 logged-none log (c ∷ calls) = refl
 
 module _ {H P : Type 0} (mac : H → List ℕ → List ℕ → List ℕ) (answers : P → CandidateRecord → ℕ → ℕ → Type 0) where
-  -- a run's log is a run, stopped or not
+  -- a run's log is that of an execution, stopped or not
   pub run_of : (old new : AgentRecord H P) (s t : Stream) (calls : List (AgentCall P)) (log : RunLog) → IsRunLog mac answers old s calls log new t → Run mac answers old s (log_of calls log) new t
   run_of old new s t calls log is =
       elim log.stopped as (λ b. MatchBool b ((log.entries.items ≡ []) × (new ≡ old) × (t ≡ s)) ((length log.entries.items ≡ length calls) × Run mac answers old s (log_of calls log) new t) → Run mac answers old s (log_of calls log) new t)
       [ true ↦ λ h. rw (h.0, logged-none) (h.1, h.2) | false ↦ λ h. h.1 ] is
 
-  -- each entry of a run's log stands between two records
+  -- each entry of a run's log is between two abstract states
   pub entries_stand : EntriesArePoints mac answers → (first last : AgentRecord H P) (s t : Stream) (log : List (Logged P)) → Run mac answers first s log last t
       → EntriesStand mac answers first s log
   entries_stand law first last s t log run rest before x split =

@@ -1,4 +1,4 @@
--- The first of marked entries, and the first of traces.
+-- The first of marked entries, and the first of causal chains.
 use Rattle.std.proofs.Common.{◌≡◌, ℕ, zero, suc, ◌+◌, ◌<◌, ◌≤◌, Bool, true, false, List, length, Option, Some, None, ◌⊎◌, inl, inr, refl, ap, sym, ◌∙◌, subst, arith}
 use Rattle.std.specs.Prelude.{slice_get, ◌↔◌, IsTrue}
 use Rattle.std.specs.Option.{option_map_or}
@@ -64,14 +64,14 @@ none_more es mark from n e none found unmarked m low high at = elim (compared m 
 pub past_end : (es : List WorldEntry) (n : ℕ) (Is : WorldEntry → Type 0) → length es ≤ n → ¬ IsAt es n Is
 past_end es n Is behind at = (let within = slice_get_within es n at.0 at.1 in let wrong : ⊥ = omega (arith, behind, within) in wrong)
 
--- a marked entry stands at the first one, or behind it
+-- a marked entry is the first one, or follows it
 at_least : (es : List WorldEntry) (mark : Mark) (from first n : ℕ) → NoneMarked es mark from first → from ≤ n → IsAt es n (IsMarked mark) → first ≤ n
 at_least es mark from first n none low at = elim (compared n first) [
   | inl less ↦ absurd (none n low less at)
   | inr rest ↦ elim rest [ inl same ↦ omega (arith, same) | inr more ↦ omega (arith, more) ]
 ]
 
--- ---- the answer of a check
+-- ---- the response to a check
 
 module _ (es : List WorldEntry) (side : Side) (id : TransId) (checked end : ℕ) where
   abbrev Asked : Mark
@@ -142,7 +142,7 @@ module _ (es : List WorldEntry) (side : Side) (id : TransId) (checked end : ℕ)
             )),
       )
 
--- ---- a trace
+-- ---- a causal chain
 
 ids_same : (es : List WorldEntry) (n : ℕ) (side : Side) (path : Path) (a b : TransId) → IsAt es n (Issues side path class.Request a) → IsAt es n (Issues side path class.Request b) → a ≡ b
 unfolding id_or
@@ -204,7 +204,7 @@ module _ (es : List WorldEntry) (side : Side) (path : Path) (end : ℕ) where
     ],
   )
 
--- ---- what was announced
+-- ---- what was selected
 
 path_or : Path → Option (Option Path) → Path
 path_or path o = option_map_or (λ i. option_map_or (λ (p : Path). p) i path) o path

@@ -1,5 +1,5 @@
--- One delivered check, and its 487 where it gives one, make roles opposite.
--- The premises that refused/laws turns are read by tactics where they are used: so a weaker one leaves that goal open.
+-- One delivered check, and its 487 if there is one, make roles opposite. The preconditions that refused/laws changes
+-- are read by tactics where they are used: if one of them is weaker, that goal stays unproved.
 use Rattle.std.proofs.Common.{◌≡◌, ◌⊎◌, ℕ, suc, ◌<◌, Bool, true, false, not, List, [], ◌∷◌, ◌++◌, map, length, inl, inr, refl, ap, sym, ◌∙◌, subst, arith, ◌+◌, append_assoc, append-nil}
 use Rattle.std.specs.List.{AllByRecursion}
 use Rattle.std.specs.Prelude.{◌≢◌}
@@ -59,12 +59,12 @@ module _ {H P : Type 0} where
   tie_of A w = refl
   tie_of B w = refl
 
-  -- the event hands the packet to the side
+  -- the event delivers the packet to the side
   handed_makes : (side : Side) (packet : Packet) (w : WorldRecord H P) (x : Logged P) → (h : Hands side packet w x) → Makes w x.event side (handing packet h.now)
   handed_makes side packet w x h = subst (λ (v : Event P). Makes w v side (handing packet h.now)) (sym h.event) (record { sender = other side; packet = packet }, h.sent, twice side, refl)
 
   module _ (first : WorldRecord H P) (greater : Side) where
-    -- a world as a run leads to it, with the entries of the log that are left
+    -- a network model that an execution leads to, with the entries of the log that are left
     record Comes (w : WorldRecord H P) (left : List (Logged P)) : Type 0 where
       front : List Happening
       led : seen.Run (seen_of first) front (seen_of w)
@@ -119,7 +119,7 @@ module _ {H P : Type 0} where
       -- ---- the check of a side, and its 487
 
       module _ (resolves : ConflictsSettle {H = H} {P = P} mac answers) (side : Side) (left : List (Logged P)) (less : (at (other greater) first).tie_breaker < (at greater first).tie_breaker) where
-        -- the 487 comes back to the lesser one
+        -- the 487 comes back to the agent with the lesser tie-breaker
         returns : (near a b served : AgentRecord H P) (check : Packet) (id : List ℕ) (handed : Entry) → side ≡ other greater → (i : IsConflictSent mac answers a near b served check id handed)
             → (log : List (Logged P)) (w last : WorldRecord H P) (s t : Stream) (n : ℕ) (run : Run mac answers w s n log last t) (ys : List (agent.Call P × Entry))
             → AreBetween ys → Course mac answers ys near (at side w) → ((x : Logged P) → Has log x → MakesPolls side x.event) → Comes w (log ++ left)
@@ -140,7 +140,7 @@ module _ {H P : Type 0} where
         module _ (a sent : AgentRecord H P) (s₀ t₀ : Stream) (now : ℕ) (moment : Entry) (check : Packet) (id : List ℕ) (sound_a : IsSound a)
             (step : Step mac answers a s₀ (agent.HandleTimeout now) moment sent t₀) (sends : Sends a moment Request id check sent)
             (role_a : a.controlling ≡ (at greater first).controlling) (tie_a : a.tie_breaker ≡ (at side first).tie_breaker) where
-          -- the lesser one's check comes to the greater one, which has its role
+          -- the check of the lesser one arrives at the greater one, which has the same role
           conflict_sent : (w mid last : WorldRecord H P) (s u t : Stream) (n : ℕ) (x : Logged P) (rest : List (Logged P)) (run : Run mac answers mid u (suc n) rest last t) → side ≡ other greater
               → Comes w (x ∷ (rest ++ left)) → Happens mac answers w s x.event x.outcome mid u → ((y : Logged P) → Has rest y → MakesPolls side y.event)
               → IsConflictSent mac answers a (at side w) (at (other side) w) (at (other side) mid) check id x.outcome.entry
@@ -184,7 +184,7 @@ module _ {H P : Type 0} where
 
 module _ {H P : Type 0} (mac : H → List ℕ → List ℕ → List ℕ) (answers : P → CandidateRecord → ℕ → ℕ → Type 0) (paths : PathLaw {H = H} {P = P} mac answers) (roles : RoleLaw {H = H} {P = P} mac answers)
     (new_sound : FreshIsSound H P) (resolves : ConflictsSettle {H = H} {P = P} mac answers) where
-  -- roles alike at the start of the moment
+  -- equal roles at the start of the `handle_timeout` call
   met : (first : WorldRecord H P) (greater side : Side) (left : List (Logged P)) (r : WorldRound P) (check : Packet) (id : List ℕ) (start last : WorldRecord H P) (u t : Stream) (n : ℕ)
       → (at (other greater) first).tie_breaker < (at greater first).tie_breaker → Comes first greater start (r.moment ∷ (r.behind ++ left)) → IsMeeting mac answers side check id r start u n last t
       → (at side start).controlling ≡ (at greater first).controlling → Apart last

@@ -1,5 +1,5 @@
--- Paths that two agents announce which have pairs of one path alone.
--- The premises that refused/laws turns are read by tactics where they are used: so a weaker one leaves that goal open.
+-- The paths that two agents select, if all their pairs are on one path. The preconditions that refused/laws changes
+-- are read by tactics where they are used: if one of them is weaker, that goal stays unproved.
 use Rattle.std.proofs.Common.{◌≡◌, ℕ, Bool, true, false, List, [], ◌∷◌, Option, Some, None, inl, inr, ◌⊎◌, refl, ap, sym, ◌∙◌, subst}
 use Rattle.std.specs.Prelude.{MatchBool, slice_get}
 use Rattle.rand_core.specs.Stream.{Stream}
@@ -61,7 +61,7 @@ module _ {H P : Type 0} (mac : H → List ℕ → List ℕ → List ℕ) (answer
         let h = had (at z x.before) c x.entry.outcome.entry one (effect.announced lite one has) in
         sym h.2 ∙ on h.0 h.1
 
-    -- all that the side announces is the path
+    -- each path that the side selects is this one
     tells : (x : Occurrence H P) (s t : Stream) (v : Event P) (side : Side) (path one : Path) → AreSound x.before → KeepsTo side path x.before → Tells side one x
         → Happens mac answers x.before s v x.entry.outcome x.behind t → one ≡ path
     tells x s t (world.Call z c) side path one sound keeps emitted h = by (in_world c) h where

@@ -1,4 +1,4 @@
--- What one agent of a world does is a course of it.
+-- What one agent of a two-agent network model does is a per-agent execution.
 use Rattle.std.proofs.Common.{◌≡◌, ℕ, suc, Bool, true, false, List, [], ◌∷◌, ◌++◌, Option, Some, None, is_some, inl, inr, ◌⊎◌, refl, ap, sym, ◌∙◌, subst, if◌then◌else◌}
 use Rattle.std.specs.Prelude.{MatchBool, slice_get}
 use Rattle.rand_core.specs.Stream.{Stream}
@@ -111,13 +111,13 @@ module _ {H P : Type 0} where
     ]
 
   module _ (mac : H → List ℕ → List ℕ → List ℕ) (answers : P → CandidateRecord → ℕ → ℕ → Type 0) where
-    -- ---- courses
+    -- ---- per-agent executions
 
     pub course_on : (xs ys : List (agent.Call P × Entry)) (a b c : AgentRecord H P) → Course mac answers xs a b → Course mac answers ys b c → Course mac answers (xs ++ ys) a c
     course_on [] ys a b c is more = subst (λ (z : AgentRecord H P). Course mac answers ys z c) is more
     course_on (x ∷ xs) ys a b c (mid, s, t, based, step, on) more = (mid, s, t, based, step, course_on xs ys mid b c on more)
 
-    -- controlling behind each call
+    -- controlling after each call
     abbrev pub Steered : List (agent.Call P × Entry) → AgentRecord H P → AgentRecord H P → Type 0
     Steered xs a b = (course : Course mac answers xs a b) × ControlsAlong mac answers xs a b course
 
@@ -132,7 +132,7 @@ module _ {H P : Type 0} where
 
     -- ---- one event
 
-    -- a course, and a controlling one where the agent is controlling behind it
+    -- a per-agent execution, and one in the controlling role if the agent is controlling after it
     abbrev Acts : List (agent.Call P × Entry) → AgentRecord H P → AgentRecord H P → Type 0
     Acts xs a b = (course : Course mac answers xs a b) × (b.controlling ≡ true → ControlsAlong mac answers xs a b course)
 
@@ -197,7 +197,7 @@ module _ {H P : Type 0} where
       by None k = still w w' side k.0
       by (Some l) k = turn w w' s t side (other l.sender) (agent.ReceivePacket now path l.packet.contents) e k
 
-    -- ---- what the entry tells
+    -- ---- what the entry records
 
     turn_emitted : (w w' : WorldRecord H P) (s t : Stream) (side z : Side) (c : agent.Call P) (x : Logged P) (y : agent.Call P × Entry) → Turns mac answers w s z c x.outcome w' t
         → Has (only side z ((c, x.outcome.entry) ∷ [])) y → is_some (last_of y.1.emitted.announced) ≡ true → Announces side x
@@ -238,7 +238,7 @@ module _ {H P : Type 0} where
     pub role_behind : (w w' : WorldRecord H P) (s t : Stream) (side : Side) (x : Logged P) (role : Bool) → Happens mac answers w s x.event x.outcome w' t → role_in side x ≡ role → (at side w').controlling ≡ role
     role_behind w w' s t side x role h is = sym (role_is side w') ∙ (ap (λ rs. role_at side rs) (sym (roles_emitted w w' s t x.event x.outcome h)) ∙ is)
 
-    -- ---- a run
+    -- ---- an execution
 
     pub sound_on : PathLaw {H = H} {P = P} mac answers → (w w' : WorldRecord H P) (s t : Stream) (x : Logged P) → AreSound w → Happens mac answers w s x.event x.outcome w' t → AreSound w'
     sound_on paths w w' s t x sound h z = sound_course paths (acts z w x.event x.outcome.entry) (at z w) (at z w') (sound z) (act w w' s t z x.event x.outcome h).0

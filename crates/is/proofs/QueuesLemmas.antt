@@ -9,7 +9,7 @@ use Rattle.is_rules.specs.Logs.{Logged}
 use Rattle.is_rules.specs.Reporting.{QueuesLaw}
 use Rattle.is.specs.Queues.{IssuesNone, OthersIssueNone, QueuesAreKept}
 
--- a quiet entry tells of no packet
+-- a quiet entry records no packet
 silent : (e : Entry) (answer : Answer) → e ≡ quiet answer → e.emitted.issued ≡ None
 silent e answer is = ap (λ (x : Entry). x.emitted.issued) is
 

@@ -1,4 +1,4 @@
--- The world as each agent is met by the other one: standings, and the letters between them by what they read as.
+-- The two-agent network model with external views of the agents, and the in-flight packets by their parsed messages.
 use Rattle.std.specs.List.{AllByRecursion}
 use Rattle.std.specs.Prelude.{◌≡◌, ◌≢◌, ℕ, ◌<◌, ◌≤◌, Bool, true, false, List, [], ◌∷◌, ◌++◌, map, Option, Some, None, ◌⊎◌, slice_get}
 use Rattle.is_proto.specs.Lists.{Has}
@@ -12,7 +12,7 @@ use Rattle.is.specs.declared.world.Side.TheVariants.{A, B}
 use Rattle.is.specs.World.{other}
 use Rattle.is.specs.WorldRoles.{changes}
 
--- a packet of the bag, by what its bytes read as
+-- an in-flight packet of the multiset, by the message that its bytes encode
 pub record InFlight : Type 0 where
   pub sender : Side
   pub mail : Option Mail
@@ -26,12 +26,12 @@ pub record Roles : Type 0 where
   pub a : Bool
   pub b : Bool
 
--- what a packet that was delivered reads as
+-- the message of a packet that was delivered
 pub record Moved : Type 0 where
   pub class : Class
   pub id : List ℕ
 
--- what an entry of the log tells, and the way of what it delivers
+-- what a log entry records, and the path of the packet that it delivers
 pub record Emitted : Type 0 where
   pub side : Option Side
   pub accepted : Bool
@@ -59,7 +59,7 @@ role_at B roles = roles.b
 
 -- ---- what happens
 
--- the packet comes from the bag, where the other side had sent it
+-- the packet comes from the multiset, since the other side sent it
 pub record IsDelivered (w : Seen) (side : Side) (m : Mail) (e : Emitted) : Type 0 where
   pub in_flight : InFlight
   pub there : Has w.bag in_flight
@@ -68,7 +68,7 @@ pub record IsDelivered (w : Seen) (side : Side) (m : Mail) (e : Emitted) : Type 
   pub accepted : e.accepted ≡ true
   pub moved : e.moved ≡ Some record { class = m.class; id = m.id }
 
--- an answer comes back on the path of a check with its id
+-- a response comes back on the path of a check with its id
 pub record IsAwaited (s : Standing) (d : Deed) (id : List ℕ) : Type 0 where
   pub path : Path
   pub role : Bool
@@ -77,7 +77,7 @@ pub record IsAwaited (s : Standing) (d : Deed) (id : List ℕ) : Type 0 where
   pub came : d.via ≡ Some via
   pub back : (via.source ≡ path.destination) × (via.destination ≡ path.source)
 
--- the side does something; what is moved into the bag it had to be polled
+-- the side does something; each packet that it adds to the multiset was in its queue
 pub record Moves (w : Seen) (side : Side) (d : Deed) (e : Emitted) (w' : Seen) : Type 0 where
   pub new : Standing
   pub effect : RoleEffect (at side w) d new
@@ -117,7 +117,7 @@ abbrev pub Happens : Seen → Kind → Emitted → Seen → Type 0
 Happens w Still e w' = Stands w e w'
 Happens w (Move side d) e w' = Moves w side d e w'
 
--- the log, in order, may be that of a run from the first world to the last
+-- the log, in order, may be that of an execution from the first network model to the last
 abbrev pub Run : Seen → List Happening → Seen → Type 0
 Run first [] last = last ≡ first
 Run first (x ∷ rest) last = (mid : Seen) × Happens first x.kind x.emitted mid × Run mid rest last
@@ -147,8 +147,8 @@ pub record Takes (es : List Emitted) (n : ℕ) (side : Side) (class : Class) (id
 abbrev pub NoClear : List Emitted → ℕ → Side → Type 0
 NoClear es n side = (m : ℕ) (e : Emitted) → n ≤ m → slice_get es m ≡ Some e → e.side ≡ Some side → e.clear ≡ false
 
--- a check of this side on the path reached the other agent, which answered it, and the answer came back; no clear of its own
--- since the check
+-- a check of this side on the path reached the other agent, which answered it, and the response came back; the side
+-- had no clear since the check
 pub record Trace (es : List Emitted) (side : Side) (path : Path) : Type 0 where
   pub id : List ℕ
   pub checked : ℕ
@@ -165,7 +165,7 @@ pub record Trace (es : List Emitted) (side : Side) (path : Path) : Type 0 where
   pub in_order : (checked < delivered) × (delivered ≤ replied) × (replied < answered)
   pub no_clear : NoClear es checked side
 
--- a check of this side with the id went out on the path by which an answer came back
+-- a check of this side with the id was sent on the path by which a response came back
 pub record Back (es : List Emitted) (side : Side) (id : List ℕ) (by : Option Path) : Type 0 where
   pub number : ℕ
   pub path : Path
@@ -180,16 +180,16 @@ abbrev pub DistinctChecks : List Emitted → Type 0
 DistinctChecks es =
     (i j : ℕ) (id : List ℕ) (p q : Path) (s t : Side) (b c : Bool) → Issues es i s class.Request id p b → Issues es j t class.Request id q c → i ≡ j
 
--- ---- the premises
+-- ---- the preconditions
 
--- `greater` has the greater tie-breaker, and no check's id comes twice
+-- `greater` has the greater tie-breaker, and no two checks have the same id
 pub record Premises (first : Seen) (greater : Side) (es : List Emitted) : Type 0 where
   pub new : (s : Side) → IsNew (at s first)
   pub empty : first.bag ≡ []
   pub tie : (at (other greater) first).tie_breaker < (at greater first).tie_breaker
   pub distinct : DistinctChecks es
 
--- the side is not made lite
+-- the side does not become ICE-lite
 abbrev pub StaysFull : Side → Kind → Type 0
 StaysFull side Still = Unit {0}
 StaysFull side (Move s d) = s ≡ side → d.makes_lite ≡ false
@@ -197,7 +197,7 @@ StaysFull side (Move s d) = s ≡ side → d.makes_lite ≡ false
 abbrev pub NeverLite : Side → List Happening → Type 0
 NeverLite side log = AllByRecursion (λ x. StaysFull side x.kind) log
 
--- ---- what holds of a run
+-- ---- what holds for an execution
 
 abbrev pub roles_along : Side → List Emitted → List Bool
 roles_along side es = map (λ e. role_at side e.roles) es
@@ -212,7 +212,7 @@ abbrev pub YieldsOnce : Seen → List Happening → Type 0
 YieldsOnce first log =
     (greater : Side) → Premises first greater (emitted_of log) → changes (at (other greater) first).controlling (roles_along (other greater) (emitted_of log)) ≤ 1
 
--- the side serves a request past the tests of its user name and its destination, or accepts a 487
+-- the side serves a request after the tests of its USERNAME and its destination, or accepts a 487
 abbrev pub Meets : Side → Seen → Kind → Type 0
 Meets side w Still = ⊥
 Meets side w (Move s d) =
@@ -220,7 +220,7 @@ Meets side w (Move s d) =
     × (((q : RequestRecord) × (d.serves ≡ Some q) × ((at side w).passes q ≡ true))
     ⊎ ((m : Mail) × (d.accepts ≡ Some m) × (m.class ≡ class.Failure) × (m.is_conflict ≡ true)))
 
--- an event of the log with the world before it
+-- an event of the log with the network model before it
 pub record Point (first : Seen) (log before : List Happening) (mid : Seen) (x : Happening) (rest : List Happening) : Type 0 where
   pub split : log ≡ before ++ x ∷ rest
   pub after : Seen
@@ -235,13 +235,13 @@ DifferOnceMet first log =
     (greater : Side) → Premises first greater (emitted_of log) → (before : List Happening) (mid : Seen) (x : Happening) (rest : List Happening)
     → Point first log before mid x rest → Meets (other greater) mid x.kind → AllByRecursion (λ e. e.roles.a ≢ e.roles.b) (emitted_of (x ∷ rest))
 
--- each path that a side announced which was never lite was answered by the other agent
+-- each path that a side selected which was never ICE-lite was answered by the other agent
 abbrev pub Traced : Seen → List Happening → Type 0
 Traced first log =
     (greater side : Side) → Premises first greater (emitted_of log) → NeverLite side log → (before : List Happening) (mid : Seen) (x : Happening) (rest : List Happening)
     → Point first log before mid x rest → (path : Path) → x.emitted.side ≡ Some side → Has x.emitted.announced path → Trace (emitted_of before ++ x.emitted ∷ []) side path
 
--- each success that a side accepted came back on the path of a check with its id
+-- each success response that a side accepted came back on the path of a check with its id
 abbrev pub AnswersComeBack : Seen → List Happening → Type 0
 AnswersComeBack first log =
     (greater side : Side) → Premises first greater (emitted_of log) → (before : List Happening) (mid : Seen) (x : Happening) (rest : List Happening)

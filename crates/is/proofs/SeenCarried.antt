@@ -1,4 +1,4 @@
--- What the log says of two agents and the packets between them, and that a step of one keeps it.
+-- What the log implies for two agents and the packets between them, and that each step preserves it.
 use Rattle.std.proofs.Common.{◌≡◌, ℕ, ◌<◌, ◌≤◌, Bool, true, false, List, [], ◌∷◌, ◌++◌, length, Some, ◌⊎◌, inl, inr, refl, ap, sym, ◌∙◌, subst, arith}
 use Rattle.std.specs.Prelude.{not}
 use Rattle.std.proofs.lemmas.Option.{slice_get_within}
@@ -40,7 +40,8 @@ pub not-self : (b : Bool) → not b ≡ b → ⊥
 not-self true h = cc
 not-self false h = cc
 
--- which side is the greater, the tie-breakers, the greater's role, and the sides that are never made lite
+-- which side has the greater tie-breaker, the tie-breakers, that side's role, and the sides that never become
+-- ICE-lite
 pub record Setting : Type 0 where
   pub tie : Side → ℕ
   pub greater : Side
@@ -50,7 +51,7 @@ pub record Setting : Type 0 where
 
 -- ---- what is known of ids
 
--- a check with this id went out from the side under the role
+-- a check with this id was sent by the side in the role
 pub record Gone (es : List Emitted) (side : Side) (id : List ℕ) (role : Bool) : Type 0 where
   pub number : ℕ
   pub path : Path
@@ -75,7 +76,7 @@ pub record Replied (es : List Emitted) (side : Side) (id : List ℕ) : Type 0 wh
   pub reply : Issues es number side class.Success id path role
   pub in_order : came.taken ≤ number
 
--- a request of the side: it claims the role that it went out under, with the side's tie-breaker
+-- a request of the side: it claims the role in which it was sent, with the side's tie-breaker
 pub record IsCheck (z : Setting) (es : List Emitted) (side : Side) (id : List ℕ) (controlling controlled : _) : Type 0 where
   pub role : Bool
   pub claims : Claims controlling controlled role (z.tie side)
@@ -90,18 +91,18 @@ Fact z es side class.Failure m = (side ≡ z.greater) × Gone es (other side) m.
 Fact z es side class.Indication m = ⊥
 Fact z es side class.Unknown m = ⊥
 
--- a request that waits at the side
+-- an early request at the side
 pub record Queued (z : Setting) (es : List Emitted) (side : Side) (q : RequestRecord) : Type 0 where
   pub check : IsCheck z es (other side) q.id q.ice_controlling q.ice_controlled
   pub came : Came es side q.id
 
--- a check that the side keeps
+-- a check that the side stores
 pub record KeptBy (es : List Emitted) (side : Side) (k : Kept) : Type 0 where
   pub number : ℕ
   pub check : Issues es number side class.Request k.id k.path k.controlling
   pub no_clear : NoClear es number side
 
--- what is said of one side
+-- the invariant of one side
 pub record Half (z : Setting) (es : List Emitted) (side : Side) (s : Standing) : Type 0 where
   pub tie : s.tie_breaker ≡ z.tie side
   pub lite : z.full side ≡ true → s.lite ≡ false
@@ -110,7 +111,7 @@ pub record Half (z : Setting) (es : List Emitted) (side : Side) (s : Standing) :
   pub kept : (k : Kept) → Has s.kept k → KeptBy es side k
   pub traced : z.full side ≡ true → (path : Path) → Has s.valid path → Trace es side path
 
--- what is said of the world
+-- the invariant of the network model
 pub record Carried (z : Setting) (es : List Emitted) (w : Seen) : Type 0 where
   pub half : (s : Side) → Half z es s (at s w)
   pub bag : (l : InFlight) (m : Mail) → Has w.bag l → l.mail ≡ Some m → Fact z es l.sender m.class m
@@ -164,7 +165,7 @@ module _ (z : Setting) (es : List Emitted) (e : Emitted) where
     no_clear = no_clear-grow es e c.number side go c.no_clear;
   }
 
-  -- a side that is not cleared keeps what is said of it
+  -- a side that is not cleared keeps its invariant
   pub half-grow : (side : Side) (s : Standing) → (e.side ≡ Some side → e.clear ≡ false) → Half z es side s → Half z (es ++ e ∷ []) side s
   half-grow side s go h = record {
     tie = h.tie;
@@ -177,7 +178,7 @@ module _ (z : Setting) (es : List Emitted) (e : Emitted) where
 
 -- ---- a side does something
 
--- a packet of the other side is brought
+-- a packet of the other side is delivered
 pub record Brought (z : Setting) (es : List Emitted) (side : Side) (e : Emitted) (m : Mail) : Type 0 where
   pub fact : Fact z es (other side) m.class m
   pub accepted : e.accepted ≡ true
@@ -195,7 +196,7 @@ pub record Turn (z : Setting) (es : List Emitted) (side : Side) (old : Standing)
   pub clear_is : e.clear ≡ d.clears
   pub role_is : role_at side e.roles ≡ new.controlling
 
--- the request that is served, or comes to wait
+-- the request that is served, or is stored as an early request
 pub record Arrived (z : Setting) (es : List Emitted) (side : Side) (e : Emitted) (q : RequestRecord) : Type 0 where
   pub check : IsCheck z es (other side) q.id q.ice_controlling q.ice_controlled
   pub came : Came (es ++ e ∷ []) side q.id
@@ -245,7 +246,7 @@ module _ (z : Setting) (es : List Emitted) (side : Side) (old new : Standing) (d
     | inr now ↦ brought_now q now
   ]
 
-  -- what a message that goes out says
+  -- the contents of a message that is sent
   says_fact : (path : Path) (m : Mail) (c : Class) → (side ≡ z.greater → old.controlling ≡ z.role) → d.issued ≡ Some record { path = path; class = c; id = m.id }
       → Conveys c old d m new.controlling → Fact z (es ++ e ∷ []) side c m
   says_fact path m class.Request greater issued says = record {
@@ -284,14 +285,14 @@ module _ (z : Setting) (es : List Emitted) (side : Side) (old new : Standing) (d
   says_fact path m class.Indication greater issued says = says
   says_fact path m class.Unknown greater issued says = says
 
-  -- the side is not cleared, or has nothing left, and announced nothing
+  -- the side is not cleared, or has nothing left, and selected nothing
   abbrev IsBare : Type 0
   IsBare = (new.kept ≡ []) × (new.valid ≡ []) × (d.announced ≡ [])
 
   cleared_or : (e.clear ≡ false) ⊎ IsBare
   cleared_or = elim d.clears as (λ b. d.clears ≡ b → (e.clear ≡ false) ⊎ IsBare) [ true ↦ λ is. inr (t.effect.cleared is) | false ↦ λ is. inl (t.clear_is ∙ is) ] refl
 
-  -- the answer of a kept check came: the check reached the other side, which answered it
+  -- the response to a stored check arrived: the check reached the other side, which answered it
   met_trace : (path : Path) → DistinctChecks es → e.clear ≡ false → MeetsSuccess old d path → Trace (es ++ e ∷ []) side path
   met_trace path distinct go is =
       let m = is.mail in
@@ -357,7 +358,7 @@ module _ (z : Setting) (es : List Emitted) (side : Side) (old new : Standing) (d
     ];
   }
 
-  -- a path that is announced
+  -- a path that is selected
   pub announced_turn : z.full side ≡ true → DistinctChecks es → (path : Path) → Has e.announced path → Trace (es ++ e ∷ []) side path
   announced_turn full distinct path has =
       let emitted : Has d.announced path = subst (λ ps. Has ps path) t.announced_is has in
@@ -390,7 +391,7 @@ module _ (z : Setting) (es : List Emitted) (side : Side) (old new : Standing) (d
     ]
   ]
 
-  -- a refusal that a side takes is of a check that carried the greater's role
+  -- a 487 that a side accepts is for a check that carried the greater's role
   refused_role : DistinctChecks es → MeetsConflict old d new → new.controlling ≡ not z.role
   refused_role distinct by =
       let m = by.mail in
@@ -408,7 +409,7 @@ module _ (z : Setting) (es : List Emitted) (side : Side) (old new : Standing) (d
   request_role : side ≡ other z.greater → (q : RequestRecord) → (serving : d.serves ≡ Some q) → (arrived q serving).check.role ≡ z.role
   request_role is q serving = (arrived q serving).check.greater (ap other is ∙ other-other z.greater)
 
-  -- the lesser does not come back
+  -- the lesser one does not switch back
   pub lesser_turn : DistinctChecks es → side ≡ other z.greater → old.controlling ≡ not z.role → new.controlling ≡ not z.role
   lesser_turn distinct is role = elim (t.effect.role t.not_set) [
     | inl stays ↦ stays ∙ role

@@ -1,4 +1,4 @@
--- What a claimed role comes to at its receiver.
+-- The effect of a claimed role at its receiver.
 use Rattle.std.proofs.Common.{◌≡◌, ℕ, ◌<◌, ◌≤◌, Bool, true, false, not, nat_lt, nat_le, Option, Some, None, refl, ap, sym, ◌∙◌, arith}
 use Rattle.std.specs.Prelude.{if◌then◌else◌}
 use Rattle.std.specs.Option.{option_map_or}
@@ -6,7 +6,8 @@ use Rattle.std.proofs.lemmas.Bool.Decides.{nat_tests}
 use Rattle.is_rules.specs.Request.{RequestRecord, rival_in}
 use Rattle.is_rules.specs.Standing.{Standing, Claims, insists, yields}
 
--- the rival's tie-breaker is the claimed one where the claimed role is the own one, and else there is none
+-- the rival's tie-breaker is the claimed one if the claimed role is the receiver's own role, and otherwise there is
+-- none
 abbrev Rivals : Bool → Bool → ℕ → Option ℕ → Type 0
 Rivals true true tie r = r ≡ Some tie
 Rivals false false tie r = r ≡ Some tie
@@ -19,14 +20,14 @@ rivals true false tie q c = c.0
 rivals false true tie q c = c.1
 rivals false false tie q c = c.1
 
--- of an own role
+-- for the receiver's own role
 tested : (test : ℕ → Bool) (own role : Bool) (tie : ℕ) (r : Option ℕ) → Rivals own role tie r → option_map_or test r false ≡ true → (own ≡ role) × (test tie ≡ true)
 tested test true true tie r is h = (refl, sym (ap (λ x. option_map_or test x false) is) ∙ h)
 tested test false false tie r is h = (refl, sym (ap (λ x. option_map_or test x false) is) ∙ h)
 tested test true false tie r is h = (let k = sym (ap (λ x. option_map_or test x false) is) ∙ h in cc)
 tested test false true tie r is h = (let k = sym (ap (λ x. option_map_or test x false) is) ∙ h in cc)
 
--- a 487 goes to a claim of the own role with no greater tie-breaker
+-- a 487 goes to a claim of the receiver's own role without a greater tie-breaker
 pub insists-claims : (s : Standing) (q : RequestRecord) (role : Bool) (tie : ℕ) → Claims q.ice_controlling q.ice_controlled role tie → insists s q ≡ true
     → (s.controlling ≡ role) × (tie ≤ s.tie_breaker)
 insists-claims s q role tie c h =
@@ -34,7 +35,7 @@ insists-claims s q role tie c h =
     let le : nat_le tie s.tie_breaker ≡ true = k.1 in
     (k.0, grind (arith, nat_tests))
 
--- the role is given up to a claim of it with a greater one
+-- the receiver switches its role at a claim of it with a greater one
 pub yields-claims : (s : Standing) (q : RequestRecord) (role : Bool) (tie : ℕ) → Claims q.ice_controlling q.ice_controlled role tie → yields s q ≡ true
     → (s.controlling ≡ role) × (s.tie_breaker < tie)
 yields-claims s q role tie c h =
@@ -49,7 +50,7 @@ switched test false false tie r is h = ap (λ x. if option_map_or test x false t
 switched test true false tie r is h = ap (λ x. if option_map_or test x false then false else true) is
 switched test false true tie r is h = ap (λ x. if option_map_or test x false then true else false) is
 
--- once such a claim was settled the roles differ
+-- once such a conflict was resolved the roles differ
 pub settled-claims : (s : Standing) (q : RequestRecord) (role : Bool) (tie : ℕ) → Claims q.ice_controlling q.ice_controlled role tie → s.tie_breaker < tie
     → (if yields s q then not s.controlling else s.controlling) ≡ not role
 settled-claims s q role tie c less =

@@ -1,4 +1,4 @@
--- What is said of entries by their numbers stays when the log grows.
+-- Statements about entries by their numbers stay true when the log grows.
 use Rattle.std.proofs.Common.{◌≡◌, ℕ, zero, suc, Bool, false, List, [], ◌∷◌, ◌++◌, length, Some, ◌⊎◌, inl, inr, refl, ap}
 use Rattle.std.specs.Prelude.{slice_get}
 use Rattle.is_stun.specs.declared.header.Class.{Class}

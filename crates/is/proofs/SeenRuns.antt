@@ -1,4 +1,4 @@
--- Each event keeps what the log says of the world, and so does a run.
+-- Each event preserves what the log implies for the network model, and so does an execution.
 use Rattle.std.proofs.Common.{◌≡◌, ℕ, ◌+◌, ◌<◌, ◌≤◌, Bool, true, false, cond, List, [], ◌∷◌, ◌++◌, Some, ◌⊎◌, inl, inr, refl, ap, sym, ◌∙◌, subst, arith, append_assoc, append-nil, zero-add}
 use Rattle.std.specs.Prelude.{not, ◌≢◌}
 use Rattle.std.specs.List.{AllByRecursion}
@@ -21,7 +21,7 @@ Has-append [] ys x h = inr h
 Has-append (y ∷ xs) ys x (inl e) = inl (inl e)
 Has-append (y ∷ xs) ys x (inr h) = elim (Has-append xs ys x h) [ inl k ↦ inl (inr k) | inr k ↦ inr k ]
 
--- a side of the world that moved
+-- a side of the network model that moved
 moved_same : (s : Side) (new : Standing) (w : Seen) (bag : List InFlight) → at s (record (put s new w) { bag = bag }) ≡ new
 moved_same A new w bag = refl
 moved_same B new w bag = refl
@@ -30,7 +30,7 @@ moved_other : (s : Side) (new : Standing) (w : Seen) (bag : List InFlight) → a
 moved_other A new w bag = refl
 moved_other B new w bag = refl
 
--- all sides that are to be are full
+-- all sides that are required to be full agents are full agents
 abbrev AreFull : Setting → Kind → Type 0
 AreFull z kind = (s : Side) → z.full s ≡ true → StaysFull s kind
 
@@ -84,12 +84,12 @@ module _ (z : Setting) (es : List Emitted) (w w' : Seen) (k : Carried z es w) wh
     role = k.role;
   })
 
-  -- each event keeps what the log says
+  -- each event preserves what the log implies
   carried : (kind : Kind) (e : Emitted) → Happens w kind e w' → AreFull z kind → DistinctChecks es → Carried z (es ++ e ∷ []) w'
   carried Still e h full distinct = stands_carried e h
   carried (Move side d) e h full distinct = moves_carried side d e h full distinct
 
-  -- the lesser does not come back
+  -- the lesser one does not switch back
   lesser_stays : (kind : Kind) (e : Emitted) → Happens w kind e w' → AreFull z kind → DistinctChecks es → (at (other z.greater) w).controlling ≡ not z.role
       → (at (other z.greater) w').controlling ≡ not z.role
   lesser_stays Still e h full distinct role = subst (λ v. (at (other z.greater) v).controlling ≡ not z.role) (sym h.world) role
@@ -114,7 +114,7 @@ module _ (z : Setting) (es : List Emitted) (w w' : Seen) (k : Carried z es w) wh
       (rw moved_same (met_turn z es side (at side w) m.new d e t (k.half side) distinct is
       (subst (λ s. ((q : RequestRecord) × (d.serves ≡ Some q) × ((at s w).passes q ≡ true)) ⊎ ((n : Mail) × (d.accepts ≡ Some n) × (n.class ≡ class.Failure) × (n.is_conflict ≡ true))) (sym is) met))))
 
-  -- an announced path is traced
+  -- a selected path has a causal chain
   traced_now : (kind : Kind) (e : Emitted) → Happens w kind e w' → AreFull z kind → DistinctChecks es → (side : Side) → z.full side ≡ true → (path : Path)
       → e.side ≡ Some side → Has e.announced path → Trace (es ++ e ∷ []) side path
   traced_now Still e h full distinct side is path side_is has = absurd (subst (λ ps. Has ps path) h.announced_is has)
@@ -124,7 +124,7 @@ module _ (z : Setting) (es : List Emitted) (w w' : Seen) (k : Carried z es w) wh
       subst (λ v. Trace (es ++ e ∷ []) v path) same_side
       (announced_turn z es s (at s w) m.new d e t (k.half s) (subst (λ v. z.full v ≡ true) (sym same_side) is) distinct path has)
 
-  -- an answer that is accepted came back on the path of a check with its id
+  -- a response that is accepted came back on the path of a check with its id
   back_now : (kind : Kind) (e : Emitted) → Happens w kind e w' → (side : Side) (id : List ℕ) → e.side ≡ Some side → e.accepted ≡ true
       → e.moved ≡ Some record { class = class.Success; id = id } → Back es side id e.via
   back_now Still e h side id side_is accepted moved = (let none = h.moved_is in cc)
@@ -136,7 +136,7 @@ module _ (z : Setting) (es : List Emitted) (w w' : Seen) (k : Carried z es w) wh
       subst (λ v. Back es v id e.via) same_side (subst (λ i. Back es s i e.via) mail.3
       (record { number = q.number; path = a.path; role = a.role; check = q.check; via = a.via; came = m.via_is ∙ a.came; back = a.back }))
 
--- ---- runs
+-- ---- executions
 
 roles_emitted : (w w' : Seen) (kind : Kind) (e : Emitted) → Happens w kind e w' → e.roles ≡ roles_of w'
 roles_emitted w w' Still e h = h.roles_are
@@ -145,7 +145,7 @@ roles_emitted w w' (Move side d) e h = h.roles_are
 abbrev AllFull : Setting → List Happening → Type 0
 AllFull z log = AllByRecursion (λ x. AreFull z x.kind) log
 
--- one event of a run: what is kept, and the premise for the rest
+-- one event of an execution: what is preserved, and the precondition for the rest
 record Next (z : Setting) (so_far : List Emitted) (x : Happening) (mid : Seen) (rest : List Emitted) : Type 0 where
   distinct : DistinctChecks so_far
   distinct_rest : DistinctChecks ((so_far ++ x.emitted ∷ []) ++ rest)
@@ -246,7 +246,7 @@ start_carried first greater es p full = record {
   role = refl;
 }
 
--- no side is asked to be full
+-- no side is required to be a full agent
 none_full : Side → Bool
 none_full s = false
 
@@ -300,7 +300,7 @@ all_apart : (g : Side) (role : Bool) (es : List Emitted) → AllByRecursion (λ 
 all_apart g role [] is differs = tt
 all_apart g role (e ∷ es) (is, more_is) (differs, more_differ) = (apart g role e.roles is differs, all_apart g role es more_is more_differ)
 
--- what is known at an event of a run
+-- what holds at an event of an execution
 record AtPoint (z : Setting) (log before : List Happening) (mid : Seen) (x : Happening) (rest : List Happening) : Type 0 where
   distinct : DistinctChecks (emitted_of before ++ x.emitted ∷ emitted_of rest)
   carried_to : Carried z (emitted_of before) mid
@@ -325,7 +325,7 @@ differ_once_met first log greater p before mid x rest point met =
     (n.roles greater ∙ n.after.role, runs_keep z (es ++ x.emitted ∷ []) rest point.after point.last point.leads full_rest n.distinct_rest n.after)
     (n.roles (other greater) ∙ role, runs_settled z (es ++ x.emitted ∷ []) rest point.after point.last point.leads full_rest n.distinct_rest n.after role)
 
--- ---- wherever a run leads
+-- ---- after any execution
 
 -- the greater's role and the tie-breakers are those of the start
 pub record Reaches (first : Seen) (greater : Side) (mid : Seen) : Type 0 where
@@ -363,7 +363,7 @@ event_apart first w w' front left kind e greater p ran happens how =
       | inr differs ↦ lesser_stays z (emitted_of front) w w' k kind e happens full distinct (other_apart greater z.role w k.role differs)
     ])
 
--- ---- announced paths
+-- ---- selected paths
 
 all_cut : (z : Setting) (before : List Happening) (x : Happening) (rest : List Happening) → AllFull z (before ++ x ∷ rest) → AllFull z before × AreFull z x.kind
 all_cut z [] x rest full = (tt, full.0)

@@ -1,4 +1,4 @@
--- Roles of two agents, and traces of what they announce, from runs of the world as each is met by the other one.
+-- Roles of two agents, and causal chains of the paths that they select, from executions with external views.
 use Rattle.std.proofs.Common.{◌≡◌, ℕ, zero, suc, ◌<◌, ◌≤◌, Bool, true, false, List, [], ◌∷◌, ◌++◌, map, Option, Some, None, is_some, option_map, ◌⊎◌, inl, inr, refl, ap, sym, ◌∙◌, subst, not, arith}
 use Rattle.std.specs.Prelude.{◌≢◌, ◌&&◌, slice_get}
 use Rattle.std.specs.List.{AllByRecursion}
@@ -186,7 +186,7 @@ module _ {H P : Type 0} where
       passes_at A v q h = h
       passes_at B v q h = h
 
-  -- an event of a run, as it is seen
+  -- an event of an execution, as it is observed
   pub record Sight (first : WorldRecord H P) (log front : List (Logged P)) (mid : WorldRecord H P) (x : Logged P) (rest : List (Logged P)) : Type 0 where
     pub whole : List Happening
     pub before : List Happening

@@ -1,4 +1,4 @@
--- Each announced path has a trace, and its answer came back on the path.
+-- Each selected path has a causal chain, and its response came back on the path.
 use Rattle.std.proofs.Common.{◌≡◌, ℕ, zero, suc, ◌<◌, ◌≤◌, Bool, true, false, List, [], ◌∷◌, ◌++◌, map, length, Option, Some, None, option_map, ◌⊎◌, inl, inr, refl, ap, sym, ◌∙◌, subst, arith}
 use Rattle.std.specs.Prelude.{MatchBool, slice_get}
 use Rattle.std.specs.List.{AllByRecursion}
@@ -113,7 +113,7 @@ came_back path via (world.Deliver place now w) came back =
 came_back path via (world.Call side c) came back = absurd (let wrong : None ≡ Some via = came in cc)
 came_back path via (world.Poll side) came back = absurd (let wrong : None ≡ Some via = came in cc)
 
--- an entry of the list, and its place in the log
+-- an entry of the list, and its position in the log
 record Entered {P : Type 0} (events : List (TwoAgentsEvent P)) (entries : List WorldEntry) (n : ℕ) (x : Logged P) : Type 0 where
   event : TwoAgentsEvent P
   entry : WorldEntry
@@ -135,7 +135,7 @@ module _ {P : Type 0} where
   entered (v ∷ events) (e ∷ entries) (suc n) x h =
       let more = entered events entries n x h in record { event = more.event; entry = more.entry; found = more.found; is = more.is }
 
--- two checks with one id went out on one path
+-- two checks with one id were sent on one path
 path_same : (p q : Path) (id : List ℕ) → Some (issued_as p class.Request id) ≡ Some (issued_as q class.Request id) → p ≡ q
 path_same p q id h = ap (λ o. option_map_or (λ (i : Issued). i.path) o p) h
 
@@ -148,10 +148,10 @@ one_path log distinct i j id p q x y at_i at_j issued_i issued_j =
     let same = entry_same log i j x y at_i at_j (distinct i j id p q x y at_i at_j issued_i issued_j) in
     path_same p q id (sym issued_i ∙ ap (λ (z : Logged _). z.outcome.entry.emitted.issued) same ∙ issued_j)
 
--- ---- an event of a run
+-- ---- an event of an execution
 
 module _ {H P : Type 0} (mac : H → List ℕ → List ℕ → List ℕ) (answers : P → CandidateRecord → ℕ → ℕ → Type 0) where
-  -- what a run does at an event
+  -- what an execution does at an event
   record Through (first : WorldRecord H P) (s : Stream) (n : ℕ) (before : List (Logged P)) (x : Logged P) (rest : List (Logged P)) (last : WorldRecord H P) (t : Stream) : Type 0 where
     mid : WorldRecord H P
     u : Stream
@@ -175,7 +175,7 @@ module _ {H P : Type 0} (mac : H → List ℕ → List ℕ → List ℕ) (answer
     abbrev Log : List (Logged P)
     Log = logged events entries
 
-    -- the event of a number, as it is seen
+    -- the event with a number, as it is observed
     record At (n : ℕ) (x : Logged P) : Type 0 where
       cut : Cut Log n x
       mid : WorldRecord H P
@@ -212,7 +212,7 @@ module _ {H P : Type 0} (mac : H → List ℕ → List ℕ → List ℕ) (answer
       whole_is : Log ≡ (here.cut.front ++ x ∷ []) ++ here.cut.rest
       whole_is = here.cut.whole ∙ sym_assoc here.cut.front x here.cut.rest
 
-      -- what is seen in the front is an entry of the log, at this number at the latest
+      -- what is observed in the front is an entry of the log, at this number at the latest
       record Shows (m : ℕ) (e : Emitted) : Type 0 where
         event : TwoAgentsEvent P
         entry : WorldEntry
@@ -265,7 +265,7 @@ module _ {H P : Type 0} (mac : H → List ℕ → List ℕ → List ℕ) (answer
           let in_front = get-front (here.cut.front ++ x ∷ []) here.cut.rest k y (subst (λ xs. slice_get xs k ≡ Some y) whole_is o.1) (omega (arith, to, counted, at_n)) in
           none k (emitted_at y) from (subst (λ es. slice_get es k ≡ Some (emitted_at y)) (sym upto) (get-map emitted_at (here.cut.front ++ x ∷ []) k y in_front)) side_is
 
-      -- the trace, by the numbers of entries
+      -- the causal chain, by the numbers of entries
       traced_by : (side : Side) (path : Path) (t : seen.Trace Es side path) → IsTrace entries side path (suc n) (record { checked = t.checked; delivered = t.delivered; replied = t.replied; answered = t.answered })
       traced_by side path t =
           let reply = issues_at t.replied (other side) class.Success t.id t.reply_path t.reply_role t.reply in
@@ -282,7 +282,7 @@ module _ {H P : Type 0} (mac : H → List ℕ → List ℕ → List ℕ) (answer
             uncleared = uncleared t.checked side t.no_clear;
           }
 
-    -- ---- the promise
+    -- ---- the theorem
 
     has_trace : (side : Side) → IsNeverLite side Log → (n place : ℕ) (path : Path) → IsAt entries n (Announces side path place) → (t : Trace) × IsTrace entries side path (suc n) t
     has_trace side never n place path (e, found, (side_is, announced)) =

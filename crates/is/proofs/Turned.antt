@@ -1,4 +1,4 @@
--- What a method leaves is what its event says.
+-- The state after a method is the one that its event describes.
 use Rattle.std.proofs.Common.{◌≡◌, ℕ, zero, suc, Bool, true, false, List, [], ◌∷◌, map, Option, Some, None, refl, ap, sym, ◌∙◌, subst}
 use Rattle.std.specs.Prelude.{slice_get, option_map}
 use Rattle.rand_core.specs.Stream.{Stream}
@@ -40,7 +40,7 @@ module _ {H P : Type 0} (mac : H → List ℕ → List ℕ → List ℕ) (answer
   polled side w s answer new bag e into is =
       record { answer = answer; new = new; bag = bag; polled = into; world = refl; emitted = is; stream = refl }
 
-  -- a delivery to the side that did not send the letter
+  -- a delivery to the side that did not send the packet
   pub delivered : (side : Side) (w : WorldRecord H P) (s : Stream) (place now : ℕ) (path : Path) (l : InFlightRecord) (new : AgentRecord H P) (entry : agent.Entry) (e : Outcome) (moved : Option (Class × TransId))
       → slice_get w.bag place ≡ Some l → l.sender ≡ other side → Receives mac answers now (at side w) path l.packet.contents entry new
       → moved ≡ read_unless (fault_of l.packet.contents) (message_of l.packet.contents)

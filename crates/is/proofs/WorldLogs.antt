@@ -1,4 +1,4 @@
--- The log of a world grows by an event and its entry.
+-- The log of a two-agent network model grows by an event and its entry.
 use Rattle.std.proofs.Common.{◌≡◌, ℕ, suc, List, [], ◌∷◌, ◌++◌, length, ◌+◌, refl, ap, ◌∙◌, subst, arith}
 use Rattle.rand_core.specs.Stream.{Stream}
 use Rattle.is_candidate.specs.Candidates.{CandidateRecord}

@@ -1,4 +1,4 @@
--- Answers: what an agent does with them, from what is recorded of them.
+-- Responses: what an agent does with them, from what is stored about them.
 use Rattle.std.proofs.Common.{◌≡◌, ℕ, Bool, true, false, List, Option, Some, None, unwrap_or, refl, sym, ap, subst, ◌∙◌}
 use Rattle.std.specs.Prelude.{slice_set, MatchBool, Result, Ok, Err}
 use Rattle.std.proofs.lemmas.Bool.{eqb-true}
@@ -69,7 +69,7 @@ success-taken now old recorded new path m emitted number p local rising found ke
       concludes,
     )
 
--- a failure that arrives, by its method and its class
+-- an error response that arrives, by its method and its class
 pub failure-arrives : {H P : Type 0} (mac : H → List ℕ → List ℕ → List ℕ) (now : ℕ) (old new : AgentRecord H P) (path : Path) (m : Message) (result : Result (Option Emitted) IceError)
     → m.method ≡ Binding → m.class ≡ Failure
     → Arrives (IsAcceptedAs mac Failure (keeps_check_on old path m.id) old m) mac Failure now old path m result new

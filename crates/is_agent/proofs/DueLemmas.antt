@@ -1,4 +1,4 @@
--- Pairs that fall due at a moment: pairs that go and asking for moments add none.
+-- Pairs that become due at a time: removing pairs and fixing due times add none.
 use Rattle.std.proofs.Common.{if◌then◌else◌, ◌≡◌, ℕ, ◌&&◌, ◌||◌, Bool, true, false, not, List, [], ◌∷◌, map, Option, Some, None, is_some, option_map, MatchBool, subst, sym, refl}
 use Rattle.std.specs.List.{list_any}
 use Rattle.is_stun.specs.declared.timing.StunTiming.{StunTiming}
@@ -39,7 +39,7 @@ falls-asked controlling now t (p ∷ ps) h =
       | false ↦ λ k. or-right (not (is_some p.due) && awaits_nomination controlling p) (list_any (falls_due controlling now t) ps) (falls-asked controlling now t ps k)
     ] h
 
--- the last of three facts gives way to a weaker one
+-- the last of three facts is replaced by a weaker one
 pub and-third : (a b c d : Bool) → (d ≡ true → c ≡ true) → a && b && d ≡ true → a && b && c ≡ true
 and-third true true c d weaker h = weaker h
 and-third true false c d weaker h = h
@@ -48,7 +48,7 @@ and-third false b c d weaker h = h
 pub all-three : (a b c : Bool) → a ≡ true → b ≡ true → c ≡ true → a && b && c ≡ true
 all-three a b c x y z = rw (x, y) z
 
--- where the pair that is checked next has a number, it is due
+-- if the pair that is checked next has a number, it is due
 pub due-there : {H P : Type 0} (a : AgentRecord H P) (now : ℕ) (t : StunTiming) (next : Option PairRecord) (n : ℕ)
     → IsNextDue now t a.pairs next → option_map (λ p. p.number) next ≡ Some n → list_any (is_due now t) a.pairs ≡ true
 due-there a now t None n is numbered = absurd (cc)
@@ -63,7 +63,8 @@ next-found ps now t (Some p) n rising ((has, first), due) numbered =
     let same : p.number ≡ n = cc in
     (p, refl, same, subst (λ m. pair_numbered m ps ≡ Some p) same (numbered-found ps p rising has))
 
--- with a known peer, and not under lite, the next pair is checked once all were asked
+-- with the peer's credentials, and if the agent is not ICE-lite, the next pair is checked once all due times are
+-- fixed
 pub may-check : {H P : Type 0} (mac : H → List ℕ → List ℕ → List ℕ) (now : ℕ) (creds : Option IceCreds) (peer : IceCreds) (old all new : AgentRecord H P)
     (s : Stream) (issued : Option Issued) (t : Stream) → creds ≡ Some peer → old.lite ≡ false → all ≡ all_asked now old
     → ChecksNext mac now peer all s issued new t → MayCheck mac now creds old s issued new t

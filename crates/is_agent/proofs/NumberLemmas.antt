@@ -7,7 +7,7 @@ use Rattle.is_proto.specs.Lists.{Has}
 use Rattle.is_pair.specs.Pairs.{PairRecord}
 use Rattle.is_pair.specs.Bag.{is_numbered, are_below, change_pair, keeps, keeps_check, pair_numbered, passes_at, put_pair, rises}
 
--- what is found is there and passes
+-- a pair that is found is in the list and passes
 pub find-Some : {X : Type 0} (test : X → Bool) (xs : List X) (x : X) → find test xs ≡ Some x → Has xs x × (test x ≡ true)
 find-Some test [] x h = absurd (cc)
 find-Some test (y ∷ ys) x h =
@@ -33,7 +33,7 @@ untouched n f (p ∷ ps) h =
     let b = both (nat_lt n p.number) (above n ps) h in
     rw (apart n p.number b.0) (ap (λ xs. p ∷ xs) (untouched n f ps b.1))
 
--- the place of the pair of a number
+-- the index of the pair with a number
 place-at : (ps : List PairRecord) (n : ℕ) (p after : PairRecord) → rises ps ≡ true → pair_numbered n ps ≡ Some p
     → (place : ℕ) × (slice_get ps place ≡ Some p) × (change_pair n (λ _. after) ps ≡ slice_set ps place after)
 place-at [] n p after rising found = absurd (cc)
@@ -48,7 +48,7 @@ place-at (q ∷ qs) n p after rising found =
       | false ↦ λ is h. let rest = place-at qs n p after r.1 h in (suc rest.0, rest.1, ap (λ xs. q ∷ xs) rest.2)
     ] refl found
 
--- a pair that is put in the place of the one of its number
+-- a pair that replaces the one with its number
 pub put-place : (ps : List PairRecord) (n : ℕ) (p after : PairRecord) → rises ps ≡ true → pair_numbered n ps ≡ Some p → after.number ≡ n
     → (place : ℕ) × (slice_get ps place ≡ Some p) × (put_pair after ps ≡ slice_set ps place after)
 put-place ps n p after rising found its =
@@ -60,7 +60,7 @@ has-any t [] x none is = absurd none
 has-any t (y ∷ ys) x (inl e) is = rw (e, is) refl
 has-any t (y ∷ ys) x (inr has) is = elim (t y) as (λ b. (b || list_any t ys) ≡ true) [ true ↦ refl | false ↦ has-any t ys x has is ]
 
--- the pair of the number keeps the check
+-- the pair with the number stores the check
 pub kept-at : (id : List ℕ) (n : ℕ) (ps : List PairRecord) (p : PairRecord) → pair_numbered n ps ≡ Some p → keeps_check id p ≡ true → keeps id n ps ≡ true
 kept-at id n ps p found kept =
     let is = find-Some (is_numbered n) ps p found in

@@ -1,4 +1,4 @@
--- Requests that wait, and their views.
+-- Early requests, and their models.
 use Rattle.std.proofs.Common.{◌≡◌, ℕ, Bool, true, false, List, [], ◌∷◌, map, length, drop, take_while, slice_get, option_map, Option, Some, None, refl, ap, zero, suc, cond, ◌++◌, if◌then◌else◌, IfErr, MatchOption, Result, Ok, Err}
 use Rattle.std.proofs.lemmas.Option.{slice_get-map}
 use Rattle.std.proofs.lemmas.List.Sums.{take_while-cons}
@@ -21,7 +21,7 @@ use Rattle.is_rules.specs.Serving.{MayRefuseRequest}
 use Rattle.is_proto.specs.declared.error.IceError.{IceError}
 use Rattle.is_proto.specs.declared.error.IceError.TheVariants.{BadCandidate, OutOfMemory, PairIdsExhausted, MtuTooSmall, CredentialsTooLong, PriorityTooHigh}
 
--- as many views pass at the front
+-- as many models pass at the front
 pub front-views : {X Y : Type 0} (view : X → Y) (test : Y → Bool) (xs : List X) → length (take_while (λ x. test (view x)) xs) ≡ length (take_while test (map view xs))
 front-views view test [] = refl
 front-views view test (x ∷ xs) =
@@ -42,18 +42,18 @@ module _ {H P : Type 0} where
   outdated-left now t None a = refl
   outdated-left now t (Some peer) a = refl
 
-  -- the start is told of in New alone
+  -- the start is emitted only in New
   pub start-emitted : (a : AgentRecord H P) → with_start (start_event a.state a.local_creds) a.events ≡ (start_emitted a).events
   start-emitted a = emitted (same_state a.state New) where
     emitted : (b : Bool) → with_start (if b then Some (IceRestart a.local_creds) else None) a.events ≡ (if b then a.events ++ IceRestart a.local_creds ∷ [] else a.events)
     emitted true = refl
     emitted false = refl
 
-  -- behind New it is told of no more
+  -- after New it is not emitted again
   pub started : (a : AgentRecord H P) → same_state a.state New ≡ false → start_emitted a ≡ a
   started a behind = rw (behind) refl
 
-  -- what waking changes
+  -- what removing expired early requests changes
   pub wakes : (now : ℕ) (a : AgentRecord H P) (state : IceConnectionState) (events : List IceAgentEvent) (queue : List RequestRecord) (many : ℕ)
       → state ≡ (evaluated now a).state → events ≡ (evaluated now a).events → queue ≡ drop many a.queue → many ≡ outdated now a.timing a.remote_creds a
       → record a { state = state; events = events; queue = queue } ≡ queue_cleared now (evaluated now a)
@@ -66,7 +66,7 @@ module _ {H P : Type 0} where
       let front : k ≡ length (take_while (is_outdated now a.timing) a.queue) = rw (creds) at many in
       rw (creds, head-behind, ← front, views, slice_get-map) refl
 
-  -- waking changes nothing that a refusal looks at
+  -- this removal changes nothing that an error depends on
   pub refused-timeout_begun : (now : ℕ) (a : AgentRecord H P) (q : RequestRecord) (error : IceError) → MayRefuseRequest a q error → MayRefuseRequest (first_taken (timeout_begun now a)) q error
   refused-timeout_begun now a q PairIdsExhausted may = may
   refused-timeout_begun now a q OutOfMemory may = may
@@ -75,7 +75,7 @@ module _ {H P : Type 0} where
   refused-timeout_begun now a q CredentialsTooLong may = may
   refused-timeout_begun now a q PriorityTooHigh may = may
 
-  -- why the moment is refused that serves this request, or none
+  -- the error of the `handle_timeout` call that serves this request, or none
   pub refused-late : (now : ℕ) (a : AgentRecord H P) (o : Option RequestRecord) (error : IceError) → o ≡ request_at now a
       → MatchOption o (error ≡ OutOfMemory) (λ q. MayRefuseRequest a q error) → MayRefuseMoment now a error
   refused-late now a None error is may = rw (← is) may

@@ -1,4 +1,4 @@
--- The user name of a check is short enough to be written.
+-- The USERNAME of a check is short enough to be written.
 use Rattle.std.proofs.Common.{◌≡◌, ◌≤◌, false, length, Some, arith, length-append}
 use Rattle.std.proofs.lemmas.Grind.{common_steps}
 use Rattle.is_rules.specs.declared.credentials.IceCreds.{IceCreds}

@@ -1,4 +1,4 @@
--- A pair takes an answer, and stays where it is found.
+-- A pair takes a response, and stays where it is found.
 use Rattle.std.proofs.Common.{◌≡◌, ℕ, zero, suc, ◌||◌, Bool, List, [], ◌∷◌, length, slice_get, slice_set, Some, refl, sym, ap, ◌∙◌}
 use Rattle.std.proofs.lemmas.List.{length-set}
 use Rattle.std.specs.List.{list_any}

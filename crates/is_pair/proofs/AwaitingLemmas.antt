@@ -1,4 +1,4 @@
--- The pair that an answer's id names, found through the index.
+-- The pair with a pending transaction of a response's id, found through the index.
 use Rattle.std.proofs.Common.{if◌then◌else◌, ◌≡◌, ◌==◌, ℕ, ◌&&◌, ◌||◌, Bool, true, false, List, [], ◌∷◌, filter, find, nat_eq, bytes_eq, Option, Some, None, IfSome, is_some, unwrap_or, inl, inr, refl, sym, ap, ◌∙◌}
 use Rattle.std.proofs.lemmas.Bool.{eq-eqb, eqb-true}
 use Rattle.std.specs.List.{list_any}
@@ -59,7 +59,7 @@ module _ (es : List (ℕ × PairRecord)) (index : List Kept) (id : List ℕ) (te
       let passes = has-any (passes_at k.0.number test) (pairs_of es) p has (rw (eq-eqb p.number k.0.number (sym number)) b.1) in
       none-found-has (names_passing id test (pairs_of es)) index k.0 none k.1 (rw (n.1) passes))
 
--- it keeps the id under its number
+-- it stores the id under its number
 pub awaiting-keeps : (id : List ℕ) (test : PairRecord → Bool) (ps : List PairRecord) (o : Option PairRecord) → IsAwaiting id test ps o → IfSome o (λ p. keeps id p.number ps ≡ true)
 awaiting-keeps id test ps None h = tt
 awaiting-keeps id test ps (Some p) h =

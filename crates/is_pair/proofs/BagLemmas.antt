@@ -1,4 +1,4 @@
--- The pairs of a map's entries, and one of them changed.
+-- The pairs of a map's entries, when one of them is changed.
 use Rattle.std.proofs.Common.{if◌then◌else◌, ◌≡◌, ◌==◌, ℕ, ◌+◌, ◌&&◌, ◌||◌, Bool, true, false, cond, List, [], ◌∷◌, ◌++◌, map, filter, find, nat_lt, nat_eq, Option, Some, None, is_some, option_map, unwrap_or, refl, sym, ap, subst, ◌∙◌, arith}
 use Rattle.std.proofs.lemmas.Bool.{eq-eqb, eqb-true}
 use Rattle.std.proofs.lemmas.Bool.Decides.{nat_tests}
@@ -75,7 +75,7 @@ found-number n (e ∷ es) v keyed found =
       | false ↦ λ b h. found-number n es v k.1 h
     ] refl found
 
--- where no pair is found none is changed
+-- if no pair is found none is changed
 pub unwritten : (n : ℕ) (f : PairRecord → PairRecord) (es : List (ℕ × PairRecord)) → are_keyed es ≡ true → lookup (nat_eq n) es ≡ None → change_pair n f (pairs_of es) ≡ pairs_of es
 unwritten n f [] keyed none = refl
 unwritten n f (e ∷ es) keyed none =
@@ -146,7 +146,7 @@ pub option-back : {X Y : Type 0} (f : X → Y) (o : Option X) (y : Y) → Some y
 option-back f None y is = absurd (cc)
 option-back f (Some x) y is = (x, refl, ap (λ o. unwrap_or o y) is)
 
--- a pair is found exactly where one has the number
+-- a pair is found exactly if one has the number
 pub known : (n : ℕ) (es : List (ℕ × PairRecord)) → are_keyed es ≡ true → is_some (lookup (nat_eq n) es) ≡ list_any (is_numbered n) (pairs_of es)
 known n [] keyed = refl
 known n (e ∷ es) keyed =
@@ -156,7 +156,7 @@ known n (e ∷ es) keyed =
       | false ↦ λ b. rw (not-here n e.0 e.1.number b k.0) (known n es k.1)
     ] refl
 
--- ---- pairs that go
+-- ---- pairs that are removed
 
 pub pairs_of-filter : (t : PairRecord → Bool) (es : List (ℕ × PairRecord)) → pairs_of (filter (λ e. t e.1) es) ≡ filter t (pairs_of es)
 pairs_of-filter t [] = refl
@@ -189,7 +189,7 @@ none-numbered n (p ∷ ps) h =
     let b = both (nat_lt n p.number) (above n ps) h in
     rw (apart n p.number b.0) (none-numbered n ps b.1)
 
--- of a number that stays all stays, and of another nothing
+-- if the pair with the number stays, everything about it stays, and otherwise nothing
 pub stays-whole : (n : ℕ) (test t : PairRecord → Bool) (ps : List PairRecord) → rises ps ≡ true
     → list_any (passes_at n test) (filter t ps) ≡ (list_any (is_numbered n) (filter t ps) && list_any (passes_at n test) ps)
 stays-whole n test t [] h = refl
@@ -212,7 +212,7 @@ stays-whole n test t (p ∷ ps) h =
       ]
     ] refl
 
--- ---- one pair more
+-- ---- one more pair
 
 pub not-found : (n : ℕ) (es : List (ℕ × PairRecord)) → are_keyed es ≡ true → are_below n (pairs_of es) ≡ true → lookup (nat_eq n) es ≡ None
 not-found n [] keyed below = refl
@@ -229,7 +229,7 @@ rises-last (q ∷ ps) p h below =
     let b = both (nat_lt q.number p.number) (are_below p.number ps) below in
     rw (list_all-append (λ x. nat_lt q.number x.number) ps (p ∷ []), r.0, b.0) (rises-last ps p r.1 b.1)
 
--- the map's entries with one pair more
+-- the map's entries with one more pair
 pub keyed-last : (es : List (ℕ × PairRecord)) (p : PairRecord) → are_keyed es ≡ true → are_keyed (es ++ (p.number, p) ∷ []) ≡ true
 keyed-last es p keyed = rw (list_all-append (λ (e : ℕ × PairRecord). e.1.number == e.0) es ((p.number, p) ∷ []), keyed, eq-eqb p.number p.number refl) refl
 
@@ -256,7 +256,7 @@ pub filter-whole : {X : Type 0} (t : X → Bool) (xs : List X) → list_all t xs
 filter-whole t [] h = refl
 filter-whole t (x ∷ xs) h = let b = both (t x) (list_all t xs) h in rw (b.0) (ap (λ ys. x ∷ ys) (filter-whole t xs b.1))
 
--- ---- what holds of all
+-- ---- what holds for all
 
 pub all-mapped : (t : PairRecord → Bool) (g : PairRecord → PairRecord) → ((p : PairRecord) → t (g p) ≡ t p) → (ps : List PairRecord) → list_all t ps ≡ true → list_all t (map g ps) ≡ true
 all-mapped t g same ps h = all-changed t g same ps ∙ h

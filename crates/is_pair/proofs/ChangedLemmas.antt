@@ -1,4 +1,4 @@
--- All pairs of a bag change, and stay where they are found.
+-- All pairs of a multiset change, and stay where they are found.
 use Rattle.std.proofs.Common.{◌≡◌, ◌==◌, ℕ, true, List, length, map, nat_lt, refl, sym, ap, ◌∙◌}
 use Rattle.is_pair.specs.declared.checklist.entries.Kept.{Kept}
 use Rattle.is_pair.specs.declared.checklist.entries.Rank.{Rank}

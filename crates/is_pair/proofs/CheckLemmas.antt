@@ -27,7 +27,7 @@ pub is_some-option_copied : {X : Type 0} (r : Option (Bor X)) → is_some (optio
 is_some-option_copied None = refl
 is_some-option_copied (Some x) = refl
 
--- a check of the id stands at the place that was found
+-- a check with the id is at the index that was found
 pub found_at : (id : List ℕ) (checks : List Check) (place : ℕ) (c : Check) → position (has_id id) checks ≡ Some place → c ≡ get_or checks place c → IsCheckAt checks id place c
 found_at id checks place c found read =
     let at = position-Some (has_id id) checks place c found in
@@ -42,7 +42,7 @@ list_any-no_position p i (x ∷ xs) none =
       | false ↦ list_any-no_position p (i + 1) xs
     ]) none
 
--- a kept check is found
+-- a stored check is found
 pub found_where_kept : (id : List ℕ) (checks : List Check) → is_kept id checks ≡ true → None ≡ position (has_id id) checks → ⊥
 found_where_kept id checks kept none =
     let nowhere = list_any-no_position (has_id id) 0 checks (sym (none ∙ position_from-zero (has_id id) checks)) in

@@ -9,7 +9,7 @@ use Rattle.is_pair.proofs.GreatestLemmas.{filter-none}
 use Rattle.is_pair.proofs.LeastLemmas.{empty-of}
 
 module _ (now : ℕ) (t : StunTiming) where
-  -- all are those that were seen and those that are left
+  -- all are those that were visited and those that are left
   abbrev pub IsSeen : List PairRecord → List PairRecord → List PairRecord → Option PairRecord → Type 0
   IsSeen all done rest first =
       IsEarliest now t done first
@@ -51,7 +51,7 @@ module _ (now : ℕ) (t : StunTiming) where
       either q (inl h) = seen.0.1 q h
       either q (inr h) = absurd (none-left rest q none h)
 
-  -- where the first is not due none is
+  -- if the first is not due none is
   pub none-due : (ps : List PairRecord) (p : PairRecord) → IsEarliest now t ps (Some p) → now < due_moment now t p → NonePass (is_due now t) ps
   none-due ps p first late = filter-none (is_due now t) ps (λ q h due. by q (first.1 q h) due)
     where

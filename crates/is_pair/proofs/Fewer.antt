@@ -1,4 +1,4 @@
--- Counting the pairs that are due by a moment.
+-- Counting the pairs that are due by a time.
 use Rattle.std.proofs.Common.{◌≡◌, ℕ, ◌<◌, ◌≤◌, Bool, true, false, List, [], ◌∷◌, length, map, filter, min, nat_le, inl, inr, refl, ap, sym, ◌∙◌, arith, if◌then◌else◌}
 use Rattle.std.proofs.lemmas.Bool.{eq-eqb}
 use Rattle.std.proofs.lemmas.Bool.Decides.{nat_tests}
@@ -47,7 +47,7 @@ fewer t u f (y ∷ ys) x h (inl e) passed fails =
 fewer t u f (y ∷ ys) x h (inr has) passed fails =
     tail-fewer (u (f y)) (t y) (f y) y (filter u (map f ys)) (filter t ys) (h y (inl refl)) (fewer t u f ys x (λ z k. h z (inr k)) has passed fails)
 
--- where each that passes the one test passes the other
+-- if each that passes the one test passes the other
 pub no-more-pass : {X : Type 0} (t u : X → Bool) (xs : List X) → ((x : X) → Has xs x → u x ≡ true → t x ≡ true) → length (filter u xs) ≤ length (filter t xs)
 no-more-pass t u [] h = omega arith
 no-more-pass t u (x ∷ xs) h = head-count (u x) (t x) x x (filter u xs) (filter t xs) (h x (inl refl)) (no-more-pass t u xs (λ y has. h y (inr has)))

@@ -1,4 +1,4 @@
--- The index of a checklist where one check was cut.
+-- The index of a checklist after one check was cut.
 use Rattle.std.proofs.Common.{if◌then◌else◌, ◌≡◌, ℕ, ◌<◌, ◌-◌, zero, suc, ◌||◌, Bool, true, false, not, List, [], ◌∷◌, ◌++◌, length, drop, filter, get_or, remove, nat_eq, bytes_eq, slice_get, Some, refl, sym, ap, ◌∙◌, arith}
 use Rattle.std.proofs.lemmas.List.{length-append}
 use Rattle.std.proofs.lemmas.List.Folds.{list_any-append}
@@ -17,7 +17,7 @@ use Rattle.is_pair.proofs.BagLemmas.{both, filter-whole}
 use Rattle.is_pair.proofs.IdLemmas.{IsEnd, IsPoint, is-behind, not-before, other-id}
 use Rattle.is_pair.proofs.IndexLemmas.{all-current, all-spared, kept-uncut}
 
--- ---- one entry goes
+-- ---- one entry is removed
 
 other-before : (a b : List ℕ) → is_before a b ≡ true → bytes_eq a b ≡ false
 other-before a b is =
@@ -42,7 +42,7 @@ module _ (id : List ℕ) (p : PairRecord) where
       let other = other-id k.id.0 id (is-behind (is_before id k.id.0) (end zero k (omega arith))) in
       rw (spared (bytes_eq k.id.0 id) (is_current p k) other b.0) (behind-current ks b.1 (λ j d within. end (suc j) d (omega (arith, within))))
 
-  -- where one entry is of the id
+  -- if one entry has the id
   pub filter-around : (ks : List Kept) (i : ℕ) (d : Kept) → i < length ks → list_all Spares ks ≡ true → IsPoint id ks i → IsEnd id (drop i ks) 1
       → filter (is_current p) ks ≡ (if is_current p (get_or ks i d) then ks else remove ks i)
   filter-around [] i d within all point end = absurd (omega (arith, within))

@@ -1,4 +1,4 @@
--- The pair of a number goes, and its entries with it.
+-- The pair with a number is removed, and its entries with it.
 use Rattle.std.proofs.Common.{◌≡◌, ◌==◌, ℕ, ◌&&◌, Bool, true, false, not, if◌then◌else◌, List, [], ◌∷◌, filter, nat_lt, nat_eq, refl, sym, ap, subst, ◌∙◌, arith}
 use Rattle.std.proofs.lemmas.Bool.{eqb-true}
 use Rattle.std.proofs.lemmas.Bool.Decides.{nat_tests}
@@ -50,7 +50,7 @@ keyed-out n (e ∷ es) keyed =
       | false ↦ rw (k.0) (keyed-out n es k.1)
     ]
 
--- what of a number is left once another goes
+-- what is left of a number once another one is removed
 others : (n m : ℕ) (test : PairRecord → Bool) (ps : List PairRecord) → list_any (passes_at m test) (without (is_numbered n) ps) ≡ (not (m == n) && list_any (passes_at m test) ps)
 others n m test ps =
     any-filter_same (passes_at m test) (λ p. not (p.number == n)) (not (m == n))

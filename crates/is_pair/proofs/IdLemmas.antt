@@ -17,7 +17,7 @@ use Rattle.is_pair.proofs.RankLemmas.{all-at, all-from}
 abbrev pub cmp : List ℕ → List ℕ → Ordering
 cmp = slice_cmp nat_cmp
 
--- what stands before does not stand behind
+-- what is before is not after
 turned : (a b : List ℕ) → is_before a b ≡ true → not (is_before b a) ≡ true
 turned a b h = by (cmp a b) (cmp b a) (nat_list_cmp_total.antisymm b a) h
   where
@@ -26,7 +26,7 @@ turned a b h = by (cmp a b) (cmp b a) (nat_list_cmp_total.antisymm b a) h
     by Equal s is h = absurd (cc)
     by Greater s is h = absurd (cc)
 
--- a is not behind b, which is before c
+-- a is not after b, which is before c
 before-both : (a b c : List ℕ) → not (is_before b a) ≡ true → is_before b c ≡ true → is_before a c ≡ true
 before-both a b c low h = by (cmp a b) refl (nat_list_cmp_total.antisymm b a)
   where
@@ -58,7 +58,7 @@ rising-filter t (k ∷ ks) h =
       | false ↦ rising-filter t ks b.1
     ]
 
--- what `partition_point` asks
+-- the predicate of `partition_point`
 pub parted : (id : List ℕ) (ks : List Kept) → ids_rise ks ≡ true → IsPartitionedBy (λ (k : Kept). is_before k.id.0 id) ks
 parted id [] h i j d below within is = absurd (omega arith)
 parted id (k ∷ ks) h zero zero d below within is = is
@@ -114,9 +114,9 @@ rising-drop zero ks h = h
 rising-drop (suc n) [] h = refl
 rising-drop (suc n) (k ∷ ks) h = rising-drop n ks (both (list_all (λ (q : Kept). not (is_before q.id.0 k.id.0)) ks) (ids_rise ks) h).1
 
--- ---- up to the entries behind an id
+-- ---- up to the entries after an id
 
--- what stands before a, and a not behind b
+-- what is before a, if a is not after b
 through : (c a b : List ℕ) → is_before c a ≡ true → not (is_before b a) ≡ true → is_before c b ≡ true
 through c a b is low = by (cmp a b) refl (nat_list_cmp_total.antisymm b a)
   where
@@ -162,7 +162,7 @@ other-id a b is =
       | false ↦ λ same. refl
     ] refl
 
--- what is looked for is not found behind the end
+-- what is looked for is not found after the end
 pub find-within : (id : List ℕ) (test : Kept → Bool) (ks : List Kept) (i : ℕ) → i ≤ length ks → IsEnd id ks i → find (λ (k : Kept). bytes_eq k.id.0 id && test k) (take i ks) ≡ find (λ (k : Kept). bytes_eq k.id.0 id && test k) ks
 find-within id test [] zero within end = refl
 find-within id test [] (suc i) within end = refl

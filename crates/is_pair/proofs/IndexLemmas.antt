@@ -1,4 +1,4 @@
--- The index of a checklist behind a check.
+-- The index of a checklist after a check.
 use Rattle.std.proofs.Common.{if◌then◌else◌, ◌≡◌, ◌==◌, ℕ, ◌-◌, ◌<◌, ◌≤◌, zero, suc, ◌&&◌, ◌||◌, Bool, true, false, not, List, [], ◌∷◌, ◌++◌, length, drop, filter, nat_eq, nat_le, bytes_eq, Some, inl, inr, refl, sym, ap, ◌∙◌, arith}
 use Rattle.std.proofs.lemmas.Bool.{eqb-true}
 use Rattle.std.proofs.lemmas.Bool.Decides.{nat_tests}
@@ -21,7 +21,7 @@ use Rattle.is_pair.proofs.GreatestLemmas.{has-any}
 turned : (a b : ℕ) → a == b ≡ b == a
 turned a b = grind (arith, nat_tests)
 
--- an entry of this name is current where the pair is another, or keeps the id
+-- an entry with this name is current if the pair is another one, or stores the id
 current-named : (p : PairRecord) (i : List ℕ) (n : ℕ) (k : Kept) → names i n k ≡ true → is_current p k ≡ (not (n == p.number) || is_kept i p.checks)
 current-named p i n k named =
     let b = both (k.number == n) (bytes_eq k.id.0 i) named in
@@ -61,7 +61,7 @@ any-drop test (suc d) (x ∷ xs) = more (test x) (list_any test xs) (list_any te
     more true b c h = refl
     more false b c h = h
 
--- which ids are kept once a check is sent
+-- which ids are stored once a check is sent
 pub kept-once-sent : (m : ℕ) (checks : List Check) (c : Check) (i : List ℕ) → 0 < m
     → (bytes_eq c.id i || (is_kept i checks && is_kept i (last_checks m (checks ++ c ∷ [])))) ≡ is_kept i (last_checks m (checks ++ c ∷ []))
 kept-once-sent m checks c i some =
@@ -77,9 +77,9 @@ kept-once-sent m checks c i some =
     by false false true h = absurd (cc)
     by false false false h = refl
 
--- ---- the index behind a check
+-- ---- the index after a check
 
--- the pair of a number is found under it
+-- the pair with a number is found under it
 module _ (es : List (ℕ × PairRecord)) (keyed : are_keyed es ≡ true) (rising : rises (pairs_of es) ≡ true) (n : ℕ) (p : PairRecord) (found : lookup (nat_eq n) es ≡ Some p) where
   keeps-one : (i : List ℕ) → keeps i n (pairs_of es) ≡ is_kept i p.checks
   keeps-one i = one-passes n (λ q. is_kept i q.checks) es p keyed rising found
@@ -112,7 +112,7 @@ issued m es fs index after n f p id c some keyed rising keyed2 indexed found fou
           indexed i k ∙ sym (ap (keeps i k) changed ∙ any-changed (passes_at k (λ q. is_kept i q.checks)) (change_at n f) (others-changed n k f (λ q. is_kept i q.checks) same other) (pairs_of es))
     ] refl
 
--- ---- where no check is cut
+-- ---- if no check is cut
 
 pub kept-uncut : (m : ℕ) (checks : List Check) (c : Check) (i : List ℕ) → nat_le m (length checks) ≡ false → is_kept i checks ≡ true → is_kept i (last_checks m (checks ++ c ∷ [])) ≡ true
 kept-uncut m checks c i few kept =
@@ -124,7 +124,7 @@ all-of : {X : Type 0} (t : X → Bool) (xs : List X) → ((x : X) → Has xs x �
 all-of t [] h = refl
 all-of t (x ∷ xs) h = rw (h x (inl refl)) (all-of t xs (λ y has. h y (inr has)))
 
--- each entry is spared, or current where the pair keeps what it kept
+-- each entry is spared, or current if the pair stores what it stored
 pub all-spared : (spared : List ℕ → Bool) (index : List Kept) (es : List (ℕ × PairRecord)) (n : ℕ) (p after : PairRecord) → are_keyed es ≡ true → rises (pairs_of es) ≡ true → lookup (nat_eq n) es ≡ Some p
     → IsIndex index (pairs_of es) → after.number ≡ n → ((i : List ℕ) → is_kept i p.checks ≡ true → (spared i || is_kept i after.checks) ≡ true)
     → list_all (λ (k : Kept). spared k.id.0 || is_current after k) index ≡ true

@@ -1,4 +1,4 @@
--- A pair that was checked is due behind the moment of the check, whenever it is asked from then on.
+-- A pair that was checked is due after the time of the check, whenever its due time is computed from then on.
 use Rattle.std.proofs.Common.{◌≡◌, ℕ, zero, suc, ◌+◌, ◌-◌, ◌*◌, ◌/◌, ◌^◌, ◌==◌, ◌<◌, ◌≤◌, Bool, true, false, List, [], ◌∷◌, ◌++◌, length, drop, reverse, position, min, Option, Some, None, unwrap_or, if◌then◌else◌, refl, ap, sym, ◌∙◌, subst, arith}
 use Rattle.std.specs.Prelude.{slice_get}
 use Rattle.std.specs.Option.{option_map_or}
@@ -52,7 +52,7 @@ delay-positive t n paced some =
 
 -- ---- the check that was just made
 
--- it is kept, as the last one
+-- it is stored, as the last one
 kept-last : (n : ℕ) (cs : List Check) (c : Check) → 0 < n → (front : List Check) × (last_checks n (cs ++ c ∷ []) ≡ front ++ c ∷ [])
 kept-last n cs c some =
     let few : length (cs ++ c ∷ []) - n ≤ length cs = omega (arith, length-more cs) in
@@ -95,7 +95,7 @@ delaying now t front c open_still =
     let long : length (front ++ c ∷ []) ≡ length front + 1 = length-last front c in
     by-silence (is_silent now t (front ++ c ∷ [])) (unanswered_count (front ++ c ∷ [])) (length (front ++ c ∷ [])) (unanswered front c open_still) (omega (arith, long))
 
--- so the next one comes later
+-- so the next one is later
 next-later : (now at : ℕ) (t : StunTiming) (cs : List Check) (c : Check) (front : List Check) → IsPaced t → now < MAX → c.sent ≡ now → is_answered c ≡ false → cs ≡ front ++ c ∷ []
     → now < next_moment at t cs
 next-later now at t cs c front paced early sent open_still is =

@@ -66,7 +66,7 @@ module _ (es : List (ℕ × PairRecord)) (rs : List Rank) (keyed : are_keyed es 
       let s = has-rank es rs (λ _. true) keyed rising ranked q has refl in
       none-in rs (no-first rs none) s.0 s.1)
 
--- a bag gets shorter where one of its pairs goes
+-- a multiset gets shorter if one of its pairs is removed
 pub shrinks : (ps : List PairRecord) (p : PairRecord) (n : ℕ) → Has ps p → p.number ≡ n → length (without (is_numbered n) ps) < length ps
 shrinks [] p n has is = elim has [ ]
 shrinks (x ∷ ps) p n (inl e) is =

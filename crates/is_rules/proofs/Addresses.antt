@@ -1,4 +1,4 @@
--- The tests of addresses and protocols say equality.
+-- The Boolean tests of addresses and protocols decide equality.
 use Rattle.std.proofs.Common.{◌≡◌, ℕ, zero, suc, ◌==◌, ◌&&◌, Bool, true, false, List, bytes_eq, refl, ap, sym, ◌∙◌}
 use Rattle.std.proofs.lemmas.Bool.{eqb-true}
 use Rattle.std.proofs.lemmas.Slice.Eq.{bytes_eq-Decides}
@@ -12,7 +12,7 @@ use Rattle.is_proto.specs.declared.proto.Protocol.{Protocol}
 use Rattle.is_proto.specs.declared.proto.Protocol.TheVariants.{Udp, Tcp, SslTcp, Tls}
 use Rattle.is_candidate.specs.Addresses.{protocol_number, same_protocol, same_address}
 
--- two tests pass
+-- two tests hold
 pub both : (a b : Bool) → (a && b) ≡ true → (a ≡ true) × (b ≡ true)
 both true b h = (refl, h)
 both false b h = absurd (cc)

@@ -1,4 +1,4 @@
--- An accepted success announces a path, where no pair was valid before.
+-- An accepted success response selects a path, if no pair was valid before.
 use Rattle.std.proofs.Common.{◌≡◌, ℕ, ◌<◌, ◌≤◌, ◌==◌, Bool, true, false, List, [], ◌∷◌, Option, Some, None, is_some, inl, inr, refl, ap, sym, ◌∙◌, subst, arith}
 use Rattle.std.specs.Prelude.{find, cond}
 use Rattle.std.specs.Option.{option_map_or}
@@ -24,7 +24,7 @@ use Rattle.is_rules.proofs.Arriving.{NoneValid}
 use Rattle.is_rules.proofs.Announcing.{eligible, point-of, answers-announce}
 use Rattle.is_rules.proofs.LogParts.{no-case}
 
--- ---- the pair that the announced number names
+-- ---- the pair that `selected_pair` names
 
 found-by : (test : PairRecord → Bool) (x p : PairRecord) (xs : List PairRecord) (b : Bool) → test x ≡ b → (find test xs ≡ Some p → Has xs p × (test p ≡ true))
     → cond b (Some x) (find test xs) ≡ Some p → Has (x ∷ xs) p × (test p ≡ true)
@@ -47,7 +47,7 @@ named-at (Some n) priority pairs h = by (pair_numbered n pairs) refl h where
 module _ {H P : Type 0} where
   module _ (mac : H → List ℕ → List ℕ → List ℕ) (answers : P → CandidateRecord → ℕ → ℕ → Type 0) where
     module _ (first : AgentRecord H P) (s : Stream) (log : List (Logged P)) (fresh : IsFresh first) where
-      -- ---- an accepted success announces
+      -- ---- an accepted success response selects
 
       named-on : (mid last : AgentRecord H P) (x : Logged P) → PathEffect mac mid x.call x.entry last → IsSound mid
           → ((p : PairRecord) → Has mid.pairs p → mid.selected_pair ≡ Some p.number → is_valid p ≡ true)
@@ -63,7 +63,7 @@ module _ {H P : Type 0} where
                 absurd (let no : ⊥ = omega (arith, lt, le) in no))
           ]
 
-      -- the announced number names no pair that is not valid
+      -- `selected_pair` names no pair that is not valid
       named-valid : (before : List (Logged P)) (last : AgentRecord H P) (t : Stream) → Run mac answers first s before last t
           → (p : PairRecord) → Has last.pairs p → last.selected_pair ≡ Some p.number → is_valid p ≡ true
       named-valid [] last t run p has named = absurd (subst (λ (a : AgentRecord H P). Has a.pairs p) (run.0 ∙ fresh.2) has)
@@ -72,7 +72,7 @@ module _ {H P : Type 0} where
           let f = (path_law mac answers mid last u t x.call x.entry sound based step).0 in
           named-on mid last x f sound (named-valid before mid u run) (last_of x.entry.emitted.announced) refl p has named
 
-      -- where no pair was valid, a pair that is named was announced now
+      -- if no pair was valid, a pair that `selected_pair` names was selected now
       named-now : (mid after : AgentRecord H P) (x : Logged P) → PathEffect mac mid x.call x.entry after → IsSound mid → NoneValid mid.pairs
           → ((p : PairRecord) → Has mid.pairs p → mid.selected_pair ≡ Some p.number → is_valid p ≡ true)
           → (o : Option Path) → last_of x.entry.emitted.announced ≡ o → (p : PairRecord) → Has after.pairs p → after.selected_pair ≡ Some p.number → is_some o ≡ true
@@ -88,7 +88,7 @@ module _ {H P : Type 0} where
                 absurd (let no : ⊥ = omega (arith, lt, le) in no))
           ]
 
-      -- where a pair is eligible, the announced number names one
+      -- if a pair is eligible, `selected_pair` names one
       one-named : (a : AgentRecord H P) (q : PairRecord) → Has a.pairs q → is_eligible a.controlling q ≡ true → IsTopAnnounced a
           → (p : PairRecord) × Has a.pairs p × (a.selected_pair ≡ Some p.number)
       one-named a q has able (None, none, stands) = absurd (none_pass (is_eligible a.controlling) a.pairs q none has able)

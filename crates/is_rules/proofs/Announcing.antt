@@ -1,4 +1,4 @@
--- An accepted answer makes a controlling agent announce.
+-- An accepted response makes a controlling agent select a path.
 use Rattle.std.proofs.Common.{◌≡◌, ℕ, ◌&&◌, Bool, true, false, List, None, refl, sym, subst}
 use Rattle.is_candidate.specs.Candidates.{CandidateRecord}
 use Rattle.is_pair.specs.Pairs.{PairRecord, is_valid, is_nominated}

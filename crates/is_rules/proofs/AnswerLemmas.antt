@@ -1,4 +1,4 @@
--- Answers: what the places of checks say of the lists.
+-- Responses: what the indices of checks imply for the lists.
 use Rattle.std.proofs.Common.{◌≡◌, ℕ, Bool, true, false, List, Some, find, refl}
 use Rattle.std.proofs.Math.Bool.{beq}
 use Rattle.std.proofs.lemmas.Slice.Eq.{bytes_eq-Decides}

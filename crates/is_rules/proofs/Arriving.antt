@@ -1,4 +1,5 @@
--- A packet that is no accepted success leaves a controlling agent's pairs due as they were, and adds none that is due early.
+-- A packet that is not an accepted success response leaves a controlling agent's pairs due as they were, and adds
+-- none that is due early.
 use Rattle.std.proofs.Common.{◌≡◌, ℕ, ◌+◌, ◌<◌, ◌≤◌, ◌&&◌, ◌||◌, Bool, true, false, not, List, [], ◌∷◌, ◌++◌, length, map, filter, min, nat_le, Option, Some, None, is_some, Ok, Err, inl, inr, ◌⊎◌, refl, ap, sym, ◌∙◌, subst, arith, if◌then◌else◌}
 use Rattle.std.specs.Prelude.{MatchOption}
 use Rattle.std.specs.List.{list_any}
@@ -45,7 +46,7 @@ use Rattle.is_rules.proofs.Moving.{Matches, matches-on, follows-map}
 abbrev pub NoneValid : List PairRecord → Type 0
 NoneValid ps = (p : PairRecord) → Has ps p → is_valid p ≡ false
 
--- the pair is due as it was, and asked at another moment as then, or as at this one
+-- the pair is due as it was; computed at another time, its due time is the old pair's at that time, or at this one
 pub record DueAlike (at : ℕ) (t : StunTiming) (p q : PairRecord) : Type 0 where
   pub matches : Matches p q
   pub checks : q.checks ≡ p.checks
@@ -66,7 +67,7 @@ due-on at t p q r a b = record {
   ];
 }
 
--- due by a moment, whenever it is asked behind it, a pair is due by it when asked at this one
+-- a pair that is due by a time, as computed at any later time, is also due by it as computed at this one
 abbrev pub Held : ℕ → ℕ → StunTiming → List PairRecord → Type 0
 Held by at t ps = (p : PairRecord) → Has ps p → (m : ℕ) → by < m → due_moment m t p ≤ by → due_moment at t p ≤ by
 
@@ -76,7 +77,7 @@ held-alike by at m t p q a held le = subst (λ n. n ≤ by) (sym a.due) (elim (a
   | inr e ↦ subst (λ n. n ≤ by) e le
 ])
 
--- what a packet makes of pairs and of the counter
+-- the effect of a packet on pairs and on the counter
 pub record Spares (by at : ℕ) (t : StunTiming) (n : ℕ) (xs : List PairRecord) (m : ℕ) (ys : List PairRecord) : Type 0 where
   pub distinct : AllBelow n xs → Distinct xs → Distinct ys
   pub below : AllBelow n xs → AllBelow m ys
@@ -126,7 +127,7 @@ has-front [] x y h = absurd h
 has-front (z ∷ zs) x y (inl e) = inl e
 has-front (z ∷ zs) x y (inr h) = inr (has-front zs x y h)
 
--- one that does not pass adds none
+-- an element that does not pass adds none
 pushed : (test : PairRecord → Bool) (x : PairRecord) → test x ≡ false → (xs : List PairRecord) → length (filter test (xs ++ x ∷ [])) ≤ length (filter test xs)
 pushed test x fails [] = alone (test x) fails where
   alone : (b : Bool) → b ≡ false → length (if b then x ∷ [] else []) ≤ 0
@@ -138,7 +139,7 @@ pushed test x fails (y ∷ ys) = ahead (test y) (pushed test x fails ys) where
   ahead true k = omega (arith, k)
   ahead false k = k
 
--- a pair that is new is due when it is asked, which is behind
+-- a new pair is due when its due time is computed, which is after that time
 new-due : (by at by_rto : ℕ) → by < at → by < MAX → by < min at (later at by_rto)
 new-due by at by_rto h early = omega (arith, h, early)
 
@@ -176,7 +177,7 @@ spares-push by at t n l r priority xs behind early = record {
   apart low d x y (inr e) (inl m) same = absurd (differ low y x m e (sym same))
   apart low d x y (inr e) (inr f) same = sym e ∙ f
 
--- a request leaves the pair due as it was, while the agent is controlling and not lite
+-- a request leaves the pair due as it was, while the agent is controlling and not ICE-lite
 served-alike : (at : ℕ) (t : StunTiming) (n : ℕ) (c l : Bool) (q : RequestRecord) (p : PairRecord) → c ≡ true → l ≡ false → DueAlike at t p (change_at n (served c l q) p)
 served-alike at t n true false q p is full = numbered (is_numbered n p) where
   numbered : (b : Bool) → DueAlike at t p (if b then served true false q p else p)
@@ -208,7 +209,7 @@ pub record Core : Type 0 where
   pub last_moment : Option ℕ
   pub controlling : Bool
 
--- candidates of the peer's are appended alone
+-- remote candidates are only appended
 abbrev pub Grown : List CandidateRecord → List CandidateRecord → Type 0
 Grown old new = (new ≡ old) ⊎ ((c : CandidateRecord) × (new ≡ old ++ c ∷ []))
 
@@ -308,7 +309,7 @@ module _ {H P : Type 0} where
     by-class class.Indication now old mid path m emitted known role full none stays h = absurd h
     by-class class.Unknown now old mid path m emitted known role full none stays h = absurd h
 
-    -- a packet that came is an accepted success, or spares the pairs
+    -- a packet that arrived is an accepted success response, or leaves the pairs as `Spares` says
     pub arrives : (now : ℕ) (old new : AgentRecord H P) (path : Path) (m : Message) (accepted : Bool) (emitted : Emitted) → is_some old.remote_creds ≡ true → old.controlling ≡ true → old.lite ≡ false
         → NoneValid old.pairs → new.controlling ≡ true → HandlesPacket mac now old path m (Ok accepted) emitted new
         → ((accepted ≡ true) × (m.class ≡ class.Success)) ⊎ Arrived old new
@@ -319,7 +320,7 @@ module _ {H P : Type 0} where
           | inr k ↦ inr (subst (λ (a : AgentRecord H P). Arrived old a) (sym made) (k.0, k.1, k.2))
         ]
 
-    -- raw bytes that came: an accepted success, or the pairs are spared
+    -- raw bytes that arrived: an accepted success response, or the pairs are left as `Spares` says
     pub receives : (answers : P → CandidateRecord → ℕ → ℕ → Type 0) (x : Arrival) (old new : AgentRecord H P) (s t : Stream) → is_some old.remote_creds ≡ true → old.controlling ≡ true → old.lite ≡ false
         → NoneValid old.pairs → new.controlling ≡ true → Step mac answers old s (ReceivePacket x.at x.via x.bytes) x.entry new t → IsSuccess x ⊎ Arrived old new
     receives answers x old new s t known role full none stays (inl (fault, has, is, made), drawn) = inr (arrived-same old new made)

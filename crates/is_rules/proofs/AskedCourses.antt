@@ -1,4 +1,4 @@
--- A path that was granted and answered in a course is announced at the next moment.
+-- If a path was nominated and answered in a per-agent execution, the next `handle_timeout` call selects it.
 use Rattle.std.proofs.Common.{◌≡◌, ℕ, Bool, true, false, List, [], ◌∷◌, ◌++◌, Option, Some, None, is_some, inl, inr, ◌⊎◌, refl, ap, sym, ◌∙◌, subst}
 use Rattle.rand_core.specs.Stream.{Stream}
 use Rattle.is_proto.specs.Lists.{Has}
@@ -34,7 +34,7 @@ use Rattle.is_rules.proofs.StayLaws.{pairs-stay}
 use Rattle.is_rules.proofs.Staying.{sound-course}
 
 module _ {H P : Type 0} where
-  -- the announced number names a pair, where one is eligible
+  -- `selected_pair` names a pair, if one is eligible
   named : (a : AgentRecord H P) (q : PairRecord) → Has a.pairs q → is_eligible a.controlling q ≡ true → IsTopAnnounced a → (n : ℕ) × (a.selected_pair ≡ Some n)
   named a q has able (None, none, stands) = absurd (none_pass (is_eligible a.controlling) a.pairs q none has able)
   named a q has able (Some best, greatest, stands) = let k = named-at a.selected_pair best.priority a.pairs stands in (k.0.number, k.2)
@@ -48,7 +48,7 @@ module _ {H P : Type 0} where
     course_on [] ys a b c is more = subst (λ (z : AgentRecord H P). Course mac answers ys z c) is more
     course_on (x ∷ xs) ys a b c (mid, s, t, based, step, on) more = (mid, s, t, based, step, course_on xs ys mid b c on more)
 
-    -- a number that is announced was told of
+    -- if `selected_pair` becomes a number, a path is selected along the way
     emitted_along : (xs : List (Call P × Entry)) (old new : AgentRecord H P) (n : ℕ) → IsSound old → Course mac answers xs old new → old.selected_pair ≡ None → new.selected_pair ≡ Some n → AnnouncesAlong xs
     emitted_along [] old new n sound is none some =
         absurd (let wrong : None ≡ Some n = sym none ∙ (sym (ap (λ (a : AgentRecord H P). a.selected_pair) is) ∙ some) in cc)

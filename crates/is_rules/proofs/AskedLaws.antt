@@ -1,4 +1,4 @@
--- A path that was asked for and answered is announced at the next moment.
+-- If a path was nominated by the peer and answered, the next `handle_timeout` call selects it.
 use Rattle.std.proofs.Common.{◌≡◌, ℕ, Bool, true, List, [], ◌∷◌, ◌++◌, length, None, inl, inr, ◌⊎◌, refl, ap, sym, ◌∙◌, subst, append_assoc}
 use Rattle.rand_core.specs.Stream.{Stream}
 use Rattle.is_proto.specs.Lists.{Has}
@@ -32,7 +32,7 @@ use Rattle.is_rules.proofs.LogParts.{run-on}
 use Rattle.is_rules.proofs.StayLaws.{pairs-stay}
 use Rattle.is_rules.proofs.Tells.{some_is}
 
--- what comes back on a path comes back between its addresses
+-- a packet on the reverse path goes between the addresses of the path
 pub back-on : (by a b : Path) → goes_back by a ≡ true → goes_back by b ≡ true → (a.source ≡ b.source) × (a.destination ≡ b.destination)
 back-on by a b on_a on_b =
     let x = both _ _ on_a in
@@ -55,7 +55,7 @@ module _ {H P : Type 0} where
         let on = k.3 (uses-too old x.call x.entry q k.0 serving k.1 uses) controlled in
         subst (λ (w : Path). IsNominatedOn new w) (sym (ap (λ (i : Issued). i.path) k.2)) on
 
-    -- the pair that takes the answer
+    -- the pair that takes the response
     abbrev Taken : AgentRecord H P → Path → Type 0
     Taken new path = (p : PairRecord) × Has new.pairs p × (is_valid p ≡ true) × Joins new path p
 
@@ -74,7 +74,7 @@ module _ {H P : Type 0} where
       abbrev Goes : Type 0
       Goes = MayEndIn mac answers first s log part path
 
-      -- one entry more
+      -- one more entry
       module _ (over xs : List (Logged P)) (mid last : AgentRecord H P) (v t : Stream) (x : Logged P) (split : log ≡ over ++ ((x ∷ xs) ++ before)) (within : Has part x)
           (run : RunsOn mac answers before start u xs mid v) (number : x.number ≡ length (xs ++ before)) (given : GivesBased x.call)
           (step : Step mac answers mid v x.call x.entry last t) where

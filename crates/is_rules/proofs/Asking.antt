@@ -1,4 +1,4 @@
--- A check on a nominated path asks for it.
+-- A check on a nominated path has USE-CANDIDATE.
 use Rattle.std.proofs.Common.{◌≡◌, ℕ, ◌≤◌, ◌&&◌, Bool, true, false, not, List, [], ◌∷◌, ◌++◌, length, Some, is_some, refl, ap, sym, ◌∙◌, subst, if◌then◌else◌}
 use Rattle.is_proto.specs.Lists.{Has}
 use Rattle.is_proto.specs.Packets.{Packet}
@@ -33,7 +33,7 @@ use Rattle.is_rules.proofs.KeptChecks.{Checks, checks-as, number_same}
 use Rattle.is_rules.proofs.Serves.{Has-mapped}
 use Rattle.is_rules.proofs.Tells.{some_is}
 
--- what stands last in two lists that are equal
+-- the last elements of two equal lists
 last_alike : {X : Type 0} (xs ys : List X) (x y : X) → xs ++ x ∷ [] ≡ ys ++ y ∷ [] → x ≡ y
 last_alike [] [] x y h = cc
 last_alike [] (z ∷ []) x y h = cc
@@ -43,7 +43,7 @@ last_alike (z ∷ w ∷ xs) [] x y h = cc
 last_alike (z ∷ xs) (w ∷ ys) x y h = last_alike xs ys x y (let same : z ∷ (xs ++ x ∷ []) ≡ w ∷ (ys ++ y ∷ []) = h in cc)
 
 module _ {H P : Type 0} (mac : H → List ℕ → List ℕ → List ℕ) (answers : P → CandidateRecord → ℕ → ℕ → Type 0) where
-  -- the check asks for its path
+  -- the check nominates its path
   leads : (now : ℕ) (path : Path) (id : List ℕ) (sent : AgentRecord H P) → (c : Checks mac answers now path id sent) → sent.controlling ≡ true → AreNominatedOn sent path
       → (c.old.controlling && is_nominated c.pair) ≡ true
   leads now path id sent c role nominated =

@@ -1,4 +1,4 @@
--- A list stands among another one where no test passes more of its elements.
+-- A list is contained in another one as a multiset, if no test passes more of its elements.
 use Rattle.std.proofs.Common.{◌≡◌, ℕ, ◌+◌, ◌≤◌, ◌&&◌, Bool, true, false, List, [], ◌∷◌, ◌++◌, bytes_eq, refl, ap, sym, ◌∙◌, arith}
 use Rattle.std.proofs.lemmas.Bool.{eq-eqb}
 use Rattle.std.proofs.lemmas.Slice.Eq.{bytes_eq-Decides}
@@ -61,7 +61,7 @@ count-split test [] back x = refl
 count-split test (y ∷ front) back x =
     let k : count test (front ++ x ∷ back) ≡ one_if (test x) + count test (front ++ back) = count-split test front back x in omega (arith, k)
 
--- it stands there, where its test passes one
+-- the element is there, if its test passes one
 abbrev Stands : Transaction → List Transaction → Type 0
 Stands x ys = (front back : List Transaction) × (ys ≡ front ++ x ∷ back)
 

@@ -1,4 +1,4 @@
--- For each call: what it brought was accepted; what waits; what it owes; what a clear leaves.
+-- For each call: what it received was accepted; which early requests are stored; what it owes; what a clear leaves.
 use Rattle.std.proofs.Common.{◌≡◌, ℕ, zero, suc, ◌+◌, ◌-◌, ◌≤◌, Bool, true, false, List, [], ◌∷◌, ◌++◌, drop, length, Option, Some, None, is_some, Ok, Err, inl, inr, ◌⊎◌, refl, ap, sym, ◌∙◌, subst, arith, if◌then◌else◌}
 use Rattle.rand_core.specs.Stream.{Stream}
 use Rattle.is_proto.specs.Lists.{Has, head}
@@ -44,7 +44,7 @@ Has-back [] ys x h = h
 Has-back (y ∷ xs) ys x h = inr (Has-back xs ys x h)
 
 module _ {H P : Type 0} (mac : H → List ℕ → List ℕ → List ℕ) (answers : P → CandidateRecord → ℕ → ℕ → Type 0) (old new : AgentRecord H P) (s t : Stream) (e : Entry) where
-  -- ---- accepted, refused, turned down
+  -- ---- accepted packets, failed calls, and packets that are not accepted
 
   pub accepts : (call : Call P) → Step mac answers old s call e new t → (at : ℕ) (by : Path) (m : Message) → Brings call e at by m → IsAcceptedOn mac old by m
   accepts (ReceivePacket now path bytes) (inl (fault, has, is, made), drawn) at by m (at_is, by_is, reads, flag) =
@@ -74,7 +74,7 @@ module _ {H P : Type 0} (mac : H → List ℕ → List ℕ → List ℕ) (answer
   refuses (HandleTimeout now) (Err error, emitted, is, (may, nothing, made, drawn)) r = ap (λ (x : Entry). x.emitted) is ∙ nothing
   refuses call h r = (calm mac answers old new s t e call refl h).emitted
 
-  -- ---- what waits
+  -- ---- early requests that are stored
 
   past_has : (o : Option RequestRecord) (a : Answer) (before behind : List RequestRecord) (q : RequestRecord) → WaitsPast o a before behind → Has behind q → Has before q
   past_has None a before behind q (gone, is) has = subst (λ (qs : List RequestRecord). Has qs q) (sym is) (Has-back gone behind q has)
@@ -93,7 +93,7 @@ module _ {H P : Type 0} (mac : H → List ℕ → List ℕ → List ℕ) (answer
   waits_has (HandleTimeout now) q h has = inl (past_has (request_at now old) e.answer old.queue new.queue q h has)
   waits_has call q h has = with_has call q h has
 
-  -- no more wait than may
+  -- no more are stored than the limit allows
   past_short : (o : Option RequestRecord) (a : Answer) (before behind : List RequestRecord) → WaitsPast o a before behind → length before ≤ QUEUE_LIMIT → length behind ≤ QUEUE_LIMIT
   past_short None a before behind (gone, is) short =
       let long : length before ≡ length gone + length behind = ap length is ∙ length-append gone behind in omega (arith, short, long)
@@ -113,7 +113,7 @@ module _ {H P : Type 0} (mac : H → List ℕ → List ℕ → List ℕ) (answer
   waits_short (HandleTimeout now) h short = past_short (request_at now old) e.answer old.queue new.queue h short
   waits_short call h short = with_short call h short
 
-  -- a request that is served was brought now, or was queued
+  -- a request that is served arrived now, or was stored
   from_head : (qs : List RequestRecord) (q : RequestRecord) → head qs ≡ Some q → Has qs q
   from_head [] q is = let no : None ≡ Some q = is in absurd (cc)
   from_head (y ∷ ys) q is = inl (some y q is) where
@@ -132,7 +132,7 @@ module _ {H P : Type 0} (mac : H → List ℕ → List ℕ → List ℕ) (answer
   brought_or_waited (ReceivePacket now path bytes) entry q (at, by, m, brings, request, known, is) = inr (at, by, m, brings, request, is)
   brought_or_waited _ entry q serving = absurd serving.3
 
-  -- ---- what is owed
+  -- ---- responses that are owed
 
   module _ (test : Transaction → Bool) where
     owed-append : (xs ys : List RequestRecord) → owed test (xs ++ ys) ≡ owed test xs + owed test ys

@@ -1,4 +1,4 @@
--- Calls that are neither packets nor moments: they tell nothing, and leave the announced number.
+-- Calls that are neither packets nor `handle_timeout` calls: they emit nothing, and leave `selected_pair`.
 use Rattle.std.proofs.Common.{◌≡◌, ℕ, zero, suc, ◌<◌, ◌==◌, Bool, true, false, List, [], ◌∷◌, ◌++◌, Option, Some, None, Result, Ok, Err, inl, inr, refl, ap, sym, subst, arith}
 use Rattle.std.specs.Prelude.{MatchBool}
 use Rattle.rand_core.specs.Stream.{Stream}
@@ -25,7 +25,7 @@ use Rattle.is_rules.proofs.Moves.{Has-map}
 use Rattle.is_rules.proofs.Checks.{Has-set}
 use Rattle.is_rules.proofs.Rests.{AllBased, based_at}
 
--- neither a packet nor a moment
+-- neither a packet nor a `handle_timeout` call
 abbrev pub is_calm : {P : Type 0} → Call P → Bool
 is_calm (ReceivePacket now path bytes) = false
 is_calm (HandleTimeout now) = false

@@ -1,4 +1,4 @@
--- What checks and answers make of pairs, and what moments and success answers do.
+-- The effects of checks and responses on pairs, and the effects of `handle_timeout` calls and success responses.
 use Rattle.std.proofs.Common.{◌≡◌, ℕ, zero, suc, ◌+◌, ◌<◌, Bool, true, false, List, [], ◌∷◌, ◌++◌, drop, length, Option, Some, None, inl, inr, ◌⊎◌, refl, ap, sym, ◌∙◌, subst, arith, if◌then◌else◌}
 use Rattle.std.specs.Prelude.{slice_set, slice_get}
 use Rattle.std.proofs.lemmas.List.{get_or_append_left, length-append}
@@ -93,7 +93,7 @@ Has-get [] i x h = cc
 Has-get (y ∷ ys) zero x h = inl (let same : Some y ≡ Some x = h in cc)
 Has-get (y ∷ ys) (suc i) x h = inr (Has-get ys i x h)
 
--- numbers rise, so the pair at a place is the one of its number
+-- numbers rise, so the pair at an index is the one with its number
 is_no : (b : Bool) → (b ≡ true → ⊥) → b ≡ false
 is_no true f = absurd (f refl)
 is_no false f = refl
@@ -140,7 +140,7 @@ module _ (asks met : Path → Type 0) (sent : Path → List ℕ → Bool → Typ
     started = λ _ c keeps. sent_started p.state;
   }
 
-  -- a kept check is answered
+  -- a pending transaction is answered
   pub answer_changes : (path : Path) (now place : ℕ) (c : Check) (p : PairRecord) → IsCheckAt p.checks c.id place c → met path
       → Changed asks met sent path p (answered now place c p)
   answer_changes path now place c p at answers = record {
@@ -221,7 +221,7 @@ module _ (asks met : Path → Type 0) (sent : Path → List ℕ → Bool → Typ
     learns ps old p (Some address) fit =
         learnt (is_known_address old.local address) (record (parts_of asks met sent old) { pairs = ps }) (mapped_candidate (success_counted old) p address) fit
 
-    -- an answer is recorded on its path
+    -- a response is recorded on its path
     pub records : (now : ℕ) (old new : AgentRecord H P) (path : Path) (m : Message) → Fit (parts_of asks met sent old)
         → ((p : PairRecord) (c : Check) → Has old.pairs p → keeps_check_on old path m.id p ≡ true → Has p.checks c → c.id ≡ m.id → met (path_of old p))
         → Records now old path m new → Onward asks met sent (parts_of asks met sent old) (parts_of asks met sent new)
@@ -240,7 +240,7 @@ module _ (asks met : Path → Type 0) (sent : Path → List ℕ → Bool → Typ
         let more = learns (change_pair after.number (λ _. after) old.pairs) old p m.attributes.xor_mapped_address changes.fit in
         subst (λ (a : AgentRecord H P). Onward asks met sent x (parts_of asks met sent a)) (sym by_number) (onward asks met sent x (record x { pairs = change_pair after.number (λ _. after) old.pairs }) (parts_of asks met sent (record (mapped_learnt p m.attributes.xor_mapped_address (success_counted old)) { pairs = change_pair after.number (λ _. after) old.pairs })) changes more)
 
-    -- a moment may send a check on its path
+    -- a `handle_timeout` call may send a check on its path
     pub check_moves : (mac : H → List ℕ → List ℕ → List ℕ) (now : ℕ) (remote : Option IceCreds) (old new : AgentRecord H P) (s t : Stream) (issued : Option Issued)
         → ((path : Path) (id : List ℕ) → issued ≡ Some (issued_as path class.Request id) → sent path id old.controlling) → Fit (parts_of asks met sent old)
         → MayCheck mac now remote old s issued new t → Onward asks met sent (parts_of asks met sent old) (parts_of asks met sent new)

@@ -1,4 +1,5 @@
--- A course of an agent is a run of it under a random source of its own: so what holds of runs holds of courses.
+-- A per-agent execution is an execution under its own random source. So what holds for executions holds for per-agent
+-- executions.
 use Rattle.std.proofs.Common.{◌≡◌, ℕ, ◌+◌, ◌==◌, Bool, true, false, List, [], ◌∷◌, ◌++◌, length, Option, Some, None, is_some, Result, Ok, Err, inl, inr, ◌⊎◌, refl, ap, sym, ◌∙◌, subst, arith, append_assoc}
 use Rattle.std.specs.Prelude.{MatchBool, MatchOption}
 use Rattle.rand_core.specs.Stream as stream
@@ -28,7 +29,7 @@ use Rattle.is_rules.specs.Timeouts.{timeout_begun, MaintainsPairs, ServesQueued,
 use Rattle.is_rules.proofs.LoggedRounds.{answered-rounds-announce}
 use Rattle.is_rules.proofs.Onward.{Has-push}
 
--- ---- a random source that answers so, and goes on like the other one
+-- ---- a random source that returns these values, and continues as the other one
 
 abbrev drawn_so : List ℕ → (List stream.Call → ℕ → List ℕ) → List stream.Call → ℕ → List ℕ
 drawn_so id more [] n = id
@@ -62,7 +63,7 @@ either_has (y ∷ xs) ys x (inl e) = inl (inl e)
 either_has (y ∷ xs) ys x (inr h) = elim (either_has xs ys x h) [ inl k ↦ inl (inr k) | inr k ↦ inr k ]
 
 module _ {P : Type 0} where
-  -- ---- the entries of a course in a log
+  -- ---- the entries of a per-agent execution in a log
 
   abbrev pub entry_of : List (Logged P) → Call P → Entry → Logged P
   entry_of before call e = record { number = length before; call = call; entry = e }
@@ -139,7 +140,7 @@ module _ {P : Type 0} where
   more_among : (x : CourseRound P) (rounds : List (CourseRound P)) → AnnouncesAmong rounds → AnnouncesAmong (x ∷ rounds)
   more_among x rounds (r, has, rest) = (r, inr has, rest)
 
-  -- what announces in the rounds of the log does so in those of the course
+  -- what selects in the rounds of the log also does so in those of the per-agent execution
   among : (before : List (Logged P)) (older : List (LoggedRound P)) (rounds : List (CourseRound P)) (x : Logged P) → Has (entries_of (rounds_of before older rounds)) x → BringsSuccess x
       → is_some (last_of x.entry.emitted.announced) ≡ true → AnnouncesAmong rounds ⊎ Has (entries_of older) x
   among before older [] x has success emitted = inr has
@@ -155,7 +156,7 @@ module _ {P : Type 0} where
       ]
 
 module _ {H P : Type 0} (mac : H → List ℕ → List ℕ → List ℕ) (answers : P → CandidateRecord → ℕ → ℕ → Type 0) where
-  -- ---- a step under another random source
+  -- ---- a step with another random source
 
   abbrev pub Anew : Call P → Entry → AgentRecord H P → AgentRecord H P → Stream → Type 0
   Anew call e old new t = (s : Stream) × Step mac answers old s call e new t
@@ -213,9 +214,9 @@ module _ {H P : Type 0} (mac : H → List ℕ → List ℕ → List ℕ) (answer
   anew PollTimeout e old new s t u (wake, is, polled, drawn) = (u, (wake, is, polled, refl))
   anew PollEvent e old new s t u (given, is, polled, drawn) = (u, (given, is, polled, refl))
 
-  -- ---- runs, from the end backwards
+  -- ---- executions, from the end backwards
 
-  -- a run that leaves this source
+  -- an execution that leaves this source
   abbrev pub Leads : AgentRecord H P → List (Logged P) → AgentRecord H P → Type 0
   Leads first log last = (t : Stream) → (s : Stream) × Run mac answers first s log last t
 
@@ -226,7 +227,7 @@ module _ {H P : Type 0} (mac : H → List ℕ → List ℕ → List ℕ) (answer
       leads_on first rest (entry_of before x.0 x.1 ∷ before) mid new
       (λ u. (let k = anew x.0 x.1 old mid s t u step in let r = led k.0 in (r.0, (old, k.0, r.1, refl, based, k.1)))) more
 
-  -- a part that is controlling
+  -- a segment in which the agent is controlling
   abbrev Held : List (Logged P) → AgentRecord H P → Stream → List (Logged P) → AgentRecord H P → Stream → Type 0
   Held before start s part last t = (run : RunsOn mac answers before start s part last t) × IsControllingIn mac answers before start s part last t run
 

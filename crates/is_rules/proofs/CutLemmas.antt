@@ -1,4 +1,4 @@
--- What eviction leaves is a cut.
+-- Eviction leaves a cut of the list.
 use Rattle.std.proofs.Common.{if◌then◌else◌, ◌≡◌, ◌==◌, ℕ, ◌+◌, ◌<◌, ◌≤◌, ◌&&◌, Bool, true, false, not, List, [], ◌∷◌, filter, length, inl, inr, refl, suc, sym, ap, subst, ◌∙◌, arith}
 use Rattle.std.proofs.lemmas.Grind.{common_steps}
 use Rattle.is_proto.specs.Lists.{Has}
@@ -7,7 +7,7 @@ use Rattle.is_pair.specs.Bag.{is_numbered, without, Drops}
 use Rattle.is_rules.specs.Cuts.{IsCut}
 use Rattle.is_rules.proofs.Rising.{AreRising}
 
--- the pairs but that of the number
+-- the pairs except the one with the number
 abbrev is_other : ℕ → PairRecord → Bool
 is_other n p = not (is_numbered n p)
 
@@ -77,7 +77,7 @@ named-once (x ∷ xs) p q h (inl a) (inr b) same = let above = h.0 q b in absurd
 named-once (x ∷ xs) p q h (inr a) (inl b) same = let above = h.0 p a in absurd (omega (arith, above, same, ap (λ (r : PairRecord). r.number) b))
 named-once (x ∷ xs) p q h (inr a) (inr b) same = named-once xs p q h.1 a b same
 
--- one pair goes at most
+-- at most one pair is removed
 all-stay : (n : ℕ) (xs : List PairRecord) → ((q : PairRecord) → Has xs q → n < q.number) → length (others n xs) ≡ length xs
 all-stay n [] above = refl
 all-stay n (x ∷ xs) above =

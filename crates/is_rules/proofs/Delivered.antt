@@ -1,4 +1,4 @@
--- A check that is delivered is served, and its answer accepted.
+-- A check that is delivered is served, and its response is accepted.
 use Rattle.std.proofs.Common.{◌≡◌, ℕ, ◌+◌, ◌≤◌, ◌==◌, ◌&&◌, Bool, true, false, not, List, [], ◌∷◌, ◌++◌, length, position, Option, Some, None, Result, Ok, Err, inl, inr, refl, ap, sym, ◌∙◌, subst, arith, bytes_eq, if◌then◌else◌}
 use Rattle.std.specs.Prelude.{MatchBool, MatchOption, IsSomeAnd, IfSome}
 use Rattle.std.specs.List.{list_any, position_or_len}
@@ -53,19 +53,19 @@ use Rattle.is_rules.proofs.PathLaws.{path_effect}
 use Rattle.is_rules.proofs.ReplyLemmas.{plain-reply}
 use Rattle.is_rules.proofs.Tells.{some_is}
 
--- what stands behind the others is one packet
+-- the packets after equal lists are equal
 last_same : (xs : List Packet) (x y : Packet) → xs ++ x ∷ [] ≡ xs ++ y ∷ [] → x ≡ y
 last_same [] x y h = cc
 last_same (z ∷ xs) x y h = last_same xs x y (let same : z ∷ (xs ++ x ∷ []) ≡ z ∷ (xs ++ y ∷ []) = h in cc)
 
--- the names of two agents fit into a check
+-- the username fragments of two agents fit into a check
 name_fits : (own peer : IceCreds) → are_too_long own (Some peer) ≡ false → length (username_between peer own) ≤ USERNAME_LIMIT
 name_fits own peer h =
     let long : length (peer.ufrag ++ 58 ∷ own.ufrag) ≡ length peer.ufrag + length (58 ∷ own.ufrag) = length-append peer.ufrag (58 ∷ own.ufrag) in
     let within : length own.ufrag + 1 + length peer.ufrag ≤ USERNAME_LIMIT = grind (arith, h) in
     omega (arith, long, within)
 
--- what two readings of the same bytes are
+-- two results of parsing the same bytes are equal
 pub same_reading : (bytes : List ℕ) (m n : Message) → Reads bytes m → Reads bytes n → n ≡ m
 same_reading bytes m n r s = s.spelled ∙ sym r.spelled
 
@@ -89,7 +89,7 @@ passes_none test cs c none has = none_passes (test c) refl where
   none_passes false is = is
   none_passes true is = let wrong : true ≡ false = sym (any_has test cs c has is) ∙ none in absurd (cc)
 
--- a check claims the sender's role, which the other has not, and nominates from the controlling one alone
+-- a check claims the sender's role, which the other agent does not have, and nominates only from the controlling one
 no_rival : (c : Bool) (q : RequestRecord) (tie : ℕ) → q.ice_controlling ≡ (if c then Some tie else None) → q.ice_controlled ≡ (if c then None else Some tie) → rival_in (not c) q ≡ None
 no_rival true q tie one other = other
 no_rival false q tie one other = one
@@ -100,7 +100,8 @@ not_misled false true leads = let wrong : false ≡ true = leads refl in absurd 
 not_misled false false leads = refl
 
 module _ {H P : Type 0} (mac : H → List ℕ → List ℕ → List ℕ) where
-  -- the check of an agent comes to another one that it is known to: it claims the role of its sender, and is served past the test of its user fragment
+  -- an agent's check arrives at another one that knows it: the check claims the role of its sender, and passes the
+  -- test of its username fragment
   pub record Comes (a b : AgentRecord H P) (check : Packet) (id : List ℕ) (at : ℕ) (e : Entry) : Type 0 where
     pub message : Message
     pub reads : Reads check.contents message
@@ -141,9 +142,9 @@ module _ {H P : Type 0} (mac : H → List ℕ → List ℕ → List ℕ) (answer
         read m key x twenty LONGEST_CHECK (fits key id (username_between peer own) controlling tie priority uses (name_fits own peer short) LONGEST_CHECK (omega arith))
         (record { class = tt; id = put.values.id; values = put.values.values; demands = rw (splits peer.ufrag own.ufrag its.plain mine.some) refl })
 
-  -- ---- where a request is served
+  -- ---- when a request is served
 
-  -- the first candidate that receives it stands
+  -- the first candidate that receives it is live
   pub live_place : (b : AgentRecord H P) (q : RequestRecord) → list_any (is_live (receives q.path)) b.local ≡ true
       → (l : ℕ) × (local_place b.local q ≡ Some l) × ((candidate_at b.local l).discarded ≡ false)
   live_place b q there =
@@ -159,7 +160,7 @@ module _ {H P : Type 0} (mac : H → List ℕ → List ℕ → List ℕ) (answer
         stands false h = refl
 
   module _ (q : RequestRecord) where
-    -- the reply goes out
+    -- the response is sent
     abbrev Replied : Emitted → Type 0
     Replied emitted = (path : Path) × (emitted.issued ≡ Some (issued_as path class.Success q.id))
 
@@ -179,7 +180,7 @@ module _ {H P : Type 0} (mac : H → List ℕ → List ℕ → List ℕ) (answer
     joins_at l Barred s new emitted live met h = absurd (met refl)
     joins_at l Unknown s new emitted live met (number, between, h) = takes_at l (length s.remote) number (with_sender q s) new emitted live h
 
-    -- no discarded candidate alone stands where it came from
+    -- if no candidate at its source address was discarded, its remote place is not `Barred`
     meets : (remote : List CandidateRecord) (place : RemotePlace) → list_any (is_gone_at q.path) remote ≡ false → IsRemotePlace remote q place → place ≡ Barred → ⊥
     meets remote place none (Some live, greatest, is) barred = let wrong : Known live ≡ Barred = sym is ∙ barred in cc
     meets remote place none (None, greatest, is) barred = senders remote none greatest (list_any (is_sender q) remote) refl (sym is ∙ barred) where
@@ -193,7 +194,8 @@ module _ {H P : Type 0} (mac : H → List ℕ → List ℕ → List ℕ) (answer
           let c = candidate_at cs k in
           neither_way c.discarded (is_sender q c) found.1 (greatest k found.0) (passes_none (is_gone_at q.path) cs c none (Has-at cs k nowhere found.0))
 
-    -- roles apart, USE-CANDIDATE from a controlling agent alone, and places that stand: so the request is served
+    -- the roles differ, USE-CANDIDATE comes only from a controlling agent, and the candidates exist: so the request
+    -- is served
     serves : (s new : AgentRecord H P) (emitted : Emitted) → names_another s q ≡ false → IsReachedBy s q.path → conflict_of s q ≡ Absent
         → is_misled s.controlling q ≡ false → Serves mac q s emitted new → Replied emitted
     serves s new emitted named reached apart led h =
@@ -205,7 +207,7 @@ module _ {H P : Type 0} (mac : H → List ℕ → List ℕ → List ℕ) (answer
         let o : FindsSender mac q l (request_counted s) emitted new = subst (λ b. MatchBool b (Drops s emitted new) (FindsSender mac q l (request_counted s) emitted new)) led n in
         joins_at l o.0 (request_counted s) new emitted place.2 (meets s.remote o.0 reached.from o.1) o.2
 
-  -- ---- what comes of a packet
+  -- ---- the result of a packet
 
   abbrev pub Took : Packet → ℕ → AgentRecord H P → Entry → Message → Type 0
   Took packet at old e m = (e.answer ≡ Flag true) × ((mid : AgentRecord H P) × Takes mac m.class at old (via_out packet) m e.emitted mid)
@@ -225,7 +227,7 @@ module _ {H P : Type 0} (mac : H → List ℕ → List ℕ → List ℕ) (answer
     by (inr (n, other, (r, emitted, is, handles))) =
         handled r emitted is (subst (λ (x : Message). HandlesPacket mac at old (via_out packet) x r emitted new) (same_reading packet.contents m n reads other) handles)
 
-  -- what goes out as the packet is served takes the way back
+  -- the packet that is sent while the request is served takes the reverse path
   pub goes-back : (c : Class) (b served : AgentRecord H P) (check : Packet) (id : List ℕ) (at : ℕ) (e : Entry) → IsSound b → Delivered mac answers check at b e served
       → ((packet : Packet) (m : Message) → Says c b (ReceivePacket at (via_out check) check.contents) e packet.contents m (via_out packet) served.controlling → via_out packet ≡ reversed (via_out check))
       → (path : Path) → e.emitted.issued ≡ Some (issued_as path c id)
@@ -242,7 +244,7 @@ module _ {H P : Type 0} (mac : H → List ℕ → List ℕ → List ℕ) (answer
         ))
       ]
 
-  -- the request that is served came by the packet's way
+  -- the request that is served came on the packet's path
   pub brought-by : (b : AgentRecord H P) (check : Packet) (at : ℕ) (e : Entry) (q : RequestRecord) → IsServing b (ReceivePacket at (via_out check) check.contents) e q → q.path ≡ via_out check
   brought-by b check at e q (now, by, n, (now_is, by_is, reads, flag), request, known, is) = ap (λ (r : RequestRecord). r.path) is ∙ sym by_is
 
@@ -251,7 +253,7 @@ module _ {H P : Type 0} (mac : H → List ℕ → List ℕ → List ℕ) (answer
   module _ (read : (m : List ℕ → List ℕ → List ℕ) (key : List ℕ) (x : Message) → WrittenIsRead m key x)
       (fits : (key id username : List ℕ) (controlling : Bool) (tie_breaker priority : ℕ) (nominates : Bool)
       → length username ≤ USERNAME_LIMIT → FitsInto key LONGEST_CHECK (binding_request username id controlling tie_breaker priority nominates)) where
-    -- the check of an agent that is known comes: it is accepted, and gets past the test of its user fragment
+    -- the check of a known agent arrives: it is accepted, and passes the test of its username fragment
     pub check-comes : (a sent b served : AgentRecord H P) (check came : Packet) (id : List ℕ) (at : ℕ) (e : Entry) → IsSound a → KnowEachOther mac a b
         → Issued mac answers class.Request id check a sent → came.contents ≡ check.contents → Delivered mac answers came at b e served → Comes mac a b came id at e
     check-comes a sent b served check came id at e sound_a know issued unaltered delivered =
@@ -332,7 +334,7 @@ module _ {H P : Type 0} (mac : H → List ℕ → List ℕ → List ℕ) (answer
     checks-are-served a sent b served check id at e sound_a sound_b know apart reached issued delivered =
         carried-are-served a sent b served check check id at e sound_a sound_b know apart reached issued refl delivered
 
-  -- ---- its answer
+  -- ---- its response
 
   module _ (read : (m : List ℕ → List ℕ → List ℕ) (key : List ℕ) (x : Message) → WrittenIsRead m key x)
       (unscoped : (m : List ℕ → List ℕ → List ℕ) (key : Option (List ℕ)) (x : Message) → IsWrittenPlain m key x)

@@ -1,4 +1,4 @@
--- Pairs that fall due at a moment: nomination adds none.
+-- Pairs that become due at a time: nomination adds none.
 use Rattle.std.proofs.Common.{if◌then◌else◌, ◌≡◌, ℕ, ◌&&◌, ◌||◌, Bool, true, false, not, List, [], ◌∷◌, nat_le, Option, Some, None, is_some, unwrap_or, inl, inr, refl, sym, ap, subst, ◌∙◌}
 use Rattle.std.proofs.lemmas.Bool.{eqb-true}
 use Rattle.std.specs.List.{list_any}
@@ -27,7 +27,7 @@ any-has t (x ∷ xs) h =
       | false ↦ λ is any. let rest = any-has t xs any in (rest.0, inr rest.1, rest.2)
     ] refl h
 
--- a moment that stands does not change, and one that does not makes the pair fall due where it awaits its nomination
+-- a fixed due time does not change; without one the pair becomes due if it awaits its nomination
 due-either : (due : Option ℕ) (x y now : ℕ) (a b : Bool) → b ≡ true
     → nat_le (unwrap_or due x) now || (not (is_some due) && a) ≡ true → nat_le (unwrap_or due y) now || (not (is_some due) && b) ≡ true
 due-either None x y now a b awaits h = or-right (nat_le y now) b awaits
@@ -41,7 +41,7 @@ module _ (controlling lite : Bool) (now : ℕ) (t : StunTiming) where
   awaits true p is eligible = let valid = (both (is_valid p) true eligible).0 in (refl, rw (valid, is) refl)
   awaits false p is eligible = let no = (both (is_valid p) (is_nominated p) eligible).1 in absurd (cc)
 
-  -- a pair that is nominated fell due before
+  -- a pair that is nominated was due before
   fell-before : (p : PairRecord) → is_eligible controlling p ≡ true → Falls (nominated_by_self controlling lite p) ≡ true → Falls p ≡ true
   fell-before p eligible h =
       elim (is_nominated p) as (λ b. is_nominated p ≡ b → Falls (if not b && (controlling || lite) then nominated lite p else p) ≡ true → Falls p ≡ true) [

@@ -1,4 +1,4 @@
--- The two laws of effects, of every call, put together.
+-- The two theorems about effects, for every call.
 use Rattle.std.proofs.Common.{◌≡◌, ℕ, Bool, true, false, List, [], ◌∷◌, ◌++◌, Option, Some, None, Ok, Err, inl, inr, ◌⊎◌, refl, ap, sym, ◌∙◌, subst, if◌then◌else◌}
 use Rattle.std.specs.Prelude.{MatchOption}
 use Rattle.rand_core.specs.Stream.{Stream}
@@ -46,7 +46,7 @@ use Rattle.is_rules.proofs.PointLaws.{takes_valid, points_top}
 module _ {H P : Type 0} (mac : H → List ℕ → List ℕ → List ℕ) (answers : P → CandidateRecord → ℕ → ℕ → Type 0) where
   -- ---- limits and bases
 
-  -- the limits stay, and local candidates are their own base where they have to be
+  -- the limits stay, and local candidates are their own base if they have to be
   pub record Stands (old new : AgentRecord H P) : Type 0 where
     pub checks : KeepsChecks old.timing → KeepsChecks new.timing
     pub based : AllBased old.local → AllBased new.local
@@ -129,7 +129,7 @@ module _ {H P : Type 0} (mac : H → List ℕ → List ℕ → List ℕ) (answer
   stands old new s t e (HandleTimeout now) given (Err error, emitted, is, (may, nothing, made, drawn)) = same_stands old new made
   stands old new s t e call given h = calm_stands old new e call given (calm mac answers old new s t e call refl h)
 
-  -- ---- the law of paths
+  -- ---- the theorem about paths
 
   pub path_law : PathLaw {H = H} {P = P} mac answers
   path_law old new s t call e sound given h =
@@ -172,7 +172,7 @@ module _ {H P : Type 0} (mac : H → List ℕ → List ℕ → List ℕ) (answer
         },
       )
 
-  -- ---- the law of packets and roles
+  -- ---- the theorem about packets and roles
 
   polled_has : (given : Option Packet) (before behind : List Packet) (x : Packet) → IsPolled before given behind → Has behind x → Has before x
   polled_has None before behind x (none, empty) has = absurd (subst (λ (ps : List Packet). Has ps x) empty has)

@@ -36,7 +36,7 @@ module _ {H P : Type 0} {R : Type 0} (old new : AgentRecord H P) where
       (λ _ n. stays n.1)
       (λ _ n. supersedes k n.2))
 
-  -- it is ignored, appended, enabled again at its place, or appended where another one is discarded
+  -- it is ignored, appended, enabled again at its index, or appended when another one is discarded
   pub by_adding_local : (answers : P → CandidateRecord → ℕ → ℕ → Type 0) (c : CandidateRecord) (place : Option ℕ) → AddsLocal answers old c (Ok place) new
       → (new ≡ old → R)
       → ((x : CandidateRecord) → (IsBased c → IsBased x) → FormsAll (appended x old) (local_combinations x (length old.local) old.remote) new → R)
@@ -63,7 +63,7 @@ module _ {H P : Type 0} {R : Type 0} (old new : AgentRecord H P) where
       let passes = both (is_temporary (candidate_at old.remote k)) (same_address (candidate_at old.remote k).addr c.addr) found.1 in
       over k found.0 (same_address-sound (candidate_at old.remote k).addr c.addr passes.1) h
 
-  -- it is ignored, appended, or stands in place of one of its address
+  -- it is ignored, appended, or replaces one with the same address
   pub by_adding_remote : (c : CandidateRecord) → AddsRemote old c (Ok _) new
       → (new ≡ old → R)
       → (FormsAll (with_remote (as_remote c) None old) (remote_combinations (as_remote c) (length old.remote) old.local) new → R)
@@ -74,7 +74,7 @@ module _ {H P : Type 0} {R : Type 0} (old new : AgentRecord H P) where
       (λ _ same. stays same)
       (λ _ k. stored_by (as_remote c) (position (is_placeholder (as_remote c)) old.remote) refl k.1 adds over)
 
-  -- ---- asking when to wake
+  -- ---- `poll_timeout`
 
   waked_by : (last w : ℕ) → Wakes old last w new → (new ≡ old → R) → ((at : ℕ) → new ≡ record old { pairs = map (asked at old.timing) old.pairs } → R) → R
   waked_by last w h stays asks = either (is_waiting old) h
@@ -86,6 +86,6 @@ module _ {H P : Type 0} {R : Type 0} (old new : AgentRecord H P) where
   waked_from (Some last) None h stays asks = absurd h
   waked_from (Some last) (Some w) h stays asks = waked_by last w h stays asks
 
-  -- all stays, or each pair is asked for its due moment
+  -- nothing changes, or the due time of each pair is fixed
   pub by_waking : (wake : Option ℕ) → PollsTimeout old wake new → (new ≡ old → R) → ((at : ℕ) → new ≡ record old { pairs = map (asked at old.timing) old.pairs } → R) → R
   by_waking wake h stays asks = waked_from old.last_moment wake h stays asks

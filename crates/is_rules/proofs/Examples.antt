@@ -1,4 +1,4 @@
--- Agents of a worked run.
+-- The agents of a worked example.
 use Rattle.std.specs.Prelude.{ℕ, ◌*◌, true, false, List, [], ◌∷◌, Some, None, codes}
 use Rattle.std.specs.declared.net.socket_addr.SocketAddr.{SocketAddr}
 use Rattle.std.specs.declared.net.socket_addr.SocketAddr.TheVariants.{V4}
@@ -66,7 +66,7 @@ module _ {H P : Type 0} (mac : H → List ℕ → List ℕ → List ℕ) (provid
     next_number = 1;
   }
 
-  -- once the first moment came
+  -- after the first `handle_timeout` call
   abbrev pub with_check : List ℕ → AgentRecord H P
   with_check id = record with_both {
     state = Checking;
@@ -85,7 +85,7 @@ module _ {H P : Type 0} (mac : H → List ℕ → List ℕ → List ℕ) (provid
     stats = record no_stats { bind_request_sent = 1 };
   }
 
-  -- once it was answered at 50 ms
+  -- after the response at 50 ms
   abbrev pub with_answer : List ℕ → AgentRecord H P
   with_answer id = record (with_check id) {
     state = Completed;
@@ -104,7 +104,7 @@ module _ {H P : Type 0} (mac : H → List ℕ → List ℕ → List ℕ) (provid
     stats = record no_stats { bind_request_sent = 1; bind_success_recv = 1; discovered_recv_count = 1; nomination_send_count = 1 };
   }
 
-  -- a controlled agent that serves a request with USE-CANDIDATE, and then is told of the sender
+  -- a controlled agent that serves a request with USE-CANDIDATE, and then gets the sender as a candidate
   abbrev pub controlled : AgentRecord H P
   controlled = record with_host { controlling = false }
 

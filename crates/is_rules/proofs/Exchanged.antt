@@ -1,4 +1,4 @@
--- A check that goes there, and its answer that comes back.
+-- A check that is delivered, and its response that comes back.
 use Rattle.std.proofs.Common.{◌≡◌, ℕ, Bool, true, false, if◌then◌else◌, List, [], ◌∷◌, length, Option, Some, inl, inr, refl, ap, sym, ◌∙◌, subst}
 use Rattle.std.specs.List.{list_any}
 use Rattle.rand_core.specs.Stream.{Stream}
@@ -19,7 +19,7 @@ use Rattle.is_rules.proofs.EffectLaws.{path_law, trade_law}
 use Rattle.is_rules.proofs.LogParts.{no-case}
 use Rattle.is_rules.proofs.Staying.{sound-course, checks-stay}
 
--- what an agent signs by, and both passwords
+-- the key that an agent signs with, and both passwords
 pub record Keys (H : Type 0) : Type 0 where
   pub provider : H
   pub local : IceCreds
@@ -29,7 +29,7 @@ module _ {H P : Type 0} where
   abbrev pub keys_of : AgentRecord H P → Keys H
   keys_of a = record { provider = a.provider; local = a.local_creds; remote = a.remote_creds }
 
-  -- who has the same keys is known as well
+  -- an agent with the same keys is known as well
   pub known-on : (mac : H → List ℕ → List ℕ → List ℕ) (a c b : AgentRecord H P) → keys_of c ≡ keys_of a → KnowEachOther mac a b → KnowEachOther mac c b
   known-on mac a c b is know = record {
     mine = ap (λ (k : Keys H). k.remote) is ∙ know.mine;

@@ -1,4 +1,4 @@
--- For each call: what becomes of settings, credentials, role and queues.
+-- For each call: its effect on settings, credentials, role and queues.
 use Rattle.std.proofs.Common.{◌≡◌, ℕ, ◌==◌, Bool, true, false, not, List, [], ◌∷◌, ◌++◌, length, take, drop, Option, Some, None, is_some, Result, Ok, Err, inl, inr, ◌⊎◌, refl, ap, sym, ◌∙◌, subst, if◌then◌else◌}
 use Rattle.std.specs.Prelude.{MatchBool, MatchOption, take_while}
 use Rattle.std.proofs.lemmas.List.{take-append-drop}
@@ -85,7 +85,7 @@ unknown None none known = let no : false ≡ true = known in cc
 unknown (Some peer) none known = cc
 
 module _ {H P : Type 0} where
-  -- the fields of an effect that speak of settings, credentials, role and queues
+  -- the fields of an effect that are about settings, credentials, role and queues
   pub record FrameEffect (old : AgentRecord H P) (call : Call P) (e : Entry) (new : AgentRecord H P) : Type 0 where
     pub provider : new.provider ≡ old.provider
     pub tie_breaker : new.tie_breaker ≡ tie_set_by call old.tie_breaker
@@ -101,12 +101,12 @@ module _ {H P : Type 0} where
     pub given_up : (at : ℕ) (by : Path) (m : Message) → Brings call e at by m → m.class ≡ class.Failure → is_role_conflict m ≡ true
         → IsRefusedBy old call e new
 
-  -- the entry and the record are these
+  -- the entry and the abstract state are these
   moved : (old new wanted : AgentRecord H P) (call : Call P) (e f : Entry) → e ≡ f → new ≡ wanted → FrameEffect old call f wanted → FrameEffect old call e new
   moved old new wanted call e f is made h =
       subst (λ (x : Entry). FrameEffect old call x new) (sym is) (subst (λ (a : AgentRecord H P). FrameEffect old call f a) (sym made) h)
 
-  -- a call that brings nothing
+  -- a call that receives nothing
   plain : (old new : AgentRecord H P) (call : Call P) (e : Entry)
       → new.provider ≡ old.provider → new.tie_breaker ≡ tie_set_by call old.tie_breaker → new.lite ≡ lite_set_by call old.lite
       → new.local_creds ≡ local_after call e.answer old.local_creds → new.remote_creds ≡ remote_after call e.answer old.remote_creds
@@ -134,7 +134,7 @@ module _ {H P : Type 0} where
   forms_alike : (old new : AgentRecord H P) (all : List Combination) → FormsAll old all new → Alike old new
   forms_alike old new all (f, forms, made) = (ap (λ (a : AgentRecord H P). frame_of a) made, ap (λ (a : AgentRecord H P). a.packets) made)
 
-  -- a call that leaves them, whose settings and credentials are as they were, and that brings nothing
+  -- a call that leaves the queues, keeps settings and credentials, and receives nothing
   alike : (old new : AgentRecord H P) (call : Call P) (answer : Answer) → Alike old new
       → tie_set_by call old.tie_breaker ≡ old.tie_breaker → lite_set_by call old.lite ≡ old.lite
       → local_after call answer old.local_creds ≡ old.local_creds → remote_after call answer old.remote_creds ≡ old.remote_creds
@@ -172,7 +172,7 @@ module _ {H P : Type 0} where
   invalidates old new None (Some place) found h = same_record (remote_discarded place old) new h.1
   invalidates old new None None found h = same_record old new h.1
 
-  -- ---- requests that wait
+  -- ---- early requests
 
   served_past : (now : ℕ) (old : AgentRecord H P) (q : RequestRecord) → request_at now old ≡ Some q
       → (gone : List RequestRecord) × (old.queue ≡ gone ++ q ∷ drop 1 (queue_left now old.timing old.remote_creds old.queue))
@@ -180,7 +180,7 @@ module _ {H P : Type 0} where
       let k = left_behind now old.timing old.remote_creds old.queue in
       (k.0, k.1 ∙ ap (λ (rest : List RequestRecord). k.0 ++ rest) (next_headed old.remote_creds (queue_left now old.timing old.remote_creds old.queue) q h))
 
-  -- ---- moments
+  -- ---- `handle_timeout` calls
 
   module _ (mac : H → List ℕ → List ℕ → List ℕ) where
     checks : (now : ℕ) (remote : Option IceCreds) (old new : AgentRecord H P) (s t : Stream) (issued : Option Issued)
@@ -288,7 +288,7 @@ module _ {H P : Type 0} where
       same_message : (at : ℕ) (by : Path) (n : Message) → Brings call entry at by n → n ≡ m
       same_message at by n (_, _, other, _) = other.spelled ∙ sym reads.spelled
 
-      -- what leaves the role and serves nothing
+      -- a message that leaves the role and serves nothing
       still : (c : Class) → m.class ≡ c → (record (frame_of mid) { queue = old.queue } ≡ frame_of old) × IsQueued emitted.issued old.packets mid.packets → Waits old call entry new → ((m.class ≡ class.Request) → is_some old.remote_creds ≡ true → ⊥)
           → ((m.class ≡ class.Failure) → is_role_conflict m ≡ true → ⊥) → FrameEffect old call entry new
       still c is k waits serves_none fails_none = record {
@@ -314,7 +314,7 @@ module _ {H P : Type 0} where
       request_fails : (m.class ≡ class.Request) → (m.class ≡ class.Failure) → is_role_conflict m ≡ true → ⊥
       request_fails a b c = let no : class.Request ≡ class.Failure = sym a ∙ b in cc
 
-      -- a request that waits, or is served
+      -- an early request, or one that is served
       requested_by : (peer : Option IceCreds) → old.remote_creds ≡ peer → m.class ≡ class.Request
           → MatchOption peer ((emitted ≡ nothing_emitted) × (mid ≡ queued q old)) (λ peer. Serves mac q old emitted mid) → FrameEffect old call entry new
       requested_by None none is (emitted_is, made) =
@@ -362,7 +362,7 @@ module _ {H P : Type 0} where
       no_request : (c : Class) → m.class ≡ c → (c ≡ class.Request → ⊥) → (m.class ≡ class.Request) → is_some old.remote_creds ≡ true → ⊥
       no_request c is differs request known = differs (sym is ∙ request)
 
-      -- a failure: a 487 to a check of the present role gives it up
+      -- an error response: a 487 to a check of the present role switches it
       failed : m.class ≡ class.Failure → TakesFailure old path m emitted mid → FrameEffect old call entry new
       failed is h = either (is_role_conflict m) h
           (λ conflict k. gives k conflict)
@@ -414,7 +414,7 @@ module _ {H P : Type 0} where
     unmoved : (call : Call P) (f : Entry) → e ≡ f → new ≡ old → FrameEffect old call f old → FrameEffect old call e new
     unmoved call f is made h = moved old new old call e f is made h
 
-    -- a call that is done or refused
+    -- a call that succeeds or fails
     done_or : (Does : Result (Unit {0}) IceError → AgentRecord H P → Type 0) (call : Call P)
         → (Does (Ok _) new → FrameEffect old call (quiet Done) new)
         → ((error : IceError) → Does (Err error) new → new ≡ old)

@@ -1,4 +1,5 @@
--- What the inner rules leave: settings, credentials, the role but for a switch, the queue of requests; and what goes out.
+-- What the inner rules leave unchanged: settings, credentials, the role except for a switch, the queue of requests;
+-- and what they send.
 use Rattle.std.proofs.Common.{◌≡◌, ℕ, ◌&&◌, Bool, true, false, not, List, [], ◌∷◌, ◌++◌, length, Option, Some, None, inl, inr, ◌⊎◌, refl, ap, sym, ◌∙◌, subst}
 use Rattle.std.specs.Prelude.{MatchBool, MatchOption}
 use Rattle.std.specs.List.{list_any}
@@ -36,7 +37,7 @@ either false h f g = g refl h
 abbrev pub packet_along : Path → List ℕ → Packet
 packet_along path contents = record { proto = path.proto; source = path.source; destination = path.destination; contents = contents }
 
--- what nomination, state and pairs given up leave
+-- what nomination, state and the removal of pairs leave unchanged
 pub record Frame (H : Type 0) : Type 0 where
   pub provider : H
   pub tie_breaker : ℕ
@@ -75,7 +76,7 @@ module _ {H P : Type 0} where
 
   -- ---- serving
 
-  -- the frame stays, and at most one packet goes out
+  -- the frame stays, and at most one packet is sent
   abbrev pub Stays : AgentRecord H P → Emitted → AgentRecord H P → Type 0
   Stays s emitted new = (frame_of new ≡ frame_of s) × IsQueued emitted.issued s.packets new.packets
 
@@ -106,7 +107,7 @@ module _ {H P : Type 0} where
     admits l s new emitted h = either (is_misled s.controlling q) h (λ _ k. drops s new emitted k)
         (λ _ k. joins_at l k.0 (request_counted s) new emitted k.2)
 
-    -- the role stays, or yields
+    -- the role stays, or switches
     abbrev pub Turns : AgentRecord H P → Emitted → AgentRecord H P → Type 0
     Turns s emitted new =
         Stays s emitted new
@@ -129,7 +130,7 @@ module _ {H P : Type 0} where
     pub serves : (s new : AgentRecord H P) (emitted : Emitted) → Serves mac q s emitted new → Turns s emitted new
     serves s new emitted h = either (names_another s q) h (λ _ k. inl (drops s new emitted k)) (λ _ k. here (local_place s.local q) s new emitted k)
 
-    -- past the tests the conflict settles the role
+    -- after the tests the conflict is resolved
     role_by : (conflict : Conflict) (l : ℕ) (s new : AgentRecord H P) (emitted : Emitted) → ResolvesRoleConflictBy mac conflict q l s emitted new → new.controlling ≡ role_once conflict s.controlling
     role_by Absent l s new emitted h = ap (λ (f : Frame H). f.controlling) (admits l s new emitted h).0
     role_by Insists l s new emitted (values, is, made) = ap (λ (a : AgentRecord H P). a.controlling) made
@@ -142,7 +143,7 @@ module _ {H P : Type 0} where
         let m : ResolvesRoleConflict mac q l s emitted new = subst (λ o. MatchOption o (Drops s emitted new) (λ l. ResolvesRoleConflict mac q l s emitted new)) at k in
         role_by (conflict_of s q) l s new emitted m
 
-  -- ---- answers
+  -- ---- responses
 
   pub takes_success : (now : ℕ) (old new : AgentRecord H P) (via : Path) (m : Message) (emitted : Emitted) → TakesSuccess now old via m emitted new → Stays old emitted new
   takes_success now old new via m emitted (recorded, (i, p, after, found, keeps, took, made), (path, mid, nominates, is, done)) =
@@ -152,7 +153,7 @@ module _ {H P : Type 0} where
             (ap (λ (a : AgentRecord H P). a.packets) done ∙ (k.1 ∙ ap (λ (a : AgentRecord H P). a.packets) made)),
       )
 
-  -- ---- pairs given up
+  -- ---- removed pairs
 
   pub gives_up : (now : ℕ) (old new : AgentRecord H P) (path : Option Path) → GivesUp now old path new → (frame_of new ≡ frame_of old) × (new.packets ≡ old.packets)
   gives_up now old new path h = either (list_any (is_given_up now old) old.pairs) h

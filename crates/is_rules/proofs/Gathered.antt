@@ -1,4 +1,4 @@
--- What changes of candidates make of pairs, and forming with them.
+-- The effects of changed candidates on pairs, and forming with these candidates.
 use Rattle.std.proofs.Common.{not, ◌≡◌, ℕ, zero, suc, ◌+◌, ◌<◌, ◌==◌, ◌&&◌, Bool, true, false, List, [], ◌∷◌, ◌++◌, map, length, Option, Some, None, Ok, inl, inr, ◌⊎◌, refl, ap, sym, ◌∙◌, subst, arith, if◌then◌else◌}
 use Rattle.std.specs.Prelude.{slice_set}
 use Rattle.std.specs.List.{flat_map, range_with_len}
@@ -23,7 +23,7 @@ use Rattle.is_rules.proofs.Moves.{Changed, mapped, parts_of, Has-map}
 use Rattle.is_rules.proofs.Checks.{local_joins, asked_changes}
 use Rattle.is_rules.proofs.Serves.{remote_joins}
 
--- ---- places
+-- ---- indices
 
 Has-append : {X : Type 0} (xs ys : List X) (x : X) → Has (xs ++ ys) x → Has xs x ⊎ Has ys x
 Has-append [] ys x h = inr h
@@ -72,7 +72,7 @@ kept_at f (c ∷ cs) (suc i) zero y same = refl
 kept_at f (c ∷ cs) (suc i) (suc k) y same = kept_at f cs i k y same
 
 module _ (asks met : Path → Type 0) (sent : Path → List ℕ → Bool → Type 0) where
-  -- the lists change, and no place goes or gets another way
+  -- the lists change, but no index is removed or gets another path
   relisted : (x : Parts) (local remote : List CandidateRecord) → Fit x → length local ≡ length x.local → length remote ≡ length x.remote
       → ((k : ℕ) → (candidate_at local k).proto ≡ (candidate_at x.local k).proto) → ((k : ℕ) → base_of (candidate_at local k) ≡ base_of (candidate_at x.local k))
       → ((k : ℕ) → (candidate_at remote k).addr ≡ (candidate_at x.remote k).addr)
@@ -100,7 +100,7 @@ module _ (asks met : Path → Type 0) (sent : Path → List ℕ → Bool → Typ
     };
   }
 
-  -- at one place
+  -- at one index
   pub local_changes : (x : Parts) (place : ℕ) (y : CandidateRecord) → Fit x → y.proto ≡ (candidate_at x.local place).proto → base_of y ≡ base_of (candidate_at x.local place)
       → Onward asks met sent x (record x { local = slice_set x.local place y })
   local_changes x place y fit proto base = relisted x (slice_set x.local place y) x.remote fit (length-slice_set x.local place y) refl
@@ -140,7 +140,7 @@ module _ (asks met : Path → Type 0) (sent : Path → List ℕ → Bool → Typ
     abbrev Goes : AgentRecord H P → AgentRecord H P → Type 0
     Goes old new = Onward asks met sent (parts_of asks met sent old) (parts_of asks met sent new)
 
-    -- forming at places in range
+    -- forming at indices in range
     pub forms_on : (old new : AgentRecord H P) (all : List Combination) → ((at : Combination) → Has all at → (at.0 < length old.local) × (at.1 < length old.remote))
         → Fit (parts_of asks met sent old) → FormsAll old all new → Goes old new
     forms_on old new all placed fit (f, forming, made) =
@@ -221,7 +221,7 @@ module _ (asks met : Path → Type 0) (sent : Path → List ℕ → Bool → Typ
         (λ at has. (let o = their_places (as_remote c) k old.local at has in
         (o.0, subst (λ r. r < length (slice_set old.remote k (as_remote c))) o.1 (subst (λ n. k < n) (sym (length-slice_set old.remote k (as_remote c))) lt)))) first.fit f)))
 
-    -- pairs are formed anew, or all goes
+    -- pairs are formed again, or all are removed
     pub recreates_goes : (old new : AgentRecord H P) → Fit (parts_of asks met sent old) → Recreates old (Ok _) new → Goes old new
     recreates_goes old new fit (enough, formed_anew) =
         let x : Parts = parts_of asks met sent old in
@@ -247,7 +247,7 @@ module _ (asks met : Path → Type 0) (sent : Path → List ℕ → Bool → Typ
       };
     }
 
-    -- pairs are asked for their due moment, or asked anew
+    -- the due times of pairs are fixed, or computed again
     pub rtos_goes : (old : AgentRecord H P) (initial greatest : ℕ) → Fit (parts_of asks met sent old) → Goes old (with_rtos initial greatest old)
     rtos_goes old initial greatest fit =
         if_mapped (old.timing.initial_rto.0 == initial && old.timing.max_rto.0 == greatest) (parts_of asks met sent old) undue fit

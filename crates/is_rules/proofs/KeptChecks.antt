@@ -1,4 +1,4 @@
--- A moment that sends a check keeps it.
+-- A `handle_timeout` call that sends a check stores it.
 use Rattle.std.proofs.Common.{◌≡◌, ℕ, ◌+◌, ◌-◌, ◌<◌, ◌≤◌, ◌==◌, Bool, true, List, [], ◌∷◌, ◌++◌, length, drop, bytes_eq, Option, Some, None, Result, Ok, Err, inl, inr, refl, ap, sym, ◌∙◌, subst, arith, if◌then◌else◌}
 use Rattle.std.specs.Prelude.{MatchOption}
 use Rattle.std.specs.List.{list_any}
@@ -57,7 +57,7 @@ bytes_same a = (bytes_eq-Decides a a).1 refl
 pub number_same : (n : ℕ) → (n == n) ≡ true
 number_same n = eq-eqb n n refl
 
--- an address is itself
+-- an address equals itself
 pub same_self : (a : SocketAddr) → same_address a a ≡ true
 same_self (V4 a) = rw (bytes_same (ipv4_octets (v4_ip a)), number_same (v4_port a)) refl
 same_self (V6 a) = rw (bytes_same (ipv6_segments (v6_ip a)), number_same (v6_port a), number_same (v6_flowinfo a), number_same (v6_scope_id a)) refl
@@ -65,7 +65,7 @@ same_self (V6 a) = rw (bytes_same (ipv6_segments (v6_ip a)), number_same (v6_por
 pub back_again : (via : Path) → goes_back (reversed via) via ≡ true
 back_again via = rw (same_self via.destination, same_self via.source) refl
 
--- the last one is among the last n, where n is not 0
+-- the last one is among the last n, if n is not 0
 Has-last : (cs : List Check) (c : Check) → Has (cs ++ c ∷ []) c
 Has-last [] c = inl refl
 Has-last (x ∷ cs) c = inr (Has-last cs c)
@@ -86,7 +86,7 @@ emitted_as via path i j h =
     let same : issued_as via class.Request i ≡ issued_as path class.Request j = some_is _ _ h in
     (ap (λ (x : code.Issued). x.path) same, ap (λ (x : code.Issued). x.id.0) same)
 
--- the pair that was checked keeps the check
+-- the pair that was checked stores the check
 keeps_now : (now : ℕ) (kept : ℕ) (p : PairRecord) (id : List ℕ) (controlling : Bool) → 0 < kept
     → is_kept id (drop (length (p.checks ++ check_of now controlling id p ∷ []) - kept) (p.checks ++ check_of now controlling id p ∷ [])) ≡ true
 keeps_now now kept p id controlling some =
@@ -138,7 +138,7 @@ module _ {H P : Type 0} (mac : H → List ℕ → List ℕ → List ℕ) (answer
     serves : (s new : AgentRecord H P) (emitted : Emitted) → Serves mac q s emitted new → NoCheck emitted
     serves s new emitted h = either (names_another s q) h (λ _ k. dropped s new emitted k) (λ _ k. here (local_place s.local q) s new emitted k)
 
-  -- ---- the check that goes out
+  -- ---- the check that is sent
 
   checked_pair : (now : ℕ) (remote : IceCreds) (p : PairRecord) (old sent : AgentRecord H P) (s t : Stream) (issued : Option code.Issued) (via : Path) (id : List ℕ)
       → Has old.pairs p → 0 < sent.timing.max_retransmits → issued ≡ Some (issued_as via class.Request id)
@@ -195,7 +195,7 @@ module _ {H P : Type 0} (mac : H → List ℕ → List ℕ → List ℕ) (answer
         by some (Err error) emitted is h =
             none_out e.emitted.issued (via_out check) id (ap (λ (x : Emitted). x.issued) (is ∙ h.1)) sends.emitted
 
-  -- what it says
+  -- its contents
   pub record Checks (now : ℕ) (via : Path) (id : List ℕ) (sent : AgentRecord H P) : Type 0 where
     pub old : AgentRecord H P
     pub remote : IceCreds

@@ -1,4 +1,5 @@
--- How many checks of others may go before that of a pair which is due by a moment, and what leaves them no more.
+-- A bound on the number of checks of other pairs before that of a pair which is due by a given time, and the steps
+-- that do not increase it.
 use Rattle.std.proofs.Common.{◌≡◌, ℕ, zero, suc, ◌+◌, ◌-◌, ◌*◌, ◌<◌, ◌≤◌, ◌==◌, ◌||◌, Bool, true, false, List, [], ◌∷◌, ◌++◌, length, drop, map, filter, min, nat_le, Option, Some, None, unwrap_or, inl, inr, ◌⊎◌, refl, ap, sym, ◌∙◌, subst, arith, if◌then◌else◌}
 use Rattle.std.specs.Prelude.{slice_get, slice_set}
 use Rattle.std.specs.Option.{option_map_or}
@@ -31,7 +32,7 @@ le-not n m h = grind (arith, nat_tests, h)
 
 -- ---- the last check
 
--- it was sent by a moment
+-- it was sent by a time
 abbrev pub sent_by : ℕ → List Check → Bool
 sent_by by cs = option_map_or (λ c. nat_le c.sent by) (last_check cs) false
 
@@ -56,7 +57,7 @@ sent-late : (by now n : ℕ) (cs : List Check) (c : Check) → by < now → 0 < 
 sent-late by now n cs c late some sent =
     ap (λ (o : Option Check). option_map_or (λ d. nat_le d.sent by) o false) (kept-last n cs c some) ∙ (ap (λ k. nat_le k by) sent ∙ le-not now by late)
 
--- an answer leaves when it was sent
+-- a response leaves when the check was sent
 length-set : (xs : List Check) (i : ℕ) (y : Check) → length (slice_set xs i y) ≡ length xs
 length-set [] i y = refl
 length-set (x ∷ xs) zero y = refl
@@ -77,11 +78,11 @@ sent-answered by xs i x y at same =
 
 -- ---- one pair
 
--- its moment stands fixed by then, or may be asked for as one that is by then
+-- its due time is fixed and is no later than that time, or may be computed as such
 abbrev pub is_early : ℕ → Option ℕ → List Check → Bool
 is_early by due cs = option_map_or (λ at. nat_le at by) due false || sent_by by cs
 
--- one check where it may be due by then itself, and one once it is nominated, for which it goes first
+-- one check if the pair may be due by then itself, and one when it is nominated, because it goes first then
 abbrev pub weight : NominationState → Bool → ℕ
 weight Unnominated early = one_if early + 1
 weight Nominated early = 1
@@ -138,7 +139,7 @@ weight-two Attempt false = omega arith
 weight-two Success true = omega arith
 weight-two Success false = omega arith
 
--- asked behind it, a pair is due by a moment only where its last check was sent by then
+-- if its due time is computed later, a pair is due by a time only if its last check was sent by then
 unfixed-early : (by now most : ℕ) (t : StunTiming) (cs : List Check) → by < now → now < MAX → nat_le (min (next_moment now t cs) (later now most)) by ≡ true → sent_by by cs ≡ true
 unfixed-early by now most t cs late early is = by-last (last_check cs) _ (le-from (min (next_moment now t cs) (later now most)) by is) where
   by-last : (o : Option Check) (delay : ℕ) → min (option_map_or (λ (c : Check). later c.sent delay) o now) (later now most) ≤ by → option_map_or (λ c. nat_le c.sent by) o false ≡ true
@@ -169,7 +170,7 @@ pub lead-checked-is : (by now : ℕ) (t : StunTiming) (c : Bool) (id : List ℕ)
 lead-checked-is by now t c id p late some =
     ap (λ b. weight (nomination_once_sent p.nomination) b) (sent-late by now t.max_retransmits p.checks (check_of now c id p) late some refl)
 
--- an answer makes no pair early
+-- a response makes no pair early
 or-right : (a b : Bool) → b ≡ true → (a || b) ≡ true
 or-right true b is = refl
 or-right false b is = is
@@ -186,7 +187,7 @@ lead-answered by now place c p at =
       joined : (x y z : ℕ) → x ≤ y → y ≤ z → x ≤ z
       joined x y z h k = omega (arith, h, k)
 
--- ---- all but the pair of the number
+-- ---- all except the pair with the number
 
 abbrev pub own : ℕ → ℕ → PairRecord → ℕ
 own n by p = if is_numbered n p then 0 else lead by p
@@ -261,7 +262,7 @@ leads-all n by (x ∷ xs) = twice (own n by x) (leads n by xs) (length xs) (own-
   twice : (a b c : ℕ) → a ≤ 2 → b ≤ 2 * c → a + b ≤ 2 * suc c
   twice a b c h k = omega (arith, h, k)
 
--- the pair itself counts nothing
+-- the pair itself does not count
 pub leads-others : (by : ℕ) (xs : List PairRecord) (p : PairRecord) → Has xs p → leads p.number by xs + 2 ≤ 2 * length xs
 leads-others by [] p has = absurd has
 leads-others by (x ∷ xs) p (inl e) = none (is_numbered p.number x) (ap (λ (y : PairRecord). y.number == p.number) e ∙ eq-eqb p.number p.number refl) (leads-all p.number by xs) where

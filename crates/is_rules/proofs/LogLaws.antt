@@ -1,4 +1,4 @@
--- All theorems of one agent's log, from the law of paths alone.
+-- All theorems about one agent's log, from the theorem about paths only.
 use Rattle.std.proofs.Common.{◌≡◌, ℕ, ◌+◌, ◌<◌, ◌≤◌, ◌==◌, ◌&&◌, Bool, true, false, List, [], ◌∷◌, ◌++◌, Option, Some, None, inl, inr, ◌⊎◌, refl, ap, sym, ◌∙◌, subst, arith, append_assoc, if◌then◌else◌}
 use Rattle.std.specs.Prelude.{find, cond, filter}
 use Rattle.std.specs.Option.{option_or, option_map_or, option_and_then}
@@ -32,7 +32,7 @@ use Rattle.is_rules.proofs.RefusalLaws.{fresh_sound}
 use Rattle.is_rules.proofs.Bags.{among_by_counts}
 use Rattle.is_rules.proofs.PathLaws.{below_is}
 
--- a truth value, with what it is
+-- a Boolean, with what it implies
 emitted_apart : {A : Type 0} (b : Bool) → (b ≡ true → A) → (b ≡ false → A) → A
 emitted_apart true f g = f refl
 emitted_apart false f g = g refl
@@ -71,7 +71,7 @@ count-append test [] ys = omega arith
 count-append test (x ∷ xs) ys = let k : count test (xs ++ ys) ≡ count test xs + count test ys = count-append test xs ys in omega (arith, k)
 
 module _ {H P : Type 0} (mac : H → List ℕ → List ℕ → List ℕ) (answers : P → CandidateRecord → ℕ → ℕ → Type 0) (law : PathLaw {H = H} {P = P} mac answers) where
-  -- what the record has of the log
+  -- what the abstract state implies about the log
   pub record Holds (provider : H) (log : List (Logged P)) (a : AgentRecord H P) : Type 0 where
     pub sound : IsSound a
     pub provider_is : a.provider ≡ provider
@@ -80,7 +80,7 @@ module _ {H P : Type 0} (mac : H → List ℕ → List ℕ → List ℕ) (answer
     pub sent : (path : Path) (id : List ℕ) (controlling : Bool) → IsKept a path id controlling → IsSent log path id
     pub valid : NeverLite log → (path : Path) → IsValidOn a path → Answered mac provider log path
     pub queued : (q : RequestRecord) → Has a.queue q → q.use_candidate ≡ true → AskedFor log (reversed q.path)
-    -- the announced number names a pair that was announced last
+    -- `selected_pair` names the pair that was selected last
     pub named : (p : PairRecord) → Has a.pairs p → a.selected_pair ≡ Some p.number → (is_valid p ≡ true) × (is_nominated p ≡ true) × (last_announced log ≡ Some (path_of a p))
 
   fresh_holds : (first : AgentRecord H P) → IsFresh first → Holds first.provider [] first
@@ -95,7 +95,7 @@ module _ {H P : Type 0} (mac : H → List ℕ → List ℕ → List ℕ) (answer
     named = λ p has. absurd has;
   })
 
-  -- ---- one entry more
+  -- ---- one more entry
 
   module _ (provider : H) (x : Logged P) (before : List (Logged P)) (old new : AgentRecord H P) (h : Holds provider before old) (f : PathEffect mac old x.call x.entry new) where
     answers_at : (path : Path) → IsAnswered mac old x.call x.entry path → AnswersAt mac provider x before path
@@ -127,7 +127,7 @@ module _ {H P : Type 0} (mac : H → List ℕ → List ℕ → List ℕ) (answer
     old_below : (n : ℕ) → old.selected_pair ≡ Some n → n < old.next_number
     old_below n is = below_is old.next_number n old.selected_pair h.sound.announced is
 
-    -- the announced number names no pair behind a clear
+    -- after a clear, the earlier `selected_pair` names no pair
     none_named : clears_at x ≡ true → (p : PairRecord) → Has new.pairs p → old.selected_pair ≡ Some p.number → ⊥
     none_named clear p has is =
         let lt : p.number < old.next_number = old_below p.number is in
@@ -177,7 +177,7 @@ module _ {H P : Type 0} (mac : H → List ℕ → List ℕ → List ℕ) (answer
       named = held_named (last_of x.entry.emitted.announced) refl;
     }
 
-  -- ---- runs
+  -- ---- executions
 
   now_controlled : (first : AgentRecord H P) (s : Stream) (log : List (Logged P)) (a : AgentRecord H P) (v : Stream) (r : Run mac answers first s log a v) → IsControlledSince mac answers first s log a v r → a.controlling ≡ false
   now_controlled first s [] a v r c = c
@@ -197,7 +197,7 @@ module _ {H P : Type 0} (mac : H → List ℕ → List ℕ → List ℕ) (answer
   eligible true p v n = ap (λ b. b && true) v
   eligible false p v n = ap (λ b. b && is_nominated p) v ∙ n
 
-  -- the pair that the announced number names
+  -- the pair that `selected_pair` names
   stands_with : (priority : ℕ) (a : AgentRecord H P) → stands_at a.selected_pair priority a.pairs ≡ true → (p : PairRecord) × Has a.pairs p × (a.selected_pair ≡ Some p.number) × (p.priority ≡ priority)
   stands_with priority a h = by a.selected_pair refl h where
     at : (n : ℕ) (o : Option PairRecord) → pair_numbered n a.pairs ≡ o → a.selected_pair ≡ Some n → option_map_or (λ (p : PairRecord). p.priority == priority) o false ≡ true
@@ -212,7 +212,7 @@ module _ {H P : Type 0} (mac : H → List ℕ → List ℕ → List ℕ) (answer
     by None is h = let no : false ≡ true = h in absurd (cc)
     by (Some n) is h = at n (pair_numbered n a.pairs) refl is h
 
-  -- what is asked for is nominated
+  -- a path that the peer nominates is nominated
   asking : (mid : AgentRecord H P) (call : Call P) (entry : Entry) (at : ℕ) (by : Path) (m : Message) → Brings call entry at by m → m.attributes.use_candidate ≡ true
       → (q : RequestRecord) → IsServing mid call entry q → q.use_candidate ≡ true
   asking mid (ReceivePacket now path bytes) entry at by m brings uses q (at2, by2, m2, brings2, request, known, is) =
@@ -240,7 +240,7 @@ module _ {H P : Type 0} (mac : H → List ℕ → List ℕ → List ℕ) (answer
         let k = law mid last u t x.call x.entry h.sound based step in
         holds_next first.provider x before mid last h k.0 k.1
 
-    -- while controlled since the last clear, a nominated path was asked for
+    -- while the agent is controlled since the last clear, a nominated path was nominated by the peer
     nominated_asked : (log : List (Logged P)) (last : AgentRecord H P) (t : Stream) → NeverLite log
         → (run : Run mac answers first s log last t) → IsControlledSince mac answers first s log last t run
         → (path : Path) → IsNominatedOn last path → AskedFor log path
@@ -257,7 +257,7 @@ module _ {H P : Type 0} (mac : H → List ℕ → List ℕ → List ℕ) (answer
           ]
         ]
 
-    -- replies and what waits are owed
+    -- responses and early requests are owed
     pub replies_owed : (log : List (Logged P)) (last : AgentRecord H P) (t : Stream) → Run mac answers first s log last t
         → (test : Transaction → Bool) → count test (replies log) + owed test last.queue ≤ count test (requests log)
     replies_owed [] last t run test =
@@ -283,7 +283,7 @@ module _ {H P : Type 0} (mac : H → List ℕ → List ℕ → List ℕ) (answer
       never_lite_before : NeverLite log → NeverLite (x ∷ before)
       never_lite_before never_lite = never_lite_to point.rest before x (subst (λ (l : List (Logged P)). NeverLite l) point.split never_lite)
 
-      -- each announced path is answered
+      -- each selected path is answered
       answered : NeverLite log → (path : Path) → Has x.entry.emitted.announced (Some path) → IsAnsweredBy mac first.provider x before path
       answered never_lite path has =
           let never = (never_lite_before never_lite).1 in
@@ -292,7 +292,7 @@ module _ {H P : Type 0} (mac : H → List ℕ → List ℕ → List ℕ) (answer
             | inr now ↦ inl (answers_at first.provider x before mid after held effect path now)
           ]
 
-      -- and asked for
+      -- and nominated by the peer
       asked_for : NeverLite log → IsControlledSince mac answers first s (x ∷ before) after point.behind (run_to mac answers first s log before mid x after point)
           → (path : Path) → Has x.entry.emitted.announced (Some path) → AskedFor (x ∷ before) path
       asked_for never_lite controlled path has =
@@ -316,7 +316,7 @@ module _ {H P : Type 0} (mac : H → List ℕ → List ℕ → List ℕ) (answer
           let k = effect.replied issued is success in
           subst (λ (i : Issued). IsNominatedOn after i.path) (sym k.2) (k.3 (asking mid x.call x.entry at by m brings uses k.0 k.1) controlled)
 
-  -- ---- the laws
+  -- ---- the theorems
 
   pub runs_sound : RunsAreSound {H = H} mac answers
   runs_sound first last s t log is_fresh run = (holds first s is_fresh log last t run).sound
@@ -344,7 +344,7 @@ module _ {H P : Type 0} (mac : H → List ℕ → List ℕ → List ℕ) (answer
       among_by_counts (replies log) (requests log)
       (λ test. (let k : count test (replies log) + owed test last.queue ≤ count test (requests log) = replies_owed first s is_fresh log last t run test in omega (arith, k)))
 
--- a run up to an entry is a run
+-- an execution up to an entry is an execution
 module _ {H P : Type 0} (mac : H → List ℕ → List ℕ → List ℕ) (answers : P → CandidateRecord → ℕ → ℕ → Type 0) where
   points : (first last : AgentRecord H P) (s t : Stream) (all done rest before : List (Logged P)) (x : Logged P) → all ≡ done ++ (rest ++ x ∷ before)
       → Run mac answers first s (rest ++ x ∷ before) last t → (mid after : AgentRecord H P) × Point mac answers first s all before mid x after

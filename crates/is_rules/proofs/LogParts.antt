@@ -1,4 +1,4 @@
--- Parts of a log: what they lead to, which packets were taken before them, and their turns.
+-- Segments of a log: their final states, the packets polled before them, and their polling cycles.
 use Rattle.std.proofs.Common.{◌≡◌, ℕ, true, false, List, [], ◌∷◌, ◌++◌, length, Option, Some, None, Result, Ok, Err, inl, inr, refl, ap, sym, ◌∙◌, subst, arith, append_assoc}
 use Rattle.rand_core.specs.Stream.{Stream}
 use Rattle.is_proto.specs.Packets.{Packet}
@@ -28,7 +28,7 @@ wake-is a b h = cc
 polled-is : (a b : Option Packet) → Polled a ≡ Polled b → a ≡ b
 polled-is a b h = cc
 
--- a moment that is done is one that was not refused
+-- a `handle_timeout` call that is done is one that did not fail
 none-refused : (r : Result (Unit {0}) IceError) → answer_by done r ≡ Done → r ≡ Ok tt
 none-refused (Ok u) is = refl
 none-refused (Err error) is = absurd (cc)
@@ -52,7 +52,7 @@ module _ {H P : Type 0} where
       (λ _ l. ap (λ (a : AgentRecord H P). a.packets) l.1))
 
   module _ (mac : H → List ℕ → List ℕ → List ℕ) (answers : P → CandidateRecord → ℕ → ℕ → Type 0) where
-    -- ---- parts of a log
+    -- ---- segments of a log
 
     pub run-on : (first start last : AgentRecord H P) (s u t : Stream) (before part : List (Logged P)) → Run mac answers first s before start u
         → RunsOn mac answers before start u part last t → Run mac answers first s (part ++ before) last t
@@ -84,7 +84,7 @@ module _ {H P : Type 0} where
     starts-controlling before start last u t [] run role = ap (λ (a : AgentRecord H P). a.controlling) (sym run.0) ∙ role
     starts-controlling before start last u t (x ∷ part) (mid, v, run, number, based, step) role = starts-controlling before start mid u v part run role.1
 
-    -- a part of two parts
+    -- a segment of two segments
     abbrev pub Halves : List (Logged P) → AgentRecord H P → Stream → List (Logged P) → List (Logged P) → AgentRecord H P → Stream → Type 0
     Halves before start u xs older last t =
         (mid : AgentRecord H P) × (v : Stream)
@@ -98,7 +98,7 @@ module _ {H P : Type 0} where
         let k = halves before start m u v xs older run role.1 in
         (k.0, k.1, k.2, k.3, (m, v, k.4, number ∙ ap length (append_assoc xs older before), based, step), (role.0, k.5))
 
-    -- ---- packets that were taken
+    -- ---- packets that were polled
 
     pub poll-keeps : (call : Call P) (e : Entry) (old new : AgentRecord H P) (s t : Stream) → is_poll call ≡ true → Step mac answers old s call e new t → old.packets ≡ [] → new.packets ≡ []
     poll-keeps PollTransmit e old new s t is (given, emitted, (polled, made), drawn) none = none-still given old.packets new.packets polled none
@@ -116,7 +116,7 @@ module _ {H P : Type 0} where
     all-taken first last s t (x ∷ before) (mid, u, run, number, based, step) (inr (poll, taken)) =
         poll-keeps x.call x.entry mid last u t poll step (all-taken first mid s u before run taken)
 
-    -- ---- turns
+    -- ---- polling cycles
 
     pub asked-for : (old new : AgentRecord H P) (s t : Stream) (e : Entry) (wake : ℕ) → e.answer ≡ Wake (Some wake) → Step mac answers old s PollTimeout e new t → PollsTimeout old (Some wake) new
     asked-for old new s t e wake woken (emitted, shown, polls, drawn) =

@@ -1,4 +1,5 @@
--- Rounds in a log: a pair whose checks are answered makes a path be announced within as many rounds as pairs are due no later.
+-- Rounds in a log: if the checks of a pair are answered, a path is selected within as many rounds as there are pairs
+-- that are due no later.
 use Rattle.std.proofs.Common.{◌≡◌, ℕ, ◌<◌, ◌≤◌, true, List, [], ◌∷◌, ◌++◌, length, Some, inl, inr, ◌⊎◌, refl, ap, sym, ◌∙◌, subst, arith, append_assoc}
 use Rattle.rand_core.specs.Stream.{Stream}
 use Rattle.is_proto.specs.Lists.{Has}
@@ -34,9 +35,9 @@ module _ {P : Type 0} where
 
 module _ {H P : Type 0} where
   module _ (mac : H → List ℕ → List ℕ → List ℕ) (answers : P → CandidateRecord → ℕ → ℕ → Type 0) where
-    -- ---- between two moments
+    -- ---- between two `handle_timeout` calls
 
-    -- calm, and this was the last moment
+    -- calm, and this was the last `handle_timeout` call
     abbrev Rests : ℕ → AgentRecord H P → Type 0
     Rests at a = Calm a × (a.last_moment ≡ Some at)
 
@@ -56,7 +57,7 @@ module _ {H P : Type 0} where
           inr (subst (λ (a : AgentRecord H P). Arrived mac by at behind early old a) (sym made) (refl, inl refl, spares-same by at old.timing old.next_number old.pairs))
       between-by _ e old new s t rests is stays step = no-case is
 
-    -- behind the rounds so far the pair waits
+    -- after the rounds so far the pair still waits
     abbrev WaitsBehind : AgentRecord H P → ℕ → ℕ → Path → List (LoggedRound P) → AgentRecord H P → Type 0
     WaitsBehind start by n path [] a = a ≡ start
     WaitsBehind start by n path (r ∷ older) a = Waits by n path r.now (length (r ∷ older)) a
@@ -121,7 +122,7 @@ module _ {H P : Type 0} where
         began-older : (r x : LoggedRound P) (older : List (LoggedRound P)) → began_at (r ∷ x ∷ older) ≡ Some at → began_at (x ∷ older) ≡ Some at
         began-older r x older began = began
 
-        -- what comes behind a moment
+        -- what follows a `handle_timeout` call
         behind-moment : (r : LoggedRound P) (older : List (LoggedRound P)) (old mid last : AgentRecord H P) (z v t : Stream) (over : List (Logged P)) → IsRound by path r
             → log ≡ over ++ (r.behind ++ ((r.moment ∷ entries_of older) ++ before)) → ((x : Logged P) → Has r.behind x → Has part x)
             → Stands by n path r.now (length older) old → Step mac answers old z (HandleTimeout r.now) r.moment.entry mid v

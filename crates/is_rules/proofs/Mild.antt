@@ -1,5 +1,5 @@
--- What nomination and requests make of a pair, and which changes of a list of pairs leave no more checks of others ahead of one, but for
--- one by each pair that is added.
+-- The effects of nomination and of requests on a pair. Which changes of a list of pairs leave no more checks of other
+-- pairs before one, except for one by each added pair.
 use Rattle.std.proofs.Common.{◌≡◌, ℕ, zero, suc, ◌+◌, ◌≤◌, ◌==◌, ◌&&◌, Bool, true, false, not, List, [], ◌∷◌, ◌++◌, map, Some, inl, inr, ◌⊎◌, refl, ap, sym, ◌∙◌, subst, arith, if◌then◌else◌}
 use Rattle.std.specs.Prelude.{slice_get, slice_set}
 use Rattle.is_proto.specs.Lists.{Has}
@@ -86,11 +86,12 @@ lead-mild by p q m =
 
 -- ---- lists of pairs
 
--- a pair of the number stands, due at this moment, with these checks
+-- a pair with the number exists, due at this time, with these checks
 abbrev pub Fixed : ℕ → ℕ → List Check → List PairRecord → Type 0
 Fixed n d cs ps = (q : PairRecord) × Has ps q × (q.number ≡ n) × (q.due ≡ Some d) × (q.checks ≡ cs)
 
--- no more checks go before the pair of the number than before, but for one by each pair that was added, and it is due as it was
+-- no more checks go before the pair with the number than before, except for one by each added pair, and it is due as
+-- it was
 pub record Onward (n by : ℕ) (xs : List PairRecord) (k : ℕ) (ys : List PairRecord) (m : ℕ) : Type 0 where
   pub less : leads n by ys + k ≤ leads n by xs + m
   pub fixed : (d : ℕ) (cs : List Check) → Fixed n d cs xs → Fixed n d cs ys

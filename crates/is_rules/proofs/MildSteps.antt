@@ -1,5 +1,5 @@
--- Whatever comes between two moments leaves no more checks of others ahead of a pair, but for one by each pair that is added, unless the
--- pair itself is answered.
+-- Whatever happens between two `handle_timeout` calls leaves no more checks of other pairs before a pair, except for
+-- one by each added pair, unless the pair itself is answered.
 use Rattle.std.proofs.Common.{◌≡◌, ℕ, ◌≤◌, ◌&&◌, ◌||◌, Bool, true, false, List, Option, Some, None, is_some, Ok, Err, inl, inr, ◌⊎◌, refl, ap, sym, ◌∙◌, subst}
 use Rattle.std.specs.Prelude.{MatchOption}
 use Rattle.std.proofs.lemmas.Bool.{eq-eqb, eqb-true}
@@ -38,7 +38,7 @@ use Rattle.is_rules.proofs.Leads.{lead, own-le, lead-answered}
 use Rattle.is_rules.proofs.Mild.{self-mild, served-mild, at-mild, Onward, onward-same, onward-on, onward-each, onward-adds, onward-set}
 use Rattle.is_rules.proofs.Nominations.{Announces, announces}
 
--- what stays of the agent, whichever role it takes
+-- what stays of the agent, in either role
 pub record Ground : Type 0 where
   pub lite : Bool
   pub remote_creds : Option IceCreds
@@ -95,7 +95,7 @@ module _ {H P : Type 0} where
               (λ _ k. goes-to old (switched old) new (switches old) k.1)
               (λ _ k. goes-same old new k.1)
 
-    -- ---- answers
+    -- ---- responses
 
     success : (now : ℕ) (old new : AgentRecord H P) (via path : Path) (m : Message) (emitted : Emitted) → ((q : PairRecord) → Has old.pairs q → q.number ≡ n → path_of old q ≡ path)
         → TakesSuccess now old via m emitted new → (goes_back via path ≡ true) ⊎ Goes old new
@@ -173,7 +173,7 @@ module _ {H P : Type 0} where
       by-class class.Indication now old mid via path m emitted known on h = absurd h
       by-class class.Unknown now old mid via path m emitted known on h = absurd h
 
-      -- raw bytes that came: the pair's path is answered, or no more go ahead
+      -- raw bytes that arrived: the pair's path is answered, or no more checks go before it
       pub receives-goes : (answers : P → CandidateRecord → ℕ → ℕ → Type 0) (now : ℕ) (old new : AgentRecord H P) (via path : Path) (bytes : List ℕ) (e : Entry) → is_some old.remote_creds ≡ true
           → ((q : PairRecord) → Has old.pairs q → q.number ≡ n → path_of old q ≡ path) → Receives mac answers now old via bytes e new
           → ((m : Message) × Reads bytes m × (e.answer ≡ Flag true) × (m.class ≡ class.Success) × (goes_back via path ≡ true)) ⊎ Goes old new

@@ -1,4 +1,5 @@
--- A moment that serves no queued request, and a success answer: what they make of pairs, and which paths they announce.
+-- A `handle_timeout` call that serves no early request, and a success response: their effects on pairs, and which
+-- paths they select.
 use Rattle.std.proofs.Common.{◌≡◌, ℕ, ◌||◌, Bool, true, List, Option, Some, None, inl, inr, ◌++◌, ◌&&◌, ◌∷◌, [], ◌<◌, length, refl, ◌⊎◌, ap, sym, ◌∙◌, subst}
 use Rattle.rand_core.specs.Stream.{Stream}
 use Rattle.is_proto.specs.Lists.{Has}
@@ -46,7 +47,7 @@ alone : (path : Option Path) → (announced_only path).announced ≡ announced_i
 alone None = refl
 alone (Some path) = refl
 
--- ---- the check that goes out
+-- ---- the check that is sent
 
 -- what a check is built from
 abbrev pub asks_with : {H : Type 0} → Frame H → IceCreds → List ℕ → CandidateRecord → Bool → Message
@@ -104,7 +105,7 @@ module _ (asks met : Path → Type 0) (sent : Path → List ℕ → Bool → Typ
         next None (is, made, drawn) = ap (λ (a : AgentRecord H P). a.selected_pair) made
         next (Some p) (id, drawn, values, is, made) = ap (λ (a : AgentRecord H P). a.selected_pair) made
 
-  -- each announced path was valid before
+  -- each selected path was valid before
   pub maintains_pairs : (mac : H → List ℕ → List ℕ → List ℕ) (now : ℕ) (old new : AgentRecord H P) (s t : Stream) (emitted : Emitted)
       → ((old.controlling || old.lite) ≡ true → (p : Path) → asks p)
       → ((path : Path) (id : List ℕ) → emitted.issued ≡ Some (issued_as path class.Request id) → sent path id old.controlling)
@@ -142,7 +143,7 @@ module _ (asks met : Path → Type 0) (sent : Path → List ℕ → Bool → Typ
   record_number : (now : ℕ) (old recorded : AgentRecord H P) (via : Path) (m : Message) → Records now old via m recorded → recorded.selected_pair ≡ old.selected_pair
   record_number now old recorded via m (i, p, after, found, on, takes, made) = ap (λ (a : AgentRecord H P). a.selected_pair) made
 
-  -- an announced path was valid before, or is answered now
+  -- a selected path was valid before, or is answered now
   pub succeeds : (now : ℕ) (old new : AgentRecord H P) (via : Path) (m : Message) (emitted : Emitted)
       → ((old.controlling || old.lite) ≡ true → (p : Path) → asks p)
       → ((p : PairRecord) (c : Check) → Has old.pairs p → keeps_check_on old via m.id p ≡ true → Has p.checks c → c.id ≡ m.id → met (path_of old p))

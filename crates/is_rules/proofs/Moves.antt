@@ -1,4 +1,4 @@
--- What nomination, pairs given up, checks and answers make of pairs.
+-- The effects of nomination, removal of pairs, checks and responses on pairs.
 use Rattle.std.proofs.Common.{◌≡◌, ℕ, ◌<◌, ◌&&◌, ◌||◌, Bool, true, false, not, List, [], ◌∷◌, map, length, Option, Some, None, zero, suc, get_or, ◌≤◌, inl, inr, ◌⊎◌, refl, ap, sym, ◌∙◌, subst, arith, if◌then◌else◌}
 use Rattle.std.specs.List.{list_any}
 use Rattle.std.proofs.lemmas.Bool.{eq-eqb}
@@ -75,7 +75,7 @@ self_nominated false true false p is h = refl
 self_nominated false false l p is h = let no : false ≡ true = h in cc
 
 module _ (asks met : Path → Type 0) (sent : Path → List ℕ → Bool → Type 0) where
-  -- what a change may make of one pair
+  -- the possible changes of one pair
   pub record Changed (path : Path) (was now : PairRecord) : Type 0 where
     pub number : now.number ≡ was.number
     pub local : now.local ≡ was.local
@@ -137,7 +137,7 @@ module _ (asks met : Path → Type 0) (sent : Path → List ℕ → Bool → Typ
     };
   }
 
-  -- the pair of a number changes
+  -- the pair with the number changes
   if_numbered : (b : Bool) (path : Path) (g : PairRecord → PairRecord) (p : PairRecord) → (b ≡ true → Changed path p (g p)) → Changed path p (if b then g p else p)
   if_numbered true path g p h = h refl
   if_numbered false path g p h = unchanged path p
@@ -182,7 +182,7 @@ module _ (asks met : Path → Type 0) (sent : Path → List ℕ → Bool → Typ
     abbrev pub parts_of : AgentRecord H P → Parts
     parts_of a = record { local = a.local; remote = a.remote; pairs = a.pairs; next_number = a.next_number }
 
-    -- nomination leaves all but nominations, and announces a valid path
+    -- nomination leaves everything except nominations, and selects a valid path
     announces_one : (old new : AgentRecord H P) (path : Option Path) → ((old.controlling || old.lite) ≡ true → (p : Path) → asks p) → Fit (parts_of old) → Announces old path new
         → Onward asks met sent (parts_of old) (parts_of new) × Evaluates asks met sent (parts_of old) (parts_of new) old.selected_pair new.selected_pair path
     announces_one old new path free fit (None, none, (is, same)) = (
@@ -243,7 +243,7 @@ module _ (asks met : Path → Type 0) (sent : Path → List ℕ → Bool → Typ
         → Onward asks met sent (parts_of old) (parts_of new) × Evaluates asks met sent (parts_of old) (parts_of new) old.selected_pair new.selected_pair path
     nominates old new path free fit h = announces_one old new path free fit (announces old new path h)
 
-    -- pairs that are given up go
+    -- pairs that are removed after timeout
     pub gives_up_moves : (now : ℕ) (old new : AgentRecord H P) (path : Option Path) → ((old.controlling || old.lite) ≡ true → (p : Path) → asks p) → Fit (parts_of old) → GivesUp now old path new
         → Onward asks met sent (parts_of old) (parts_of new) × Evaluates asks met sent (parts_of old) (parts_of new) old.selected_pair new.selected_pair path
     gives_up_moves now old new path free fit h = either (list_any (is_given_up now old) old.pairs) h

@@ -1,4 +1,4 @@
--- A moment checks the pair that is due first, and leaves the others due as they were.
+-- A `handle_timeout` call checks the pair that is due first, and leaves the others due as they were.
 use Rattle.std.proofs.Common.{◌≡◌, ℕ, ◌<◌, ◌≤◌, Bool, true, false, List, length, map, filter, nat_le, nat_lt, Option, Some, None, is_some, unwrap_or, inl, inr, ◌⊎◌, refl, ap, sym, ◌∙◌, subst, arith, if◌then◌else◌}
 use Rattle.std.specs.Prelude.{MatchBool}
 use Rattle.std.proofs.lemmas.Bool.{eqb-true}
@@ -35,7 +35,7 @@ use Rattle.is_rules.proofs.Thinning.{Distinct, Alike, Thinned, is_fixed_by, Base
 
 -- ---- pairs
 
--- of the same places
+-- with the same indices
 pub record Matches (p q : PairRecord) : Type 0 where
   pub number : q.number ≡ p.number
   pub local : q.local ≡ p.local
@@ -48,7 +48,7 @@ matches-on p q r a b = record { number = b.number ∙ a.number; local = b.local 
 alike-matches : (p q : PairRecord) → Alike p q → Matches p q
 alike-matches p q a = record { number = a.number; local = a.local; remote = a.remote; valid = a.valid }
 
--- all are asked
+-- all due times are fixed
 abbrev pub AllAsked : List PairRecord → Type 0
 AllAsked ps = (p : PairRecord) → Has ps p → is_some p.due ≡ true
 
@@ -156,13 +156,13 @@ module _ {H P : Type 0} where
         once p true = record { number = refl; local = refl; remote = refl; valid = sent-valid p.state }
         once p false = record { number = refl; local = refl; remote = refl; valid = refl }
 
-    -- a pair waits on, due as it was, and fewer than n go before it
+    -- a pair still waits, due as it was, and fewer than n go before it
     abbrev pub WaitsOn : ℕ → ℕ → ℕ → AgentRecord H P → AgentRecord H P → PairRecord → Type 0
     WaitsOn now by n old new p =
         (q : PairRecord) × Has new.pairs q × Matches p q × (q.checks ≡ p.checks) × ((at : ℕ) → due_moment at old.timing q ≤ by)
         × (IsPaced old.timing → now < MAX → length (due_by by now old.timing new.pairs) < n)
 
-    -- the pair that is due first is checked: this one, or one that goes before it
+    -- the pair that is due first is checked: this one, or one before it
     abbrev pub Checked : ℕ → ℕ → ℕ → AgentRecord H P → Option Issued → AgentRecord H P → PairRecord → Type 0
     Checked now by n old issued new p =
         (o : PairRecord) × Has old.pairs o × ((id : List ℕ) × (issued ≡ Some (issued_as (path_of old o) class.Request id)))
@@ -223,15 +223,15 @@ module _ {H P : Type 0} where
           → MayCheck mac now remote old s issued new t → Checked now by n old issued new p
       check-moves new s t issued remote known full h = let k = next-check now remote old new s t issued known full h in by-next new s t issued k.0 k.1 k.2 k.3
 
-    -- ---- the moment
+    -- ---- the `handle_timeout` call
 
-    -- it gives the pair up, or checks the pair that is due first
+    -- it removes the pair, or checks the pair that is due first
     pub record Moved (now by : ℕ) (old : AgentRecord H P) (emitted : Emitted) (new : AgentRecord H P) (p : PairRecord) : Type 0 where
       pub base : agent_base new ≡ record (agent_base old) { last_moment = Some now }
       pub follows : Follows old.pairs new.pairs
       pub does : IsGone p.number new.pairs ⊎ ((o : PairRecord) × Has old.pairs o × ChecksOn old emitted o × ((o ≡ p) ⊎ WaitsOn now by (length (filter (is_fixed_by by) old.pairs)) old new p))
 
-    -- what it leaves, whichever pair is looked at
+    -- what it leaves, for any pair
     pub moment-follows : (now : ℕ) (old new : AgentRecord H P) (s t : Stream) (emitted : Emitted) → is_some old.remote_creds ≡ true → old.lite ≡ false
         → MaintainsPairs mac now old s emitted new t → (agent_base new ≡ record (agent_base old) { last_moment = Some now }) × Follows old.pairs new.pairs
     moment-follows now old new s t emitted known full (first, second, issued, named, kept, nominating, giving, checking, is) =
@@ -303,7 +303,7 @@ module _ {H P : Type 0} where
                 ],
               )
 
-    -- a pair that was checked less often than it may be is not given up
+    -- a pair that was checked less often than the limit is not removed
     pub moment-keeps : (now : ℕ) (old new : AgentRecord H P) (s t : Stream) (emitted : Emitted) → is_some old.remote_creds ≡ true → old.lite ≡ false
         → (p : PairRecord) → Has old.pairs p → nat_lt (unanswered_count p.checks) old.timing.max_retransmits ≡ true
         → MaintainsPairs mac now old s emitted new t → IsGone p.number new.pairs → ⊥

@@ -1,4 +1,4 @@
--- Where user names split, and the first candidate that passes a test.
+-- Where a USERNAME splits, and the first candidate that passes a test.
 use Rattle.std.proofs.Common.{◌≡◌, ℕ, ◌+◌, ◌<◌, ◌==◌, ◌||◌, Bool, true, false, nat_lt, List, [], ◌∷◌, ◌++◌, length, position, Some, refl, subst, arith, inl, inr}
 use Rattle.std.specs.List.{list_any, position_or_len}
 use Rattle.std.proofs.lemmas.Bool.{lt-ltb}
@@ -14,7 +14,7 @@ neither false b h = (refl, h)
 is_colon : ℕ → Bool
 is_colon b = b == 58
 
--- the first place of a colon is the one behind a text without any
+-- the first index of a colon is the one after a text without any
 colon_at : (u v : List ℕ) → list_any (λ b. b == 58) u ≡ false → position_or_len (λ b. b == 58) (u ++ 58 ∷ v) ≡ length u
 colon_at [] v h = refl
 colon_at (x ∷ u) v h =

@@ -1,4 +1,4 @@
--- What nomination leaves, by the pair that it chooses.
+-- What nomination leaves, by the pair that it selects.
 use Rattle.std.proofs.Common.{◌≡◌, Bool, true, false, Option, Some, None, ap, ◌∙◌}
 use Rattle.std.specs.Prelude.{MatchBool}
 use Rattle.is_pair.specs.Pairs.{PairRecord}
@@ -13,12 +13,12 @@ both_ways true h f g = f h
 both_ways false h f g = g h
 
 module _ {H P : Type 0} where
-  -- the pair becomes the announced one
+  -- the pair becomes the selected one
   abbrev pub announced : PairRecord → AgentRecord H P → AgentRecord H P
   announced p a =
       nominated_emitted (Some (path_of a p)) (with_selection (selection (change_pair p.number (nominated_by_self a.controlling a.lite) a.pairs) (Some p.number)) a)
 
-  -- nothing where no pair is eligible, or the announced one has the greatest priority among the eligible
+  -- nothing if no pair is eligible, or if the selected one has the greatest priority among the eligible
   abbrev pub AnnouncesTop : Option PairRecord → AgentRecord H P → Option Path → AgentRecord H P → Type 0
   AnnouncesTop None old path new = (path ≡ None) × (new ≡ old)
   AnnouncesTop (Some top) old path new =

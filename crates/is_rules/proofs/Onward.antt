@@ -1,4 +1,4 @@
--- What becomes of pairs, change by change: a pair stood there, or is added.
+-- The effect of each change on pairs: a pair existed before, or is added.
 use Rattle.std.proofs.Common.{◌≡◌, ℕ, ◌+◌, ◌<◌, ◌≤◌, Bool, true, false, not, List, [], ◌∷◌, ◌++◌, filter, length, Some, None, inl, inr, ◌⊎◌, refl, ap, sym, ◌∙◌, subst, arith, if◌then◌else◌}
 use Rattle.std.specs.Prelude.{nat_lt}
 use Rattle.is_proto.specs.Lists.{Has}
@@ -61,7 +61,7 @@ rising-push (p ∷ ps) x rising below = (
 
 -- ---- parts of an agent
 
--- where pairs go, and the pairs
+-- the paths of pairs, and the pairs
 pub record Parts : Type 0 where
   pub local : List CandidateRecord
   pub remote : List CandidateRecord
@@ -90,7 +90,7 @@ IsValidIn x path = (p : PairRecord) × Has x.pairs p × (is_valid p ≡ true) ×
 abbrev pub IsNominatedIn : Parts → Path → Type 0
 IsNominatedIn x path = (p : PairRecord) × Has x.pairs p × (is_nominated p ≡ true) × (path_in x p ≡ path)
 
--- `asks`: the peer nominates a path; `met`: a path is answered; `sent`: a check goes out on a path
+-- `asks`: the peer nominates a path; `met`: a path is answered; `sent`: a check is sent on a path
 module _ (asks met : Path → Type 0) (sent : Path → List ℕ → Bool → Type 0) where
   abbrev pub WasKept : PairRecord → Path → Check → Type 0
   WasKept was path c = ((d : Check) × Has was.checks d × (d.id ≡ c.id) × (d.controlling ≡ c.controlling)) ⊎ sent path c.id c.controlling
@@ -118,7 +118,7 @@ module _ (asks met : Path → Type 0) (sent : Path → List ℕ → Bool → Typ
     pub pairs : (p : PairRecord) → Has y.pairs p → Stood x y p ⊎ Joined x y p
     pub fit : Fit y
 
-  -- ---- one change behind another
+  -- ---- one change after another
 
   pub valid_before : (x y : Parts) → Onward x y → (path : Path) → IsValidIn y path → IsValidIn x path ⊎ met path
   valid_before x y o path (p, has, is, same) = elim (o.pairs p has) [
@@ -206,7 +206,7 @@ module _ (asks met : Path → Type 0) (sent : Path → List ℕ → Bool → Typ
   pub here : (x : Parts) → Fit x → Onward x x
   here x fit = record { counter = omega arith; pairs = λ p has. inl (stays x x p has refl); fit = fit }
 
-  -- some pairs go
+  -- some pairs are removed
   pub thinned : (x : Parts) (keep : PairRecord → Bool) → Fit x → Onward x (record x { pairs = filter keep x.pairs })
   thinned x keep fit = record {
     counter = omega arith;
@@ -219,7 +219,7 @@ module _ (asks met : Path → Type 0) (sent : Path → List ℕ → Bool → Typ
     };
   }
 
-  -- a pair is added behind some of the pairs, with no check
+  -- a pair is added after some of the pairs, without checks
   pub pushed : (x : Parts) (ps : List PairRecord) (p : PairRecord) → Fit x → ((q : PairRecord) → Has ps q → Has x.pairs q) → AreRising ps
       → p.number ≡ x.next_number → IsPlaced x.local x.remote p → p.checks ≡ []
       → (is_valid p ≡ true → IsValidIn x (path_in x p) ⊎ met (path_in x p))

@@ -1,4 +1,4 @@
--- For each call: what becomes of pairs, and which paths are announced.
+-- For each call: its effect on pairs, and which paths are selected.
 use Rattle.std.proofs.Common.{if◌then◌else◌, [], ◌∷◌, ◌++◌, ◌≡◌, ℕ, ◌==◌, ◌&&◌, ◌||◌, Bool, true, false, not, List, Option, Some, None, is_some, Result, Ok, Err, inl, inr, ◌⊎◌, refl, ap, sym, ◌∙◌, subst}
 use Rattle.std.specs.Prelude.{MatchBool, MatchOption, IsSomeAnd}
 use Rattle.rand_core.specs.Stream.{Stream}
@@ -86,7 +86,7 @@ module _ {H P : Type 0} (mac : H → List ℕ → List ℕ → List ℕ) (answer
   Telling call =
       Tells (Asks call) (Met call) Sent (parts_of (Asks call) (Met call) Sent old) (parts_of (Asks call) (Met call) Sent new) old.selected_pair new.selected_pair e.emitted.announced
 
-  -- what goes out: nothing, a check, or an answer to the request that is served
+  -- what is sent: nothing, a check, or a response to the request that is served
   abbrev pub Posted : Call P → Type 0
   Posted call =
       (e.emitted.issued ≡ None)
@@ -128,7 +128,7 @@ module _ {H P : Type 0} (mac : H → List ℕ → List ℕ → List ℕ) (answer
     insists_of a tie role q is =
         sym (ap (λ n. conflict_by n (if a.controlling then q.ice_controlling else q.ice_controlled)) tie ∙ ap (λ c. conflict_by old.tie_breaker (if c then q.ice_controlling else q.ice_controlled)) role) ∙ is
 
-    -- a request that is served, with its way back
+    -- a request that is served, with its reverse path
     grants : (q : RequestRecord) (a : AgentRecord H P) → a.lite ≡ old.lite → a.controlling ≡ old.controlling → IsServing old call e q
         → Granted (Asks call) (Met call) Sent mac q a
     grants q a lite role serving = record {
@@ -201,7 +201,7 @@ module _ {H P : Type 0} (mac : H → List ℕ → List ℕ → List ℕ) (answer
               ]),
         )
 
-  -- ---- moments
+  -- ---- `handle_timeout` calls
 
   moment_by : (now : ℕ) (sound : IsSound old) (fit : Fit (parts_of (Asks (HandleTimeout now)) (Met (HandleTimeout now)) Sent old)) (emitted : Emitted) (o : Option RequestRecord)
       → request_at now old ≡ o → e ≡ record { answer = Done; emitted = emitted }

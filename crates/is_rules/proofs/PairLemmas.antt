@@ -1,8 +1,8 @@
--- Pairs that are looked for.
+-- Finding pairs.
 use Rattle.std.proofs.Common.{if◌then◌else◌, ◌≡◌, Bool, true, false, List, [], ◌∷◌, Some, None, find, filter, inl, inr, refl}
 use Rattle.is_proto.specs.Lists.{Has, NonePass}
 
--- what is found is there and passes
+-- a pair that is found is in the list and passes
 pub find-Some : {X : Type 0} (test : X → Bool) (xs : List X) (x : X) → find test xs ≡ Some x → Has xs x × (test x ≡ true)
 find-Some test [] x h = absurd (cc)
 find-Some test (y ∷ ys) x h =
@@ -11,7 +11,7 @@ find-Some test (y ∷ ys) x h =
       | false ↦ λ is found. let rest = find-Some test ys x found in (inr rest.0, rest.1)
     ] refl h
 
--- where none is found none passes
+-- if none is found none passes
 pub find-None : {X : Type 0} (test : X → Bool) (xs : List X) → find test xs ≡ None → NonePass test xs
 find-None test [] h = refl
 find-None test (y ∷ ys) h =

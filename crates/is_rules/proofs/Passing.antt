@@ -1,5 +1,5 @@
--- A moment of a controlling agent that has no valid pair, whether or not it was asked for its wake-up: the pair that is due first is
--- checked, and one that waits is due as it was.
+-- A `handle_timeout` call of a controlling agent without a valid pair, with or without `poll_timeout` before it: the
+-- pair that is due first is checked, and a waiting pair is due as it was.
 use Rattle.std.proofs.Common.{◌≡◌, ℕ, ◌+◌, ◌<◌, ◌≤◌, ◌&&◌, ◌||◌, Bool, true, false, not, suc, List, [], length, map, filter, min, nat_le, nat_lt, Option, Some, None, is_some, Ok, inl, inr, ◌⊎◌, refl, ap, sym, ◌∙◌, subst, arith, if◌then◌else◌}
 use Rattle.std.specs.List.{list_any}
 use Rattle.std.proofs.lemmas.Bool.Decides.{nat_tests}
@@ -125,9 +125,10 @@ module _ {H P : Type 0} where
             subst (λ (x : PairRecord). due_moment now old.timing x ≤ by) o.2
             (once q.number id o.0 o.1 m above (is_numbered q.number o.0) (subst (λ (x : PairRecord). due_moment m old.timing x ≤ by) (sym o.2) le))
 
-    -- ---- the moment
+    -- ---- the `handle_timeout` call
 
-    -- what it leaves of the pairs: due as asked at it, and the pair that waits is due whenever it is asked
+    -- what it leaves of the pairs: due as computed at it, and the waiting pair is due whenever its due time is
+    -- computed
     abbrev ChecksFirst : ℕ → ℕ → AgentRecord H P → Emitted → AgentRecord H P → PairRecord → Type 0
     ChecksFirst now by old emitted new p =
         (o : PairRecord) × Has old.pairs o × ChecksOn old emitted o
@@ -210,7 +211,7 @@ module _ {H P : Type 0} where
     pub invalid : NoneValid a.pairs
     pub role : a.controlling ≡ true
 
-  -- a pair of the path is due by a moment, asked now, and k rounds of n are over
+  -- a pair of the path is due by a time, computed now, and k rounds of n are over
   pub record Stands (by n : ℕ) (path : Path) (now k : ℕ) (a : AgentRecord H P) : Type 0 where
     pub calm : Calm a
     pub paced : IsPaced a.timing
@@ -222,7 +223,7 @@ module _ {H P : Type 0} where
     pub on : path_of a pair ≡ path
     pub count : length (due_by by now a.timing a.pairs) + k ≤ n
 
-  -- so behind a moment, whenever it is asked
+  -- the same after a `handle_timeout` call, whenever the due time is computed
   pub record Waits (by n : ℕ) (path : Path) (at k : ℕ) (a : AgentRecord H P) : Type 0 where
     pub calm : Calm a
     pub last : a.last_moment ≡ Some at
@@ -322,7 +323,7 @@ module _ {H P : Type 0} where
           remote = ap (λ (x : Base). x.remote) taken ∙ ap (λ (x : Base). x.remote) m.0;
         }
 
-    -- a check goes out on the path, or the pair waits, with one fewer ahead
+    -- a check is sent on the path, or the pair still waits, with one fewer before it
     pub pass-on : (by n : ℕ) (path : Path) (now k : ℕ) (emitted : Emitted) (old new : AgentRecord H P) → Stands by n path now k old → by < now → now < MAX → Passes mac old now emitted new
         → ((id : List ℕ) × (emitted.issued ≡ Some (issued_as path class.Request id))) ⊎ Waits by n path now (suc k) new
     pass-on by n path now k emitted old new st late early pass =

@@ -1,4 +1,4 @@
--- The best of the places so far and of one more.
+-- The best index so far and one more index.
 use Rattle.std.proofs.Common.{◌≡◌, ℕ, ◌+◌, ◌<◌, ◌≤◌, Bool, true, false, List, Option, Some, None, arith, below_more}
 use Rattle.is_candidate.specs.Candidates.{CandidateRecord, candidate_at}
 use Rattle.is_candidate.specs.Priorities.{candidate_priority}
@@ -7,7 +7,7 @@ use Rattle.is_rules.specs.Places.{IsGreatestBelow}
 true-is-false : {A : Type 0} (b : Bool) → b ≡ true → b ≡ false → A
 true-is-false b passes fails = absurd (cc)
 
--- the next place does not pass
+-- the next index does not pass
 pub passed_over : (n : ℕ) (test : CandidateRecord → Bool) (cs : List CandidateRecord) (best : Option ℕ)
     → IsGreatestBelow n test cs best → test (candidate_at cs n) ≡ false → IsGreatestBelow (n + 1) test cs best
 passed_over n test cs None h fails = below_more (λ k. test (candidate_at cs k) ≡ false) n h fails
@@ -18,7 +18,7 @@ passed_over n test cs (Some top) h fails = (
       (λ passes. true-is-false (test (candidate_at cs n)) passes fails),
 )
 
--- the next place passes, and is no worse than the best so far
+-- the next index passes, and is no worse than the best so far
 pub overtaken : (n top : ℕ) (test : CandidateRecord → Bool) (cs : List CandidateRecord)
     → IsGreatestBelow n test cs (Some top) → test (candidate_at cs n) ≡ true
     → candidate_priority (candidate_at cs top) < candidate_priority (candidate_at cs n) → IsGreatestBelow (n + 1) test cs (Some n)
@@ -31,7 +31,7 @@ overtaken n top test cs h passes above =
           (λ its. let same : priority n ≤ priority n = omega arith in same),
     )
 
--- the next place passes, and is no better than the best so far
+-- the next index passes, and is no better than the best so far
 pub kept : (n top : ℕ) (test : CandidateRecord → Bool) (cs : List CandidateRecord)
     → IsGreatestBelow n test cs (Some top)
     → candidate_priority (candidate_at cs n) ≤ candidate_priority (candidate_at cs top) → IsGreatestBelow (n + 1) test cs (Some top)

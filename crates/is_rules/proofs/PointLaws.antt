@@ -1,4 +1,5 @@
--- Where nomination is evaluated at the end of a step the announced pair is a greatest one, and the pair that takes an answer is valid.
+-- If nomination is evaluated at the end of a step, the selected pair is a greatest one, and the pair that takes a
+-- response is valid.
 use Rattle.std.proofs.Common.{◌≡◌, ℕ, zero, suc, ◌<◌, ◌≤◌, ◌==◌, ◌&&◌, ◌||◌, Bool, true, false, not, List, [], ◌∷◌, map, filter, Option, Some, None, Result, Ok, Err, inl, inr, refl, ap, sym, ◌∙◌, subst, arith, cond, if◌then◌else◌}
 use Rattle.std.specs.Prelude.{find, slice_get, slice_set, MatchOption, IfSome}
 use Rattle.std.specs.List.{list_any}
@@ -64,7 +65,7 @@ any_set test (x ∷ xs) zero c d is same =
     let here : x ≡ c = some_is x c is in ap (λ b. b || list_any test xs) (same ∙ ap test (sym here))
 any_set test (x ∷ xs) (suc i) c d is same = ap (λ b. test x || b) (any_set test xs i c d is same)
 
--- ---- a change of each pair that leaves what eligibility and order see
+-- ---- a change of each pair that leaves eligibility and order
 
 pub record Alike (c : Bool) (p q : PairRecord) : Type 0 where
   pub number : q.number ≡ p.number
@@ -196,7 +197,7 @@ module _ {H P : Type 0} where
       let b = gives_up_top now named kept second named_fit giving a in
       checks_top mac now kept.remote_creds kept new s t issued checking b
 
-  -- the pair stands through nomination
+  -- the pair stays through nomination
   pub record Still (p : PairRecord) (a b : AgentRecord H P) : Type 0 where
     pub now : PairRecord
     pub there : Has b.pairs now
@@ -225,7 +226,7 @@ module _ {H P : Type 0} where
   nominates_still : (old new : AgentRecord H P) (path : Option Path) (p : PairRecord) → Has old.pairs p → Nominates old path new → Still p old new
   nominates_still old new path p has h = announces_still old new path p has (announces old new path h)
 
-  -- the pair that takes the answer is valid, and keeps the check on its path
+  -- the pair that takes the response is valid, and stores the check on its path
   taken_by : (now : ℕ) (old new : AgentRecord H P) (via : Path) (m : Message) (emitted : Emitted) → IsSound old → FitOf old → TakesSuccess now old via m emitted new
       → (p : PairRecord) × Has new.pairs p × (keeps_check_on new via m.id p ≡ true) × (is_valid p ≡ true)
   taken_by now old new via m emitted sound fit (recorded, (i, p, after, found, on, (place, c, at, is), made), (path, mid, nominating, is_emitted, done)) =
@@ -264,7 +265,7 @@ module _ {H P : Type 0} where
     fit : FitOf old
     fit = record { placed = sound.placed; rising = rising-each old.pairs sound.rising; below = below-each old.next_number old.pairs sound.below; started = λ p has c keeps. sound.started p c has keeps }
 
-    -- the success that a packet brought
+    -- the success response of a packet
     abbrev Succeeds : ℕ → Path → Message → Type 0
     Succeeds now via m = IsTopAnnounced new × ((p : PairRecord) × Has new.pairs p × (keeps_check_on new via m.id p ≡ true) × (is_valid p ≡ true))
 

@@ -1,4 +1,5 @@
--- Rounds in a log: a pair that is due is checked in one of them, or answered, before more checks of others go out than may.
+-- Rounds in a log: a pair that is due is checked in one of them, or answered, before more checks of other pairs are
+-- sent than the bound allows.
 use Rattle.std.proofs.Common.{◌≡◌, ℕ, suc, ◌+◌, ◌*◌, ◌<◌, ◌≤◌, true, false, not, List, [], ◌∷◌, ◌++◌, length, map, nat_lt, Option, Some, None, is_some, unwrap_or, inl, inr, ◌⊎◌, refl, ap, sym, ◌∙◌, subst, arith, append_assoc}
 use Rattle.std.specs.Prelude.{IsSomeAnd}
 use Rattle.std.proofs.lemmas.Bool.Decides.{nat_tests}
@@ -54,7 +55,7 @@ module _ {P : Type 0} where
   falls-early : (by : ℕ) (r : LoggedRound P) → IsPassing by r → r.now < MAX
   falls-early by r passing = let early = passing.early in omega (arith, early)
 
--- ---- answers on a path
+-- ---- responses on a path
 
 module _ {P : Type 0} (path : Path) where
   answered-later : (x : Logged P) (xs : List (Logged P)) → IsAnsweredIn xs path → IsAnsweredIn (x ∷ xs) path
@@ -75,7 +76,7 @@ module _ {P : Type 0} (path : Path) where
   in-entries (x ∷ older) r (inr has) answered = has-behind x.behind (x.moment ∷ entries_of older) (answered-later x.moment (entries_of older) (in-entries older r has answered))
 
 module _ {H P : Type 0} where
-  -- being asked for the wake-up, behind the moment by which the pair is due
+  -- `poll_timeout`, called after the time by which the pair is due
   asks-goes : (n by at : ℕ) → by < at → at < MAX → (old new : AgentRecord H P) (wake : Option ℕ) → old.last_moment ≡ Some at → PollsTimeout old wake new → Goes n by old new
   asks-goes n by at behind early old new wake last h = some wake (subst (λ o. WakesFrom o old wake new) last h) where
     fixed : new ≡ record old { pairs = map (asked at old.timing) old.pairs } → Goes n by old new
@@ -98,7 +99,7 @@ module _ {H P : Type 0} where
 
   -- ---- a pair that waits for its check
 
-  -- before a moment
+  -- before a `handle_timeout` call
   record Stands (by n : ℕ) (path : Path) (total base now k : ℕ) (a : AgentRecord H P) : Type 0 where
     checking : IsChecking a
     queue : a.queue ≡ []
@@ -112,7 +113,7 @@ module _ {H P : Type 0} where
     ready : Ready now by late early a.timing pair
     count : leads n by a.pairs + k + base ≤ total + a.next_number
 
-  -- behind it
+  -- after it
   record Waits (by n : ℕ) (path : Path) (total base at k : ℕ) (a : AgentRecord H P) : Type 0 where
     checking : IsChecking a
     queue : a.queue ≡ []
@@ -143,7 +144,7 @@ module _ {H P : Type 0} where
   }
 
   module _ (mac : H → List ℕ → List ℕ → List ℕ) (answers : P → CandidateRecord → ℕ → ℕ → Type 0) (by n : ℕ) (path : Path) (total base : ℕ) where
-    -- ---- between two moments
+    -- ---- between two `handle_timeout` calls
 
     waits-on : (at k : ℕ) (old new : AgentRecord H P) (w : Waits by n path total base at k old) → IsSound new → Goes n by old new → Stays old w.pair new → Waits by n path total base at k new
     waits-on at k old new w sound (ground, goes) stays =
@@ -215,7 +216,7 @@ module _ {H P : Type 0} where
                 ])
           ]
 
-    -- ---- a moment
+    -- ---- a `handle_timeout` call
 
     moment-on : (now k : ℕ) (e : Entry) (old new : AgentRecord H P) (s t : Stream) → e.answer ≡ Done → Step mac answers old s (HandleTimeout now) e new t → IsSound old → IsSound new
         → Stands by n path total base now k old

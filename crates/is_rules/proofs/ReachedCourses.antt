@@ -1,4 +1,4 @@
--- A pair that waits in a course is checked, or answered, as soon as one that waits in a log.
+-- A pair that waits in a per-agent execution is checked, or answered, as soon as one that waits in a log.
 use Rattle.std.proofs.Common.{ℕ, List, [], ◌∷◌, ◌++◌, length, inl, inr, ◌⊎◌, refl, ap, sym, ◌∙◌, subst, arith, append_assoc}
 use Rattle.rand_core.specs.Stream.{Stream}
 use Rattle.is_proto.specs.Lists.{Has}
@@ -18,7 +18,7 @@ use Rattle.is_rules.proofs.Coursing.{entry_of, part_of, pushed, part_is, round_o
 use Rattle.is_rules.proofs.ReachLaws.{pairs-are-reached}
 
 module _ {P : Type 0} where
-  -- ---- rounds of a course, as those of a log
+  -- ---- rounds of a per-agent execution, as those of a log
 
   is_passing : (by : ℕ) (before : List (Logged P)) (r : CourseRound P) → IsPassed by r → IsPassing by (round_of before r)
   is_passing by before r round = record {
@@ -46,7 +46,7 @@ module _ {P : Type 0} where
   answered_later : (x : CourseRound P) (rounds : List (CourseRound P)) (path : Path) → IsAnsweredAmong rounds path → IsAnsweredAmong (x ∷ rounds) path
   answered_later x rounds path (r, has, is) = (r, inr has, is)
 
-  -- what is checked in the rounds of the log is checked in those of the course
+  -- what is checked in the rounds of the log is checked in those of the per-agent execution
   checks_among : (before : List (Logged P)) (older : List (LoggedRound P)) (rounds : List (CourseRound P)) (path : Path) → ChecksIn (rounds_of before older rounds) path
       → ChecksAmong rounds path ⊎ ChecksIn older path
   checks_among before older [] path checks = inr checks
@@ -57,7 +57,7 @@ module _ {P : Type 0} where
         | inr (x, id, inr has, out) ↦ inr (x, id, has, out)
       ]
 
-  -- and so what is answered
+  -- and likewise what is answered
   answered_among : (before : List (Logged P)) (older : List (LoggedRound P)) (rounds : List (CourseRound P)) (path : Path) → IsAnsweredIn (entries_of (rounds_of before older rounds)) path
       → IsAnsweredAmong rounds path ⊎ IsAnsweredIn (entries_of older) path
   answered_among before older [] path answered = inr answered
@@ -73,7 +73,7 @@ module _ {P : Type 0} where
       ]
 
 module _ {H P : Type 0} (mac : H → List ℕ → List ℕ → List ℕ) (answers : P → CandidateRecord → ℕ → ℕ → Type 0) where
-  -- ---- parts of a run, from the end backwards
+  -- ---- segments of an execution, from the end backwards
 
   abbrev Runs : List (Logged P) → AgentRecord H P → List (Logged P) → AgentRecord H P → Type 0
   Runs before start part last = (t : Stream) → (s : Stream) × RunsOn mac answers before start s part last t

@@ -1,4 +1,5 @@
--- A moment checks a pair that is due, or another one before it, and then one check less goes before it.
+-- A `handle_timeout` call checks a pair that is due, or another one before it, and then one check fewer goes before
+-- it.
 use Rattle.std.proofs.Common.{◌≡◌, ℕ, ◌+◌, ◌<◌, ◌≤◌, ◌==◌, ◌&&◌, ◌||◌, Bool, true, false, not, List, length, map, nat_le, nat_lt, Option, Some, None, is_some, unwrap_or, inl, inr, ◌⊎◌, refl, ap, sym, ◌∙◌, subst, arith, if◌then◌else◌}
 use Rattle.std.specs.List.{list_any}
 use Rattle.std.proofs.lemmas.Bool.{eq-eqb, eqb-true}
@@ -56,7 +57,7 @@ joins p q r a b = record {
 }
 
 module _ (now by : ℕ) (late : by < now) (early : now < MAX) where
-  -- due by then, and not to be nominated before it is asked
+  -- due by then, and not valid unless its due time is fixed
   abbrev pub Ready : StunTiming → PairRecord → Type 0
   Ready t p = (due_moment now t p ≤ by) × ((is_valid p ≡ false) ⊎ (is_some p.due ≡ true))
 
@@ -103,7 +104,7 @@ module _ (now by : ℕ) (late : by < now) (early : now < MAX) where
       at false is = absurd (cc)
 
   module _ {H P : Type 0} where
-    -- ---- nomination, and pairs given up
+    -- ---- nomination, and removed pairs
 
     named-ready : (t : StunTiming) (old new : AgentRecord H P) (path : Option Path) → Nominates old path new → Distinct old.pairs → (p : PairRecord) → Has old.pairs p → Ready t p
         → (q : PairRecord) × Has new.pairs q × Alike p q × Ready t q
@@ -151,7 +152,7 @@ module _ (now by : ℕ) (late : by < now) (early : now < MAX) where
 
     -- ---- the check
 
-    -- it stands fixed, and one check less goes before it
+    -- its due time is fixed, and one check fewer goes before it
     abbrev pub WaitsOn : AgentRecord H P → AgentRecord H P → PairRecord → Type 0
     WaitsOn old new p = (d : ℕ) × (d ≤ by) × Fixed p.number d p.checks new.pairs × (leads p.number by new.pairs + 1 ≤ leads p.number by old.pairs)
 
@@ -218,7 +219,7 @@ module _ (now by : ℕ) (late : by < now) (early : now < MAX) where
                 whose peer q id (ap (λ (a : AgentRecord H P). a.pairs) made) is there (Has-map (asked now old.timing) old.pairs q there)
                 (first-due (due_moment now old.timing q) (due_moment now old.timing p) p q before due) (p.number == q.number) refl
 
-      -- ---- the moment
+      -- ---- the `handle_timeout` call
 
       pub moment-goes : (old new : AgentRecord H P) (s u : Stream) (emitted : Emitted) → is_some old.remote_creds ≡ true → old.lite ≡ false
           → Distinct old.pairs → 0 < old.timing.max_retransmits → (p : PairRecord) → Has old.pairs p

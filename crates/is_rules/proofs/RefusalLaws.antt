@@ -1,4 +1,4 @@
--- A refused call keeps the record and the stream, and a fresh agent is sound.
+-- A call that fails keeps the abstract state and the stream, and a newly created agent is sound.
 use Rattle.std.proofs.Common.{◌≡◌, ℕ, ◌==◌, Bool, true, false, List, Option, Some, None, Result, Ok, Err, inl, inr, refl, ap, sym, ◌∙◌, arith}
 use Rattle.std.specs.Prelude.{MatchBool, nat_lt, position, length}
 use Rattle.rand_core.specs.Stream.{Stream}
@@ -26,7 +26,7 @@ use Rattle.is_rules.proofs.Frames.{either}
 never : {A : Type 0} → false ≡ true → A
 never h = cc
 
--- an answer that is no refusal
+-- a result that is no error
 no_refusal : {A : Type 0} (e : Entry) (a : Answer) → e.answer ≡ a → is_refusal a ≡ false → is_refusal e.answer ≡ true → A
 no_refusal e a is isnt h = never (sym isnt ∙ ap is_refusal (sym is) ∙ h)
 

@@ -1,4 +1,4 @@
--- What a reply carries of an address.
+-- What a response contains of an address.
 use Rattle.std.proofs.Common.{◌≡◌, ℕ, List, refl}
 use Rattle.std.specs.declared.net.socket_addr.SocketAddr.{SocketAddr}
 use Rattle.std.specs.declared.net.socket_addr.SocketAddr.TheVariants.{V4, V6}

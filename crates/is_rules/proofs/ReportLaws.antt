@@ -73,7 +73,7 @@ module _ {H P : Type 0} where
   same_events : (old new : AgentRecord H P) → new.events ≡ old.events → Grows old new
   same_events old new is = kept old.events new.events is
 
-  -- the record is this one
+  -- the abstract state is this one
   grown : (old wanted new : AgentRecord H P) → new ≡ wanted → Grows old wanted → Grows old new
   grown old wanted new made h = subst (λ (a : AgentRecord H P). Grows old a) (sym made) h
 
@@ -144,7 +144,7 @@ module _ {H P : Type 0} where
     requested_grows None s new emitted (is, made) = same_events s new (ap (λ (a : AgentRecord H P). a.events) made)
     requested_grows (Some peer) s new emitted h = serves_grows s new emitted h
 
-  -- ---- answers
+  -- ---- responses
 
   success_grows : (now : ℕ) (old new : AgentRecord H P) (via : Path) (m : Message) (emitted : Emitted) → TakesSuccess now old via m emitted new → Grows old new
   success_grows now old new via m emitted (recorded, (place, p, after, at, keeps, takes, made), (path, mid, nominates, is, last)) =
@@ -167,7 +167,7 @@ module _ {H P : Type 0} where
   taken_grows mac class.Indication now old new via m emitted h = absurd h
   taken_grows mac class.Unknown now old new via m emitted h = absurd h
 
-  -- ---- moments
+  -- ---- `handle_timeout` calls
 
   timeout_begun_grows : (now : ℕ) (a : AgentRecord H P) → Grows a (timeout_begun now a)
   timeout_begun_grows now a =

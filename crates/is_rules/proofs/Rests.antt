@@ -1,4 +1,4 @@
--- What no step but a setter moves: limits, and that host and relayed local candidates are their own base.
+-- What no step except a setter changes: limits, and that host and relayed local candidates are their own base.
 use Rattle.std.proofs.Common.{◌≡◌, ℕ, zero, suc, ◌&&◌, Bool, true, false, List, [], ◌∷◌, length, Option, Some, None, inl, inr, refl, ap, ◌∙◌}
 use Rattle.std.specs.Prelude.{MatchOption}
 use Rattle.std.specs.List.{list_any}

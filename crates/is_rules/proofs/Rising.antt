@@ -1,4 +1,4 @@
--- Numbers that rise along the list of pairs, and numbers below a bound, said of each pair.
+-- Numbers that rise along the list of pairs, and numbers below a bound, as statements about each pair.
 use Rattle.std.proofs.Common.{◌≡◌, ℕ, ◌<◌, Bool, true, List, [], ◌∷◌, nat_lt, inl, inr, refl, sym, ap, arith, ◌∙◌}
 use Rattle.std.proofs.lemmas.Bool.Decides.{nat_tests}
 use Rattle.std.specs.List.{list_all}

@@ -1,4 +1,4 @@
--- What the agent at the other end may rely on, from the two laws of effects alone.
+-- The guarantees for the agent at the other end, from the two theorems about effects only.
 use Rattle.std.proofs.Common.{◌≡◌, ℕ, suc, Bool, true, false, not, nat_lt, nat_le, List, [], ◌∷◌, ◌++◌, map, Option, Some, None, is_some, option_map, inl, inr, ◌⊎◌, refl, ap, sym, ◌∙◌, subst, arith, if◌then◌else◌}
 use Rattle.std.specs.Option.{option_map_or}
 use Rattle.std.proofs.lemmas.Bool.Decides.{leb_tells}
@@ -62,7 +62,7 @@ in_paths (Some p ∷ ps) path (inl e) = inl (ap Some e)
 in_paths (Some p ∷ ps) path (inr h) = inr (in_paths ps path h)
 in_paths (None ∷ ps) path h = inr (in_paths ps path h)
 
--- ---- what came
+-- ---- what arrived
 
 when_is : {X : Type 0} (a : Answer) (x : Option X) (y : X) → when_accepted a x ≡ Some y → (a ≡ Flag true) × (x ≡ Some y)
 when_is (Flag true) x y h = (refl, h)

@@ -1,4 +1,5 @@
--- Round after round: a pair whose checks are answered makes an answer be accepted within as many rounds as pairs are due no later.
+-- Round after round: if the checks of a pair are answered, a response is accepted within as many rounds as there are
+-- pairs that are due no later.
 use Rattle.std.proofs.Common.{◌≡◌, ℕ, ◌+◌, ◌<◌, ◌≤◌, true, suc, List, [], ◌∷◌, ◌++◌, length, map, nat_lt, Option, Some, None, is_some, inl, inr, ◌⊎◌, refl, ap, sym, ◌∙◌, subst, arith}
 use Rattle.std.specs.Prelude.{IsSomeAnd}
 use Rattle.std.proofs.lemmas.List.{get_or_append_left, length-append}
@@ -28,7 +29,7 @@ use Rattle.is_rules.proofs.Passing.{Calm, Stands, Waits, polled-sound, asked-sou
 use Rattle.is_rules.proofs.Arriving.{Core, Grown, DueAlike, Held, Arrived, arrived-same, receives, spares-map}
 use Rattle.is_rules.proofs.Announcing.{eligible}
 
--- what stands in the list stays where it is
+-- an element of the list stays at its index
 grown-at : (old new : List CandidateRecord) (r : ℕ) → Grown old new → r < length old → (candidate_at new r ≡ candidate_at old r) × (r < length new)
 grown-at old new r (inl e) lt = (ap (λ cs. candidate_at cs r) e, subst (λ cs. r < length cs) (sym e) lt)
 grown-at old new r (inr (c, e)) lt = (
@@ -50,7 +51,7 @@ module _ {H P : Type 0} where
       ∙ (ap (λ l. via-to a.local l (candidate_at b.remote q.remote)) place ∙ ap (λ c. via-to a.local p.local c) remote)
 
   module _ (mac : H → List ℕ → List ℕ → List ℕ) (answers : P → CandidateRecord → ℕ → ℕ → Type 0) where
-    -- ---- what does not touch a pair
+    -- ---- what does not change a pair
 
     module _ (by at : ℕ) (behind : by < at) (early : at < MAX) where
       pub calm-on : (old new : AgentRecord H P) → Calm old → IsSound new → Arrived mac by at behind early old new → Calm new
@@ -91,7 +92,7 @@ module _ {H P : Type 0} where
               | inr e ↦ subst (λ d. d ≤ by) (sym e) (w.due at behind)
             ]
 
-      -- being asked for the wake-up
+      -- `poll_timeout`
       pub asks : (old new : AgentRecord H P) (wake : Option ℕ) → old.last_moment ≡ Some at → PollsTimeout old wake new → Arrived mac by at behind early old new
       asks old new wake last h = some wake (subst (λ o. WakesFrom o old wake new) last h) where
         fixed : new ≡ record old { pairs = map (asked at old.timing) old.pairs } → Arrived mac by at behind early old new
@@ -134,7 +135,7 @@ module _ {H P : Type 0} where
                 ])
           ]
 
-    -- behind an accepted success a path is announced
+    -- after an accepted success response a path is selected
     announces : (x : Arrival) (old new : AgentRecord H P) (s t : Stream) → IsSound old → new.controlling ≡ true
         → Step mac answers old s (ReceivePacket x.at x.via x.bytes) x.entry new t → IsSuccess x → HasAnnounced new
     announces x old new s t sound role step (m, reads, flag, success) =

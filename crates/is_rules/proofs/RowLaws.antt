@@ -1,4 +1,4 @@
--- The relations hold of worked runs, whole records compared.
+-- The relations hold for worked examples, with whole abstract states compared.
 use Rattle.std.proofs.Common.{◌≡◌, ℕ, ◌≤◌, true, false, List, [], ◌∷◌, Some, None, Ok, inl, inr, refl, subst, arith}
 use Rattle.std.specs.Prelude.{codes}
 use Rattle.rand_core.specs.Stream.{Stream, fill_bytes}
@@ -104,7 +104,7 @@ module _ {H P : Type 0} (mac : H → List ℕ → List ℕ → List ℕ) (answer
     ),
   )
 
-  -- ---- its answer at 50 ms: the pair is valid, is nominated, and is announced
+  -- ---- its response at 50 ms: the pair is valid, is nominated, and is selected
 
   checked_agent : AgentRecord H P
   checked_agent = with_check mac provider zero_id
@@ -121,7 +121,7 @@ module _ {H P : Type 0} (mac : H → List ℕ → List ℕ → List ℕ) (answer
   recorded : AgentRecord H P
   recorded = record (mapped_learnt checked_pair (Some address_1) (success_counted checked_agent)) { pairs = valid_pair ∷ [] }
 
-  -- the answer, with its integrity
+  -- the response, with its MESSAGE-INTEGRITY
   abbrev answer : Integrity → Message
   answer integrity = record (binding_reply zero_id address_1) { integrity = Some integrity }
 
@@ -146,14 +146,14 @@ module _ {H P : Type 0} (mac : H → List ℕ → List ℕ → List ℕ) (answer
   unfolding checked_agent sent_check checked_pair valid_pair recorded
   first_answer integrity signed = ((refl, (refl, signed)), (evaluated (milliseconds 50) (announced valid_pair recorded), takes integrity _ refl, refl))
 
-  -- the answer by another way than its check's is not accepted
+  -- the response on another path than its check's is not accepted
   from_elsewhere : IsAcceptedOn mac (with_check {P = P} mac provider zero_id) (record { proto = Udp; source = address_3; destination = address_1 }) (binding_reply zero_id address_1) → ⊥
   from_elsewhere accepted = let no : false ≡ true = accepted.1.0 in cc
 
   to_elsewhere : IsAcceptedOn mac (with_check {P = P} mac provider zero_id) (record { proto = Udp; source = address_2; destination = address_3 }) (binding_reply zero_id address_1) → ⊥
   to_elsewhere accepted = let no : false ≡ true = accepted.1.0 in cc
 
-  -- ---- all of it from a fresh agent: the run announces a path
+  -- ---- all of it from a new agent: the execution selects a path
 
   abbrev entry_at : ℕ → Call P → Entry → Logged P
   entry_at number call entry = record { number = number; call = call; entry = entry }
@@ -235,7 +235,7 @@ module _ {H P : Type 0} (mac : H → List ℕ → List ℕ → List ℕ) (answer
     (inr (answer integrity, reads, (Ok true, announced_only (Some path_12), refl, first_answer integrity signed)), refl),
   )
 
-  -- ---- the wake-ups behind each, once the packet is polled
+  -- ---- the next timeout after each, once the packet is polled
 
   abbrev polled : AgentRecord H P → AgentRecord H P
   polled a = record a { packets = [] }
@@ -250,7 +250,7 @@ module _ {H P : Type 0} (mac : H → List ℕ → List ℕ → List ℕ) (answer
 
   -- ---- requests
 
-  -- the peer nominates: a peer reflexive candidate, a nominated pair, and a reply
+  -- the peer nominates: a peer-reflexive candidate, a nominated pair, and a response
   serves : IsPut (written (mac provider) (Some (codes "p1")) (binding_reply zero_id address_2)) (binding_reply zero_id address_2)
       → Serves mac (request zero_id) (controlled {P = P} mac provider) (issued_only path_12 class.Success zero_id) (served mac provider zero_id)
   serves values = (Unknown, (None, (λ k below. refl), refl), (None, refl, (refl, (None, _, (refl, refl), (values, refl, refl)))))
@@ -258,7 +258,8 @@ module _ {H P : Type 0} (mac : H → List ℕ → List ℕ → List ℕ) (answer
   nominated_pair : PairRecord
   nominated_pair = record (new_pair 0 0 0 7962116751041232382) { nomination = Nominated; requests = 1; last_request = Some 0 }
 
-  -- the sender is signalled as a host: the candidate is overwritten, and the pair replaced by one of its nomination
+  -- the sender is signaled as a host candidate: it overwrites the stored one, and the pair is replaced by one with
+  -- the same nomination
   overwrites : Step mac answers (served {P = P} mac provider zero_id) s (AddRemoteCandidate (host_2 2130706175)) (quiet Done) (emitted_of_sender mac provider zero_id) s
   unfolding nominated_pair
   overwrites = (
@@ -280,7 +281,7 @@ module _ {H P : Type 0} (mac : H → List ℕ → List ℕ → List ℕ) (answer
     refl,
   )
 
-  -- a request that claims the own role with a smaller tie-breaker: 487, back the way it came
+  -- a request that claims the agent's own role with a smaller tie-breaker: 487, on the reverse path
   conflict_sent : IsPut (written (mac provider) (Some (codes "p1")) (binding_role_conflict_reply zero_id)) (binding_role_conflict_reply zero_id)
       → Serves mac (record (request zero_id) { ice_controlling = Some 1 }) (with_host {P = P} mac provider)
       (issued_only path_12 class.Failure zero_id)
@@ -289,7 +290,7 @@ module _ {H P : Type 0} (mac : H → List ℕ → List ℕ → List ℕ) (answer
       })
   conflict_sent values = (values, refl, refl)
 
-  -- with a greater one: the role goes, the request is served, and the pair is nominated
+  -- with a greater one: the role switches, the request is served, and the pair is nominated
   yielded : IsPut (written (mac provider) (Some (codes "p1")) (binding_reply zero_id address_2)) (binding_reply zero_id address_2)
       → Serves mac (request zero_id) (with_host {P = P} mac provider) (issued_only path_12 class.Success zero_id) (served mac provider zero_id)
   yielded values = (Unknown, (None, (λ k below. refl), refl), (None, refl, (refl, (None, _, (refl, refl), (values, refl, refl)))))

@@ -1,4 +1,4 @@
--- What serving a request makes of pairs, and which path it announces.
+-- The effects of serving a request on pairs, and which path it selects.
 use Rattle.std.proofs.Common.{◌≡◌, ◌≢◌, ℕ, ◌+◌, ◌<◌, ◌&&◌, ◌||◌, Bool, true, false, not, List, [], ◌∷◌, ◌++◌, length, map, position, Option, Some, None, inl, inr, ◌⊎◌, refl, ap, sym, ◌∙◌, subst, arith, if◌then◌else◌}
 use Rattle.std.specs.Prelude.{MatchOption}
 use Rattle.std.proofs.lemmas.Bool.{eqb-true, eq-eqb}
@@ -60,7 +60,7 @@ first_at test cs l (Some k) is h =
     (found.0, (both (test (candidate_at cs l)) (not (candidate_at cs l).discarded) found.1).0)
 first_at test cs l None is h = let found = position-Some test cs l nowhere h in (found.0, found.1)
 
--- the candidate that the request came to sends from the address that it came to
+-- the candidate that received the request sends from the destination address
 reached : (local : List CandidateRecord) (q : RequestRecord) (l : ℕ) → ((c : CandidateRecord) → Has local c → IsBased c) → local_place local q ≡ Some l
     → (l < length local) × ((base_of (candidate_at local l) ≡ q.path.destination) × ((candidate_at local l).proto ≡ q.path.proto))
 reached local q l based h =
@@ -92,7 +92,7 @@ Has-mapped f [] x h = absurd h
 Has-mapped f (y ∷ xs) x (inl e) = inl (ap f e)
 Has-mapped f (y ∷ xs) x (inr h) = inr (Has-mapped f xs x h)
 
--- a request leaves the places of its pair
+-- a request leaves the indices of its pair
 served_at : (c l : Bool) (q : RequestRecord) (p : PairRecord) → ((served c l q p).local ≡ p.local) × ((served c l q p).remote ≡ p.remote)
 served_at c l q p =
     let w : PairRecord = with_request q.moment p in
@@ -104,7 +104,7 @@ served_at c l q p =
       validated_kept true p = (refl, refl)
       validated_kept false p = (refl, refl)
 
--- and nominates it where that is asked for
+-- and nominates it if the request has USE-CANDIDATE
 served_nominated : (c l : Bool) (q : RequestRecord) (p : PairRecord) → c ≡ false → q.use_candidate ≡ true → is_nominated (served c l q p) ≡ true
 served_nominated c l q p role uses =
     let v : PairRecord = validated_by_peer c l (with_request q.moment p) in
@@ -254,7 +254,7 @@ module _ (asks met : Path → Type 0) (sent : Path → List ℕ → Bool → Typ
       abbrev pub conflict_bytes : AgentRecord H P → List ℕ
       conflict_bytes s = written (mac s.provider) (Some s.local_creds.pass) (binding_role_conflict_reply q.id)
 
-      -- nothing goes out, or the reply, on the way back; and the pair is nominated where the peer asks for it
+      -- nothing is sent, or the response on the reverse path; and the pair is nominated if the peer nominates it
       abbrev pub Replied : AgentRecord H P → Emitted → AgentRecord H P → Type 0
       Replied s emitted new =
           ((emitted.issued ≡ None) × (new.packets ≡ s.packets))
@@ -262,13 +262,13 @@ module _ (asks met : Path → Type 0) (sent : Path → List ℕ → Bool → Typ
           × (new.packets ≡ s.packets ++ packet_along (reversed q.path) (reply_bytes s) ∷ [])
           × (q.use_candidate ≡ true → new.controlling ≡ false → IsNominatedIn (parts_of asks met sent new) (reversed q.path)))
 
-      -- the 487 goes out
+      -- the 487 is sent
       abbrev pub ConflictSent : AgentRecord H P → Emitted → AgentRecord H P → Type 0
       ConflictSent s emitted new =
           (emitted.issued ≡ Some (issued_as (reversed q.path) Failure q.id)) × IsPut (conflict_bytes s) (binding_role_conflict_reply q.id)
           × (new.packets ≡ s.packets ++ packet_along (reversed q.path) (conflict_bytes s) ∷ []) × (conflict_of s q ≡ Insists) × (new.controlling ≡ s.controlling)
 
-      -- what serving does, from a fit record
+      -- what serving does, from a state that satisfies the invariant
       abbrev pub Does : AgentRecord H P → Emitted → AgentRecord H P → Type 0
       Does s emitted new =
           Onward asks met sent (parts_of asks met sent s) (parts_of asks met sent new)
@@ -297,7 +297,7 @@ module _ (asks met : Path → Type 0) (sent : Path → List ℕ → Bool → Typ
         inl (ap (λ (x : Emitted). x.issued) is, ap (λ (a : AgentRecord H P). a.packets) same),
       )
 
-      -- what serving at this pair may take for granted, by the role that it finds
+      -- what serving at this pair may assume, by the role that it finds
       pub record Grants (s : AgentRecord H P) (l r : ℕ) : Type 0 where
         pub via : path_between s l r ≡ reversed q.path
         pub valid : (s.lite && not s.controlling) ≡ true → met (path_between s l r)
@@ -370,7 +370,7 @@ module _ (asks met : Path → Type 0) (sent : Path → List ℕ → Bool → Typ
             still_at true v y mid path role h = let no : true ≡ false = role in cc
             still_at false v y mid path role h = h.1
 
-      -- what a request grants, by its way back
+      -- what a request implies, by its reverse path
       pub record Granted (s : AgentRecord H P) : Type 0 where
         pub valid : (s.lite && not s.controlling) ≡ true → met (reversed q.path)
         pub asking : s.controlling ≡ false → q.use_candidate ≡ true → asks (reversed q.path)
@@ -476,7 +476,7 @@ module _ (asks met : Path → Type 0) (sent : Path → List ℕ → Bool → Typ
           let k = reached s.local q l based is in
           resolves_does (conflict_of s q) l s new emitted refl k.0 k.1 fit stays turns h
 
-      -- a request that is served: what becomes of the pairs, and each announced path was valid before
+      -- a request that is served: its effect on the pairs, and each selected path was valid before
       pub serves_does : (s new : AgentRecord H P) (emitted : Emitted) → ((c : CandidateRecord) → Has s.local c → IsBased c) → Fit (parts_of asks met sent s)
           → (conflict_of s q ≡ Absent → Granted s) → (conflict_of s q ≡ Yields → new.controlling ≡ not s.controlling → Granted (switched s)) → Serves mac q s emitted new → DoesOrInsists s emitted new
       serves_does s new emitted based fit stays turns h = either (names_another s q) h

@@ -1,4 +1,4 @@
--- One check settles a role conflict.
+-- One check resolves a role conflict.
 use Rattle.std.proofs.Common.{◌≡◌, ◌⊎◌, ℕ, ◌<◌, ◌≤◌, ◌==◌, nat_le, Bool, true, false, not, List, length, Some, None, is_some, inl, inr, refl, ap, sym, ◌∙◌, subst, arith, if◌then◌else◌}
 use Rattle.std.specs.Prelude.{MatchBool, MatchOption, IsSomeAnd}
 use Rattle.std.specs.List.{list_any}
@@ -37,7 +37,7 @@ use Rattle.is_rules.proofs.EffectLaws.{path_law, trade_law}
 use Rattle.is_rules.proofs.Exchanged.{known-on, keys-moment, keys-between}
 use Rattle.is_rules.proofs.Staying.{sound-course, checks-stay}
 
--- a claim of the own role
+-- a claim of the agent's own role
 same_claim : (c : Bool) (q : RequestRecord) (tie : ℕ) → q.ice_controlling ≡ (if c then Some tie else None) → q.ice_controlled ≡ (if c then None else Some tie) → rival_in c q ≡ Some tie
 same_claim true q tie one other = one
 same_claim false q tie one other = other
@@ -45,7 +45,7 @@ same_claim false q tie one other = other
 module _ {H P : Type 0} (mac : H → List ℕ → List ℕ → List ℕ) (answers : P → CandidateRecord → ℕ → ℕ → Type 0) where
   -- ---- the 487
 
-  -- it is sent in place of all else
+  -- it is sent instead of everything else
   conflict_sent : (q : RequestRecord) (s new : AgentRecord H P) (emitted : Emitted) (l : ℕ) → names_another s q ≡ false → local_place s.local q ≡ Some l
       → conflict_of s q ≡ Insists → Serves mac q s emitted new → emitted.issued ≡ Some (issued_as (reversed q.path) class.Failure q.id)
   conflict_sent q s new emitted l named place is h =
@@ -56,7 +56,7 @@ module _ {H P : Type 0} (mac : H → List ℕ → List ℕ → List ℕ) (answer
 
   module _ (read : (m : List ℕ → List ℕ → List ℕ) (key : List ℕ) (x : Message) → WrittenIsRead m key x)
       (fits : (key id : List ℕ) → FitsInto key LONGEST_REPLY (binding_role_conflict_reply id)) where
-    -- it comes to a sender that keeps the check, and is accepted as what it is
+    -- it arrives at a sender that stores the check, and is accepted as a 487
     refusal-comes : (a taken b served : AgentRecord H P) (refusal : Packet) (id : List ℕ) (at : ℕ) (e : Entry) → IsSound b → KnowEachOther mac a b
         → Issued mac answers class.Failure id refusal b served → list_any (keeps_check_on a (via_out refusal) id) a.pairs ≡ true → Delivered mac answers refusal at a e taken
         → (m : Message) × Brings {P = P} (handing refusal at) e at (via_out refusal) m × (m.class ≡ class.Failure) × (is_role_conflict m ≡ true) × (m.id ≡ id)

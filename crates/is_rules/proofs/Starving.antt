@@ -1,4 +1,5 @@
--- Turn after turn: a pair that is due is checked within as many turns as there are pairs that are due no later.
+-- Starvation freedom: a pair that is due is checked within as many polling cycles as there are pairs that are due no
+-- later.
 use Rattle.std.proofs.Common.{◌≡◌, ℕ, suc, ◌<◌, ◌≤◌, Bool, true, false, List, [], ◌∷◌, length, map, filter, drop, take_while, max, nat_le, nat_lt, Option, Some, None, is_some, Ok, inl, inr, ◌⊎◌, refl, ap, sym, ◌∙◌, subst, arith}
 use Rattle.std.specs.Prelude.{MatchOption}
 use Rattle.std.proofs.lemmas.Bool.Decides.{nat_tests}
@@ -40,7 +41,7 @@ some-pairs : (ps : List PairRecord) (p : PairRecord) → Has ps p → is_empty p
 some-pairs [] p has = absurd has
 some-pairs (q ∷ qs) p has = refl
 
--- ---- the queue of requests
+-- ---- the queue of early requests
 
 none-waits : (now : ℕ) (t : StunTiming) (remote : Option IceCreds) (queue : List RequestRecord) → queue ≡ [] → next_request remote (queue_left now t remote queue) ≡ None
 none-waits now t remote queue none = subst (λ q. next_request remote (queue_left now t remote q) ≡ None) (sym none) (by remote) where
@@ -80,16 +81,16 @@ queue-gone now t (Some peer) queue known is = none-head (drop_while (is_outdated
 
 module _ {H P : Type 0} where
   module _ (mac : H → List ℕ → List ℕ → List ℕ) where
-    -- ---- a turn
+    -- ---- a polling cycle
 
-    -- what a turn begins with
+    -- the state at the beginning of a polling cycle
     pub record Fits (at : ℕ) (a : AgentRecord H P) : Type 0 where
       pub distinct : Distinct a.pairs
       pub checking : IsChecking a
       pub idle : IsIdle a
       pub last : a.last_moment ≡ Some at
 
-    -- the asking leaves pairs of the same places
+    -- `poll_timeout` leaves pairs with the same indices
     asks-follow : (at wake : ℕ) (old new : AgentRecord H P) → old.last_moment ≡ Some at → PollsTimeout old (Some wake) new → (base_of new ≡ base_of old) × Follows old.pairs new.pairs
     asks-follow at wake old new is h = either (is_waiting old) (wakes-from old new at wake is h)
         (λ _ k. same k.1)
@@ -143,7 +144,7 @@ module _ {H P : Type 0} where
           ap (λ (x : Base). x.next_number) taken ∙ (ap (λ (x : Base). x.next_number) m.0 ∙ ap (λ (x : Base). x.next_number) a.0),
         )
 
-    -- a pair that is due waits, and one fewer goes before it
+    -- a pair that is due still waits, and one fewer goes before it
     abbrev pub StillWaits : ℕ → ℕ → ℕ → AgentRecord H P → AgentRecord H P → PairRecord → Type 0
     StillWaits at now by old new p =
         (q : PairRecord) × Has new.pairs q × Matches p q × (q.checks ≡ p.checks) × (due_moment now new.timing q ≤ by)
@@ -153,7 +154,7 @@ module _ {H P : Type 0} where
     Does at now by old emitted new p =
         IsGone p.number new.pairs ⊎ ((o : PairRecord) × Has old.pairs o × ChecksOn old emitted o × ((o.number ≡ p.number) ⊎ StillWaits at now by old new p))
 
-    -- the moment behind the asking
+    -- the `handle_timeout` call after `poll_timeout`
     asked-moves : (old new : AgentRecord H P) (s t : Stream) (at now by : ℕ) (emitted : Emitted) → Distinct old.pairs → IsChecking old → old.queue ≡ [] → by ≤ now
         → (p : PairRecord) → Has old.pairs p → due_moment at old.timing p ≤ by
         → TimesOut mac now (record old { pairs = map (asked at old.timing) old.pairs }) s (Ok tt) emitted new t
@@ -207,7 +208,7 @@ module _ {H P : Type 0} where
         let d = asked-moves old turn.after turn.before turn.behind at now by emitted f.distinct f.checking f.idle.queue from p has due m in
         subst (λ (x : AgentRecord H P). Does at now by old emitted x p) (sym turn.taken) d
 
-    -- a pair that was checked less often than it may be is not given up
+    -- a pair that was checked less often than the limit is not removed
     pub turn-keeps : (old new : AgentRecord H P) (at now : ℕ) (emitted : Emitted) → Fits at old → (p : PairRecord) → Has old.pairs p → nat_lt (unanswered_count p.checks) old.timing.max_retransmits ≡ true
         → Turn mac old now emitted new → IsGone p.number new.pairs → ⊥
     turn-keeps old new at now emitted f p has young turn gone =
@@ -219,7 +220,7 @@ module _ {H P : Type 0} where
         (asked at old.timing p) (Has-mapped (asked at old.timing) old.pairs p has) young k
         (subst (λ (a : AgentRecord H P). IsGone p.number a.pairs) turn.taken gone)
 
-    -- ---- turn after turn
+    -- ---- one polling cycle after another
 
     gone-through : (turns : List (ℕ × Emitted)) (first last : AgentRecord H P) (at n : ℕ) → Fits at first → Turns mac turns first last → IsGone n first.pairs → IsGone n last.pairs
     gone-through [] first last at n f is gone = subst (λ (a : AgentRecord H P). IsGone n a.pairs) (sym is) gone
@@ -256,9 +257,9 @@ module _ {H P : Type 0} where
     pub distinct-sound : (a : AgentRecord H P) → IsSound a → Distinct a.pairs
     distinct-sound a sound p q has_p has_q same = one_pair a.pairs p q (rising-each a.pairs sound.rising) has_p has_q same
 
-    -- ---- a wake-up is of use
+    -- ---- every timeout makes progress
 
-    -- a request that waited is served, or outdated ones go
+    -- an early request is served, or outdated ones are removed
     queue-of-use : (old asked_old new : AgentRecord H P) (s t : Stream) (now : ℕ) (emitted : Emitted) (first : RequestRecord) (behind : List RequestRecord) → base_of asked_old ≡ base_of old → is_some old.remote_creds ≡ true → old.lite ≡ false
         → old.queue ≡ first ∷ behind → TimesOut mac now asked_old s (Ok tt) emitted new t → length new.queue < length old.queue
     queue-of-use old asked_old new s t now emitted first behind base known full waits h =

@@ -1,4 +1,4 @@
--- A pair stands over each step, and over each part of a log, that does not take it away.
+-- A pair stays over each step, and over each execution segment, that does not remove it.
 use Rattle.std.proofs.Common.{◌≡◌, ℕ, ◌<◌, ◌≤◌, ◌==◌, ◌&&◌, Bool, true, false, not, List, [], ◌∷◌, ◌++◌, map, Option, Some, None, Result, Ok, Err, inl, inr, ◌⊎◌, refl, ap, sym, ◌∙◌, subst, arith, append_assoc, if◌then◌else◌}
 use Rattle.std.specs.Prelude.{MatchOption, nat_lt}
 use Rattle.std.proofs.lemmas.Bool.{eqb-true}
@@ -164,7 +164,7 @@ module _ {H P : Type 0} where
 
     -- ---- the step
 
-    -- the pair of the number is the one that stood
+    -- the pair with the number is the one that was there
     continued : (old new : AgentRecord H P) (call : Call P) (e : Entry) (p : PairRecord) → IsSound old → PathEffect mac old call e new → Has old.pairs p → Stands p.number new.pairs → Stays old p new
     continued old new call e p sound f has (q, there, number) = elim (f.numbers q there) [
       | inl (o, o_there, o_number, path, valid, nominated) ↦
@@ -189,7 +189,7 @@ module _ {H P : Type 0} where
       | inr ends ↦ inr ends
     ]
 
-    -- ---- parts of a log
+    -- ---- segments of a log
 
     stays-on : (a b c : AgentRecord H P) (p : PairRecord) (k : Stays a p b) → Stays b k.pair c → Stays a p c
     stays-on a b c p k l = record {

@@ -1,4 +1,4 @@
--- Packets and polls leave each check that a pair keeps, on its path.
+-- Packets and polls leave each stored check of a pair, on its path.
 use Rattle.std.proofs.Common.{◌≡◌, ℕ, zero, suc, ◌+◌, ◌<◌, ◌&&◌, ◌||◌, Bool, true, false, not, List, [], ◌∷◌, ◌++◌, length, map, Option, Some, None, Result, Ok, Err, inl, inr, ◌⊎◌, refl, ap, sym, ◌∙◌, subst, arith, if◌then◌else◌}
 use Rattle.std.specs.Prelude.{MatchOption, slice_get, slice_set}
 use Rattle.std.specs.List.{list_any}
@@ -50,7 +50,7 @@ use Rattle.is_rules.proofs.Tells.{some_is}
 
 -- ---- lists
 
--- one that passes stands in the list
+-- an element that passes is in the list
 any_at : {X : Type 0} (test : X → Bool) (xs : List X) → list_any test xs ≡ true → (x : X) × Has xs x × (test x ≡ true)
 any_at test [] h = absurd (cc)
 any_at {X = X} test (y ∷ xs) h = by (test y) refl (any_at test xs) where
@@ -58,13 +58,13 @@ any_at {X = X} test (y ∷ xs) h = by (test y) refl (any_at test xs) where
   by true is rest = (y, inl refl, is)
   by false is rest = let k = rest (subst (λ b. (b || list_any test xs) ≡ true) is h) in (k.0, inr k.1, k.2)
 
--- another one that passes as it did
+-- another element that passes as it did
 any_set : {X : Type 0} (test : X → Bool) (xs : List X) (i : ℕ) (y z : X) → slice_get xs i ≡ Some z → test y ≡ test z → list_any test (slice_set xs i y) ≡ list_any test xs
 any_set test [] i y z at same = cc
 any_set test (x ∷ xs) zero y z at same = let is : x ≡ z = some_is x z at in ap (λ b. b || list_any test xs) (same ∙ ap test (sym is))
 any_set test (x ∷ xs) (suc i) y z at same = ap (λ b. test x || b) (any_set test xs i y z at same)
 
--- what stood in the list stands there, or was the one at the place
+-- an element of the list is still in it, or was the one at the index
 has_set : {X : Type 0} (xs : List X) (i : ℕ) (y z x : X) → slice_get xs i ≡ Some z → Has xs x → Has (slice_set xs i y) x ⊎ ((x ≡ z) × Has (slice_set xs i y) y)
 has_set [] i y z x at h = absurd h
 has_set (w ∷ xs) zero y z x at (inl e) = inr (sym e ∙ some_is w z at, inl refl)
@@ -86,7 +86,7 @@ grown_at old new r (inr (c, e)) lt = (
 
 -- ---- one pair
 
--- at the same places, with the same checks by their ids
+-- with the same indices and the same checks by their ids
 record Alike (p q : PairRecord) : Type 0 where
   pub local : q.local ≡ p.local
   pub remote : q.remote ≡ p.remote
@@ -135,7 +135,7 @@ mapped_pairs f ps alike p has = (f p, Has-mapped f ps p has, alike p)
 module _ {H P : Type 0} where
   -- ---- the agent
 
-  -- the pair stands on its path, with its checks
+  -- the pair stays on its path, with its checks
   record Stands (old new : AgentRecord H P) (p : PairRecord) : Type 0 where
     pub pair : PairRecord
     pub there : Has new.pairs pair
@@ -196,7 +196,7 @@ module _ {H P : Type 0} where
   nominates_where : (b : Bool) (old new : AgentRecord H P) (path : Option Path) → NominatesWhere b old path new → Stays old new
   nominates_where b old new path h = either b h (λ _ k. nominates old new path k) (λ _ k. stays_same old new k.1)
 
-  -- the role switches, and priorities with it
+  -- the role switches, and the priorities with it
   switches : (s : AgentRecord H P) → Stays s (switched s)
   switches s = stays_by s (switched s) (inl refl) (inl refl)
       (mapped_pairs (with_priority_in (switched_sides s)) s.pairs (λ p. record { local = refl; remote = refl; checks = λ id. refl }))
@@ -251,7 +251,7 @@ module _ {H P : Type 0} where
           (λ _ k. stays_same s new k.1)
           (λ _ k. here (local_place s.local q) s new emitted k)
 
-    -- ---- an answer
+    -- ---- a response
 
     learnt : (s : AgentRecord H P) (p : PairRecord) (mapped : Option SocketAddr) → Grown s.local (local_with p mapped s)
     learnt s p None = inl refl

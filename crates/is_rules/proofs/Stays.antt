@@ -1,4 +1,4 @@
--- Each step leaves each pair its number, but for those that take pairs away.
+-- Each step leaves each pair its number, except for steps that remove pairs.
 use Rattle.std.proofs.Common.{◌≡◌, ℕ, zero, suc, ◌&&◌, ◌||◌, Bool, true, false, not, List, [], ◌∷◌, ◌++◌, map, Option, Some, None, inl, inr, ◌⊎◌, refl, ap, sym, ◌∙◌, subst, if◌then◌else◌}
 use Rattle.std.specs.Prelude.{MatchOption, slice_get, slice_set}
 use Rattle.std.specs.List.{list_any}
@@ -40,7 +40,7 @@ use Rattle.is_rules.proofs.Thinning.{Base, Has-kept, nominates-thins}
 
 -- ---- lists
 
--- a pair of the number stands
+-- a pair with the number exists
 abbrev pub Stands : ℕ → List PairRecord → Type 0
 Stands n ps = (q : PairRecord) × Has ps q × (q.number ≡ n)
 
@@ -92,7 +92,7 @@ heard-number : (now : ℕ) (at : Option ℕ) (p : PairRecord) → (heard_at now 
 heard-number now None p = refl
 heard-number now (Some at) p = refl
 
--- nomination leaves whether the pair is given up
+-- nomination does not change whether the pair is to be removed
 self-kept : (c l : Bool) (n : ℕ) (p : PairRecord) (lite : Bool) (now : ℕ) (t : StunTiming)
     → ((change_at n (nominated_by_self c l) p).number ≡ p.number) × (due.is_given_up lite now t (change_at n (nominated_by_self c l) p) ≡ due.is_given_up lite now t p)
 self-kept c l n p lite now t = apart (is_numbered n p) (not (is_nominated p) && (c || l)) l where
@@ -110,13 +110,13 @@ module _ {H P : Type 0} where
   pub keep-same : (old new : AgentRecord H P) → new ≡ old → Keep old new
   keep-same old new made = subst (λ (a : AgentRecord H P). Keeps old.pairs a.pairs) (sym made) (λ n h. h)
 
-  -- as this record keeps them
+  -- as this abstract state stores them
   pub keep-as : (old wanted new : AgentRecord H P) → Keep old wanted → new ≡ wanted → Keep old new
   keep-as old wanted new h made = subst (λ (a : AgentRecord H P). Keeps old.pairs a.pairs) (sym made) h
 
-  -- ---- nomination, and pairs given up
+  -- ---- nomination, and removed pairs
 
-  -- the pair stands, and is given up where it was
+  -- the pair is there, and `is_given_up` has the same value for it
   abbrev Left : ℕ → AgentRecord H P → PairRecord → AgentRecord H P → Type 0
   Left now old p new =
       (q : PairRecord) × Has new.pairs q × (q.number ≡ p.number) × (due.is_given_up old.lite now old.timing q ≡ due.is_given_up old.lite now old.timing p)
@@ -152,7 +152,7 @@ module _ {H P : Type 0} where
             (p, Has-kept (λ q. not (is_given_up now old q)) old.pairs p has (ap not is), refl)))
 
   module _ (mac : H → List ℕ → List ℕ → List ℕ) where
-    -- ---- moments
+    -- ---- `handle_timeout` calls
 
     keep-check : (now : ℕ) (remote : Option IceCreds) (old new : AgentRecord H P) (s t : Stream) (issued : Option Issued) → MayCheck mac now remote old s issued new t → Keep old new
     keep-check now None old new s t issued (is, made, drawn) = keep-same old new made
@@ -233,7 +233,7 @@ module _ {H P : Type 0} where
       requested None s new emitted h = keep-as s _ new (λ n x. x) h.1
       requested (Some peer) s new emitted h = keep-serves s new emitted h
 
-    -- ---- answers
+    -- ---- responses
 
     success : (now : ℕ) (old new : AgentRecord H P) (via : Path) (m : Message) (emitted : Emitted) → TakesSuccess now old via m emitted new → Keep old new
     success now old new via m emitted (recorded, (place, p, after, at, keeps, (k, c, is_at, is), made), (path, mid, nominates, emitted_is, done)) =

@@ -1,4 +1,4 @@
--- What a step announces: paths that were valid, and the announced number behind them.
+-- What a step selects: paths that were valid, and `selected_pair` after them.
 use Rattle.std.proofs.Common.{◌≡◌, ◌≢◌, ℕ, ◌<◌, ◌≤◌, Bool, true, List, [], ◌∷◌, Option, Some, None, inl, inr, ◌⊎◌, refl, ap, sym, ◌∙◌, subst, arith}
 use Rattle.is_proto.specs.Lists.{Has}
 use Rattle.is_pair.specs.Pairs.{PairRecord, is_valid, is_nominated}
@@ -28,7 +28,7 @@ some_is x y h = cc
 pub none_is : {A X : Type 0} (x : X) → None ≡ Some x → A
 none_is x h = absurd (cc)
 
--- the number is a given one, and the pair that it names, where it stands, is valid and nominated on the path
+-- the number is the given one, and the pair that it names, if it exists, is valid and nominated on the path
 pub record NamedIn (x : Parts) (number : Option ℕ) (path : Path) : Type 0 where
   pub below : (n : ℕ) → number ≡ Some n → n < x.next_number
   pub is : (p : PairRecord) → Has x.pairs p → number ≡ Some p.number → (path_in x p ≡ path) × (is_valid p ≡ true) × (is_nominated p ≡ true)
@@ -37,7 +37,7 @@ module _ (asks met : Path → Type 0) (sent : Path → List ℕ → Bool → Typ
   abbrev Goes : Parts → Parts → Type 0
   Goes x y = Onward asks met sent x y
 
-  -- one evaluation: the path that it announces, and the announced number before and behind it
+  -- one evaluation: the path that it selects, and `selected_pair` before and after it
   pub record Evaluates (x y : Parts) (before behind : Option ℕ) (o : Option Path) : Type 0 where
     pub valid : (path : Path) → o ≡ Some path → IsValidIn x path
     pub asked : (path : Path) → o ≡ Some path → IsNominatedIn x path ⊎ asks path
@@ -86,7 +86,7 @@ module _ (asks met : Path → Type 0) (sent : Path → List ℕ → Bool → Typ
     names = λ path is. e.names path is;
   }
 
-  -- behind another change
+  -- after another change
   pub tells_behind : (x y z : Parts) (before behind : Option ℕ) (paths : List (Option Path)) → Goes x y → Tells y z before behind paths → Tells x z before behind paths
   tells_behind x y z before behind paths o k = record {
     valid = λ path has. elim (k.valid path has) [ inl v ↦ valid_before asks met sent x y o path v | inr m ↦ inr m ];
@@ -104,7 +104,7 @@ module _ (asks met : Path → Type 0) (sent : Path → List ℕ → Bool → Typ
     names = λ path is. named_onward y z behind path o (k.names path is);
   }
 
-  -- one evaluation behind another
+  -- one evaluation after another
   pub tells_two : (x y z : Parts) (a b c : Option ℕ) (first second : Option Path) → Goes x y → Goes y z → Evaluates x y a b first → Evaluates y z b c second
       → Tells x z a c (announced_in first second)
   tells_two x y z a b c None second xy yz e f =

@@ -1,4 +1,4 @@
--- What nomination and pairs given up leave of a list of pairs: fewer of them, each due as it was.
+-- What nomination and removal leave of a list of pairs: fewer of them, each due as it was.
 use Rattle.std.proofs.Common.{◌≡◌, ℕ, ◌≤◌, ◌&&◌, ◌||◌, Bool, true, false, not, List, [], ◌∷◌, length, map, filter, nat_le, nat_lt, Option, Some, None, unwrap_or, inl, inr, ◌⊎◌, refl, ap, sym, ◌∙◌, subst, arith, if◌then◌else◌}
 use Rattle.std.specs.List.{list_any}
 use Rattle.is_proto.specs.Lists.{Has}
@@ -50,7 +50,7 @@ alike-on p q r a b = record {
   valid = b.valid ∙ a.valid;
 }
 
--- it stands fixed at this moment, or before
+-- its due time, if it is fixed, is at most this time
 abbrev pub is_fixed_by : ℕ → PairRecord → Bool
 is_fixed_by by p = nat_le (unwrap_or p.due 0) by
 
@@ -206,7 +206,7 @@ module _ {H P : Type 0} where
       thins-on by old k.0 new (thins-on by old (given_up_gone now old) k.0 a b) c))
       (λ _ k. thins-same by old new k.1)
 
-  -- ---- a pair that was checked less often than it may be stays
+  -- ---- a pair that was checked less often than the limit stays
 
   pub nominates-has : (old new : AgentRecord H P) (path : Option Path) → Nominates old path new → (p : PairRecord) → Has old.pairs p → (q : PairRecord) × Has new.pairs q × Alike p q
   nominates-has old new path h p has = from (announces old new path h) where

@@ -1,4 +1,4 @@
--- Behind nomination the announced pair stands, and is a greatest one among the eligible.
+-- After nomination the selected pair exists, and is a greatest one among the eligible.
 use Rattle.std.proofs.Common.{◌≡◌, ℕ, ◌≤◌, ◌==◌, ◌&&◌, ◌||◌, Bool, true, false, not, List, [], ◌∷◌, map, Option, Some, None, inl, inr, refl, ap, sym, ◌∙◌, subst, arith, cond, if◌then◌else◌}
 use Rattle.std.specs.Prelude.{find}
 use Rattle.std.specs.Option.{option_map_or}
@@ -34,7 +34,7 @@ change_priority : (b c l : Bool) (p : PairRecord) → (if b then nominated_by_se
 change_priority true c l p = (same_pair c l p).1
 change_priority false c l p = refl
 
--- what is eligible stays so where it nominates itself
+-- an eligible pair stays so if the agent nominates it
 still_eligible : (c l n v : Bool) (p : PairRecord) → is_nominated p ≡ n → is_valid p ≡ v → is_eligible c p ≡ true → is_eligible c (nominated_by_self c l p) ≡ true
 still_eligible true l n v p n_is v_is h =
     let same = (same_pair true l p).2 in
@@ -101,7 +101,7 @@ module _ {H P : Type 0} where
     announces_top : IsTopAnnounced (announced top old)
     announces_top = (Some (g top), (it_has, still_eligible old.controlling old.lite (is_nominated top) (is_valid top) top refl refl eligible, it_greatest), it_stands)
 
-  -- nomination leaves a greatest pair announced, wherever one is eligible
+  -- after nomination a greatest pair is selected, if any is eligible
   announces_greatest : (old new : AgentRecord H P) (path : Option Path) → AreRising old.pairs → Announces old path new → IsTopAnnounced new
   announces_greatest old new path rising (None, none, (is, same)) =
       subst (λ (a : AgentRecord H P). IsTopAnnounced a) (sym same) (None, none, tt)

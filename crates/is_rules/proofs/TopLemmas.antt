@@ -1,4 +1,4 @@
--- A pair of greatest or of least priority, and one pair more.
+-- A pair of greatest or of least priority, and one more pair.
 use Rattle.std.proofs.Common.{if◌then◌else◌, ◌≡◌, ◌<◌, ◌≤◌, Bool, true, false, List, [], ◌∷◌, ◌++◌, filter, Some, None, Option, inl, inr, refl, subst, ◌∙◌, arith}
 use Rattle.std.proofs.lemmas.List.Elements.{filter-append}
 use Rattle.is_proto.specs.Lists.{Has, NonePass}
@@ -14,7 +14,7 @@ has-front [] x y h = elim h [ ]
 has-front (z ∷ zs) x y (inl e) = inl e
 has-front (z ∷ zs) x y (inr h) = inr (has-front zs x y h)
 
--- P holds of all, and of one more
+-- P holds for all, and for one more
 pub has-one_more : {X : Type 0} (P : X → Type 0) (xs : List X) (x : X) → ((y : X) → Has xs y → P y) → P x → (y : X) → Has (xs ++ x ∷ []) y → P y
 has-one_more P [] x all its y (inl e) = subst P e its
 has-one_more P [] x all its y (inr h) = elim h [ ]
@@ -25,7 +25,7 @@ not-first : {X : Type 0} (test : X → Bool) (x y : X) (ys : List X) → test y 
 not-first test x y ys fails passes behind (inl e) = absurd (cc)
 not-first test x y ys fails passes behind (inr h) = behind h
 
--- where none passes, no element does
+-- if none passes, no element does
 pub none-has : {X : Type 0} (test : X → Bool) (xs : List X) → NonePass test xs → (x : X) → Has xs x → test x ≡ true → ⊥
 none-has test [] none x h passes = elim h [ ]
 none-has test (y ∷ ys) none x h passes =

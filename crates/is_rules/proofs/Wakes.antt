@@ -1,4 +1,5 @@
--- The wake-up that an agent asks for: behind the last moment, and behind no pair's due moment but for the pacing.
+-- The next timeout of an agent: after the last `handle_timeout` call, and no later than any pair's due time, except
+-- for the pacing interval.
 use Rattle.std.proofs.Common.{◌≡◌, ℕ, ◌*◌, ◌<◌, ◌≤◌, ◌||◌, Bool, true, false, not, List, [], ◌∷◌, map, fold, min, max, nat_le, Some, None, inl, inr, refl, ap, ◌∙◌, subst, arith}
 use Rattle.std.proofs.lemmas.Bool.Decides.{nat_tests}
 use Rattle.std.specs.Prelude.{MatchBool}
@@ -31,7 +32,7 @@ le-of n m h = grind (arith, nat_tests, h)
 lt-of-not : (n m : ℕ) → nat_le n m ≡ false → m < n
 lt-of-not n m h = grind (arith, nat_tests, h)
 
--- where the least is below the start, it is that of an element
+-- if the least is below the start, it is that of an element
 pub least-is : {X : Type 0} (f : X → ℕ) (m w : ℕ) (xs : List X) → fold min m (map f xs) ≤ w → w < m → (x : X) × Has xs x × (f x ≤ w)
 least-is f m w [] low above = absurd (let no : ⊥ = omega (arith, low, above) in no)
 least-is f m w (x ∷ xs) low above =
@@ -43,7 +44,7 @@ least-is f m w (x ∷ xs) low above =
           (rest.0, inr rest.1, rest.2))
     ] refl
 
--- ---- wake-ups
+-- ---- next timeouts
 
 idle-has : (lite : Bool) (pairs : List PairRecord) (p : PairRecord) → lite ≡ false → Has pairs p → lite || is_empty pairs ≡ true → ⊥
 idle-has true pairs p full has h = absurd (cc)
@@ -83,7 +84,7 @@ module _ {H P : Type 0} where
   not-waiting a no_packets no_queue =
       ap (λ ps. not (is_empty ps) || not (is_empty a.queue)) no_packets ∙ ap (λ qs. not (is_empty qs)) no_queue
 
-  -- where nothing waits, and there is a pair to check, all pairs are asked
+  -- if no request is stored and there is a pair to check, the due times of all pairs are fixed
   pub all-are-asked : (old new : AgentRecord H P) (last wake : ℕ) → old.last_moment ≡ Some last → old.lite ≡ false → old.packets ≡ [] → old.queue ≡ []
       → is_empty old.pairs ≡ false → PollsTimeout old (Some wake) new
       → (wake ≡ max (earliest_due old last) (soon old last)) × (new ≡ record old { pairs = map (asked last old.timing) old.pairs })

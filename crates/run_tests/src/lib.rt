@@ -1,4 +1,4 @@
-//! Tests of whole runs: lists of calls of an agent, and of events between two, whose logs they read.
+//! Tests of whole executions: lists of an agent's calls, and of events between two agents. The tests check the logs.
 #![tactic(auto)]
 
 #[cfg(test)]

@@ -1,4 +1,4 @@
-//! Scripts of calls, the runs that they make, and what the logs say.
+//! Scripts of calls, the executions that they cause, and what the logs report.
 
 mod answered;
 mod calls;
@@ -29,13 +29,13 @@ type Agent = IceAgent<DefaultSha1HmacProvider>;
 
 const MS: u64 = 1_000_000;
 
-/// From this number on generators of the tests are seeded.
+/// The seeds of the tests' generators begin with this number.
 const SEED: u64 = 1;
 
 /// The tie-breaker of the agent that is run.
 const TIE_BREAKER: u64 = 10;
 
-/// A host, and its address in these tests: 10.0.0.1:1000 is that of A, 10.0.0.2:2000 that of B.
+/// The address of a host in these tests: 10.0.0.1:1000 is that of A, 10.0.0.2:2000 that of B.
 fn at(host: u8, port: u16) -> SocketAddr {
     SocketAddr::V4(SocketAddrV4::new(Ipv4Addr::new(10, 0, 0, host), port))
 }
@@ -68,7 +68,7 @@ fn ufrag(side: Side) -> &'static str {
     }
 }
 
-/// Credentials of the side under this user fragment.
+/// Credentials of the side with this username fragment.
 fn named(alloc: Global, side: Side, ufrag: &str) -> Result<IceCreds, AllocError> {
     Ok(IceCreds {
         ufrag: Text::from_str(alloc, ufrag)?,
@@ -80,7 +80,7 @@ fn creds(alloc: Global, side: Side) -> Result<IceCreds, AllocError> {
     named(alloc, side, ufrag(side))
 }
 
-/// The way from A to the address.
+/// The path from A to the address.
 fn path_to(destination: SocketAddr) -> Path {
     Path {
         proto: Protocol::Udp,
@@ -89,7 +89,7 @@ fn path_to(destination: SocketAddr) -> Path {
     }
 }
 
-/// The id of the check of this number, counted from 0: each draws the next twelve bytes of the generator.
+/// The id of the check of this number, counted from 0: each draws the next twelve bytes from the generator.
 fn check_id(number: usize) -> TransId {
     let mut rng = Pcg32::seed_from_u64(SEED);
     let mut id = TransId::new(&mut rng);
@@ -99,33 +99,33 @@ fn check_id(number: usize) -> TransId {
     id
 }
 
-/// The id of a request of B's.
+/// The id of B's request with this number.
 fn request_id(number: u8) -> TransId {
     TransId([number; 12])
 }
 
-/// What a packet says to A.
+/// The contents of a packet to A.
 #[derive(Clone, Copy)]
 enum Said {
     /// Three bytes.
     Nothing,
-    /// B's success to the check of this number.
+    /// B's success response to the check of this number.
     Success(usize),
-    /// The same, under another password.
+    /// The same, signed with another password.
     ForgedSuccess(usize),
     /// B's 487 to the check of this number.
     Conflict(usize),
-    /// B's request of this number, in the other role than this one.
+    /// B's request with this number, in the opposite of this role.
     Request { number: u8, controlling: bool },
     /// The same, with USE-CANDIDATE.
     Nominating { number: u8 },
-    /// The same, under another password.
+    /// The same, signed with another password.
     ForgedRequest(u8),
-    /// A request for an agent of another name.
+    /// A request that is addressed to another agent.
     Misaddressed(u8),
 }
 
-/// B's request for the agent of this user name.
+/// B's request to the agent with this USERNAME.
 fn request(username: &str, number: u8, controlling: bool, nominates: bool) -> StunMessage<'_> {
     let id = request_id(number);
     StunMessage::binding_request(username, id, controlling, 5, 1853824767, nominates)
@@ -180,16 +180,16 @@ enum Step {
     Pairs(usize),
     /// The limit of checks of a pair.
     Checks(usize),
-    /// The agent takes this user fragment.
+    /// The agent gets this username fragment.
     Named(&'static str),
-    /// The other agent's credentials become known.
+    /// Sets the other agent's credentials.
     Remote,
-    /// Those of this user fragment do.
+    /// Sets the other agent's credentials, with this username fragment.
     RemoteNamed(&'static str),
     Host(SocketAddr),
-    /// A host candidate of the other agent becomes known.
+    /// Adds a host candidate of the other agent.
     Peer(SocketAddr),
-    /// The candidate of this line becomes known.
+    /// Adds the remote candidate of this line.
     PeerLine(&'static str),
     Moment(u64),
     Packet {
@@ -273,7 +273,7 @@ fn call(alloc: Global, side: Side, step: Step) -> Option<Call> {
     }
 }
 
-/// The calls that the steps make of A, part by part.
+/// The calls of A for these steps, part by part.
 fn calls_of(alloc: Global, parts: &[&[Step]]) -> Option<Vec<Call>> {
     let mut calls = Vec::new(alloc);
     for part in parts {
@@ -284,9 +284,9 @@ fn calls_of(alloc: Global, parts: &[&[Step]]) -> Option<Vec<Call>> {
     Some(calls)
 }
 
-// ---- what a log says
+// ---- what a log reports
 
-/// What the table has for the number.
+/// The table's value for the number.
 fn wanted<T: Copy>(table: &[(usize, T)], number: usize) -> Option<T> {
     for (place, value) in table {
         if *place == number {
@@ -296,7 +296,7 @@ fn wanted<T: Copy>(table: &[(usize, T)], number: usize) -> Option<T> {
     None
 }
 
-/// These entries announce these paths, and no other announces any.
+/// These entries select these paths, and no other entry selects any.
 fn announces(stage: &mut Stage, paths: &[(usize, Path)]) -> bool {
     for entry in &stage.log.entries {
         let expected = [wanted(paths, entry.number), None];
@@ -330,7 +330,7 @@ fn issues(stage: &mut Stage, packets: &[(usize, Issued)]) -> bool {
     !stage.log.stopped
 }
 
-/// The entry has the answer.
+/// The entry has this result.
 fn answers(stage: &mut Stage, number: usize, answer: &Answer) -> bool {
     match stage.log.entries.get(number) {
         Some(entry) => same(
@@ -358,7 +358,7 @@ fn check(number: usize, destination: SocketAddr) -> Issued {
     }
 }
 
-/// A's answer to B's request of this number.
+/// A's response to B's request with this number.
 fn reply(number: u8, class: Class) -> Issued {
     Issued {
         path: path_to(home(Side::B)),

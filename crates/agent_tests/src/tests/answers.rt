@@ -1,11 +1,11 @@
-//! Answers count on the path of their check, and nowhere else.
+//! A response counts only on the path of its check.
 
 use super::zeros::Zeros;
 use super::*;
 use is::CandidateKind;
 use is::stun::Builder;
 
-/// What comes of an answer.
+/// What a response does.
 struct Answers;
 
 impl Subject for Answers {
@@ -31,7 +31,8 @@ fn answers_count_on_their_path(rt: HostRuntime) -> Result<(), Fail> {
     tell(rt.alloc(), &Answers)
 }
 
-/// What comes is accepted as a message; from there to there it is dropped, and does nothing.
+/// The incoming bytes are accepted as a message. As a packet between these addresses they are dropped, and have no
+/// effect.
 fn drops_off_path(player: &mut Player, from: SocketAddr, to: SocketAddr) -> bool {
     player.accepts()
         && !player.accepts_from(from, to)
@@ -53,7 +54,7 @@ fn off_its_path_nothing_comes_of_an_answer(player: &mut Player) -> Told {
     ])
 }
 
-/// The next event announces the path from there to there.
+/// The next event reports this path as selected.
 fn announces(player: &mut Player, from: SocketAddr, to: SocketAddr) -> bool {
     match player.agent.poll_event() {
         Some(
@@ -83,24 +84,24 @@ fn figures_are_those_of_the_announced_pair(player: &mut Player) -> Told {
         player.set_up_pair(),
         player.has_no_figures() && player.complete_check(at(1, 1000)),
         player.has_figures(50, 50, 1),
-        // an answer that comes again counts again
+        // a repeated response counts again
         player.hears_peer(70) && player.has_figures(70, 120, 2),
         same(player.agent.stats().bind_success_recv, 2, player),
     ])
 }
 
-/// What comes is refused.
+/// The incoming packet is not accepted.
 fn refuses_answer(player: &mut Player) -> bool {
     !player.accepts() && !player.hears_peer(50) && player.has_no_figures()
 }
 
-/// The next bytes are an answer to no check.
+/// The next bytes are a response to no check.
 fn expects_stray(player: &mut Player) -> bool {
     let stray = StunMessage::binding_reply(TransId([7; 12]), at(1, 1000));
     player.expects(stray, "farpass")
 }
 
-/// The next bytes are an answer to the last check, under the wrong password.
+/// The next bytes are a response to the last check, signed with the wrong password.
 fn expects_forged(player: &mut Player) -> bool {
     match player.sent_id() {
         Some(id) => player.expects(StunMessage::binding_reply(id, at(1, 1000)), "nearpass"),
@@ -118,7 +119,7 @@ fn an_answer_of_another_key_or_id_is_none(player: &mut Player) -> Told {
     ])
 }
 
-/// The next bytes are a failure of another code than 487.
+/// The next bytes are an error response with another code than 487.
 fn expects_failure(player: &mut Player) -> bool {
     let Some(id) = player.sent_id() else {
         return false;
@@ -140,7 +141,7 @@ fn a_failure_of_another_code_is_taken_and_does_nothing(player: &mut Player) -> T
     ])
 }
 
-/// The next check of the peer's pair has the id of the one before.
+/// The next check of the peer's pair has the same transaction id as the one before.
 fn checks_under_one_id(player: &mut Player, ms: u64) -> bool {
     player
         .agent
@@ -165,7 +166,7 @@ fn of_equal_ids_the_one_on_the_path_is_answered(player: &mut Player) -> Told {
 /// The peer's second host candidate.
 const SECOND: &str = "candidate:1 1 udp 2130706174 10.0.0.3 2000 typ host";
 
-/// A check goes out to the address, under the id of twelve zeros.
+/// A check is sent to the address, under the id of twelve zeros.
 fn checks_under_zeros(player: &mut Player, ms: u64, destination: SocketAddr) -> bool {
     player.agent.handle_timeout(later(ms), &mut Zeros).is_ok()
         && player.sends()
@@ -173,7 +174,7 @@ fn checks_under_zeros(player: &mut Player, ms: u64, destination: SocketAddr) -> 
         && same(player.sent_id(), Some(TransId([0; 12])), player)
 }
 
-/// Sets up an agent that has checked both addresses of the peer under one id; an answer of that id is to come.
+/// Sets up an agent that has checked both addresses of the peer under one id. A response with that id comes next.
 fn set_up_two_checks(player: &mut Player) -> bool {
     player.set_up_pair()
         && player.hears(SECOND)
@@ -199,12 +200,12 @@ fn of_two_checks_of_one_id_that_of_the_pair_gone_is_not(player: &mut Player) -> 
     ])
 }
 
-/// A failure of the id of twelve zeros without attributes, so without a signature.
+/// An error response with the id of twelve zeros and no attributes, so without MESSAGE-INTEGRITY.
 const BARE_FAILURE: [u8; 20] = [
     0x01, 0x11, 0x00, 0x00, 0x21, 0x12, 0xa4, 0x42, 0, 0, 0, 0, 0, 0, 0, 0, 0, 0, 0, 0,
 ];
 
-/// It would take that one.
+/// The agent would accept that response.
 fn accepts_bare_failure(player: &Player) -> bool {
     match StunMessage::parse(&BARE_FAILURE) {
         Ok(message) => player.agent.accepts_message(&message),
@@ -220,7 +221,8 @@ fn a_failure_that_carries_nothing_is_refused(player: &mut Player) -> Told {
     ])
 }
 
-/// The answer of that id comes from there once more: whether it is taken, and whether a check of its id stands at all.
+/// The response with that id comes once more, from this source. Returns whether it is accepted, and whether any check
+/// with its id is pending.
 fn answered_from(player: &mut Player, source: SocketAddr) -> (bool, bool) {
     let taken = player.takes(60, source, at(1, 1000));
     (taken, player.accepts())
@@ -233,7 +235,7 @@ fn of_two_checks_of_one_id_each_goes_with_its_pair(player: &mut Player) -> Told 
         player.loses(PEER) && same(answered_from(player, second), (true, true), player),
         same(answered_from(player, first), (false, true), player),
         player.loses(SECOND) && same(answered_from(player, second), (false, false), player),
-        // the other way round
+        // in the other order
         set_up_two_checks(player) && same(answered_from(player, second), (true, true), player),
         player.loses(SECOND) && same(answered_from(player, second), (false, true), player),
         same(answered_from(player, first), (true, true), player),
@@ -243,7 +245,7 @@ fn of_two_checks_of_one_id_each_goes_with_its_pair(player: &mut Player) -> Told 
 
 // ---- mapped addresses
 
-/// The last local candidate is a peer reflexive one of this base and priority.
+/// The last local candidate is a peer-reflexive one with this base and priority.
 fn has_learnt(player: &Player, base: SocketAddr, prio: u32) -> bool {
     let mut is_learnt = false;
     for candidate in player.agent.local_candidates() {
@@ -277,7 +279,7 @@ fn a_learnt_candidate_pairs_with_later_ones(player: &mut Player) -> Told {
     Story("a_learnt_candidate_pairs_with_later_ones").holds(&[
         player.set_up_pair(),
         player.complete_check(at(9, 9000)),
-        // it alone is left
+        // only this one is left
         player.loses("candidate:1 1 udp 1 10.0.0.1 1000 typ host"),
         player.hears(OTHER) && same(player.places_with(OTHER), Some((1, 1)), player),
     ])

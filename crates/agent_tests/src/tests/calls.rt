@@ -1,8 +1,8 @@
-//! Numbers of pairs: none is given twice, and they end.
+//! Pair numbers: each is used at most once, and they run out.
 
 use super::*;
 
-/// What numbers pairs get.
+/// Which numbers pairs get.
 struct Numbers;
 
 impl Subject for Numbers {
@@ -29,7 +29,7 @@ fn recreates(player: &mut Player) -> bool {
     player.agent.recreate_candidate_pairs().is_ok()
 }
 
-/// Pairs can't be created again, since no numbers are left.
+/// Recreating the pairs fails, since no numbers are left.
 fn fails_to_recreate(player: &mut Player) -> bool {
     matches!(
         player.agent.recreate_candidate_pairs(),
@@ -42,7 +42,7 @@ fn numbers_end(player: &mut Player) -> Told {
         player.set_up_pair(),
         same(player.number_with(PEER), Some(0), player),
         recreates(player) && player.tells(b"c"),
-        // none is given again
+        // no number is used again
         same(player.number_with(PEER), Some(1), player),
         player.skips_to(LAST) && recreates(player) && fails_to_recreate(player),
         same(player.number_with(PEER), Some(LAST), player) && player.emits_nothing(),
@@ -53,7 +53,7 @@ fn without_a_number_no_candidate_is_stored(player: &mut Player) -> Told {
     Story("without_a_number_no_candidate_is_stored").holds(&[
         player.set_up_alone() && player.skips_to(NONE_LEFT),
         !player.hears(PEER) && player.has_heard_of(&[]),
-        // no local candidate goes over TCP: no pair is wanted
+        // no local candidate uses TCP: no pair is needed
         player.hears("candidate:1 1 tcp 2130706175 10.0.0.2 2000 typ host"),
         player.has_heard_of(&[at(2, 2000)]),
     ])
@@ -74,7 +74,7 @@ fn the_last_number_forms_one_pair(player: &mut Player) -> Told {
 fn without_a_number_no_request_is_served(player: &mut Player) -> Told {
     Story("without_a_number_no_request_is_served").holds(&[
         player.set_up_credentials() && player.takes_role(true) && player.skips_to(NONE_LEFT),
-        // neither the role, nor the sender, nor its source is changed
+        // neither the role nor the remote candidates change, and the source is not reported
         !player.receive_request(0, at(1, 1000)) && player.emits_nothing(),
         player.agent.controlling() && player.has_heard_of(&[]),
         same(player.agent.stats().bind_request_recv, 0, player),

@@ -1,9 +1,9 @@
-//! Local candidates and their preferences; which candidates are stored, listed, taken back and enabled again.
+//! Local candidates and their preferences; which candidates are stored, listed, invalidated and enabled again.
 
 use super::*;
 use is::{CandidateKind, LocalPreference};
 
-/// Which candidates stand.
+/// Which candidates are stored.
 struct Candidates;
 
 impl Subject for Candidates {
@@ -25,7 +25,7 @@ fn candidates_stand_or_not(rt: HostRuntime) -> Result<(), Fail> {
     tell(rt.alloc(), &Candidates)
 }
 
-/// 65535, less one for each candidate of the kind that came before.
+/// 65535, less one for each earlier candidate of the kind.
 #[derive(Drop)]
 struct Falling;
 
@@ -39,7 +39,7 @@ impl LocalPreference for Falling {
     }
 }
 
-/// A host candidate at the address stands then, under this priority.
+/// Adds a host candidate at the address; it is stored then, with this priority.
 fn stands_at(player: &mut Player, address: SocketAddr, prio: u32) -> bool {
     let Some(candidate) = player.host_at(address) else {
         return false;
@@ -50,7 +50,7 @@ fn stands_at(player: &mut Player, address: SocketAddr, prio: u32) -> bool {
     }
 }
 
-/// Candidates get falling preferences from now on.
+/// Sets falling preferences for the candidates that follow.
 fn prefers_falling(player: &mut Player) -> bool {
     match Box::new(player.alloc, Falling) {
         Ok(falling) => {
@@ -69,7 +69,7 @@ fn a_boxed_object_prefers(rt: HostRuntime) -> Result<(), Fail> {
     assert!(rt; prefers_falling(&mut player));
     assert!(rt; stands_at(&mut player, at(1, 1000), 2130706431));
     assert!(rt; stands_at(&mut player, at(1, 1001), 2130706175));
-    // the third one would be less than the second
+    // the priority of the third one would be less than that of the second
     assert!(rt; !player.host(at(1, 1001)));
     Ok(())
 }
@@ -94,7 +94,7 @@ fn greatest(alloc: Global) -> Result<Candidate, AllocError> {
     ))
 }
 
-/// Such a candidate is refused.
+/// Adding such a candidate fails.
 fn refuses_greatest(player: &mut Player) -> bool {
     match greatest(player.alloc) {
         Ok(candidate) => matches!(
@@ -121,12 +121,12 @@ fn equal_candidates_supersede_unless_they_are_less(player: &mut Player) -> Told 
         player.own("candidate:1 1 udp 101 10.0.0.1 1000 typ host"),
         player.own("candidate:1 1 udp 99 10.0.0.1 1001 typ host"),
         player.own("candidate:1 1 tcp 99 10.0.0.1 1000 typ host"),
-        // the fourth line enabled the first candidate again, which stands beside the third
+        // the fourth line enabled the first candidate again, in addition to the third
         player.is_at(&[at(1, 1000), at(1, 1000), at(1, 1001), at(1, 1000)]),
     ])
 }
 
-/// Ufrag and priority of the first local candidate.
+/// The first local candidate has this ufrag and priority.
 fn is_first(player: &Player, ufrag: &str, prio: u32) -> bool {
     match player.agent.local_candidates().next() {
         Some(candidate) => candidate.ufrag() == Some(ufrag) && candidate.prio() == prio,
@@ -142,7 +142,7 @@ fn a_candidate_that_comes_again_is_as_it_was(player: &mut Player) -> Told {
         player.loses(OWN) && !player.loses(OWN),
         player.is_at(&[]) && player.pair_with(PEER).is_none(),
         player.rename("new1", "pass") && player.host(at(1, 1000)),
-        // it would get the second preference of its kind, were it new
+        // a new candidate would get the second preference of its kind
         player.is_at(&[at(1, 1000)]) && is_first(player, "near", 2130706175),
         player.pair_with(PEER).is_some(),
     ])
@@ -160,7 +160,7 @@ fn the_first_equal_candidate_decides_though_discarded(player: &mut Player) -> To
         set_up_without_peer(player),
         player.own("candidate:1 1 udp 200 10.0.0.1 1000 typ host"),
         player.loses(OWN),
-        // of another kind, and less
+        // of another kind, and with a lower priority
         !player.own("candidate:1 1 udp 199 10.0.0.1 1000 typ srflx"),
         player.own("candidate:1 1 udp 200 10.0.0.1 1000 typ srflx"),
         player.is_at(&[at(1, 1000)]),
@@ -177,7 +177,7 @@ fn a_lite_agent_has_hosts_alone(player: &mut Player) -> Told {
 
 // ---- remote candidates
 
-/// The line stores nothing on an agent that has heard of the peer's host, whose ufrag is `farr`.
+/// The line stores nothing on an agent that knows only the peer's host candidate, with the ufrag `farr`.
 fn ignores(player: &mut Player, line: &str) -> bool {
     player.hears(line) && player.has_heard_of(&[at(2, 2000)])
 }
@@ -200,7 +200,7 @@ fn some_remote_candidates_are_ignored(player: &mut Player) -> Told {
     ])
 }
 
-/// No remote candidate has a user fragment.
+/// No remote candidate has a username fragment.
 fn are_unnamed(player: &Player) -> bool {
     for candidate in player.agent.remote_candidates() {
         if candidate.ufrag().is_some() {
@@ -225,7 +225,7 @@ fn lists_skip_what_was_taken_back(player: &mut Player) -> Told {
         player.host(at(1, 1001)),
         player.loses(PEER) && player.has_heard_of(&[at(3, 3000)]),
         player.loses(OWN) && player.is_at(&[at(1, 1001)]),
-        // one of each kind is left, and none else
+        // exactly one of each kind is left
         !player.loses("candidate:1 1 udp 7 10.0.0.3 3000 typ srflx"),
     ])
 }

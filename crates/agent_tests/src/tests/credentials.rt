@@ -1,4 +1,4 @@
-//! Credentials: how long user fragments may be, and which ones candidates and replies go by.
+//! Credentials: how long username fragments may be, and which ones candidates and responses use.
 
 use super::*;
 
@@ -20,20 +20,20 @@ fn credentials_fit_and_are_used(rt: HostRuntime) -> Result<(), Fail> {
     tell(rt.alloc(), &Credentials)
 }
 
-/// So many letters.
+/// A text of so many letters.
 fn letters(alloc: Global, len: usize) -> Option<Text> {
     let bytes = vec![in alloc; b'u'; len].ok()?;
     Some(Text::new(String::from_utf8(bytes).ok()?))
 }
 
-/// Credentials whose user fragment has so many letters.
+/// Credentials whose username fragment has so many letters.
 fn long(alloc: Global, len: usize) -> Option<IceCreds> {
     let ufrag = letters(alloc, len)?;
     let pass = Text::from_str(alloc, "farpass").ok()?;
     Some(IceCreds { ufrag, pass })
 }
 
-/// What becomes of credentials whose user fragment has so many letters; nothing where memory is refused.
+/// Whether the call succeeds with a username fragment of so many letters; `None` if memory runs out.
 fn fits(player: &mut Player, call: Setting, len: usize) -> Option<bool> {
     let creds = long(player.alloc, len)?;
     let told = match call {
@@ -48,17 +48,17 @@ fn fits(player: &mut Player, call: Setting, len: usize) -> Option<bool> {
     }
 }
 
-/// They are taken.
+/// The call succeeds.
 fn takes(player: &mut Player, call: Setting, len: usize) -> bool {
     same(fits(player, call, len), Some(true), player)
 }
 
-/// They are refused, since they leave no room.
+/// The call fails with `CredentialsTooLong`, since a check would not fit.
 fn refuses(player: &mut Player, call: Setting, len: usize) -> bool {
     same(fits(player, call, len), Some(false), player)
 }
 
-/// A call that takes credentials.
+/// A call that sets credentials.
 #[derive(Clone, Copy)]
 enum Setting {
     Local,
@@ -78,7 +78,7 @@ fn user_fragments_leave_room_for_a_check(player: &mut Player) -> Told {
         takes(player, Setting::Remote, 253),
         refuses(player, Setting::Local, 255),
         refuses(player, Setting::Restart, 508),
-        // a restart forgets the other fragment
+        // a restart clears the other fragment
         takes(player, Setting::Restart, 507),
         same(
             player.agent.local_credentials().ufrag.as_str().len(),
@@ -89,7 +89,7 @@ fn user_fragments_leave_room_for_a_check(player: &mut Player) -> Told {
     ])
 }
 
-/// No agent is made under credentials whose user fragment has so many letters.
+/// Making an agent fails with a username fragment of so many letters.
 fn is_made_under_none(player: &Player, len: usize) -> bool {
     match long(player.alloc, len) {
         Some(creds) => matches!(
@@ -115,14 +115,14 @@ fn the_longest_check_reads_again(player: &mut Player) -> Told {
     Story("the_longest_check_reads_again").holds(&[
         set_up_longest(player),
         player.complete_check(at(1, 1000)) && player.checks(50),
-        // it reads as a check of this length with USE-CANDIDATE
+        // it parses as a check of this length with USE-CANDIDATE
         player.has_checked(588, true) && player.has_signed("farpass"),
     ])
 }
 
 // ---- which are in use
 
-/// The user fragment of the first local candidate.
+/// The username fragment of the first local candidate.
 fn goes_by(player: &Player, ufrag: &str) -> bool {
     match player.agent.local_candidates().next() {
         Some(candidate) => candidate.ufrag() == Some(ufrag),

@@ -1,5 +1,5 @@
-//! An agent in a story's words: moments in milliseconds, addresses of 10.0.0.0/24, and a truth value for what came of a
-//! call. These functions have no contract, so that what the agent promises stays out of the stories' proofs.
+//! An agent in a story's words: times in milliseconds, addresses of 10.0.0.0/24, and a `bool` for the result of a
+//! call. These functions have no contract, which keeps the agent's guarantees out of the stories' proofs.
 
 use super::*;
 use is::Duration;
@@ -11,7 +11,7 @@ pub(super) fn at(host: u8, port: u16) -> SocketAddr {
     SocketAddr::V4(SocketAddrV4::new(Ipv4Addr::new(10, 0, 0, host), port))
 }
 
-/// The moment so many milliseconds behind the beginning.
+/// The time so many milliseconds after the beginning.
 pub(super) fn later(ms: u64) -> Instant {
     Instant(ms.saturating_mul(1_000_000))
 }
@@ -28,8 +28,8 @@ pub(super) fn generator() -> Pcg32 {
     Pcg32::new(42, 54)
 }
 
-/// An agent, its random source and memory, the packet that it sent last, the first comparison that failed, and the bytes that
-/// come to the agent next.
+/// An agent, its random source and allocator, the packet that it sent last, the first comparison that failed, and the
+/// bytes that the agent receives next.
 #[derive(Drop)]
 pub(super) struct Player {
     pub(super) agent: Agent,
@@ -41,7 +41,7 @@ pub(super) struct Player {
 }
 
 impl Player {
-    /// A controlled agent; two of different tie-breakers draw different ids.
+    /// A controlled agent. Agents with different tie-breakers draw different ids.
     pub(super) fn new(
         alloc: Global,
         ufrag: &str,
@@ -59,10 +59,10 @@ impl Player {
     }
 }
 
-// ---- how it begins: whether each was set up
+// ---- setting up: whether each succeeded
 
 impl Player {
-    /// Is a new agent, as `new` makes it.
+    /// Replaces the agent by a new one, as `new` makes it.
     pub(super) fn begins(&mut self, ufrag: &str, pass: &str, tie_breaker: u64) -> bool {
         match Player::new(self.alloc, ufrag, pass, tie_breaker) {
             Ok(mut player) => {
@@ -79,7 +79,7 @@ impl Player {
         self.begins("p9KA", PASSWORD, 1) && self.knows("SQAt", "x") && self.host(at(1, 1000))
     }
 
-    /// Sets up a controlling agent at 10.0.0.1:1000 that knows the peer's credentials, and no candidate of it.
+    /// Sets up a controlling agent at 10.0.0.1:1000 that knows the peer's credentials, and no remote candidate.
     pub(super) fn set_up_alone(&mut self) -> bool {
         self.begins("near", "nearpass", 7)
             && self.takes_role(true)
@@ -93,22 +93,22 @@ impl Player {
     }
 }
 
-// ---- what it is told: whether each call was done
+// ---- calls: whether each succeeded
 
 impl Player {
-    /// Becomes the controlling agent or the controlled one, by hand.
+    /// Sets the role, without a role conflict.
     pub(super) fn takes_role(&mut self, controlling: bool) -> bool {
         self.agent.set_controlling(controlling);
         true
     }
 
-    /// Becomes ice-lite.
+    /// Becomes an ICE-lite agent.
     pub(super) fn becomes_lite(&mut self) -> bool {
         self.agent.set_ice_lite(true);
         true
     }
 
-    /// Gives no pair a number before this one.
+    /// Gives no pair a number below this one.
     pub(super) fn skips_to(&mut self, number: u64) -> bool {
         self.agent.skip_pair_ids(number);
         true
@@ -120,13 +120,13 @@ impl Player {
         true
     }
 
-    /// Waits so many milliseconds for the first answer.
+    /// Sets the initial RTO, in milliseconds.
     pub(super) fn waits_at_first(&mut self, ms: u64) -> bool {
         self.agent.set_initial_stun_rto(Duration::from_millis(ms));
         true
     }
 
-    /// Waits so many milliseconds at most for an answer.
+    /// Sets the maximum RTO, in milliseconds.
     pub(super) fn waits_at_most(&mut self, ms: u64) -> bool {
         self.agent.set_max_stun_rto(Duration::from_millis(ms));
         true
@@ -144,7 +144,7 @@ impl Player {
         true
     }
 
-    /// Tells the credentials of the peer.
+    /// Sets the peer's credentials.
     pub(super) fn knows(&mut self, ufrag: &str, pass: &str) -> bool {
         match creds(self.alloc, ufrag, pass) {
             Ok(creds) => self.agent.set_remote_credentials(creds).is_ok(),
@@ -168,7 +168,7 @@ impl Player {
         }
     }
 
-    /// Adds a local candidate; whether it stands then.
+    /// Adds a local candidate; whether it is stored then.
     pub(super) fn adds(&mut self, candidate: Candidate) -> bool {
         matches!(self.agent.add_local_candidate(candidate), Ok(Some(_)))
     }
@@ -189,7 +189,7 @@ impl Player {
         }
     }
 
-    /// Adds a local candidate as a line tells of it.
+    /// Adds the local candidate that the line encodes.
     pub(super) fn own(&mut self, line: &str) -> bool {
         match Candidate::from_sdp_string(self.alloc, line) {
             Ok(candidate) => self.adds(candidate),
@@ -197,7 +197,7 @@ impl Player {
         }
     }
 
-    /// Adds a remote candidate as a line tells of it.
+    /// Adds the remote candidate that the line encodes.
     pub(super) fn hears(&mut self, line: &str) -> bool {
         match Candidate::from_sdp_string(self.alloc, line) {
             Ok(candidate) => self.agent.add_remote_candidate(candidate).is_ok(),
@@ -205,7 +205,7 @@ impl Player {
         }
     }
 
-    /// Takes a candidate back as a line tells of it; whether there was one.
+    /// Invalidates the candidate that the line encodes; whether there was one.
     pub(super) fn loses(&mut self, line: &str) -> bool {
         match Candidate::from_sdp_string(self.alloc, line) {
             Ok(candidate) => self.agent.invalidate_candidate(&candidate),
@@ -213,21 +213,21 @@ impl Player {
         }
     }
 
-    /// Tells the moment.
+    /// Calls `handle_timeout` at this time.
     pub(super) fn timeout(&mut self, ms: u64) -> bool {
         self.agent.handle_timeout(later(ms), &mut self.rng).is_ok()
     }
 
-    /// Tells the moment, at which it sends a packet.
+    /// Calls `handle_timeout` at this time, which sends a packet.
     pub(super) fn checks(&mut self, ms: u64) -> bool {
         self.timeout(ms) && self.sends()
     }
 }
 
-// ---- what comes to it
+// ---- what it receives
 
 impl Player {
-    /// The next bytes that come are this message, signed with the password.
+    /// The next incoming bytes are this message, signed with the password.
     pub(super) fn expects(&mut self, message: StunMessage<'_>, pass: &str) -> bool {
         match signed(self.alloc, message, pass) {
             Some(bytes) => {
@@ -238,7 +238,7 @@ impl Player {
         }
     }
 
-    /// The next bytes that come are the answer to the packet that was sent last, with this mapped address.
+    /// The next incoming bytes are the success response to the packet that was sent last, with this mapped address.
     pub(super) fn expects_answer(&mut self, mapped: SocketAddr) -> bool {
         match self.sent_id() {
             Some(id) => self.expects(StunMessage::binding_reply(id, mapped), "farpass"),
@@ -246,7 +246,7 @@ impl Player {
         }
     }
 
-    /// They come over UDP; whether the agent takes them.
+    /// The incoming bytes arrive over UDP; whether the agent accepts them.
     pub(super) fn takes(&mut self, ms: u64, source: SocketAddr, destination: SocketAddr) -> bool {
         match packet(&self.coming, source, destination) {
             Some(packet) => matches!(self.agent.handle_packet(later(ms), packet), Ok(true)),
@@ -254,7 +254,7 @@ impl Player {
         }
     }
 
-    /// They come from 10.0.0.2:2000 to 10.0.0.1:1000.
+    /// The incoming bytes arrive from 10.0.0.2:2000 at 10.0.0.1:1000.
     pub(super) fn hears_peer(&mut self, ms: u64) -> bool {
         self.takes(ms, at(2, 2000), at(1, 1000))
     }
@@ -264,7 +264,7 @@ impl Player {
         self.checks(0) && self.expects_answer(mapped) && self.hears_peer(50)
     }
 
-    /// The packet that another one sent last comes to it; whether it takes it.
+    /// The last packet of another agent arrives at this one; whether it accepts it.
     pub(super) fn gets(&mut self, ms: u64, other: &Player) -> bool {
         let Some(sent) = &other.sent else {
             return false;
@@ -283,7 +283,7 @@ impl Player {
         }
     }
 
-    /// Whether it would take what comes, addresses apart.
+    /// Whether it would accept the incoming bytes, without regard to addresses.
     pub(super) fn accepts(&self) -> bool {
         match StunMessage::parse(&self.coming) {
             Ok(message) => self.agent.accepts_message(&message),
@@ -291,7 +291,7 @@ impl Player {
         }
     }
 
-    /// Whether it would take what comes, from there to there.
+    /// Whether it would accept the incoming bytes between these addresses.
     pub(super) fn accepts_from(&self, source: SocketAddr, destination: SocketAddr) -> bool {
         match packet(&self.coming, source, destination) {
             Some(packet) => self.agent.accepts_packet(&packet),
@@ -300,7 +300,7 @@ impl Player {
     }
 }
 
-/// The message's bytes, signed with the password, where there is room for them.
+/// The message's bytes, signed with the password, if memory for them can be allocated.
 fn signed(alloc: Global, message: StunMessage<'_>, pass: &str) -> Option<Vec<u8>> {
     let Ok(mut bytes) = vec![in alloc; 0; 600] else {
         return None;
@@ -314,7 +314,7 @@ fn signed(alloc: Global, message: StunMessage<'_>, pass: &str) -> Option<Vec<u8>
     }
 }
 
-/// The bytes as a packet over UDP, if they read as a message.
+/// The bytes as a packet over UDP, if they parse as a message.
 fn packet(bytes: &[u8], source: SocketAddr, destination: SocketAddr) -> Option<StunPacket<'_>> {
     match StunMessage::parse(bytes) {
         Ok(message) => Some(StunPacket {

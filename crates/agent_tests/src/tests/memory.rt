@@ -1,4 +1,4 @@
-//! A growth that is refused: run with each allocation failing in turn (`rt try --test --fail-alloc N`).
+//! Allocation failures: run with each allocation failing in turn (`rt try --test --fail-alloc N`).
 
 use super::*;
 use std::process::Abort;
@@ -28,7 +28,7 @@ fn add_host_with_retry(agent: &mut Agent, alloc: Global) -> bool {
     matches!(add_host(agent, alloc), Ok(true)) || matches!(add_host(agent, alloc), Ok(true))
 }
 
-/// Takes the packet; where memory is refused nothing has come of it, and it is taken once more.
+/// Passes the packet to the agent. A call that runs out of memory has no effect, and is made once more.
 fn takes(agent: &mut Agent, packet: StunPacket<'_>) -> bool {
     match agent.handle_packet(Instant(0), packet) {
         Ok(answer) => answer,

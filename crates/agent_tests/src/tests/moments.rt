@@ -1,8 +1,8 @@
-//! Moments: when the agent wants to be called, and when pairs are checked, announced and given up.
+//! Times: the next timeout, and when pairs are checked, selected and removed.
 
 use super::*;
 
-/// What comes at which moment.
+/// What happens at which time.
 struct Moments;
 
 impl Subject for Moments {
@@ -31,16 +31,16 @@ fn a_path_is_announced_and_nominated(player: &mut Player) -> Told {
         player.expects_answer(at(1, 1000)) && player.hears_peer(50),
         player.tells(b"NCD") && player.wakes_at(50),
         player.checks(50) && player.has_checked(92, true),
-        // the announced pair stands at the greatest priority: it is not announced again
+        // the selected pair has the greatest priority: it is not selected again
         player.emits_nothing(),
         same(player.agent.stats().nomination_send_count, 1, player),
     ])
 }
 
-/// When a check goes out that no answer comes to, and when the pair is given up.
+/// The times of the unanswered checks of a pair, and last the time at which the pair is removed.
 const SCHEDULE: [u64; 10] = [0, 250, 750, 1750, 3750, 6750, 9750, 12750, 15750, 18750];
 
-/// A check goes out at each moment but the last, which is woken for.
+/// A check is sent at each of these times except the last. The next timeout is always the next of these times.
 fn follows_schedule(player: &mut Player) -> bool {
     for turn in 0..9 {
         if !player.checks(SCHEDULE[turn]) || !player.wakes_at(SCHEDULE[turn + 1]) {
@@ -66,7 +66,7 @@ fn a_waiting_packet_leaves_due_moments_open(player: &mut Player) -> Told {
         player.set_up_pair(),
         player.agent.poll_timeout().is_none(),
         player.timeout(0) && player.wakes_at(50),
-        // due moments are asked at the last moment, and fixed then
+        // the due times are computed for the last `now`, and are fixed then
         player.sends() && player.wakes_at(250),
     ])
 }
@@ -79,7 +79,7 @@ fn an_earlier_moment_makes_no_check(player: &mut Player) -> Told {
     ])
 }
 
-/// A controlled agent, asked to nominate behind its check, wakes then.
+/// A controlled agent is nominated by the peer after its check; this is its next timeout then.
 fn nominates_and_wakes_at(player: &mut Player, ms: u64) -> bool {
     player.receive_request(10, at(1, 1000))
         && player.sends()
@@ -109,7 +109,7 @@ fn another_delay_asks_for_due_moments_anew(player: &mut Player) -> Told {
         player.checks(0) && player.wakes_at(250),
         player.waits_at_first(100) && player.wakes_at(100),
         player.waits_at_most(80) && player.wakes_at(80),
-        // the pace of what is sent bounds it from below
+        // the pacing interval is a lower bound
         player.set_pacing(90) && player.wakes_at(90),
     ])
 }

@@ -1,14 +1,14 @@
-//! Pairs: which are formed, under which numbers and priorities, and which are replaced or go.
+//! Pairs: which are formed, their numbers and priorities, and which are replaced or removed.
 
 use super::*;
 use is::pair::CheckState;
 
-/// The peer as a server saw it, at the address of its host candidate.
+/// The peer's server-reflexive candidate, at the address of its host candidate.
 const REFLEXIVE: &str = "candidate:1 1 udp 100 10.0.0.2 2000 typ srflx";
 
 const OTHER: &str = "candidate:1 1 udp 2130706175 10.0.0.3 3000 typ host";
 
-/// Which pairs stand.
+/// Which pairs exist.
 struct Pairs;
 
 impl Subject for Pairs {
@@ -30,7 +30,7 @@ fn pairs_stand_or_go(rt: HostRuntime) -> Result<(), Fail> {
     tell(rt.alloc(), &Pairs)
 }
 
-/// Sets up an agent that announced a path to the reflexive candidate.
+/// Sets up an agent that selected the pair with the reflexive candidate.
 fn set_up_connected(player: &mut Player) -> bool {
     player.set_up_alone()
         && player.hears(REFLEXIVE)
@@ -51,7 +51,7 @@ fn a_pair_of_greater_priority_replaces(player: &mut Player) -> Told {
     ])
 }
 
-/// It has a pair that is announced, and has no answered check.
+/// A pair is selected, and has no answered check.
 fn has_unanswered_figures(player: &mut Player) -> bool {
     player.agent.nominated_pair_rtt().is_none()
         && same(
@@ -71,7 +71,7 @@ fn what_replaced_is_announced_again(player: &mut Player) -> Told {
         set_up_connected(player),
         player.hears(PEER) && player.checks(100) && player.has_checked(92, true),
         player.tells(b"N") && has_unanswered_figures(player),
-        // the first check went with its pair
+        // the first check was removed with its pair
         !player.accepts() && !player.hears_peer(110),
     ])
 }
@@ -108,14 +108,14 @@ fn the_pair_of_a_sender_stays_where_a_lesser_candidate_overwrites(player: &mut P
         player.set_up_credentials(),
         player.receive_request(0, at(1, 1000)) && player.hears(REFLEXIVE),
         player.has_heard_of(&[at(2, 2000)]) && player.pair_with(SENDER).is_none(),
-        // the pair is that of the reflexive candidate now, under the priority that it was made with
+        // the pair has the reflexive candidate now, with the priority that it was formed with
         same(player.number_with(REFLEXIVE), Some(0), player) && player.nominates(REFLEXIVE),
         same(
             player.prio_with(REFLEXIVE),
             Some(7962116751041232382),
             player,
         ),
-        // so it is known when it comes again, and when its peer asks again
+        // so it is recognized when it is added again, and when the peer sends another request
         player.hears(REFLEXIVE) && player.receive_request(1, at(1, 1000)),
         player.has_heard_of(&[at(2, 2000)]) && same(player.number_with(REFLEXIVE), Some(0), player),
     ])
@@ -139,9 +139,9 @@ fn the_limit_acts_where_pairs_are_formed(player: &mut Player) -> Told {
     Story("the_limit_acts_where_pairs_are_formed").holds(&[
         player.set_up_credentials() && player.limit_pairs(0),
         player.hears(PEER) && player.pair_with(PEER).is_none(),
-        // not where a request asks for one
+        // not when a request adds one
         player.receive_request(0, at(1, 1000)) && player.pair_with(PEER).is_some(),
-        // also where there is nothing to form
+        // also when there is nothing to form
         player.hears("candidate:1 1 tcp 7 10.0.0.9 9000 typ host"),
         player.pair_with(PEER).is_none(),
     ])
@@ -150,7 +150,7 @@ fn the_limit_acts_where_pairs_are_formed(player: &mut Player) -> Told {
 fn pairs_of_least_priority_go(player: &mut Player) -> Told {
     Story("pairs_of_least_priority_go").holds(&[
         player.set_up_alone() && player.hears(REFLEXIVE) && player.limit_pairs(1),
-        // nothing is formed: what stands stays
+        // nothing is formed: existing pairs stay
         player.pair_with(REFLEXIVE).is_some(),
         player.hears(OTHER) && player.pair_with(REFLEXIVE).is_none(),
         player.hears("candidate:1 1 udp 7 10.0.0.4 4000 typ host"),
@@ -161,7 +161,7 @@ fn pairs_of_least_priority_go(player: &mut Player) -> Told {
 
 // ---- priorities
 
-/// A candidate of no priority.
+/// A candidate with priority 0.
 const ZERO: &str = "candidate:1 1 udp 0 10.0.0.2 2000 typ host";
 
 fn a_role_set_by_hand_leaves_priorities(player: &mut Player) -> Told {

@@ -1,12 +1,13 @@
-//! Progress: in which round a path is announced whose checks are answered, and which runs hold it up.
+//! Progress: in which round a path with answered checks is selected, and which executions delay that.
 //!
-//! A round: the agent is asked for its wake-up, that moment comes, its packets and events are taken, and what comes until
-//! the next moment. By default a wake-up lies 50 ms behind the last moment while a pair is due (RFC 8445, section 14.2).
+//! A round is one polling cycle: `poll_timeout` gives the time of the next `handle_timeout` call. After that call the
+//! packets and events are polled, and packets arrive until the next one. By default the next timeout is 50 ms after
+//! the last call while a pair is due (RFC 8445, section 14.2).
 
 use super::*;
 use is::Duration;
 
-/// How soon a path is announced.
+/// How soon a path is selected.
 struct Progress;
 
 impl Subject for Progress {
@@ -34,7 +35,7 @@ fn peer(number: u8) -> SocketAddr {
     at(number.saturating_add(1), 2000)
 }
 
-/// Gets the peer's candidate of this number; each has a smaller priority than the one before.
+/// Adds the peer's candidate of this number; each has a lower priority than the one before.
 fn hears_of(player: &mut Player, number: u8) -> bool {
     let prio = 1000u32.saturating_sub(u32::from(number));
     let address = peer(number);
@@ -48,7 +49,7 @@ fn hears_of(player: &mut Player, number: u8) -> bool {
     }
 }
 
-/// Gets so many.
+/// Adds so many of the peer's candidates.
 fn hears_of_all(player: &mut Player, count: u8) -> bool {
     for number in 1..=count {
         if !hears_of(player, number) {
@@ -65,7 +66,7 @@ fn set_up_pairs(player: &mut Player, count: u8) -> bool {
 
 // ---- rounds
 
-/// The milliseconds of the agent's wake-up; of its first moment, where it was told of none.
+/// The next timeout in milliseconds; 0 if there is none.
 fn next_moment(player: &mut Player) -> u64 {
     match player.agent.poll_timeout() {
         Some(Instant(nanos)) => nanos / 1_000_000,
@@ -73,7 +74,7 @@ fn next_moment(player: &mut Player) -> u64 {
     }
 }
 
-/// Answers a check to the address, if one goes out, by an authentic success 10 ms later.
+/// If a check to the address is sent, its authentic success response arrives 10 ms later.
 fn answer_check_to(player: &mut Player, ms: u64, address: SocketAddr) -> bool {
     if !player.sends() || !player.has_sent_from(at(1, 1000), address) {
         return true;
@@ -81,7 +82,7 @@ fn answer_check_to(player: &mut Player, ms: u64, address: SocketAddr) -> bool {
     player.expects_answer(at(1, 1000)) && player.takes(ms.saturating_add(10), address, at(1, 1000))
 }
 
-/// Takes all events; whether one announced the path to the address.
+/// Polls all events; whether the last `NominatedSend` has this destination.
 fn announces(player: &mut Player, address: SocketAddr) -> bool {
     let mut announced = false;
     for _ in 0..8 {
@@ -96,7 +97,8 @@ fn announces(player: &mut Player, address: SocketAddr) -> bool {
     announced
 }
 
-/// A round, at this moment, in which checks to the address alone are answered; whether it announced the path there.
+/// A round at this time, in which only checks to the address are answered; whether it selected the path to the
+/// address.
 fn announces_in_round(player: &mut Player, ms: u64, address: SocketAddr) -> bool {
     player.timeout(ms)
         && answer_check_to(player, ms, address)
@@ -104,8 +106,8 @@ fn announces_in_round(player: &mut Player, ms: u64, address: SocketAddr) -> bool
         && announces(player, address)
 }
 
-/// The number of the round, counted from 1, and the milliseconds of its moment, in which the path to the address is
-/// announced, if that is one of so many.
+/// The first round that selects the path to the address: its number, counted from 1, and its time in milliseconds.
+/// `None` if none of so many rounds does.
 fn announced(player: &mut Player, address: SocketAddr, rounds: u64) -> Option<(u64, u64)> {
     for round in 1..=rounds {
         let ms = next_moment(player);
@@ -116,13 +118,13 @@ fn announced(player: &mut Player, address: SocketAddr, rounds: u64) -> Option<(u
     None
 }
 
-/// So many rounds pass in which it checks nothing, and announces nothing.
+/// So many rounds pass; none of them sends a check or selects a path.
 fn checks_nothing(player: &mut Player, rounds: u64) -> bool {
     announced(player, peer(1), rounds).is_none()
         && same(player.agent.stats().bind_request_sent, 0, player)
 }
 
-// ---- of n pairs the last is checked in round n, (n - 1) * 50 ms behind the first
+// ---- of n pairs the last is checked in round n, (n - 1) * 50 ms after the first
 
 fn the_least_of_four_pairs_is_announced_in_the_fourth_round(player: &mut Player) -> Told {
     Story("the_least_of_four_pairs_is_announced_in_the_fourth_round").holds(&[
@@ -140,7 +142,7 @@ fn the_least_of_a_hundred_pairs_is_announced_in_the_hundredth_round(player: &mut
     ])
 }
 
-// ---- runs that hold it up
+// ---- executions that delay it
 
 fn without_an_advance_the_wake_up_is_the_last_moment(player: &mut Player) -> Told {
     Story("without_an_advance_the_wake_up_is_the_last_moment").holds(&[
@@ -150,7 +152,7 @@ fn without_an_advance_the_wake_up_is_the_last_moment(player: &mut Player) -> Tol
     ])
 }
 
-/// Sets up a controlling agent with two pairs, which waits so many nanoseconds for the first answer.
+/// Sets up a controlling agent with two pairs and an initial RTO of so many nanoseconds.
 fn set_up_initial_rto(player: &mut Player, nanos: u64) -> bool {
     if !set_up_pairs(player, 2) {
         return false;
@@ -161,10 +163,10 @@ fn set_up_initial_rto(player: &mut Player, nanos: u64) -> bool {
 
 fn below_a_millisecond_a_pair_goes_twice_before_another(player: &mut Player) -> Told {
     Story("below_a_millisecond_a_pair_goes_twice_before_another").holds(&[
-        // due again at 1 ms, behind the other
+        // due again at 1 ms, after the other
         set_up_initial_rto(player, 1_000_000)
             && same(announced(player, peer(2), 9), Some((2, 50)), player),
-        // due again at once, before the other of less priority
+        // due again at once, before the other, which has a lower priority
         set_up_initial_rto(player, 999_999)
             && same(announced(player, peer(2), 9), Some((3, 100)), player),
     ])
@@ -174,7 +176,7 @@ fn a_lite_agent_checks_nothing(player: &mut Player) -> Told {
     Story("a_lite_agent_checks_nothing").holds(&[
         player.set_up_alone() && player.becomes_lite(),
         hears_of_all(player, 1) && checks_nothing(player, 10),
-        // it wakes each 3 s
+        // its timeouts are 3 s apart
         player.wakes_at(30_000),
     ])
 }
@@ -183,15 +185,15 @@ fn without_the_credentials_of_the_peer_nothing_is_checked(player: &mut Player) -
     Story("without_the_credentials_of_the_peer_nothing_is_checked").holds(&[
         player.begins("near", "nearpass", 7) && player.takes_role(true),
         player.host(at(1, 1000)) && hears_of_all(player, 1),
-        // its pair is due all the time
+        // its pair is always due
         checks_nothing(player, 10) && player.wakes_at(500),
         player.knows("farr", "farpass"),
         same(announced(player, peer(1), 9), Some((1, 500)), player),
     ])
 }
 
-/// A request of the first candidate, by an agent of greater tie-breaker in this role, turns the agent to the other one. It
-/// nominates where its sender is controlling.
+/// A request from the first candidate claims this role with a greater tie-breaker, so the agent switches to the other
+/// role. The request nominates if its sender is controlling.
 fn turn_role(player: &mut Player, ms: u64, claimed: bool) -> bool {
     let request = StunMessage::binding_request(
         "near:farr",
@@ -219,12 +221,12 @@ fn a_role_that_turns_twice_within_a_round_puts_a_pair_ahead(player: &mut Player)
         same(announced(player, peer(2), 9), Some((1, 60_050)), player),
         set_up_one_checked(player),
         turn_role(player, 60_010, true) && turn_role(player, 60_020, false),
-        // the pair that was nominated meanwhile is checked once more
+        // the pair that was nominated in between is checked once more
         same(announced(player, peer(2), 9), Some((2, 60_100)), player),
     ])
 }
 
-/// It checks its pair at 0, and wakes for it at 250; an answer to that check is to come.
+/// It checks its pair at 0, and its next timeout is 250 ms. The response to that check comes next.
 fn check_and_wait(player: &mut Player) -> bool {
     player.checks(0) && player.expects_answer(at(1, 1000)) && player.wakes_at(250)
 }
@@ -232,7 +234,7 @@ fn check_and_wait(player: &mut Player) -> bool {
 fn a_pair_of_one_check_is_given_up_before_a_late_answer(player: &mut Player) -> Told {
     Story("a_pair_of_one_check_is_given_up_before_a_late_answer").holds(&[
         set_up_pairs(player, 1) && check_and_wait(player) && player.checks(250),
-        // the answer to the first check counts behind the second one too
+        // the response to the first check counts even after the second check
         player.takes(300, peer(1), at(1, 1000)) && announces(player, peer(1)),
         set_up_pairs(player, 1) && player.tries_once() && check_and_wait(player),
         player.timeout(250) && player.sends_nothing() && player.agent.state().is_disconnected(),

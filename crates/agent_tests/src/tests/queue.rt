@@ -1,8 +1,9 @@
-//! Requests that come before the peer's credentials are known: 100 wait, and each moment serves one.
+//! Early requests: requests received before the remote credentials. 100 are stored, and each `handle_timeout` call
+//! serves one.
 
 use super::*;
 
-/// Which requests wait, and how long.
+/// Which early requests are stored, and for how long.
 struct Queue;
 
 impl Subject for Queue {
@@ -22,26 +23,26 @@ fn requests_wait(rt: HostRuntime) -> Result<(), Fail> {
     tell(rt.alloc(), &Queue)
 }
 
-/// Sets up the agent of the request of 100 bytes, before it knows its peer.
+/// Sets up the agent of the request of 100 bytes, before it has the remote credentials.
 fn set_up_without_peer(player: &mut Player) -> bool {
     player.begins("p9KA", PASSWORD, 1) && player.host(at(1, 1000))
 }
 
-/// The id that has the number in front.
+/// The id whose first byte is the number.
 fn numbered(number: u8) -> TransId {
     let mut id = [0; 12];
     id[0] = number;
     TransId(id)
 }
 
-/// A request of the peer's comes at 0, under the number.
+/// The peer's request with this number arrives at 0.
 fn takes_numbered(player: &mut Player, number: u8) -> bool {
     let id = numbered(number);
     let message = StunMessage::binding_request("p9KA:SQAt", id, true, 9, 1853824767, false);
     player.expects(message, PASSWORD) && player.hears_peer(0)
 }
 
-/// Takes requests 0 to 100.
+/// Requests 0 to 100 arrive.
 fn takes_many(player: &mut Player) -> bool {
     for number in 0..101u8 {
         if !takes_numbered(player, number) {
@@ -51,7 +52,7 @@ fn takes_many(player: &mut Player) -> bool {
     true
 }
 
-/// 100 moments give 100 replies, to requests 1 to 100 in this order.
+/// 100 `handle_timeout` calls send 100 responses, to requests 1 to 100 in this order.
 fn replies_in_order(player: &mut Player) -> bool {
     for before in 0..100u8 {
         let is_served = player.checks(0) && player.has_sent(Class::Success, 64);
@@ -71,13 +72,13 @@ fn the_last_100_requests_wait(player: &mut Player) -> Told {
         takes_many(player) && player.tells(b"D") && player.sends_nothing(),
         player.knows("SQAt", "x") && replies_in_order(player),
         same(player.agent.stats().bind_request_recv, 100, player),
-        // a moment that served a request is no last moment
+        // a call that served a request does not count as the last `handle_timeout` call
         player.agent.poll_timeout().is_none(),
         player.checks(0) && player.has_sent(Class::Request, 88),
     ])
 }
 
-/// Sets up the same agent, which has accepted the request at 0, and knows its peer now.
+/// Sets up the same agent, which accepted the request at 0 and has the remote credentials now.
 fn set_up_waiting_request(player: &mut Player) -> bool {
     set_up_without_peer(player)
         && player.receive_request(0, at(1, 1000))
@@ -108,11 +109,11 @@ fn without_delays_no_request_waits(player: &mut Player) -> Told {
 
 fn a_refused_moment_changes_nothing(player: &mut Player) -> Told {
     Story("a_refused_moment_changes_nothing").holds(&[
-        // the request wants a pair, and no number is left
+        // the request needs a pair, and no number is left
         set_up_waiting_request(player) && player.skips_to(18446744073709551615),
         !player.timeout(0) && player.emits_nothing(),
         same(player.agent.state(), IceConnectionState::New, player),
-        // it still waits, until it is too old
+        // it is still stored, until it is too old
         !player.timeout(21499) && player.timeout(21500) && player.tells(b"Rc"),
     ])
 }
@@ -129,7 +130,7 @@ fn a_waiting_request_outlives_a_restart(player: &mut Player) -> Told {
     Story("a_waiting_request_outlives_a_restart").holds(&[
         set_up_without_peer(player),
         player.receive_request(0, at(1, 1000)) && player.restarts("new1", "newpass", true),
-        // the request was signed with the old password; its reply goes by the new one
+        // the request was signed with the old password; its response is signed with the new one
         player.knows("SQAt", "x") && player.checks(10) && player.has_replied("newpass"),
     ])
 }

@@ -1,10 +1,10 @@
-//! Requests: answered, refused, dropped.
+//! Requests: answered with a success or an error response, or dropped.
 
 use super::*;
 use is::stun::{Builder, HasClass};
 use is_agent::emitted::{last_announced, last_issued};
 
-/// Which requests are answered.
+/// Which requests get a response.
 struct Requests;
 
 impl Subject for Requests {
@@ -27,7 +27,7 @@ fn requests_are_served_or_not(rt: HostRuntime) -> Result<(), Fail> {
     tell(rt.alloc(), &Requests)
 }
 
-/// The next event tells of a packet from 10.0.0.2:2000 over this protocol.
+/// The next event reports a packet from 10.0.0.2:2000 over this protocol as discovered.
 fn discovers_over(player: &mut Player, wanted: Protocol) -> bool {
     match player.agent.poll_event() {
         Some(IceAgentEvent::DiscoveredRecv { proto, source }) => {
@@ -42,7 +42,7 @@ fn discovers(player: &mut Player) -> bool {
     discovers_over(player, Protocol::Udp)
 }
 
-/// The last packet made it issue one from 10.0.0.1:1000 to 10.0.0.2:2000, and announce nothing.
+/// The last packet made the agent issue one from 10.0.0.1:1000 to 10.0.0.2:2000, and select no path.
 fn has_issued(player: &Player) -> bool {
     let issued = match last_issued(&player.agent) {
         Some(issued) => issued.path.source == at(1, 1000) && issued.path.destination == at(2, 2000),
@@ -75,7 +75,7 @@ fn its_source_is_told_of_once(player: &mut Player) -> Told {
     ])
 }
 
-/// The request comes over this protocol, from 10.0.0.2:2000 to 10.0.0.1:1000; whether the agent takes it.
+/// The request comes over this protocol, from 10.0.0.2:2000 to 10.0.0.1:1000; whether the agent accepts it.
 fn receive_request_over(player: &mut Player, proto: Protocol) -> bool {
     let Ok(message) = StunMessage::parse(&REQUEST) else {
         return false;
@@ -89,7 +89,7 @@ fn receive_request_over(player: &mut Player, proto: Protocol) -> bool {
     matches!(player.agent.handle_packet(later(0), packet), Ok(true))
 }
 
-/// It comes over this protocol, and is the first to.
+/// The request comes over this protocol, and is the first to.
 fn discovers_by(player: &mut Player, proto: Protocol) -> bool {
     receive_request_over(player, proto) && discovers_over(player, proto) && player.tells(b"")
 }
@@ -115,7 +115,7 @@ fn reacts_to_request(player: &mut Player) -> bool {
     player.receive_request(0, at(1, 1000)) || !player.emits_nothing()
 }
 
-/// The request is for the one agent, and for none of the others.
+/// The request is for the first agent, and for none of the others.
 fn a_request_for_others_changes_nothing(player: &mut Player) -> Told {
     let other = "xJcE9AQAR7kczUDVOXRUCm";
     Story("a_request_for_others_changes_nothing").holds(&[
@@ -158,7 +158,7 @@ fn a_request_of_a_discarded_sender_is_dropped(player: &mut Player) -> Told {
 
 // ---- requests of other parts, to a controlling agent
 
-/// What each request of the peer's to that agent begins with.
+/// The attributes that each of the peer's requests to that agent begins with.
 fn named() -> Builder<'static, HasClass> {
     Builder::new()
         .binding()
@@ -188,7 +188,7 @@ fn a_request_of_no_role_is_served(player: &mut Player) -> Told {
 }
 
 fn of_two_roles_the_own_one_counts_once(player: &mut Player) -> Told {
-    // greater than the own tie-breaker in the own role, less in the other
+    // greater than the local tie-breaker in the agent's own role, less in the other
     let message = named().ice_controlling(9).ice_controlled(1);
     Story("of_two_roles_the_own_one_counts_once").holds(&[
         player.set_up_alone(),

@@ -1,4 +1,4 @@
-//! Restarts, beginnings, and agents that are ice-lite.
+//! ICE restarts, new agents, and ICE-lite agents.
 
 use super::*;
 use is::IceAgentStats;
@@ -25,7 +25,7 @@ fn agents_begin_and_restart(rt: HostRuntime) -> Result<(), Fail> {
     tell(rt.alloc(), &Restarts)
 }
 
-/// Its statistics are those of an agent that did nothing.
+/// Its statistics are those of a new agent.
 fn has_done_nothing(player: &Player) -> bool {
     player.agent.stats() == IceAgentStats::default()
 }
@@ -36,14 +36,14 @@ fn a_restart_forgets_what_it_told(player: &mut Player) -> Told {
         player.complete_check(at(1, 1000)),
         !has_done_nothing(player),
         player.restarts("new1", "newpass", true),
-        // of the five events of before none is left
+        // none of the five earlier events is left
         player.tells(b"Rc") && player.has_no_figures() && player.agent.controlling(),
         has_done_nothing(player),
         !player.accepts() && !player.hears_peer(60),
     ])
 }
 
-/// The next event tells of a restart under this user fragment.
+/// The next event reports a restart with this username fragment.
 fn tells_of(player: &mut Player, ufrag: &str) -> bool {
     match player.agent.poll_event() {
         Some(IceAgentEvent::IceRestart(creds)) => creds.ufrag.as_str() == ufrag,
@@ -81,9 +81,9 @@ fn a_beginning_is_told_of_once(player: &mut Player) -> Told {
     ])
 }
 
-// ---- what is viable
+// ---- viable candidates
 
-/// The peer's address is that of a path that holds.
+/// The peer's address has a viable pair.
 fn is_viable(player: &Player) -> bool {
     player.agent.has_viable_remote_candidate(at(2, 2000))
 }
@@ -105,7 +105,7 @@ fn a_check_that_succeeded_is_seen(player: &mut Player) -> Told {
     ])
 }
 
-/// Sets up an ice-lite agent that has accepted the request at 0.
+/// Sets up an ICE-lite agent that has accepted the request at 0.
 fn set_up_lite(player: &mut Player) -> bool {
     player.set_up_credentials() && player.becomes_lite() && player.receive_request(0, at(1, 1000))
 }
@@ -138,9 +138,9 @@ fn a_lite_agent_waits_15_seconds_for_its_peer(player: &mut Player) -> Told {
 fn a_lite_pair_that_replaces_lives_on_the_requests_of_the_other(player: &mut Player) -> Told {
     Story("a_lite_pair_that_replaces_lives_on_the_requests_of_the_other").holds(&[
         set_up_lite(player),
-        // of a greater priority than the sender of the request
+        // with a greater priority than the sender of the request
         player.hears(PEER) && same(player.number_with(PEER), Some(1), player),
-        // not as if it had been heard of at the first moment
+        // not as if it had received a packet at the first `handle_timeout` call
         player.timeout(10000) && player.timeout(14999),
         is_viable(player),
         player.timeout(15000) && player.pair_with(PEER).is_none(),

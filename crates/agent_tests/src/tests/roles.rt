@@ -1,9 +1,9 @@
-//! Role conflicts: two agents at 10.0.0.1:1000 and 10.0.0.2:2000, and the packets between them carried by hand.
+//! Role conflicts: two agents at 10.0.0.1:1000 and 10.0.0.2:2000. The test delivers the packets between them.
 
 use super::*;
 use is::pair::CheckState;
 
-/// The candidates of both, of little priority.
+/// The candidates of both, with low priority.
 const ONE: &str = "candidate:1 1 udp 100 10.0.0.1 1000 typ host";
 
 const TWO: &str = "candidate:1 1 udp 100 10.0.0.2 2000 typ host";
@@ -66,17 +66,17 @@ fn set_up_second(player: &mut Player, tie_breaker: u64, controlling: bool) -> bo
         && player.tells(b"Rc")
 }
 
-/// Sets up agents of these tie-breakers that claim one role, each with a check on its way.
+/// Sets up agents with these tie-breakers that claim one role, each with a check in flight.
 fn claim(one: &mut Player, two: &mut Player, ties: (u64, u64), controlling: bool) -> bool {
     set_up_first(one, ties.0, controlling) && set_up_second(two, ties.1, controlling)
 }
 
-/// Each gets the check of the other, and answers it.
+/// Each receives the other's check, and responds.
 fn meet(one: &mut Player, two: &mut Player) -> bool {
     one.gets(10, two) && two.gets(10, one) && one.sends() && two.sends()
 }
 
-/// The first gets the check of the second, and answers by a 487, the way back.
+/// The first receives the second's check, and sends a 487 on the reverse path.
 fn answer_by_487(one: &mut Player, two: &Player) -> bool {
     one.gets(10, two)
         && one.sends()
@@ -90,13 +90,13 @@ fn roles_of(one: &Player, two: &Player) -> (bool, bool) {
     (one.agent.controlling(), two.agent.controlling())
 }
 
-/// The greater tie-breaker keeps its role, whichever it is, and the lesser yields.
+/// The agent with the greater tie-breaker keeps its role, whichever it is, and the other one switches.
 fn lesser_yields(one: &mut Player, two: &mut Player, controlling: bool) -> bool {
     meet(one, two)
         && one.has_sent(Class::Failure, 76)
         && two.has_sent(Class::Success, 64)
         && same(roles_of(one, two), (controlling, !controlling), one)
-        // the check was sent under the role of before: the 487 does nothing now, once and again
+        // the check was sent in the earlier role: the 487 has no effect now, even when repeated
         && two.gets(20, one)
         && two.gets(30, one)
         && same(roles_of(one, two), (controlling, !controlling), one)
@@ -111,7 +111,7 @@ fn the_lesser_tie_breaker_yields(one: &mut Player, two: &mut Player) -> Told {
     ])
 }
 
-/// The second switches when the 487 comes, and does nothing when it comes again.
+/// The second switches when the 487 arrives. The repeated 487 has no effect.
 fn switches_once(one: &mut Player, two: &mut Player, controlling: bool) -> bool {
     answer_by_487(one, two)
         && same(roles_of(one, two), (controlling, controlling), one)
@@ -140,7 +140,7 @@ fn equal_tie_breakers_both_switch(one: &mut Player, two: &mut Player) -> Told {
     ])
 }
 
-/// What a 487 leaves of the second's pair: an unanswered check, under the priority of the role now.
+/// The second's pair after a 487: its check is unanswered, and its priority is that of the current role.
 fn is_unanswered(player: &mut Player, prio: u64) -> bool {
     same(player.prio_with(ONE), Some(prio), player)
         && same(player.state_with(ONE), Some(CheckState::InProgress), player)
@@ -151,13 +151,13 @@ fn a_switch_computes_priorities_anew(one: &mut Player, two: &mut Player) -> Told
         claim(one, two, (10, 5), true),
         answer_by_487(one, two) && is_unanswered(two, 433758141951),
         two.gets(20, one) && is_unanswered(two, 433758141950),
-        // no answer counts, and the next check is due as before
+        // no success response is counted, and the next check is due as before
         same(two.agent.stats().bind_success_recv, 0, two),
         two.tells(b"D") && two.wakes_at(250),
     ])
 }
 
-/// The next bytes that come to the agent are a 487 to its check.
+/// The next incoming bytes are a 487 to the agent's check.
 fn expects_487(player: &mut Player) -> bool {
     match player.sent_id() {
         Some(id) => player.expects(StunMessage::binding_role_conflict_reply(id), "passA"),

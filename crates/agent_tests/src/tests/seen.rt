@@ -1,11 +1,11 @@
-//! What a story sees of an agent: its packets, its events, a letter for each, its pairs and its candidates. As in `driver`, no
-//! function has a contract.
+//! What a story observes of an agent: its packets, its events as letters, its pairs and its candidates. As in
+//! `driver`, no function has a contract.
 
 use super::*;
 use is::Duration;
 use is::pair::CheckState;
 
-/// What can be seen of a pair.
+/// What can be observed of a pair.
 #[derive(Clone, Copy, Debug, PartialEq, Eq)]
 pub(super) struct Seen {
     pub(super) number: u64,
@@ -19,7 +19,7 @@ pub(super) struct Seen {
 // ---- what it sends
 
 impl Player {
-    /// It sends a packet, which is kept.
+    /// It sends a packet, which is stored.
     pub(super) fn sends(&mut self) -> bool {
         self.sent = self.agent.poll_transmit();
         self.sent.is_some()
@@ -51,7 +51,7 @@ impl Player {
         same(came, (class, len), self)
     }
 
-    /// The packet that it sent last is a check of this length that says the priority of a peer reflexive candidate.
+    /// The packet that it sent last is a check of this length with the PRIORITY of a peer-reflexive candidate.
     pub(super) fn has_checked(&self, len: usize, nominates: bool) -> bool {
         let Some(sent) = &self.sent else {
             return false;
@@ -66,7 +66,7 @@ impl Player {
         }
     }
 
-    /// The packet that it sent last claims the controlling role by this tie-breaker, under this user name.
+    /// The packet that it sent last claims the controlling role with this tie-breaker, and has this USERNAME.
     pub(super) fn has_claimed(&self, tie_breaker: u64, username: &str) -> bool {
         let Some(sent) = &self.sent else {
             return false;
@@ -81,7 +81,7 @@ impl Player {
         }
     }
 
-    /// The packet that it sent last is the reply to the request of 100 bytes, signed with the password.
+    /// The packet that it sent last is the response to the request of 100 bytes, signed with the password.
     pub(super) fn has_replied(&self, pass: &str) -> bool {
         let Some(sent) = &self.sent else {
             return false;
@@ -100,7 +100,7 @@ impl Player {
         }
     }
 
-    /// The packet that it sent last goes from there to there.
+    /// The packet that it sent last has this source and this destination.
     pub(super) fn has_sent_from(&self, source: SocketAddr, destination: SocketAddr) -> bool {
         match &self.sent {
             Some(sent) => sent.source == source && sent.destination == destination,
@@ -109,7 +109,7 @@ impl Player {
     }
 }
 
-// ---- what is seen of it
+// ---- what is observed of it
 
 impl Player {
     /// The letter of its next event.
@@ -118,7 +118,7 @@ impl Player {
         Some(char::from(letter(&event)))
     }
 
-    /// It tells of these events, and of no others.
+    /// It emits these events, and no others.
     pub(super) fn tells(&mut self, letters: &[u8]) -> bool {
         for wanted in letters {
             if !same(self.next_letter(), Some(char::from(*wanted)), self) {
@@ -137,7 +137,8 @@ impl Player {
         same(self.agent.poll_timeout(), Some(later(ms)), self)
     }
 
-    /// The figures of the announced pair: milliseconds of the last answer, of all together, and how many there were.
+    /// The figures of the selected pair: round-trip time of the last response and the total, in milliseconds, and the
+    /// number of responses.
     pub(super) fn has_figures(&mut self, last: u64, total: u64, count: u64) -> bool {
         let (rtt, total_rtt) = (Duration::from_millis(last), Duration::from_millis(total));
         same(self.agent.nominated_pair_rtt(), Some(rtt), self)
@@ -155,7 +156,7 @@ impl Player {
             && self.agent.nominated_pair_responses_received().is_none()
     }
 
-    /// The pair whose remote candidate is that of the line.
+    /// The pair whose remote candidate is the one of the line.
     pub(super) fn pair_with(&self, line: &str) -> Option<Seen> {
         let Ok(candidate) = Candidate::from_sdp_string(self.alloc, line) else {
             return None;
@@ -183,12 +184,12 @@ impl Player {
         Some(self.pair_with(line)?.prio)
     }
 
-    /// How far that pair is checked.
+    /// The check state of that pair.
     pub(super) fn state_with(&self, line: &str) -> Option<CheckState> {
         Some(self.pair_with(line)?.state)
     }
 
-    /// The places of that pair's candidates, the local one first.
+    /// The indices of that pair's candidates, the local one first.
     pub(super) fn places_with(&self, line: &str) -> Option<(usize, usize)> {
         let seen = self.pair_with(line)?;
         Some((seen.local, seen.remote))

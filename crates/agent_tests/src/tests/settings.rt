@@ -1,9 +1,9 @@
-//! Settings, and what is answered where none was made.
+//! Settings and their defaults.
 
 use super::*;
 use is::Duration;
 
-/// What is set, and what a setting does.
+/// Which settings there are, and what each does.
 struct Settings;
 
 impl Subject for Settings {
@@ -21,12 +21,12 @@ fn settings_are_kept(rt: HostRuntime) -> Result<(), Fail> {
     tell(rt.alloc(), &Settings)
 }
 
-/// Lengths that are too small are refused.
+/// MTUs that are too small fail.
 fn refuses_lengths(agent: &mut Agent) -> bool {
     matches!(agent.set_mtu(587..=9000), Err(IceError::MtuTooSmall))
 }
 
-/// The lengths of a packet, greatest and warned of.
+/// The limits of a packet's length: the maximum, and the one for warnings.
 fn has_lengths(agent: &Agent, mtu: usize, mtu_warn: usize) -> bool {
     agent.mtu() == mtu && agent.mtu_warn() == mtu_warn
 }
@@ -42,7 +42,7 @@ fn a_packet_may_be_as_long_as_the_longest_check(player: &mut Player) -> Told {
     ])
 }
 
-/// Sets up an agent whose digests are computed by a provider that is passed in.
+/// Sets up an agent that computes its MACs with a given provider.
 fn set_up_provider(player: &mut Player) -> bool {
     let Ok(creds) = creds(player.alloc, "aaaa", "p") else {
         return false;
@@ -71,10 +71,10 @@ fn what_is_not_set_has_a_default(player: &mut Player) -> Told {
     ])
 }
 
-/// An agent of that tie-breaker claims the controlling role by it.
+/// A tie-breaker that the agent sends in the controlling role.
 const TIE_BREAKER: u64 = 0x0102_0304_0506_0708;
 
-/// Has another tie-breaker from now on.
+/// Sets another tie-breaker.
 fn breaks_ties_by(player: &mut Player, tie_breaker: u64) -> bool {
     player.agent.set_control_tie_breaker(tie_breaker);
     true
@@ -87,7 +87,7 @@ fn a_check_claims_the_role_by_the_tie_breaker(player: &mut Player) -> Told {
     ])
 }
 
-/// Whether the state is a connected one, and whether a disconnected one.
+/// Whether the state counts as connected, and as disconnected.
 fn is_of(state: IceConnectionState, connected: bool, disconnected: bool) -> bool {
     state.is_connected() == connected && state.is_disconnected() == disconnected
 }
@@ -102,7 +102,7 @@ fn connected_and_completed_are_connected() -> Told {
     ])
 }
 
-/// A pair without answers is given up behind so many milliseconds.
+/// A pair without responses is removed after so many milliseconds.
 fn gives_up_behind(player: &mut Player, ms: u64) -> bool {
     same(
         player.agent.ice_timeout(),
@@ -111,7 +111,7 @@ fn gives_up_behind(player: &mut Player, ms: u64) -> bool {
     )
 }
 
-/// Checks a pair twice from now on.
+/// Limits the checks of a pair to two.
 fn checks_twice(player: &mut Player) -> bool {
     player.agent.set_max_stun_retransmits(2);
     true
@@ -120,7 +120,7 @@ fn checks_twice(player: &mut Player) -> bool {
 fn how_long_a_pair_is_checked_follows_the_delays(player: &mut Player) -> Told {
     Story("how_long_a_pair_is_checked_follows_the_delays").holds(&[
         player.set_up_alone(),
-        // 500, and 500 behind the last check
+        // 500 ms, and 500 ms after the last check
         checks_twice(player) && gives_up_behind(player, 1000),
         player.waits_at_most(400) && gives_up_behind(player, 800),
         player.waits_at_first(100) && gives_up_behind(player, 400),

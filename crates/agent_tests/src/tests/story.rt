@@ -1,5 +1,5 @@
-//! Stories: sentences that hold of an agent, which the story borrows. The stories of one subject are told in one test, by one
-//! player, and each begins with a new agent.
+//! Stories: sentences that hold for an agent, which the story borrows. One test with one player runs the stories of a
+//! subject; each story begins with a new agent.
 
 use super::*;
 use std::fmt::Debug;
@@ -11,7 +11,7 @@ pub(super) struct Missed {
     sentence: usize,
 }
 
-/// Whether what was told came so.
+/// The result of a story: `Ok` if each of its sentences holds.
 pub(super) type Told = Result<(), Missed>;
 
 /// A story by its name.
@@ -19,7 +19,7 @@ pub(super) type Told = Result<(), Missed>;
 pub(super) struct Story(pub(super) &'static str);
 
 impl Story {
-    /// Whether it came so: each of its sentences holds.
+    /// Returns `Ok` if each sentence holds, and otherwise the first one that does not.
     pub(super) fn holds(self, sentences: &[bool]) -> Told {
         let mut sentence: usize = 0;
         for came in sentences {
@@ -37,11 +37,11 @@ impl Story {
 
 /// The stories of one subject.
 pub(super) trait Subject {
-    /// Has the player play each of them.
+    /// Runs each story with the player.
     fn play(&self, player: &mut Player) -> Told;
 }
 
-/// Whether the value is the expected one. The first that is not is kept, and printed if the story fails.
+/// Whether the value is the expected one. The first value that is not is stored, and printed if the story fails.
 pub(super) fn same_in<T: Copy + PartialEq + Debug>(
     actual: T,
     expected: T,
@@ -57,7 +57,7 @@ pub(super) fn same_in<T: Copy + PartialEq + Debug>(
     false
 }
 
-/// The same, kept by the player.
+/// The same; the player stores the mismatch.
 pub(super) fn same<T: Copy + PartialEq + Debug>(
     actual: T,
     expected: T,
@@ -66,14 +66,15 @@ pub(super) fn same<T: Copy + PartialEq + Debug>(
     same_in(actual, expected, player.alloc, &mut player.difference)
 }
 
-/// What comes of the stories, played by an agent in a box, and the first comparison that failed.
+/// Runs the stories with an agent in a box. Returns their result, and the first comparison that failed.
 fn played<S: Subject>(alloc: Global, subject: &S) -> Result<(Told, Option<String>), Fail> {
     let mut player = Box::new(alloc, Player::new(alloc, "near", "nearpass", 7)?)?;
     let told = subject.play(&mut player);
     Ok((told, player.difference.take()))
 }
 
-/// Tells the stories, and fails with the first that does not hold, its sentence, and the first comparison that failed.
+/// Runs the stories. Fails with the first story that does not hold, its sentence, and the first comparison that
+/// failed.
 pub(super) fn tell<S: Subject>(alloc: Global, subject: &S) -> Result<(), Fail> {
     match played(alloc, subject)? {
         (Ok(()), _) => Ok(()),

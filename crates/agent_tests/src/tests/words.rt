@@ -1,4 +1,5 @@
-//! Random words: what is drawn, and that nothing else is. The generator's first words are those of its published example.
+//! Random words: which are drawn, and that no others are. The generator's first words are those of its published
+//! example.
 
 use super::driver::generator;
 use super::*;
@@ -19,7 +20,7 @@ fn words_are_drawn(rt: HostRuntime) -> Result<(), Fail> {
     tell(rt.alloc(), &Words)
 }
 
-/// They are this user fragment and password.
+/// They have this username fragment and password.
 fn are(creds: &IceCreds, ufrag: &str, pass: &str) -> bool {
     creds.ufrag.as_str() == ufrag && creds.pass.as_str() == pass
 }
@@ -40,7 +41,7 @@ const ID: TransId = TransId([
     0xb7, 0x02, 0x5c, 0xa1, 0x09, 0xf4, 0x47, 0x7b, 0x30, 0x33, 0x1d, 0xba,
 ]);
 
-/// Draws from the generator of the published example from now on.
+/// Sets the generator of the published example.
 fn draws(player: &mut Player) -> bool {
     player.rng = generator();
     true

@@ -1,4 +1,4 @@
-//! A random source that gives zero bytes alone, so that all checks have one transaction id.
+//! A random source that returns only zero bytes, so that all checks have one transaction id.
 ghost use Rattle.rand_core.specs.Steps.{stream_of, steps_u32};
 
 use rand_core::utils::NextWord;

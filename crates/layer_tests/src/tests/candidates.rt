@@ -1,4 +1,4 @@
-//! Candidates as a user meets them.
+//! Public API of candidates.
 
 mod foundations;
 mod infos;

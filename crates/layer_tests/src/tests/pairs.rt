@@ -1,4 +1,4 @@
-//! A pair as the agent meets it: its priority, its checks and answers, and when it is due.
+//! A pair as the agent uses it: its priority, its checks and responses, and when it is due.
 
 ghost use Rattle.std.specs.Prelude.{◌≡◌, ◌<◌};
 ghost use Rattle.is_pair.specs.Checks.{is_kept};
@@ -28,7 +28,7 @@ fn host_pair(alloc: Global, prio: u64) -> CandidatePair {
     pair_at(alloc, 0, 0, prio)
 }
 
-/// A pair of the host candidates at these places.
+/// A pair of the host candidates with these indices.
 fn pair_at(alloc: Global, local: usize, remote: usize, prio: u64) -> CandidatePair
     ensures { result ≡ new_pair 7 local remote prio }
 {
@@ -43,7 +43,7 @@ fn pair_at(alloc: Global, local: usize, remote: usize, prio: u64) -> CandidatePa
     )
 }
 
-/// A pair that is checked, with its timing and its random words.
+/// A pair that is checked, with its timing and its random source.
 #[derive(Drop)]
 struct Path {
     pair: CandidatePair,
@@ -53,7 +53,7 @@ struct Path {
 }
 
 impl Path {
-    /// With the timing that an agent has by default.
+    /// With an agent's default timing.
     fn new(alloc: Global) -> Path {
         Path {
             pair: host_pair(alloc, 1),
@@ -62,7 +62,7 @@ impl Path {
         }
     }
 
-    /// With one retransmit.
+    /// With one retransmission.
     fn impatient(alloc: Global) -> Path {
         Path {
             pair: host_pair(alloc, 1),
@@ -87,7 +87,7 @@ impl Path {
         Ok(())
     }
 
-    /// A check, and its answer.
+    /// A check, and its response.
     fn check_answered(&mut self, sent: u64, received: u64) -> Result<(), Fail> {
         let id = self.check(at(sent))?;
         self.answer(at(received), id)

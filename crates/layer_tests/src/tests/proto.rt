@@ -1,4 +1,4 @@
-//! What no proof sees: that the definitions say what the standards say, and that calls that take memory succeed.
+//! What is tested and not proved: that the definitions match the standards, and that calls that allocate succeed.
 
 mod errors;
 mod macs;

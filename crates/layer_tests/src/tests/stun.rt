@@ -1,4 +1,4 @@
-//! Messages with published bytes, each fault with the shortest bytes that have it, what is written, and delays.
+//! Messages with published bytes, each fault with the shortest bytes that have it, writing, and timing.
 
 mod faults;
 mod fingerprints;

@@ -1,12 +1,12 @@
-//! Announced paths and the answers before them; packets that are not accepted.
+//! Selected paths and the responses before them; packets that are not accepted.
 
 use super::*;
 use is::{Duration, ParseFault};
 
-/// A, which is controlling, sends a check to B at moment 0, in entry 4.
+/// A, which is controlling, sends a check to B at time 0, in entry 4.
 const CHECK: usize = 4;
 
-/// The answer of B comes at this moment from there.
+/// B's response arrives at this time, between these addresses.
 fn answer(ms: u64, from: SocketAddr, to: SocketAddr) -> Step {
     Step::Packet {
         ms,
@@ -16,7 +16,7 @@ fn answer(ms: u64, from: SocketAddr, to: SocketAddr) -> Step {
     }
 }
 
-/// A packet that comes on the way of B's.
+/// A packet that arrives on the path from B.
 fn says(said: Said) -> Step {
     Step::Packet {
         ms: 50,
@@ -26,7 +26,7 @@ fn says(said: Said) -> Step {
     }
 }
 
-/// Announced paths, and packets that are not accepted.
+/// Selected paths, and packets that are not accepted.
 struct Answered;
 
 impl Subject for Answered {
@@ -42,7 +42,7 @@ fn stories(rt: HostRuntime) -> Result<(), Fail> {
     tell(rt.alloc(), &Answered)
 }
 
-/// The steps behind the check.
+/// Plays these steps after the check.
 fn plays_behind_check(stage: &mut Stage, last: &[Step]) -> bool {
     let first = [
         Step::Controlling(true),
@@ -70,7 +70,8 @@ fn an_announced_path_was_answered(stage: &mut Stage) -> Told {
     ])
 }
 
-/// How long the answers of the announced pair took, last and in all, and how many there were.
+/// The figures of the selected pair: round-trip time of the last response and the total, in milliseconds, and the
+/// number of responses.
 fn has_figures(agent: &Agent, last: u64, total: u64, count: u64) -> bool {
     agent.nominated_pair_rtt() == Some(Duration::from_millis(last))
         && agent.nominated_pair_total_rtt() == Some(Duration::from_millis(total))
@@ -92,7 +93,7 @@ fn an_answer_that_comes_twice_announces_once(stage: &mut Stage) -> Told {
     ])
 }
 
-/// The five packets behind the check are refused at their entries.
+/// The five packets after the check are not accepted, by their entries.
 fn are_refused(stage: &mut Stage) -> bool {
     let mut refused = answers(stage, 5, &Answer::Unparsed(ParseFault::TooShort));
     for number in 6..10 {

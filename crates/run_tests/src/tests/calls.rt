@@ -1,9 +1,9 @@
-//! Each call has its entry, in order.
+//! Each call has its log entry, in order.
 
 use super::*;
 use is::{Duration, IceError, LocalPreference, run};
 
-/// The entries of calls.
+/// The log entries of calls.
 struct Calls;
 
 impl Subject for Calls {
@@ -17,7 +17,7 @@ fn stories(rt: HostRuntime) -> Result<(), Fail> {
     tell(rt.alloc(), &Calls)
 }
 
-/// One entry for each call, in order.
+/// There is one log entry for each call, in order.
 fn are_in_number(log: &RunLog, count: usize) -> bool {
     let mut next = 0usize;
     for entry in &log.entries {
@@ -29,7 +29,7 @@ fn are_in_number(log: &RunLog, count: usize) -> bool {
     next == count && !log.stopped
 }
 
-/// Calls that take no memory.
+/// Calls that do not allocate.
 fn settings(alloc: Global) -> Option<Vec<Call>> {
     Vec::from_array(
         alloc,
@@ -52,7 +52,7 @@ fn settings(alloc: Global) -> Option<Vec<Call>> {
     .ok()
 }
 
-/// A refused call has its entry as any other, and the run goes on.
+/// A call that fails has its log entry as any other, and the run continues.
 const SETTINGS_ANSWERS: [Answer; 13] = [
     Answer::Done,
     Answer::Refused(IceError::MtuTooSmall),
@@ -69,7 +69,7 @@ const SETTINGS_ANSWERS: [Answer; 13] = [
     Answer::Wake(None),
 ];
 
-/// The entries have these answers.
+/// The log entries have these results.
 fn have_answers(log: &RunLog, answers: &[Answer]) -> bool {
     for (entry, answer) in log.entries.iter().zip(answers) {
         if entry.answer != *answer {
@@ -93,7 +93,7 @@ fn run_on_fresh(alloc: Global, calls: Vec<Call>) -> Result<RunLog, Fail> {
     Ok(run(&mut agent, calls, &mut Pcg32::seed_from_u64(SEED)))
 }
 
-/// 65535, less one for each candidate of the kind that came before.
+/// 65535, less one for each earlier candidate of the kind.
 #[derive(Drop)]
 struct Falling;
 
@@ -107,7 +107,7 @@ impl LocalPreference for Falling {
     }
 }
 
-/// Random credentials of the agent's own.
+/// Sets random local credentials.
 fn rename(alloc: Global) -> Option<Call> {
     let creds = IceCreds::new(alloc, &mut Pcg32::seed_from_u64(SEED)).ok()?;
     Some(AgentCall::SetLocalCredentials(creds))
@@ -118,7 +118,8 @@ fn invalidate(alloc: Global) -> Option<Call> {
     Some(AgentCall::InvalidateCandidate(candidate))
 }
 
-/// The calls of candidates, preference and names; behind a restart that keeps it the host goes.
+/// The calls for candidates, preference and credentials. The restart keeps the host candidate, which is invalidated
+/// after it.
 fn calls_with_memory(alloc: Global, preference: Box<dyn LocalPreference>) -> Option<Vec<Call>> {
     let steps = [
         Step::Remote,
@@ -135,7 +136,7 @@ fn calls_with_memory(alloc: Global, preference: Box<dyn LocalPreference>) -> Opt
     Some(all)
 }
 
-/// The host comes a second time with less priority, since one of its kind came before.
+/// The host is not added a second time: its priority would be lower, since it would be the second of its kind.
 const CANDIDATE_ANSWERS: [Answer; 9] = [
     Answer::Done,
     Answer::Added,

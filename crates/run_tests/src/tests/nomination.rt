@@ -1,23 +1,23 @@
-//! Which path is announced, and who asks for it.
+//! Which path is selected, and which agent nominates it.
 
 use super::*;
 
-/// The greater peer candidate.
+/// The peer's candidate of the greatest priority.
 const GREATER: Step = Step::PeerLine("candidate:1 1 udp 2130706175 10.0.0.2 2000 typ host");
 
-/// A candidate of less priority at another address.
+/// A candidate of lower priority at another address.
 const LESSER: Step = Step::PeerLine("candidate:2 1 udp 100 10.0.0.3 3000 typ host");
 
-/// A candidate of less priority at the address of the greater one.
+/// A candidate of lower priority at the address of the greatest one.
 const REFLEXIVE: Step = Step::PeerLine("candidate:3 1 udp 100 10.0.0.2 2000 typ srflx");
 
-/// What comes to A from there.
+/// A packet that arrives at A from this address.
 fn says(ms: u64, from: SocketAddr, said: Said) -> Step {
     let to = at(1, 1000);
     Step::Packet { ms, from, to, said }
 }
 
-/// Which path is announced.
+/// Which path is selected.
 struct Nomination;
 
 impl Subject for Nomination {
@@ -76,7 +76,7 @@ fn a_lesser_pair_is_not_announced_behind_it(stage: &mut Stage) -> Told {
         takes(stage, 7, true),
         takes(stage, 8, true),
         announces(stage, &[(7, path_to(at(2, 2000)))]),
-        // it is valid all the same
+        // its pair is valid all the same
         stage.agent.has_viable_remote_candidate(at(3, 3000)),
     ])
 }
@@ -99,12 +99,13 @@ fn a_replaced_pair_is_announced_at_the_next_moment(stage: &mut Stage) -> Told {
         stage.plays(&[&steps]),
         announces(stage, &[(5, path), (7, path)]),
         issues(stage, &checks),
-        // the pair of the first check is gone
+        // the pair of the first check was removed
         takes(stage, 8, false),
     ])
 }
 
-/// Plays: A, which is controlled, has sent a check in entry 3. After what comes then, there is a timeout in entry 6.
+/// Plays: A, which is controlled, has sent a check in entry 3. After what comes then, there is a `handle_timeout`
+/// call in entry 6.
 fn play_controlled(stage: &mut Stage, first: Step, second: Step) -> bool {
     stage.plays(&[&[
         Step::Remote,
@@ -136,7 +137,7 @@ fn a_controlled_agent_announces_what_was_asked_for(stage: &mut Stage) -> Told {
         takes(stage, 4, true),
         takes(stage, 5, true),
         issues(stage, &packets),
-        // the request nominates, and the next moment announces
+        // the request nominates, and the next `handle_timeout` call selects
         announces(stage, &[(6, path_to(at(2, 2000)))]),
     ])
 }

@@ -1,9 +1,9 @@
-//! Polls in the order of issue.
+//! Polls return packets and events in the order of issue.
 
 use super::*;
 use is::{IceAgentEvent, IceConnectionState};
 
-/// What is polled, in order.
+/// What polls return, in order.
 struct Order;
 
 impl Subject for Order {
@@ -19,7 +19,7 @@ fn stories(rt: HostRuntime) -> Result<(), Fail> {
     tell(rt.alloc(), &Order)
 }
 
-/// Plays: a check in entry 3, a reply in entry 4, and these steps after them.
+/// Plays: a check in entry 3, a response in entry 4, and these steps after them.
 fn play_two_packets(stage: &mut Stage, last: &[Step]) -> bool {
     let request = Step::Packet {
         ms: 10,
@@ -40,7 +40,7 @@ fn play_two_packets(stage: &mut Stage, last: &[Step]) -> bool {
     stage.plays(&[&first, last])
 }
 
-/// The bytes read as a message of this class and id.
+/// The bytes parse as a message of this class and id.
 fn reads_as(bytes: &[u8], class: Class, id: TransId) -> bool {
     match StunMessage::parse(bytes) {
         Ok(message) => message.class() == class && message.trans_id() == id,
@@ -70,7 +70,7 @@ fn packets_are_polled_in_order(stage: &mut Stage) -> Told {
     ])
 }
 
-/// A letter for each event of a poll: `-` where there is none.
+/// A letter for the event that a poll returns: `-` if there is none.
 fn in_flight(answer: &Answer) -> u8 {
     match answer {
         Answer::Event(Some(IceAgentEvent::IceRestart(_))) => b'R',
@@ -85,7 +85,7 @@ fn in_flight(answer: &Answer) -> u8 {
     }
 }
 
-/// From the entry on these events are polled.
+/// The entries from this one on poll these events.
 fn tells(log: &RunLog, first: usize, all_in_flight: &[u8]) -> bool {
     let mut told = log.entries.iter().skip(first);
     for wanted in all_in_flight {

@@ -1,9 +1,9 @@
-//! Replies, each with the request that it answers.
+//! Responses, each with its request.
 
 use super::*;
 use is::Transmit;
 
-/// B's request of this number comes to the address.
+/// B's request with this number arrives at the address.
 fn asks(ms: u64, number: u8, to: SocketAddr) -> Step {
     Step::Packet {
         ms,
@@ -16,7 +16,7 @@ fn asks(ms: u64, number: u8, to: SocketAddr) -> Step {
     }
 }
 
-/// What requests are answered.
+/// Which requests get a response.
 struct Replies;
 
 impl Subject for Replies {
@@ -50,13 +50,13 @@ fn each_request_has_its_reply(stage: &mut Stage) -> Told {
         stage.plays(&[&steps]),
         issues(stage, &replies),
         takes(stage, 4, true),
-        // no candidate has the address, so nobody answers
+        // no candidate has the address, so there is no response
         takes(stage, 5, true),
         announces(stage, &[]),
     ])
 }
 
-/// Requests that came before the credentials, and three moments behind them.
+/// The entry of the first of three `handle_timeout` calls, after two early requests and the remote credentials.
 const LATE: usize = 4;
 
 fn a_waiting_request_is_answered_once(stage: &mut Stage) -> Told {

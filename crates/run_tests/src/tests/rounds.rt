@@ -1,16 +1,17 @@
-//! Rounds in a log: of n pairs of which the least alone is answered, its path is announced in round n.
+//! Rounds in a log: of n pairs only the least one is answered, and its path is selected in round n.
 //!
-//! A round: a moment, and what comes until the next. By default the moments lie 50 ms apart while a pair is due (RFC 8445, section 14.2).
+//! A round is a `handle_timeout` call and everything up to the next one. By default the calls are 50 ms apart while a
+//! pair is due (RFC 8445, section 14.2).
 
 use super::*;
 
-/// The timing advance.
+/// The pacing interval Ta, in milliseconds.
 const ADVANCE: u64 = 50;
 
-/// What stands in the log before the candidates of the peer: the role, the peer's credentials and the own candidate.
+/// The number of entries before the peer's candidates: the role, the peer's credentials and the local candidate.
 const BEFORE: usize = 3;
 
-/// How soon a log announces.
+/// How soon a log selects a path.
 struct Rounds;
 
 impl Subject for Rounds {
@@ -30,7 +31,7 @@ fn place(number: u8) -> SocketAddr {
     at(number.saturating_add(2), 2000)
 }
 
-/// The peer's candidate of this number becomes known; each has a smaller priority than the one before.
+/// Adds the peer's candidate of this number; each has a lower priority than the one before.
 fn hears_of(alloc: Global, number: u8) -> Option<Call> {
     let prio = 1000u32.saturating_sub(u32::from(number));
     let ip = place(number).ip();
@@ -38,13 +39,13 @@ fn hears_of(alloc: Global, number: u8) -> Option<Call> {
     peer_line(alloc, &line)
 }
 
-/// The milliseconds of the moment of this round, counted from 0.
+/// The time of this round's `handle_timeout` call, in milliseconds. Rounds are counted from 0.
 fn begins(round: u8) -> u64 {
     u64::from(round).saturating_mul(ADVANCE)
 }
 
-/// A controlling agent hears of so many candidates; so many moments come; and behind the last one the success of the check of that
-/// round, from the candidate of the least priority.
+/// A controlling agent gets so many of the peer's candidates. Then there are so many `handle_timeout` calls. After
+/// the last one, the success response to the check of that round arrives from the candidate of the least priority.
 fn calls(alloc: Global, count: u8) -> Option<Vec<Call>> {
     let last = count.saturating_sub(1);
     let first = [
@@ -69,7 +70,7 @@ fn calls(alloc: Global, count: u8) -> Option<Vec<Call>> {
     Some(calls)
 }
 
-/// The entry of the moment of this round, counted from 0, of so many.
+/// The entry of this round's `handle_timeout` call, if there are so many candidates. Rounds are counted from 0.
 fn entry_of(round: u8, count: u8) -> usize {
     BEFORE
         .saturating_add(usize::from(count))
@@ -89,7 +90,8 @@ fn checks_in_order(log: &RunLog, count: u8) -> bool {
     true
 }
 
-/// So many rounds announce the path to the last candidate, in the entry behind the last moment, and in no other.
+/// So many rounds select the path to the last candidate, in the entry after the last `handle_timeout` call, and in no
+/// other.
 fn announces_in_round(stage: &mut Stage, name: &'static str, count: u8) -> Told {
     let last = count.saturating_sub(1);
     Story(name).holds(&[

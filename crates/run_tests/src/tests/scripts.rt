@@ -1,4 +1,4 @@
-//! Scripts: the status that each ends with, and what it writes.
+//! Scripts: the exit status of each, and what it writes.
 
 use ice_script::play;
 use std::alloc::{AllocError, Global};
@@ -11,7 +11,8 @@ mod logs;
 mod roles;
 mod sessions;
 
-/// The agent of the published request: its ufrag, its password, its host candidate and the other ufrag.
+/// The agent that the published request is for: its ufrag, its password, its host candidate and the other agent's
+/// ufrag.
 const AGENT: &str = r#"{"call":"agent","ufrag":"p9KA","pass":"xJcE9AQAR7kczUDVOXRUCl","tie":1}
 {"call":"remote","ufrag":"SQAt","pass":"x"}
 {"call":"host","addr":"10.0.0.1:1000","proto":"udp"}
@@ -20,7 +21,7 @@ const AGENT: &str = r#"{"call":"agent","ufrag":"p9KA","pass":"xJcE9AQAR7kczUDVOX
 const AGENT_MADE: &str =
     "A agent ok\nA wake none\nA remote ok\nA wake none\nA host added\nA wake none\n";
 
-/// A Binding request of p9KA:SQAt with USE-CANDIDATE, in the parts that a test changes.
+/// A Binding request to p9KA from SQAt with USE-CANDIDATE, in the parts that a test changes.
 const HEADER: &str = "000100502112a442";
 
 const ID_AND_TYPE: &str = "6a756331357578556e67476300060009";
@@ -34,13 +35,13 @@ const INTEGRITY: &str = "5d0425a0207ab1e054102299aaf9839ca076c6d5";
 
 const FINGERPRINT: &str = "80280004360e219f";
 
-/// Its reply, as HMAC-SHA1 and CRC-32 of another library make it.
+/// Its response, as HMAC-SHA1 and CRC-32 of another library make it.
 const SERVED: &str = "A packet true\n\
 A send 0 udp 10.0.0.1:1000 10.0.0.2:2000 0101002c2112a4426a756331357578556e67476300200008000126c22b12a440000800144465f0405413b525dd2d5730e3e8c803daecef75802800044a6e4696\n\
 A event discovered udp 10.0.0.2:2000\n\
 A wake none\n";
 
-/// What a script ended with, and what it wrote.
+/// The exit status of a script, and what it wrote.
 #[derive(Drop)]
 struct Played {
     status: u8,
@@ -59,7 +60,7 @@ fn play_script(alloc: Global, mut script: &[u8]) -> Played {
     }
 }
 
-/// Plays the script, which is to end with this status and to write this.
+/// Plays the script, and expects this status, output and error output.
 fn ends(rt: &impl Abort, alloc: Global, script: &str, status: u8, output: &str, errors: &str) {
     let played = play_script(alloc, script.as_bytes());
     assert!(rt;
@@ -77,12 +78,12 @@ fn ends(rt: &impl Abort, alloc: Global, script: &str, status: u8, output: &str, 
     );
 }
 
-/// Plays the script, each of whose lines is to be taken, and which is to print this.
+/// Plays the script, all of whose lines are valid, and expects this output.
 fn prints(rt: &impl Abort, alloc: Global, script: &str, output: &str) {
     ends(rt, alloc, script, 0, output, "");
 }
 
-/// The line of a packet from 10.0.0.2:2000 whose bytes are the request's, with these parts for its own.
+/// The line of a packet from 10.0.0.2:2000 whose bytes are those of the request, except for these parts.
 fn packet_line(
     alloc: Global,
     header: &str,
@@ -248,7 +249,7 @@ fn two_agents_take_their_own_calls(rt: HostRuntime) -> Result<(), Fail> {
     Ok(())
 }
 
-/// Gives some bytes, and then an error.
+/// Returns some bytes, and then an error.
 #[derive(Drop)]
 struct FailingReader<'a>(&'a [u8]);
 
@@ -261,7 +262,7 @@ impl Read for FailingReader<'_> {
     }
 }
 
-/// Takes so many writes, and then none.
+/// Accepts so many writes, and then fails.
 #[derive(Drop)]
 struct FailingWriter(u8);
 

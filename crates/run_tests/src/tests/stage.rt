@@ -3,7 +3,7 @@
 use super::*;
 use is::{IceError, WorldLog, run};
 
-/// An agent behind its run, the log of that, the log of a world, and the first comparison that failed.
+/// An agent after its run, the run's log, the log of two agents, and the first comparison that failed.
 #[derive(Drop)]
 pub(super) struct Stage {
     pub(super) alloc: Global,
@@ -13,13 +13,13 @@ pub(super) struct Stage {
     pub(super) difference: Option<String>,
 }
 
-/// A as it is made.
+/// A new agent with A's credentials.
 fn fresh(alloc: Global) -> Result<Agent, IceError> {
     Agent::new(alloc, creds(alloc, Side::A)?, TIE_BREAKER)
 }
 
 impl Stage {
-    /// Before any story.
+    /// The stage before any story.
     pub(super) fn new(alloc: Global) -> Result<Stage, IceError> {
         Ok(Stage {
             alloc,
@@ -36,7 +36,7 @@ impl Stage {
         })
     }
 
-    /// A new agent stands on it.
+    /// Starts with a new agent.
     fn begins(&mut self) -> bool {
         match fresh(self.alloc) {
             Ok(agent) => {
@@ -59,7 +59,7 @@ impl Stage {
         true
     }
 
-    /// A new agent takes the steps, part by part.
+    /// A new agent makes the calls of the steps, part by part.
     pub(super) fn plays(&mut self, parts: &[&[Step]]) -> bool {
         self.makes(calls_of(self.alloc, parts))
     }

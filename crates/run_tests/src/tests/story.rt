@@ -1,5 +1,5 @@
-//! Stories: sentences that hold of what is played on a stage, which the story borrows. The stories of one subject are told in
-//! one test, on one stage, and each begins with new agents.
+//! Stories: sentences that hold for what is played on a stage, which the story borrows. One test with one stage runs
+//! the stories of a subject; each story begins with new agents.
 
 use super::*;
 use std::fmt::Debug;
@@ -11,7 +11,7 @@ pub(super) struct Missed {
     sentence: usize,
 }
 
-/// Whether what was told came so.
+/// The result of a story: `Ok` if each of its sentences holds.
 pub(super) type Told = Result<(), Missed>;
 
 /// A story by its name.
@@ -19,7 +19,7 @@ pub(super) type Told = Result<(), Missed>;
 pub(super) struct Story(pub(super) &'static str);
 
 impl Story {
-    /// Whether it came so: each of its sentences holds.
+    /// Returns `Ok` if each sentence holds, and otherwise the first one that does not.
     pub(super) fn holds(self, sentences: &[bool]) -> Told {
         let mut sentence: usize = 0;
         for came in sentences {
@@ -37,18 +37,18 @@ impl Story {
 
 /// The stories of one subject.
 pub(super) trait Subject {
-    /// Plays each of them.
+    /// Plays each story.
     fn play(&self, stage: &mut Stage) -> Told;
 }
 
-/// What comes of the stories, on a stage in a box, and the first comparison that failed.
+/// Runs the stories on a stage in a box. Returns their result, and the first comparison that failed.
 fn played<S: Subject>(alloc: Global, subject: &S) -> Result<(Told, Option<String>), Fail> {
     let mut stage = Box::new(alloc, Stage::new(alloc)?)?;
     let told = subject.play(&mut stage);
     Ok((told, stage.difference.take()))
 }
 
-/// Whether the entry has the expected value. The first one that has not is kept, and printed if the story fails.
+/// Whether the entry has the expected value. The first value that differs is stored, and printed if the story fails.
 pub(super) fn same<T: Copy + PartialEq + Debug>(
     entry: usize,
     actual: T,
@@ -67,7 +67,8 @@ pub(super) fn same<T: Copy + PartialEq + Debug>(
     false
 }
 
-/// Tells the stories, and fails with the first that does not hold, its sentence, and the first comparison that failed.
+/// Runs the stories. Fails with the first story that does not hold, its sentence, and the first comparison that
+/// failed.
 pub(super) fn tell<S: Subject>(alloc: Global, subject: &S) -> Result<(), Fail> {
     match played(alloc, subject)? {
         (Ok(()), _) => Ok(()),

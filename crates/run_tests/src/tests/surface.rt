@@ -1,4 +1,4 @@
-//! The public types of `is`, and the traits that each has: where one of them goes, this does not compile.
+//! The public types of `is` and the traits of each. If one of them is removed, this does not compile.
 
 use super::*;
 use is::candidate::{HasProtocol, HasRoute, NoProtocol, NoRoute, Tcp, Udp};
@@ -19,7 +19,7 @@ use std::hash::Hash;
 
 type Boxed = Box<dyn LocalPreference>;
 
-/// These types are named in an alias alone, since a call with such a type argument, which holds a boxed preference, is not
+/// These types are named only in an alias: a call with such a type argument, which holds a boxed preference, is not
 /// proved.
 type Holders = (
     IceAgent<DefaultSha1HmacProvider>,
@@ -58,7 +58,7 @@ fn is_provider<H: Sha1HmacProvider>() {}
 
 fn lends<'a, I: Iterator<Item = &'a Candidate> + Clone>() {}
 
-/// A function of the caller's is a preference.
+/// A caller's function is a preference.
 fn of_function<F: PreferenceFunction>() {
     is_preference::<FnPreference<F>>();
 }
@@ -151,7 +151,7 @@ fn worlds() {
     is_compared::<WorldLog>();
 }
 
-/// Keys of maps, what is ordered, and what has a default.
+/// Types that are keys of maps, types that are ordered, and types that have a default.
 fn keys_orders_and_defaults() {
     is_key::<Protocol>();
     is_key::<TcpType>();
@@ -172,7 +172,7 @@ fn keys_orders_and_defaults() {
     has_default::<IceAgentStats>();
 }
 
-/// What is written as text.
+/// Types that are written as text.
 fn texts() {
     is_shown::<Text>();
     is_shown::<Protocol>();

@@ -15,7 +15,7 @@ use is::{AgentSpec, World, WorldEntry, WorldEvent, WorldLog};
 
 type Two = World<DefaultSha1HmacProvider>;
 
-/// What happens, by what differs.
+/// An event between the agents, by what differs.
 #[derive(Clone, Copy)]
 enum Event {
     Do(Side, Step),
@@ -27,7 +27,7 @@ enum Event {
         to: Side,
         from: SocketAddr,
     },
-    /// The packet of this number arrives on this way.
+    /// The packet of this number arrives on this path.
     Arrive {
         packet: usize,
         ms: u64,
@@ -35,7 +35,7 @@ enum Event {
     },
 }
 
-/// The packet arrives at the side on the way between the two.
+/// The packet arrives at the side, on the path between the two home addresses.
 fn deliver(packet: usize, ms: u64, to: Side) -> Event {
     let from = home(other(to));
     Event::Deliver {
@@ -46,7 +46,7 @@ fn deliver(packet: usize, ms: u64, to: Side) -> Event {
     }
 }
 
-/// Both know each other, A first, and make a check at moment 0, in entries 3 and 7.
+/// Both get each other's credentials and candidate, A first, and send a check at time 0, in entries 3 and 7.
 fn opening() -> [Event; 8] {
     [
         Event::Do(Side::A, Step::Remote),
@@ -111,7 +111,7 @@ fn spec(
     })
 }
 
-/// How the agents begin, A's first.
+/// How the agents begin, A's values first.
 #[derive(Clone, Copy)]
 struct Start {
     tie_breakers: [u64; 2],
@@ -126,7 +126,7 @@ fn world(alloc: Global, start: Start) -> Option<Two> {
     World::new(alloc, a, b).ok()
 }
 
-/// What becomes of the events between two agents as they are made.
+/// The log of the events between two new agents.
 fn world_log(alloc: Global, start: Start, parts: &[&[Event]]) -> Option<WorldLog> {
     let events = events_of(alloc, parts)?;
     let mut world = world(alloc, start)?;
@@ -145,15 +145,15 @@ impl Stage {
         }
     }
 
-    /// Behind the opening.
+    /// The same, after the opening.
     fn happens_behind(&mut self, start: Start, last: &[Event]) -> bool {
         self.happens(start, &[&opening(), last])
     }
 }
 
-// ---- what a log says
+// ---- what a log reports
 
-/// The roles that the table has for the entry: those of its last row that is not behind it.
+/// The roles that the table has for the entry: those of its last row that is not after the entry.
 fn roles_at(table: &[(usize, [bool; 2])], number: usize) -> [bool; 2] {
     let mut roles = [false, false];
     for (first, next) in table {
@@ -164,7 +164,7 @@ fn roles_at(table: &[(usize, [bool; 2])], number: usize) -> [bool; 2] {
     roles
 }
 
-/// From the entries of the table on the roles are these. There is an entry for each event, in order.
+/// The log has these roles from each row's entry on. There is an entry for each event, in order.
 fn has_roles(stage: &mut Stage, table: &[(usize, [bool; 2])]) -> bool {
     let mut number = 0usize;
     for entry in &stage.world.entries {
@@ -202,7 +202,7 @@ fn world_issues(stage: &mut Stage, packets: &[(usize, Issued)]) -> bool {
     true
 }
 
-/// These entries announce these paths, and no other announces any.
+/// These entries select these paths, and no other entry selects any.
 fn world_announces(stage: &mut Stage, paths: &[(usize, Path)]) -> bool {
     for entry in &stage.world.entries {
         let expected = [wanted(paths, entry.number), None];
@@ -219,7 +219,7 @@ fn world_announces(stage: &mut Stage, paths: &[(usize, Path)]) -> bool {
     true
 }
 
-/// From this entry on, that many packets were delivered to the side and answered so.
+/// From this entry on, so many packets were delivered to the side, all with this result.
 fn takes_all(stage: &mut Stage, first: usize, count: usize, side: Side, accepted: bool) -> bool {
     for entry in stage.world.entries.iter().skip(first).take(count) {
         let expected = Answer::Flag(accepted);
@@ -238,7 +238,7 @@ fn takes_all(stage: &mut Stage, first: usize, count: usize, side: Side, accepted
     first.saturating_add(count) <= stage.world.entries.len()
 }
 
-/// The way from the side to the other.
+/// The path from the side to the other.
 fn path_of(side: Side) -> Path {
     Path {
         proto: Protocol::Udp,
@@ -247,7 +247,7 @@ fn path_of(side: Side) -> Path {
     }
 }
 
-/// A packet of the side with the id of the check of this number, over both sides.
+/// A packet of the side with the id of the check of this number, counted over both sides.
 fn sent(side: Side, class: Class, check: usize) -> Issued {
     Issued {
         path: path_of(side),
@@ -256,7 +256,7 @@ fn sent(side: Side, class: Class, check: usize) -> Issued {
     }
 }
 
-/// A log of one entry for each event, the first of which have these answers and sides.
+/// A log of one entry for each event. The first entries have these results and sides.
 fn begins_with(log: &WorldLog, table: &[(Answer, Option<Side>)]) -> bool {
     for (entry, (answer, side)) in log.entries.iter().zip(table) {
         if entry.answer != *answer || entry.side != *side || entry.moved.is_some() {
@@ -281,7 +281,7 @@ const BOTH_CONTROLLED: Start = Start {
     controlling: [false, false],
 };
 
-/// What is no event of a world.
+/// Events that the model of two agents does not have.
 struct Strangers;
 
 impl Subject for Strangers {

@@ -3,7 +3,7 @@ use Rattle.is_agent.specs.View.{record_of}
 use Rattle.is.proofs.Logs.{logged-push, length-logged, fewer, still_left, still_one_each}
 use Rattle.is.proofs.runs.run_calls.Goals as goal
 
--- there is room for the entry of each call that is left
+-- there is capacity for the entry of each call that is left
 pub push_reserved-requires : goal.push_reserved-requires
 push_reserved-requires g c =
     let i = c.loop-call.invariant in

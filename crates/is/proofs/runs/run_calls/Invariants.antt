@@ -6,7 +6,7 @@ use Rattle.is_rules.specs.Runs.{Run}
 use Rattle.is.specs.Log.{logged}
 use Rattle.is.proofs.runs.run_calls.Given as goal
 
--- the calls that were made have their entries, and there is room for the rest
+-- the calls that were made have their entries, and there is capacity for the rest
 abbrev pub invariant-loop-call : goal.invariant-loop-call
 invariant-loop-call g l = record {
   left : l.yielded ++ into_iter_items l.call-iterator ≡ l.fn.calls.items;

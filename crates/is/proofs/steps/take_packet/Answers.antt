@@ -4,7 +4,7 @@ use Rattle.is_agent.specs.View.{emitted_of}
 use Rattle.is_rules.specs.Steps as agent
 use Rattle.is.proofs.steps.take_packet.Goals as goal
 
--- the bytes read as the message, which the agent handles
+-- the bytes encode the message, which the agent handles
 pub returns-in-Ok-clause-did : goal.returns-in-Ok-clause-did
 returns-in-Ok-clause-did g c =
     inr (

@@ -3,6 +3,6 @@ use Rattle.is.specs.declared.traces.Trace.{Trace}
 use Rattle.is.specs.Traces.{IsTrace}
 use Rattle.is.proofs.traces.first_trace.Given as goal
 
--- no trace begins before
+-- no causal chain begins before
 abbrev pub invariant-loop-checked : goal.invariant-loop-checked
 invariant-loop-checked l = (t : Trace) → t.checked < l.checked → ¬ IsTrace l.entries l.side l.path l.end t

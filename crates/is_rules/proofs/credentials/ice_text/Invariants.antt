@@ -2,7 +2,7 @@ use Rattle.std.proofs.Common.{◌≡◌, take, vec_capacity}
 use Rattle.is_rules.specs.Credentials.{ice_text}
 use Rattle.is_rules.proofs.credentials.ice_text.Given as goal
 
--- the characters so far, in the room that was taken
+-- the characters so far, in the capacity that was reserved
 abbrev pub invariant-loop-byte : goal.invariant-loop-byte
 invariant-loop-byte l =
     (l.room.items ≡ ice_text (take l.byte-index l.bytes)) × (vec_capacity l.room ≡ vec_capacity l.initial.room)

@@ -10,7 +10,7 @@ use Rattle.is_rules.proofs.forming.has_numbers_for_all.Goals as goal
 many : List CandidateRecord → List CandidateRecord → List ℕ → ℕ
 many local remote places = length (flat_map (live_row local remote) (filter (is_alive_at local) places))
 
--- the combinations from the place l on are those of the place l, and those behind
+-- the combinations from the index l on are those of the index l, and those after it
 rest : (local remote : List CandidateRecord) (l n : ℕ) → l < n
     → many local remote (range_with_len l (n - l)) ≡ many local remote (l ∷ []) + many local remote (range_with_len (l + 1) (n - (l + 1)))
 unfolding many

@@ -17,8 +17,8 @@ fn has_foundation(alloc: Global, made: Result<Candidate, IceError>, text: &str) 
     }
 }
 
-/// A host: the bytes are its kind, its address, a zero in place of the related address, and its protocol. The values
-/// here and below are those of a program that gives the published FNV-1a of `a` and `foobar`.
+/// A host: the hashed bytes are its kind, its address, a zero in place of the related address, and its protocol. The
+/// values here and below were computed by a program that gives the published FNV-1a of `a` and `foobar`.
 #[test]
 fn of_hosts(rt: HostRuntime) -> Result<(), Fail> {
     let alloc = rt.alloc();
@@ -29,7 +29,8 @@ fn of_hosts(rt: HostRuntime) -> Result<(), Fail> {
     Ok(())
 }
 
-/// Of a server reflexive candidate the base is hashed, of both the related address, which is the unspecified one.
+/// For a server-reflexive candidate the base is hashed. For both kinds the related address is hashed; here it is the
+/// unspecified one.
 #[test]
 fn with_a_related_address(rt: HostRuntime) -> Result<(), Fail> {
     let alloc = rt.alloc();

@@ -1,4 +1,4 @@
-//! Candidate info, as browsers signal candidates.
+//! Candidate JSON (RTCIceCandidateInit), as browsers signal candidates.
 
 use is_candidate::{Candidate, JsonScratch};
 use is_proto::{IceError, Protocol};
@@ -6,7 +6,7 @@ use serde_json::Value;
 use std::alloc::Global;
 use std::test::Fail;
 
-/// The candidate of the text's value, where the text without its value tells of the same.
+/// The candidate that is read from the text's value, if the text itself gives the same candidate.
 fn read(alloc: Global, text: &str) -> Option<Candidate> {
     let value = Value::from_str(alloc, text).ok()?;
     let by_value = Candidate::from_json(alloc, &value).ok()?;
@@ -18,7 +18,7 @@ fn read(alloc: Global, text: &str) -> Option<Candidate> {
     }
 }
 
-/// The text of the candidate's value.
+/// The text of the candidate's JSON value.
 fn written(alloc: Global, candidate: &Candidate) -> Result<String, Fail> {
     let value = candidate.to_json(alloc)?;
     Ok(value.to_string(alloc)?)
@@ -75,7 +75,7 @@ fn a_fragment_replaces_the_ufrag_of_the_line(rt: HostRuntime) {
     }
 }
 
-/// Whether it is refused with this message.
+/// Whether reading fails with this message.
 fn says(read: Result<Candidate, IceError>, message: &str) -> bool {
     match read {
         Err(IceError::BadCandidate(said)) => said.as_str() == message,
@@ -83,7 +83,7 @@ fn says(read: Result<Candidate, IceError>, message: &str) -> bool {
     }
 }
 
-/// Whether the text's value, and the text without it, are refused with this message.
+/// Whether reading the text's value and reading the text itself both fail with this message.
 fn is_refused(alloc: Global, text: &str, message: &str) -> bool {
     let Ok(value) = Value::from_str(alloc, text) else {
         return false;
@@ -128,7 +128,7 @@ fn the_first_fault_of_a_value_is_told(rt: HostRuntime) {
     }
 }
 
-/// Texts that tell of one host with the ufrag `new`.
+/// Texts that encode one host candidate with the ufrag `new`.
 static ALIKE: [&str; 6] = [
     "{\"usernameFragment\":\"new\",\"sdpMLineIndex\":18446744073709551615,\"candidate\":\"candidate:1 1 udp 1 10.0.0.1 1 typ host\"}",
     " {\"candidate\" : \"candidate:1 1 udp 1 10.0.0.1 1 typ host ufrag new\", \"more\" : true } \n",

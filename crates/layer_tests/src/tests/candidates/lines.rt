@@ -1,4 +1,4 @@
-//! Candidate lines, read and printed.
+//! Candidate attributes (RFC 8839): parsed and printed.
 
 use is_candidate::parse::parse_candidate;
 use is_candidate::{Candidate, CandidateKind};
@@ -6,12 +6,12 @@ use is_proto::{IceError, Protocol, TcpType};
 use std::alloc::Global;
 use std::test::Fail;
 
-/// What the line prints as, once read.
+/// What the attribute prints as, after parsing.
 fn printed(alloc: Global, line: &str) -> Result<String, IceError> {
     Candidate::from_sdp_string(alloc, line)?.to_sdp_string(alloc)
 }
 
-/// Whether the line prints so, once read.
+/// Whether the attribute prints as this text, after parsing.
 fn prints(alloc: Global, line: &str, text: &str) -> bool {
     match printed(alloc, line) {
         Ok(printed) => printed.as_str() == text,
@@ -19,7 +19,7 @@ fn prints(alloc: Global, line: &str, text: &str) -> bool {
     }
 }
 
-/// Whether the line is refused with the line itself, a colon, and this fault.
+/// Whether parsing fails with a message that is the line itself, a colon, and this fault.
 fn is_refused(alloc: Global, line: &str, fault: &str) -> bool {
     let Err(IceError::BadCandidate(message)) = parse_candidate(alloc, line) else {
         return false;

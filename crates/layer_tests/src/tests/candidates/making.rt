@@ -1,4 +1,4 @@
-//! Host and peer reflexive candidates.
+//! Host and peer-reflexive candidates.
 
 use is_candidate::candidate::copy::clone_with_ufrag;
 use is_candidate::candidate::equality::is_temporary;
@@ -11,7 +11,7 @@ use std::alloc::Global;
 use std::net::SocketAddr;
 use std::test::Fail;
 
-/// Whether the candidate was refused with this message.
+/// Whether making the candidate failed with this message.
 fn is_refused(made: Result<Candidate, IceError>, message: &str) -> bool {
     match made {
         Err(IceError::BadCandidate(said)) => said.as_str() == message,
@@ -37,7 +37,7 @@ fn a_host_on_every_interface_is_refused(rt: HostRuntime) -> Result<(), Fail> {
     Ok(())
 }
 
-/// The remote candidate of a request from 10.0.0.2:2000.
+/// The remote candidate for a request from 10.0.0.2:2000.
 fn remote_peer_reflexive(alloc: Global) -> Result<Candidate, Fail> {
     let source: SocketAddr = "10.0.0.2:2000".parse()?;
     let foundation = Text::from_str(alloc, "tmp_prflx")?;
@@ -111,7 +111,7 @@ fn the_builder_makes_a_host_over_ssl_tcp(rt: HostRuntime) -> Result<(), Fail> {
     assert!(rt; host.proto() == Protocol::SslTcp);
     assert!(rt; host.tcptype() == Some(TcpType::Active));
     let line = host.to_sdp_string(rt.alloc())?;
-    // the priority is that of other protocols than UDP: 90 * 2^24 + 65534 * 2^8 + 255
+    // the priority is that of protocols other than UDP: 90 * 2^24 + 65534 * 2^8 + 255
     assert!(rt; line.ends_with(" 1 ssltcp 1526726399 192.168.1.1 443 typ host tcptype active"));
     Ok(())
 }

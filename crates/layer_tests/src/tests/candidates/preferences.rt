@@ -6,7 +6,7 @@ use is_candidate::{
 use is_proto::Protocol;
 use std::test::Fail;
 
-/// More than a preference may be.
+/// More than the greatest preference allowed.
 #[derive(Drop)]
 struct Seventy;
 
@@ -28,7 +28,7 @@ fn a_function_is_boxed_and_cut(rt: HostRuntime) -> Result<(), Fail> {
     Ok(())
 }
 
-/// Whether the default preferences of a candidate that so many came before are these.
+/// Whether the default preference of the candidate after so many earlier ones is as each row says.
 fn are_preferred(candidate: &Candidate, rows: &[(usize, u32)]) -> bool {
     rows.iter().all(|(before, preference)| default_local_preference(candidate, *before)
         == *preference)

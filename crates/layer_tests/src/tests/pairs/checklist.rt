@@ -76,7 +76,7 @@ impl Paths {
         }
     }
 
-    /// One more pair; refused, none.
+    /// Adds one more pair; if that fails, none is added.
     fn add(&mut self, alloc: Global, prio: u64) -> Result<(), IceError> {
         let Some(next) = self.next.checked_add(1) else {
             return Err(IceError::PairIdsExhausted);
@@ -90,7 +90,8 @@ impl Paths {
         Ok(())
     }
 
-    /// A check of the pair of the number, with the id that a generator of this seed gives; refused, none.
+    /// Sends a check of the pair with the number. Its id is the one that a generator with this seed gives. If that
+    /// fails, there is no check.
     fn check(&mut self, number: u64, millis: u64, seed: u64) -> Result<TransId, IceError> {
         self.list.reserve_check()?;
         let mut rng = Pcg32::seed_from_u64(seed);
@@ -112,7 +113,7 @@ impl Paths {
         self.list.awaiting(id, &Any).map(|pair| pair.id().0)
     }
 
-    /// Whether the pair of the number keeps the id.
+    /// Whether the id is pending on the pair with the number.
     fn keeps(&self, id: TransId, number: u64) -> bool {
         self.list.has_awaiting(id, &Numbered(number))
     }
@@ -126,7 +127,7 @@ impl Paths {
     }
 }
 
-/// Pairs of these priorities.
+/// Pairs with these priorities.
 fn paths_of(alloc: Global, max_retransmits: usize, prios: &[u64]) -> Result<Paths, IceError>
     requires { 0 < max_retransmits }
 {
@@ -177,7 +178,7 @@ fn the_order_follows_the_priorities(rt: HostRuntime) -> Result<(), Fail> {
     Ok(())
 }
 
-/// Run with each allocation failing in turn: what was refused can be asked for again.
+/// Run with each allocation failing in turn: a call that failed can be repeated.
 #[test]
 fn a_refused_growth_leaves_the_pairs(rt: HostRuntime) -> Result<(), Fail> {
     let mut paths = Paths::new(rt.alloc(), 9);

@@ -1,4 +1,4 @@
-//! Checks, their answers, and nomination.
+//! Checks, their responses, and nomination.
 
 use super::{Path, at};
 use is_pair::pair::CheckState;
@@ -7,7 +7,7 @@ use is_proto::Duration;
 use std::alloc::Global;
 use std::test::Fail;
 
-/// So many milliseconds, if there are any.
+/// So many milliseconds, in `Some`.
 fn took(millis: u64) -> Option<Duration> {
     Some(Duration::from_millis(millis))
 }
@@ -54,7 +54,7 @@ fn a_check_beyond_the_limit_is_forgotten(rt: HostRuntime) -> Result<(), Fail> {
     Ok(())
 }
 
-/// A path whose nominating check is in flight.
+/// A path whose nominating check is pending.
 fn nominating(alloc: Global) -> Result<Path, Fail> {
     let mut path = Path::new(alloc);
     let id = path.check(at(0))?;
@@ -72,7 +72,7 @@ fn replacing(alloc: Global, old: &Path) -> Path {
     path
 }
 
-/// The pair that replaces one whose nominating check is in flight has to send another.
+/// If a pair replaces one with a pending nominating check, it has to send a nominating check of its own.
 #[test]
 fn a_nomination_passes_to_the_pair_that_replaces(rt: HostRuntime) -> Result<(), Fail> {
     let old = nominating(rt.alloc())?;
@@ -81,7 +81,7 @@ fn a_nomination_passes_to_the_pair_that_replaces(rt: HostRuntime) -> Result<(), 
     assert!(rt; new.pair.is_nominated());
     assert!(rt; new.pair.remote_binding_request_time() == Some(at(60)));
     assert!(rt; new.pair.last_successful_rtt().is_none());
-    // due before all others, and 60 s are not to be had before the beginning
+    // due before all others; there is no time 60 s earlier, since that is before the beginning
     assert!(rt; new.due(at(100)) == at(100));
     Ok(())
 }

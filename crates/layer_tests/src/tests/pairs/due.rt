@@ -1,4 +1,4 @@
-//! When a pair is due, and when it is given up.
+//! When a pair is due, and when it is removed.
 
 use super::{Path, at, host_pair};
 use is_pair::reset_next_binding_attempt;

@@ -1,4 +1,4 @@
-//! Every text of every fault and refusal.
+//! Every text of every fault and error.
 
 use is_proto::{IceError, ParseFault, StunError};
 use std::test::Fail;

@@ -10,7 +10,7 @@ fn mac(alloc: Global, key: &[u8], payloads: &[&[u8]]) -> Result<String, Fail> {
     hexadecimal(alloc, DefaultSha1HmacProvider.sha1_hmac(key, payloads))
 }
 
-/// The same, by a provider that has what was kept of a key.
+/// The same, computed by a provider that has a stored key state.
 fn kept_mac(alloc: Global, kept: &HmacKey, key: &[u8], payloads: &[&[u8]]) -> Result<String, Fail> {
     let provider = KeptProvider {
         provider: &DefaultSha1HmacProvider,
@@ -76,7 +76,7 @@ fn test_cases_of_rfc_2202(rt: HostRuntime) -> Result<(), Fail> {
     Ok(())
 }
 
-/// A key as long as a block is taken as it is, and one byte more makes it a digest (values of Python's `hmac`).
+/// A key as long as a block is used as it is. A key that is one byte longer is hashed (values of Python's `hmac`).
 #[test]
 fn keys_about_the_length_of_a_block(rt: HostRuntime) -> Result<(), Fail> {
     let block = mac(rt.alloc(), &[0xaa; 64], &[b"Hi There"])?;
@@ -88,7 +88,7 @@ fn keys_about_the_length_of_a_block(rt: HostRuntime) -> Result<(), Fail> {
     Ok(())
 }
 
-/// Where a text is cut makes no difference.
+/// It makes no difference how a text is split.
 #[test]
 fn payloads_are_joined(rt: HostRuntime) -> Result<(), Fail> {
     let cut = mac(
@@ -100,7 +100,7 @@ fn payloads_are_joined(rt: HostRuntime) -> Result<(), Fail> {
     Ok(())
 }
 
-/// RFC 2202, section 3, cases 2 and 7: what was kept of a key serves under that key, and under another one it is not used.
+/// RFC 2202, section 3, cases 2 and 7: the stored state of a key is used for that key only, not for another one.
 #[test]
 fn kept_keys(rt: HostRuntime) -> Result<(), Fail> {
     let short: &[u8] = b"Jefe";

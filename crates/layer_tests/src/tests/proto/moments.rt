@@ -1,4 +1,4 @@
-//! Moments and lengths of time.
+//! Times and durations.
 
 use is_proto::{Duration, Instant};
 

@@ -1,11 +1,11 @@
-//! Address texts: each rule of reading beside its nearest refusal, and each rule of printing.
+//! Address texts: each parsing rule next to the nearest input that fails, and each printing rule.
 
 use is_proto::SocketText;
 use std::alloc::Global;
 use std::net::{IpAddr, Ipv4Addr, Ipv6Addr, SocketAddr};
 use std::test::Fail;
 
-/// How the address that the text writes is printed, or `None` where the text writes none.
+/// How the address that the text encodes is printed, or `None` if the text encodes none.
 fn printed(alloc: Global, text: &str) -> Result<Option<String>, Fail> {
     match SocketText::from_text(text) {
         Some(address) => Ok(Some(address.to_string(alloc)?)),
@@ -122,7 +122,7 @@ fn ipv6_is_printed(rt: HostRuntime) -> Result<(), Fail> {
         ("[2001:db8:0:0:1:0:0:1]:80", "[2001:db8::1:0:0:1]:80"),
         // 4.3: lower case
         ("[2001:DB8::AAAA]:80", "[2001:db8::aaaa]:80"),
-        // 5: an IPv4 address at the end, of mapped addresses alone
+        // 5: an IPv4 address at the end, only for mapped addresses
         ("[::ffff:c000:201]:80", "[::ffff:192.0.2.1]:80"),
         ("[::192.0.2.1]:80", "[::c000:201]:80"),
         ("[64:ff9b::192.0.2.1]:80", "[64:ff9b::c000:201]:80"),
@@ -138,7 +138,7 @@ fn ipv6_is_printed(rt: HostRuntime) -> Result<(), Fail> {
     Ok(())
 }
 
-/// Flow information and scope are left out of what is printed.
+/// Flow information and scope are not printed.
 #[test]
 fn scopes_are_not_printed(rt: HostRuntime) -> Result<(), Fail> {
     let scoped: SocketAddr = "[fe80::1%7]:80".parse()?;

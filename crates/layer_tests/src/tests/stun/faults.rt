@@ -6,7 +6,8 @@ use is_proto::{ParseFault, StunError};
 use is_stun::stun::*;
 use std::test::*;
 
-/// The types of a Binding request, success and failure. A failure need not carry anything.
+/// The types of a Binding request, a success response and an error response. An error response need not carry any
+/// attribute.
 const REQUEST: [u8; 2] = [0x00, 0x01];
 
 const SUCCESS: [u8; 2] = [0x01, 0x01];
@@ -90,7 +91,7 @@ fn values(rt: HostRuntime) {
     assert!(rt; fault_with(FAILURE, &username) == Some(ParseFault::TextTooLong));
 }
 
-/// An address is read within its attribute: what follows a short one is not taken for its end.
+/// An address is read within its attribute: a short one does not take bytes from what follows it.
 #[test]
 fn addresses(rt: HostRuntime) {
     let before_another = [

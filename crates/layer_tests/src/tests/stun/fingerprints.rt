@@ -1,4 +1,4 @@
-//! FINGERPRINT: the CRC-32 of what stands before it, under its mask (RFC 8489, section 14.7).
+//! FINGERPRINT: the CRC-32 of everything before it, under its mask (RFC 8489, section 14.7).
 
 use is_proto::DefaultSha1HmacProvider;
 use is_stun::stun::*;
@@ -18,8 +18,8 @@ fn has_fingerprint(message: StunMessage<'_>, fingerprint: u32) -> bool {
     }
 }
 
-/// The check value of CRC-32 (ISO-HDLC) is that of `123456789`, 0xcbf43926, and 0x98a06c68 under the mask. The data
-/// begins with seven bytes which take the CRC, behind the header, back to where it begins.
+/// The check value of CRC-32 (ISO-HDLC) is the CRC of `123456789`: 0xcbf43926, or 0x98a06c68 under the mask. The data
+/// begins with seven bytes that, after the header, return the CRC to its initial state.
 #[test]
 fn the_check_value(rt: HostRuntime) {
     let data = b"\0\0\0\x7f\xac\x58\xe1123456789";

@@ -1,4 +1,4 @@
-//! What is not written: of several reasons the first in the stated order is told.
+//! Messages that can't be written. If there are several errors, the first one in the stated order is returned.
 
 use is_proto::{DefaultSha1HmacProvider, StunError};
 use is_stun::stun::*;
@@ -7,13 +7,13 @@ use std::test::*;
 
 const ID: TransId = TransId(*b"juc15uxUngGc");
 
-/// A request of method 2, which nobody names, without attributes.
+/// A request of method 2, which is not a known method, without attributes.
 const UNNAMED: [u8; 20] = [
     0x00, 0x02, 0x00, 0x00, 0x21, 0x12, 0xa4, 0x42, 0x6a, 0x75, 0x63, 0x31, 0x35, 0x75, 0x78, 0x55,
     0x6e, 0x67, 0x47, 0x63,
 ];
 
-/// The same with a REALM of 132 letters, which is read, and is too long to be written.
+/// The same with a REALM of 132 letters, which can be parsed, but is too long to be written.
 fn unnamed_with_realm() -> [u8; 156] {
     let mut bytes = [b'a'; 156];
     for (to, from) in bytes.iter_mut().zip(UNNAMED) {
@@ -26,7 +26,7 @@ fn unnamed_with_realm() -> [u8; 156] {
     bytes
 }
 
-/// Why the message is not written into these bytes, if it is not.
+/// The error that writing the message into these bytes fails with, if any.
 fn refusal_of(message: StunMessage<'_>, buf: &mut [u8]) -> Option<StunError> {
     message.to_bytes(None, buf, &DefaultSha1HmacProvider).err()
 }
@@ -41,7 +41,7 @@ fn an_unknown_method_is_not_written(rt: HostRuntime) -> Result<(), Fail> {
     Ok(())
 }
 
-/// Of each reason and the next ones, as in an empty buffer all messages are too long.
+/// Each error is tested against the next ones in the order: in an empty buffer all messages are too long.
 #[test]
 fn the_first_refusal_is_told(rt: HostRuntime) -> Result<(), Fail> {
     let bytes = unnamed_with_realm();

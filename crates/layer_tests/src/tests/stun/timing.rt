@@ -1,4 +1,4 @@
-//! The delays between checks, and how long a run of checks takes.
+//! The retransmission timeouts of checks, and how long a series of checks takes.
 
 use is_proto::Duration;
 use is_stun::stun::StunTiming;
@@ -20,7 +20,7 @@ fn by_default_the_delay_doubles_up_to_three_seconds(rt: HostRuntime) {
     assert!(rt; timing.max_rto() == millis(3000));
 }
 
-/// A sum of one term for each retransmit would not end.
+/// The functions return at once; a sum with one term for each retransmission would not finish.
 #[test]
 fn the_greatest_retransmit_limit_is_answered_at_once(rt: HostRuntime) {
     let timing = StunTiming {

@@ -1,4 +1,4 @@
-//! What is written, and what is not.
+//! Messages that can be written, and messages that can't.
 
 use is_proto::{DefaultSha1HmacProvider, StunError};
 use is_stun::stun::*;
@@ -18,14 +18,14 @@ fn ipv6() -> SocketAddr {
     SocketAddr::V6(SocketAddrV6::new(Ipv6Addr::LOCALHOST, 2000, 0, 0))
 }
 
-/// The length of the message that was written with the password, or none.
+/// The length of the message written with the password, or `None` if writing fails.
 fn signed_len(message: StunMessage<'_>, buf: &mut [u8]) -> Option<usize> {
     message
         .to_bytes(Some(PASSWORD), buf, &DefaultSha1HmacProvider)
         .ok()
 }
 
-/// Why the message is not written, if it is not.
+/// The error that writing the message fails with, if any.
 fn refusal_of(message: StunMessage<'_>, buf: &mut [u8]) -> Option<StunError> {
     message.to_bytes(None, buf, &DefaultSha1HmacProvider).err()
 }
@@ -90,7 +90,7 @@ fn checks(rt: HostRuntime) -> Result<(), Fail> {
     Ok(())
 }
 
-/// The longest user name that is written, in the longest check.
+/// The longest USERNAME that can be written, in the longest check.
 #[test]
 fn user_names(rt: HostRuntime) {
     let letters = [b'a'; 509];
@@ -220,7 +220,7 @@ fn has_its_addresses(read: &StunMessage<'_>) -> bool {
         && read.mapped_address() == Some(ipv4())
 }
 
-/// Every attribute at once, written and read again.
+/// Every attribute at once, written and parsed.
 #[test]
 fn every_attribute_comes_back(rt: HostRuntime) -> Result<(), Fail> {
     let mut buf = [0; 400];
@@ -234,7 +234,7 @@ fn every_attribute_comes_back(rt: HostRuntime) -> Result<(), Fail> {
     Ok(())
 }
 
-/// The type of a message as it is written.
+/// The type of a message in its written form.
 fn type_of(message: StunMessage<'_>) -> [u8; 2] {
     let mut buf = [7; 28];
     match message.to_bytes(None, &mut buf, &DefaultSha1HmacProvider) {
@@ -243,7 +243,7 @@ fn type_of(message: StunMessage<'_>) -> [u8; 2] {
     }
 }
 
-/// Each method that the crate names, from its builder to its bytes.
+/// Each method that the crate knows, from its builder to its bytes.
 #[test]
 fn methods(rt: HostRuntime) {
     for (builder, typ) in [
@@ -272,7 +272,7 @@ fn classes(rt: HostRuntime) {
     }
 }
 
-/// What the TURN methods are asked by.
+/// The predicates for the TURN methods.
 #[test]
 fn turn_requests(rt: HostRuntime) {
     assert!(rt;

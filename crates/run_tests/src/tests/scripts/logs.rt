@@ -1,4 +1,4 @@
-//! What the log of a run says of the calls of a script.
+//! What the log of a run reports of the calls of a script.
 
 use super::{ATTRIBUTES, FINGERPRINT, HEADER, ID_AND_TYPE, INTEGRITY, USERNAME};
 use is::stun::{Class, TransId};
@@ -12,7 +12,7 @@ use std::alloc::{AllocError, Global};
 use std::net::{Ipv4Addr, SocketAddr, SocketAddrV4};
 use std::test::Fail;
 
-/// The address of a host of the published request.
+/// An address of the hosts in the published request.
 fn at(host: u8, port: u16) -> SocketAddr {
     SocketAddr::V4(SocketAddrV4::new(Ipv4Addr::new(10, 0, 0, host), port))
 }
@@ -32,7 +32,7 @@ fn creds(alloc: Global, ufrag: &str, pass: &str) -> Result<IceCreds, AllocError>
     })
 }
 
-/// The calls of a script that takes the published request, and a poll.
+/// The calls of a script that receives the published request, and a poll.
 fn calls(alloc: Global) -> Result<Vec<Call>, Fail> {
     let digits = format!(in alloc;
         "{HEADER}{ID_AND_TYPE}{USERNAME}{ATTRIBUTES}{INTEGRITY}{FINGERPRINT}"
@@ -52,7 +52,7 @@ fn calls(alloc: Global) -> Result<Vec<Call>, Fail> {
     Ok(calls)
 }
 
-/// What each of them answers, and what it issues.
+/// The result of each of these calls, and what it issues.
 fn told() -> [(Answer, Option<Issued>); 4] {
     let reply = Issued {
         path: Path {
@@ -75,7 +75,7 @@ fn told() -> [(Answer, Option<Issued>); 4] {
     ]
 }
 
-/// The log has an entry of each of these, in order, and no entry announces a path.
+/// The log has an entry for each of these, in order, and no entry selects a path.
 fn tells(log: &RunLog, wanted: &[(Answer, Option<Issued>)]) -> bool {
     for ((number, entry), (answer, issued)) in log.entries.iter().enumerate().zip(wanted.iter()) {
         if entry.number != number
@@ -89,7 +89,7 @@ fn tells(log: &RunLog, wanted: &[(Answer, Option<Issued>)]) -> bool {
     !log.stopped && log.entries.len() == wanted.len()
 }
 
-/// The log of the calls on an agent as it is made.
+/// The log of the calls on a new agent.
 fn log_of(alloc: Global, calls: Vec<Call>) -> Result<RunLog, Fail> {
     let creds = creds(alloc, "p9KA", "xJcE9AQAR7kczUDVOXRUCl")?;
     let mut agent: IceAgent<DefaultSha1HmacProvider> = IceAgent::new(alloc, creds, 1)?;

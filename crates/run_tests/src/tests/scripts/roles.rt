@@ -1,8 +1,8 @@
-//! Two agents that begin in one role, and what is printed of them. Packets were made by another library.
+//! Two agents that begin in the same role, and what is printed for them. The packets were made by another library.
 
 use super::prints;
 
-/// Two controlling agents: the one with the smaller tie-breaker yields.
+/// Two controlling agents: the one with the smaller tie-breaker switches its role.
 const CONTROLLING: &str = r#"{"call":"agent","ufrag":"AAAA","pass":"PPPP","tie":10}
 {"call":"controlling","flag":true}
 {"call":"remote","ufrag":"BBBB","pass":"QQQQ"}
@@ -71,7 +71,7 @@ B send 4 udp 10.0.0.2:2000 10.0.0.1:1000 000100442112a44206000000070000000800000
 B wake 750000000
 "#;
 
-/// Two controlled agents: the one with the smaller tie-breaker begins to control.
+/// Two controlled agents: the one with the smaller tie-breaker becomes controlling.
 const CONTROLLED: &str = r#"{"call":"agent","ufrag":"AAAA","pass":"PPPP","tie":10}
 {"call":"remote","ufrag":"BBBB","pass":"QQQQ"}
 {"call":"host","addr":"10.0.0.1:1000","proto":"udp"}
@@ -132,7 +132,7 @@ B send 4 udp 10.0.0.2:2000 10.0.0.1:1000 000100442112a44206000000070000000800000
 B wake 750000000
 "#;
 
-/// Two controlling agents of one tie-breaker: both yield.
+/// Two controlling agents with the same tie-breaker: both switch their roles.
 const EQUAL: &str = r#"{"call":"agent","ufrag":"AAAA","pass":"PPPP","tie":7}
 {"call":"controlling","flag":true}
 {"call":"remote","ufrag":"BBBB","pass":"QQQQ"}

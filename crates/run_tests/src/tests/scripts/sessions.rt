@@ -1,8 +1,8 @@
-//! Whole sessions: scripts, and what is printed of them. Packets were made by another library.
+//! Whole sessions: scripts, and what is printed for them. The packets were made by another library.
 
 use super::prints;
 
-/// A check, its answer, and a check that nominates.
+/// A check, its response, and a check that nominates.
 const ANSWERED: &str = r#"{"call":"agent","ufrag":"AAAA","pass":"PPPP","tie":1}
 {"call":"controlling","flag":true}
 {"call":"remote","ufrag":"BBBB","pass":"QQQQ"}
@@ -38,7 +38,7 @@ A send 1 udp 10.0.0.1:1000 10.0.0.2:2000 000100482112a44203000000040000000500000
 A wake 550000000
 "#;
 
-/// Checks without an answer, until the pair is given up.
+/// Checks without a response, until the pair is removed.
 const UNANSWERED: &str = r#"{"call":"agent","ufrag":"AAAA","pass":"PPPP","tie":1}
 {"call":"controlling","flag":true}
 {"call":"remote","ufrag":"BBBB","pass":"QQQQ"}
@@ -100,7 +100,7 @@ A event state Disconnected
 A wake 21750000000
 "#;
 
-/// A pair that is replaced by one of greater priority, and an answer to a check of the old one.
+/// A pair that is replaced by one of greater priority, and a response to a check of the old one.
 const REPLACED: &str = r#"{"call":"agent","ufrag":"AAAA","pass":"PPPP","tie":1}
 {"call":"controlling","flag":true}
 {"call":"remote","ufrag":"BBBB","pass":"QQQQ"}
@@ -143,7 +143,7 @@ A packet false
 A wake 350000000
 "#;
 
-/// An ice-lite agent that is nominated, and hears no more of its peer.
+/// An ICE-lite agent that is nominated by the peer, and receives no more packets from it.
 const LITE: &str = r#"{"call":"agent","ufrag":"p9KA","pass":"xJcE9AQAR7kczUDVOXRUCl","tie":1}
 {"call":"lite","flag":true}
 {"call":"remote","ufrag":"SQAt","pass":"x"}
@@ -182,7 +182,7 @@ A event state Disconnected
 A wake 18000000000
 "#;
 
-/// A restart that keeps the candidates, and an answer to a check of before.
+/// A restart that keeps the candidates, and a response to an earlier check.
 const RESTARTED: &str = r#"{"call":"agent","ufrag":"AAAA","pass":"PPPP","tie":1}
 {"call":"controlling","flag":true}
 {"call":"remote","ufrag":"BBBB","pass":"QQQQ"}
@@ -222,7 +222,7 @@ A packet false
 A wake 3000000000
 "#;
 
-/// The candidate of a request's sender is told of by signalling.
+/// The candidate of a request's sender arrives by signaling.
 const OVERWRITTEN: &str = r#"{"call":"agent","ufrag":"p9KA","pass":"xJcE9AQAR7kczUDVOXRUCl","tie":1}
 {"call":"remote","ufrag":"SQAt","pass":"x"}
 {"call":"host","addr":"10.0.0.1:1000","proto":"udp"}

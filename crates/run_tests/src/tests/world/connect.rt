@@ -1,11 +1,12 @@
-//! Both of two agents announce the one path that works, in rounds: moments of both, behind which the network delivers what goes out on that
-//! path. Of two pairs each it is the lesser one's. The controlling agent announces it in round two, and the controlled one at the first moment
-//! behind the third round; what is proved promises that by the moment behind 3n - 1 rounds, where each has n pairs.
+//! Both agents select the one path that works, in rounds: both make a `handle_timeout` call, and then the network
+//! delivers what is sent on that path. Each agent has two pairs, and the path is that of the lesser one. The
+//! controlling agent selects it in round two, and the controlled one at its first `handle_timeout` call after round
+//! three. The theorem guarantees this only by the call after 3n - 1 rounds, if each agent has n pairs.
 
 use super::premises::{crossing, moments};
 use super::*;
 
-/// When both announce the path.
+/// When both select the path.
 struct Connect;
 
 impl Subject for Connect {
@@ -21,7 +22,8 @@ fn stories(rt: HostRuntime) -> Result<(), Fail> {
     tell(rt.alloc(), &Connect)
 }
 
-/// Each hears of two candidates. The first, of the greater priority, is nobody's; the other is the other agent's.
+/// Each gets two candidates. The first has the greater priority, and no agent is there; the second is the other
+/// agent's.
 fn hear_of_two() -> [Event; 8] {
     [
         Event::Do(Side::A, Step::Remote),
@@ -47,12 +49,12 @@ fn hear_of_two() -> [Event; 8] {
     ]
 }
 
-/// Each sends a packet off, and it comes to nobody.
+/// Each sends a packet, and both are lost.
 fn lost() -> [Event; 2] {
     [Event::Poll(Side::A), Event::Poll(Side::B)]
 }
 
-/// The second round's checks are answered, and A announces. Its check in the third round, packet 6, nominates.
+/// The second round's checks are answered, and A selects the path. Its check in the third round, packet 6, nominates.
 fn both_announce_the_path_of_the_lesser_of_two_pairs(stage: &mut Stage) -> Told {
     let third = [
         Event::Poll(Side::A),
@@ -78,8 +80,8 @@ fn both_announce_the_path_of_the_lesser_of_two_pairs(stage: &mut Stage) -> Told 
     ])
 }
 
-/// Packet 6 is lost. The pairs of nobody are due again at 250, those of the path by 600. Then A's check nominates, and B announces at the
-/// answer to its own.
+/// Packet 6 is lost. The pairs that reach no agent are due again at 250, and those of the path by 600. Then A's check
+/// nominates, and B selects the path at the response to its own check.
 fn where_the_nominating_check_is_lost_the_next_one_serves(stage: &mut Stage) -> Told {
     let parts: [&[Event]; 13] = [
         &hear_of_two(),
@@ -103,9 +105,11 @@ fn where_the_nominating_check_is_lost_the_next_one_serves(stage: &mut Stage) -> 
     ])
 }
 
-/// Each has one pair. Both first checks are answered at 20, and A announces; asked for its wake-up, its nominated pair is due 60 s before, and
-/// B's is due at 250. A's round is the moment at 50, whose check nominates; B's is the one at 251, behind the due moment, whose check is
-/// answered. So by the moment at 300 B announced: it did at 251, since its first check was answered before it was asked.
+/// Each has one pair. Both first checks are answered at 20, and A selects its path. When the due times are fixed by
+/// `poll_timeout`, A's nominated pair is due 60 s earlier, and B's pair is due at 250. A's round is its
+/// `handle_timeout` call at 50, whose check nominates. B's is the call at 251, after the due time, whose check is
+/// answered. So by the call at 300 B has selected the path. It did so at 251, since its first check was answered
+/// before A nominated the path.
 fn where_all_premises_hold_both_announce(stage: &mut Stage) -> Told {
     let asked = [
         Event::Do(Side::A, Step::PollWake),

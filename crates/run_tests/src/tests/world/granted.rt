@@ -1,8 +1,9 @@
-//! A controlled agent announces a path once the controlling one asked for it and its own check there was answered, in either order.
+//! A controlled agent selects a path once the controlling one nominated it and its own check there was answered, in
+//! either order.
 
 use super::*;
 
-/// When the controlled agent announces a path.
+/// When the controlled agent selects a path.
 struct Granted;
 
 impl Subject for Granted {
@@ -18,7 +19,8 @@ fn stories(rt: HostRuntime) -> Result<(), Fail> {
     tell(rt.alloc(), &Granted)
 }
 
-/// The checks of moment 0 are sent off, A's first. A's one reaches B, and B's success reaches A, which announces its path.
+/// The checks of time 0 are sent, A's first. A's check reaches B, and B's success response reaches A, which selects
+/// its path.
 fn a_is_answered() -> [Event; 5] {
     [
         Event::Poll(Side::A),
@@ -29,7 +31,7 @@ fn a_is_answered() -> [Event; 5] {
     ]
 }
 
-/// B's check reaches A, and A's success reaches B.
+/// B's check reaches A, and A's success response reaches B.
 fn b_is_answered() -> [Event; 3] {
     [
         deliver(1, 30, Side::A),
@@ -38,7 +40,7 @@ fn b_is_answered() -> [Event; 3] {
     ]
 }
 
-/// A checks its path again, which is nominated now. The check reaches B.
+/// A checks its path again, and nominates it. The check reaches B.
 fn a_asks(packet: usize) -> [Event; 3] {
     [
         Event::Do(Side::A, Step::Moment(300)),
@@ -57,7 +59,7 @@ fn what_was_answered_is_announced_once_it_is_asked_for(stage: &mut Stage) -> Tol
     ])
 }
 
-/// B's first check comes to nobody. Its second one reaches A, and A's success reaches B.
+/// B's first check is lost. Its second one reaches A, and A's success response reaches B.
 fn b_is_answered_later() -> [Event; 5] {
     [
         Event::Do(Side::B, Step::Moment(320)),
@@ -68,7 +70,7 @@ fn b_is_answered_later() -> [Event; 5] {
     ]
 }
 
-/// It is announced with the answer, and the moment behind that finds it so.
+/// The path is selected at the response, and is still selected at the next `handle_timeout` call.
 fn what_was_asked_for_is_announced_once_it_is_answered(stage: &mut Stage) -> Told {
     let last = [
         deliver(6, 340, Side::B),

@@ -1,10 +1,10 @@
-//! Two agents of one role take opposite ones once a check of either is delivered, and its 487 where it gives one. The greater
-//! tie-breaker insists, and the lesser yields: of two controlling agents by RFC 8445, section 7.3.1.1, and of two controlled ones
-//! as they do (docs/DIFFERENCES.md).
+//! Two agents in one role take opposite roles once a check of either is delivered, and also its 487 if there is one.
+//! The agent with the greater tie-breaker sends the 487, and the other one switches its role. Two controlling agents
+//! do so by RFC 8445, section 7.3.1.1, and two controlled ones as described in docs/DIFFERENCES.md.
 
 use super::*;
 
-/// What makes roles meet.
+/// What resolves a role conflict.
 struct Meet;
 
 impl Subject for Meet {
@@ -21,7 +21,7 @@ fn stories(rt: HostRuntime) -> Result<(), Fail> {
     tell(rt.alloc(), &Meet)
 }
 
-/// A's check alone is delivered, and B answers it.
+/// Only A's check is delivered, and B responds.
 fn the_check_of_the_greater_turns_the_lesser(stage: &mut Stage) -> Told {
     let last = [Event::Poll(Side::A), deliver(0, 10, Side::B)];
     let packets = [
@@ -39,7 +39,7 @@ fn the_check_of_the_greater_turns_the_lesser(stage: &mut Stage) -> Told {
     ])
 }
 
-/// B's check alone is delivered, as packet 0. A's refusal is packet 2, behind its own check.
+/// Only B's check is delivered, as packet 0. A's 487 is packet 2, after its own check.
 fn refused() -> [Event; 4] {
     [
         Event::Poll(Side::B),
@@ -66,7 +66,7 @@ fn the_check_of_the_lesser_turns_it_by_its_refusal(stage: &mut Stage) -> Told {
     ])
 }
 
-/// A's refusal is lost. B's next check is refused too, and that comes back.
+/// A's 487 is lost. A responds to B's next check with a 487 too, and that is delivered.
 fn without_the_refusal_roles_stay_alike(stage: &mut Stage) -> Told {
     let last = [
         Event::Do(Side::B, Step::Moment(250)),
@@ -89,7 +89,7 @@ fn without_the_refusal_roles_stay_alike(stage: &mut Stage) -> Told {
     ])
 }
 
-/// B knows A, and has no candidate.
+/// B has A's credentials, and no candidate.
 fn a_check_that_reaches_no_candidate_turns_nobody(stage: &mut Stage) -> Told {
     let events = [
         Event::Do(Side::A, Step::Remote),

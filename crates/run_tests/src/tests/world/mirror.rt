@@ -1,5 +1,6 @@
-//! Which path each of two agents announces last, where two paths work: of its valid nominated pairs that of the greatest one, by the priorities
-//! that it knows (RFC 8445, section 6.1.2.3). A nomination is not taken back, so agents that know different priorities can stay on two paths.
+//! Which path each of two agents selects last, if two paths work: the path of its greatest valid nominated pair, by
+//! the priorities that it knows (RFC 8445, section 6.1.2.3). A nomination is not withdrawn, so agents that know
+//! different priorities can stay on two paths.
 
 use super::premises::moments;
 use super::*;
@@ -9,7 +10,7 @@ fn second() -> SocketAddr {
     at(3, 2000)
 }
 
-/// What both announce last.
+/// What both select last.
 struct Mirror;
 
 impl Subject for Mirror {
@@ -24,7 +25,7 @@ fn stories(rt: HostRuntime) -> Result<(), Fail> {
     tell(rt.alloc(), &Mirror)
 }
 
-/// The way to A from the address of B's.
+/// The path to A from this address of B.
 fn path_from(b: SocketAddr) -> Path {
     Path {
         proto: Protocol::Udp,
@@ -33,19 +34,20 @@ fn path_from(b: SocketAddr) -> Path {
     }
 }
 
-/// The packet of A's arrives at the address of B's.
+/// A's packet arrives at this address of B.
 fn there(packet: usize, ms: u64, b: SocketAddr) -> Event {
     let way = path_to(b);
     Event::Arrive { packet, ms, way }
 }
 
-/// The packet of B's arrives at A from there.
+/// B's packet arrives at A from this address.
 fn back(packet: usize, ms: u64, b: SocketAddr) -> Event {
     let way = path_from(b);
     Event::Arrive { packet, ms, way }
 }
 
-/// A moment of A, whose check, the packet of this number, goes to the address of B's. B's answer is the next packet.
+/// A `handle_timeout` call of A. Its check, the packet of this number, goes to this address of B. B's response is the
+/// next packet.
 fn a_round(ms: u64, first: usize, b: SocketAddr) -> [Event; 5] {
     [
         Event::Do(Side::A, Step::Moment(ms)),
@@ -56,7 +58,7 @@ fn a_round(ms: u64, first: usize, b: SocketAddr) -> [Event; 5] {
     ]
 }
 
-/// The same of B, whose check goes out from there.
+/// The same for B, whose check is sent from this address.
 fn b_round(ms: u64, first: usize, b: SocketAddr) -> [Event; 5] {
     [
         Event::Do(Side::B, Step::Moment(ms)),
@@ -67,7 +69,7 @@ fn b_round(ms: u64, first: usize, b: SocketAddr) -> [Event; 5] {
     ]
 }
 
-/// B has two hosts, the first one of the greater priority, and A hears of them by these lines.
+/// B has two host candidates, the first with the greater priority, and A gets them by these lines.
 fn hear(lines: [&'static str; 2]) -> [Event; 8] {
     let [first, last] = lines;
     [
@@ -82,8 +84,9 @@ fn hear(lines: [&'static str; 2]) -> [Event; 8] {
     ]
 }
 
-/// A's first check, on the pair that it takes for the greater one, is lost. Each pair is answered then. A, which announces both of its own,
-/// asks for the lesser one and then for the greater one, and B has a moment behind each. By the one at 60 its pairs are due later.
+/// A's first check, on the pair that has the greater priority for A, is lost. Then each pair is answered. A, which
+/// selects both of its pairs, nominates the lesser one and then the greater one. B has a `handle_timeout` call after
+/// each. Its call at 60 fixes later due times for its pairs.
 fn settles(
     stage: &mut Stage,
     lines: [&'static str; 2],
@@ -129,7 +132,8 @@ fn of_the_same_priorities_both_end_on_one_path(stage: &mut Stage) -> Told {
     ])
 }
 
-/// The lines have each other's. B was asked for both paths too, and stays on that of its own greater pair.
+/// The lines have each other's priorities. A nominated both paths here too, and B stays on that of its own greater
+/// pair.
 fn of_swapped_priorities_each_ends_on_another_path(stage: &mut Stage) -> Told {
     let lines = [
         "candidate:1 1 udp 2130705663 10.0.0.2 2000 typ host",

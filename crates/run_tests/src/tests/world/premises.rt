@@ -1,9 +1,9 @@
-//! Two agents that connect, and runs that each lack a premise of that.
+//! Two agents that connect, and executions that each violate a precondition of that.
 
 use super::roles::EQUALS;
 use super::*;
 
-/// What it takes that both announce their paths.
+/// The preconditions for both to select their paths.
 struct Premises;
 
 impl Subject for Premises {
@@ -23,7 +23,7 @@ fn stories(rt: HostRuntime) -> Result<(), Fail> {
     tell(rt.alloc(), &Premises)
 }
 
-/// Each sends a packet off, A's under this number and B's under the next, and both arrive.
+/// Each sends a packet, A's with this number and B's with the next, and both arrive.
 pub(super) fn crossing(first: usize, ms: u64) -> [Event; 4] {
     [
         Event::Poll(Side::A),
@@ -33,7 +33,7 @@ pub(super) fn crossing(first: usize, ms: u64) -> [Event; 4] {
     ]
 }
 
-/// A moment of both.
+/// A `handle_timeout` call of both.
 pub(super) fn moments(ms: u64) -> [Event; 2] {
     [
         Event::Do(Side::A, Step::Moment(ms)),
@@ -58,7 +58,8 @@ fn check_twice(stage: &mut Stage, start: Start) -> bool {
     )
 }
 
-/// B yields, and A announces at its first answer; B at the answer to its second check, behind A's second one.
+/// B switches its role, and A selects the path at its first response. B selects it at the response to its second
+/// check, which follows A's second check.
 fn of_different_tie_breakers_both_announce(stage: &mut Stage) -> Told {
     Story("of_different_tie_breakers_both_announce").holds(&[
         check_twice(stage, BOTH_CONTROLLING),
@@ -67,7 +68,7 @@ fn of_different_tie_breakers_both_announce(stage: &mut Stage) -> Told {
     ])
 }
 
-/// Each insists, and then yields to the other.
+/// Each sends a 487, and then switches its role at the other's.
 fn of_one_tie_breaker_both_turn_again_and_again(stage: &mut Stage) -> Told {
     let roles = [
         (0, [true, true]),
@@ -83,7 +84,7 @@ fn of_one_tie_breaker_both_turn_again_and_again(stage: &mut Stage) -> Told {
     ])
 }
 
-/// Plays the events; no packet is issued and no path announced.
+/// Plays the events; no packet is issued and no path is selected.
 fn play_without_effect(stage: &mut Stage, parts: &[&[Event]]) -> bool {
     stage.happens(A_CONTROLS, parts) && world_issues(stage, &[]) && world_announces(stage, &[])
 }
@@ -104,7 +105,7 @@ fn where_neither_checks_nothing_is_sent(stage: &mut Stage) -> Told {
         Event::Do(Side::B, Step::Host(home(Side::B))),
     ];
     Story("where_neither_checks_nothing_is_sent").holds(&[
-        // both are ice-lite
+        // both are ICE-lite
         play_without_effect(stage, &[&lite, &opening(), &moments(300)]),
         // neither may form a pair
         play_without_effect(stage, &[&limited, &opening(), &moments(300)]),
@@ -113,7 +114,7 @@ fn where_neither_checks_nothing_is_sent(stage: &mut Stage) -> Told {
     ])
 }
 
-/// The side has a host and a peer, and a moment at 0.
+/// The side has a host and a peer, and a `handle_timeout` call at 0.
 fn begins(side: Side) -> [Event; 3] {
     [
         Event::Do(side, Step::Host(home(side))),
@@ -122,7 +123,7 @@ fn begins(side: Side) -> [Event; 3] {
     ]
 }
 
-/// The user name of B's check, `ne:ar:farr`, begins with `ne`. A's own is read as it is meant.
+/// The USERNAME of B's check, `ne:ar:farr`, begins with `ne`. A's own check is read as intended.
 fn a_user_fragment_with_a_colon_takes_no_check(stage: &mut Stage) -> Told {
     let name = [
         Event::Do(Side::A, Step::Named("ne:ar")),
@@ -150,7 +151,7 @@ fn a_user_fragment_with_a_colon_takes_no_check(stage: &mut Stage) -> Told {
     ])
 }
 
-/// B has a pair, and not the credentials of A, whose checks wait there.
+/// B has a pair, but not A's credentials. A's checks are stored there as early requests.
 fn who_does_not_know_the_other_does_not_answer(stage: &mut Stage) -> Told {
     let knows = [Event::Do(Side::A, Step::Remote)];
     let checks = [
@@ -177,7 +178,7 @@ fn who_does_not_know_the_other_does_not_answer(stage: &mut Stage) -> Told {
     ])
 }
 
-/// Both checks are answered; then the calls come, and A asks for the path.
+/// Both checks are answered; then the calls follow, and A nominates the path.
 fn asks_behind(stage: &mut Stage, calls: &[Event]) -> bool {
     let asks = [
         Event::Do(Side::A, Step::Moment(300)),
@@ -198,7 +199,7 @@ fn a_path_whose_pair_was_cleared_is_not_announced(stage: &mut Stage) -> Told {
     ])
 }
 
-/// Plays the calls; then B's own check is lost, and its answer to A's reaches A after the timeout at 250 ms.
+/// Plays the calls; then B's own check is lost, and its response to A's reaches A after the timeout at 250 ms.
 fn play_late_answer(stage: &mut Stage, calls: &[Event]) -> bool {
     let late = [
         Event::Poll(Side::A),
@@ -215,7 +216,7 @@ fn an_answer_behind_the_last_timeout_is_not_taken(stage: &mut Stage) -> Told {
     let path = [(13, path_of(Side::A))];
     Story("an_answer_behind_the_last_timeout_is_not_taken").holds(&[
         play_late_answer(stage, &[]) && world_announces(stage, &path),
-        // A may check once, and gives its pair up
+        // A may check once, and removes its pair
         play_late_answer(stage, &[Event::Do(Side::A, Step::Checks(1))]),
         takes_all(stage, 14, 1, Side::A, false),
         world_announces(stage, &[]),

@@ -1,4 +1,4 @@
-//! Packets that arrive late, and again and again.
+//! Packets that arrive late, and repeatedly.
 
 use super::*;
 
@@ -26,8 +26,8 @@ fn thrice(events: &mut Vec<Event>, packet: usize, ms: u64, to: Side) -> Result<(
     Ok(())
 }
 
-/// The next packet of the side is sent off under this number, and then three of the other's: where the first is a check that
-/// nothing waits before, they are its answers.
+/// The side's next packet is sent with this number, and then three packets of the other side. If the first is a check
+/// and the other side's queue is empty, those three are the responses to it.
 fn exchange(events: &mut Vec<Event>, first: usize, ms: u64, side: Side) -> Result<(), AllocError> {
     events.push(Event::Poll(side))?;
     thrice(events, first, ms, other(side))?;
@@ -38,7 +38,7 @@ fn exchange(events: &mut Vec<Event>, first: usize, ms: u64, side: Side) -> Resul
     Ok(())
 }
 
-/// A moment comes to the side, and the check that it makes goes there and back.
+/// A `handle_timeout` call of the side; its check and the responses are delivered.
 fn round(events: &mut Vec<Event>, first: usize, ms: u64, side: Side) -> Result<(), AllocError> {
     events.push(Event::Do(side, Step::Moment(ms)))?;
     exchange(events, first, ms, side)
@@ -58,7 +58,7 @@ fn rounds(events: &mut Vec<Event>, first: usize, count: usize) -> Result<(), All
     Ok(())
 }
 
-/// Events are polled until there are so many.
+/// Polls fill the list of events up to this number.
 fn fill(events: &mut Vec<Event>, count: usize) -> Result<(), AllocError> {
     for _ in events.len()..count {
         events.push(Event::Do(Side::B, Step::PollEvent))?;
@@ -66,7 +66,7 @@ fn fill(events: &mut Vec<Event>, count: usize) -> Result<(), AllocError> {
     Ok(())
 }
 
-/// 200 events: the packets of the opening, which are eight in all, and nine rounds.
+/// 200 events: the packets of the opening, which are eight in total, and nine rounds.
 fn repeated(alloc: Global) -> Result<Vec<Event>, AllocError> {
     let mut events = Vec::from_array(alloc, opening())?;
     exchange(&mut events, 0, 10, Side::A)?;
@@ -76,7 +76,7 @@ fn repeated(alloc: Global) -> Result<Vec<Event>, AllocError> {
     Ok(events)
 }
 
-/// How many entries sent a packet off, and how many delivered one.
+/// How many entries sent a packet, and how many delivered one.
 fn polled_and_delivered(log: &WorldLog) -> (usize, usize) {
     let mut polled = 0usize;
     let mut delivered = 0usize;
@@ -90,7 +90,7 @@ fn polled_and_delivered(log: &WorldLog) -> (usize, usize) {
     (polled, delivered)
 }
 
-/// The first path of the entry was announced and is traced to that entry or one before it, or there is none.
+/// The entry selected no path, or its first path has a causal chain that ends at that entry or an earlier one.
 fn is_traced(log: &WorldLog, entry: &WorldEntry) -> bool {
     match log.trace(entry.number, 0) {
         Some(trace) => trace.checked < trace.delivered && trace.answered <= entry.number,
@@ -98,7 +98,7 @@ fn is_traced(log: &WorldLog, entry: &WorldEntry) -> bool {
     }
 }
 
-/// Each announced path is traced.
+/// Each selected path has a causal chain.
 fn are_traced(log: &WorldLog) -> bool {
     for entry in &log.entries {
         if !is_traced(log, entry) {
@@ -108,7 +108,7 @@ fn are_traced(log: &WorldLog) -> bool {
     true
 }
 
-/// These events happen, if memory allows, where both are controlling.
+/// These events happen, if memory allows, while both are controlling.
 fn happens_if(stage: &mut Stage, events: Result<Vec<Event>, AllocError>) -> bool {
     match events {
         Ok(events) => stage.happens(BOTH_CONTROLLING, &[&events]),
@@ -118,20 +118,21 @@ fn happens_if(stage: &mut Stage, events: Result<Vec<Event>, AllocError>) -> bool
 
 fn packets_that_come_three_times_change_no_role_again(stage: &mut Stage) -> Told {
     let events = repeated(stage.alloc);
-    // A announces at the first answer to its check; B, whom A's second check asked, at the first to its own second
+    // A selects the path at the first response to its check. A's second check nominates it for B, which selects it at
+    // the first response to its own second check
     let paths = [(17, path_of(Side::A)), (63, path_of(Side::B))];
     Story("packets_that_come_three_times_change_no_role_again").holds(&[
         happens_if(stage, events),
         stage.world.entries.len() == 200,
         polled_and_delivered(&stage.world) == (44, 132),
-        // A's check comes to B in entry 9
+        // A's check reaches B in entry 9
         has_roles(stage, &[(0, [true, true]), (9, [true, false])]),
         world_announces(stage, &paths),
         are_traced(&stage.world),
     ])
 }
 
-/// B's check comes to A, whose refusal is packet 2, behind its own check.
+/// B's check reaches A, whose 487 is packet 2, after its own check.
 fn refused(alloc: Global) -> Result<Vec<Event>, AllocError> {
     let mut events = Vec::from_array(alloc, opening())?;
     let polls = [
@@ -156,7 +157,7 @@ fn in_between(events: &mut Vec<Event>) -> Result<(), AllocError> {
     fill(events, 62)
 }
 
-/// The refusal comes to B three times, behind two rounds.
+/// The 487 reaches B three times, after two rounds.
 fn refused_behind_rounds(alloc: Global) -> Result<Vec<Event>, AllocError> {
     let mut events = refused(alloc)?;
     in_between(&mut events)?;
@@ -174,7 +175,7 @@ fn a_late_refusal_changes_no_role_again(stage: &mut Stage) -> Told {
     ])
 }
 
-/// Moments come to both, every 20 ms: 50 events.
+/// Both make a `handle_timeout` call every 20 ms: 50 events.
 fn moments(events: &mut Vec<Event>) -> Result<(), AllocError> {
     let mut ms = 0u64;
     for _ in 0..25 {
@@ -185,7 +186,7 @@ fn moments(events: &mut Vec<Event>) -> Result<(), AllocError> {
     Ok(())
 }
 
-/// The refusal comes to B three times, behind moments alone.
+/// The 487 reaches B three times, after `handle_timeout` calls only.
 fn refused_behind_moments(alloc: Global) -> Result<Vec<Event>, AllocError> {
     let mut events = refused(alloc)?;
     moments(&mut events)?;

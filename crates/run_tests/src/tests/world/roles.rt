@@ -1,8 +1,8 @@
-//! Which of two agents in one role keeps it.
+//! Which of two agents in the same role keeps it.
 
 use super::*;
 
-/// Both checks are polled, as packets 0 and 1. B's comes to A, which answers as packet 2.
+/// Both checks are polled, as packets 0 and 1. B's check reaches A, which responds with packet 2.
 fn with_answer_of_a(last: [Event; 4]) -> [Event; 8] {
     let [first, second, third, fourth] = last;
     [
@@ -17,7 +17,7 @@ fn with_answer_of_a(last: [Event; 4]) -> [Event; 8] {
     ]
 }
 
-/// A's answer comes to B from elsewhere.
+/// A's response reaches B from another address.
 fn astray() -> Event {
     Event::Deliver {
         packet: 2,
@@ -27,19 +27,19 @@ fn astray() -> Event {
     }
 }
 
-/// A's check comes to B before A's answer does, which comes three times, once from elsewhere.
+/// A's check reaches B before A's response does, which arrives three times, once from another address.
 fn check_first() -> [Event; 8] {
     let answer = deliver(2, 20, Side::B);
     with_answer_of_a([deliver(0, 10, Side::B), astray(), answer, answer])
 }
 
-/// A's check comes to B behind A's answers.
+/// A's check reaches B after A's responses.
 fn answer_first() -> [Event; 8] {
     let answer = deliver(2, 20, Side::B);
     with_answer_of_a([astray(), answer, answer, deliver(0, 30, Side::B)])
 }
 
-/// The checks, A's refusal of B's, and B's success to A's at this entry.
+/// The checks, A's 487 to B's, and B's success response to A's at this entry.
 fn settled(served: usize) -> [(usize, Issued); 4] {
     [
         (3, sent(Side::A, Class::Request, 0)),
@@ -49,7 +49,7 @@ fn settled(served: usize) -> [(usize, Issued); 4] {
     ]
 }
 
-/// Who keeps its role.
+/// Which agent keeps its role.
 struct Roles;
 
 impl Subject for Roles {

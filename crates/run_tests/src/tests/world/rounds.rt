@@ -1,9 +1,9 @@
-//! Rounds in which the network delivers: of four pairs of the controlling agent the least alone is that of a path, which is announced in
-//! round four.
+//! Rounds in which the network delivers packets: the controlling agent has four pairs. Only the least one has a
+//! working path, which is selected in round four.
 
 use super::*;
 
-/// When a path is announced.
+/// When a path is selected.
 struct Rounds;
 
 impl Subject for Rounds {
@@ -18,7 +18,7 @@ fn stories(rt: HostRuntime) -> Result<(), Fail> {
     tell(rt.alloc(), &Rounds)
 }
 
-/// A hears of four candidates. The last one, of the least priority, is B's; the others are nobody's.
+/// A gets four candidates. The last one, with the least priority, is B's; no agent is at the others.
 fn hears_of_four() -> [Event; 7] {
     [
         Event::Do(Side::A, Step::Remote),
@@ -43,7 +43,8 @@ fn hears_of_four() -> [Event; 7] {
     ]
 }
 
-/// Four rounds of A. Its check in the fourth reaches B, and B's packet behind that reaches A. B has no moment.
+/// Four rounds of A. Its check in the fourth reaches B, and the packet that B sends after that reaches A. B makes no
+/// `handle_timeout` call.
 fn four_rounds() -> [Event; 11] {
     [
         Event::Do(Side::A, Step::Moment(0)),
@@ -77,7 +78,7 @@ fn the_least_of_four_pairs_is_announced_in_round_four(stage: &mut Stage) -> Told
     ])
 }
 
-/// B accepts the check, and drops it: it has no candidate there.
+/// B accepts the check, and drops it: it has no candidate with the destination address.
 fn a_check_that_reaches_no_candidate_is_not_answered(stage: &mut Stage) -> Told {
     let none = [Event::Do(Side::B, Step::Recreate)];
     let issued = [

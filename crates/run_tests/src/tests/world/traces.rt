@@ -1,9 +1,9 @@
-//! Announced paths, traced to the other agent.
+//! Selected paths, each with its causal chain at the other agent.
 
 use super::*;
 use is::Trace;
 
-/// Which announced paths have a trace.
+/// Which selected paths have a causal chain.
 struct Traces;
 
 impl Subject for Traces {
@@ -29,7 +29,7 @@ fn trace(checked: usize, delivered: usize, replied: usize, answered: usize) -> O
     })
 }
 
-/// A's check reaches B, and B's reply reaches A. Packet 1 is B's own check, which is lost.
+/// A's check reaches B, and B's response reaches A. Packet 1 is B's own check, which is lost.
 fn answered() -> [Event; 5] {
     [
         Event::Poll(Side::A),
@@ -57,7 +57,7 @@ fn an_announced_path_is_traced(stage: &mut Stage) -> Told {
         moved(&stage.world, 9, Side::B, Class::Request),
         moved(&stage.world, 12, Side::A, Class::Success),
         stage.world.trace(12, 0) == trace(3, 9, 9, 12),
-        // nothing was announced there
+        // no path was selected there
         stage.world.trace(12, 1).is_none(),
         stage.world.trace(11, 0).is_none(),
         stage.world.trace(13, 0).is_none(),
@@ -82,7 +82,7 @@ fn a_lost_check_is_not_traced(stage: &mut Stage) -> Told {
     ])
 }
 
-/// A clears its pairs, and checks the path anew.
+/// A clears its pairs, and checks the path again.
 fn cleared() -> [Event; 6] {
     [
         Event::Do(Side::A, Step::Recreate),
@@ -112,7 +112,7 @@ fn a_trace_begins_behind_the_last_clear(stage: &mut Stage) -> Told {
     ])
 }
 
-/// B, which is controlling, checks and asks A, which is lite and sends no checks.
+/// B, which is controlling, checks and nominates. A is ICE-lite and sends no checks.
 fn lite() -> [Event; 8] {
     [
         Event::Poll(Side::B),

@@ -59,7 +59,7 @@ alone τ [] t = absurd t
 alone τ (v ∷ []) t = (v, (refl, t.0))
 alone τ (v ∷ w ∷ ws) t = absurd t.1
 
--- a fact that follows from the one said
+-- a fact that follows from the stated one
 ends_also : {M : Type 1} {𝓤 : Ura M} (𝓛 : Logic 𝓤) (R : RattleType) (s : MutBor R.Denot) (P Q : R.Denot → Type 0) → ((n : R.Denot) → P n → Q n) → ent 𝓤 (sem 𝓛 (EndsAs R s P)) (sem 𝓛 (EndsAs R s Q))
 unfolding such_by
 ends_also 𝓛 R s P Q to =
@@ -99,7 +99,7 @@ add_local_candidate_spec 𝓤 𝓛 𝓜 𝓡 wired A B LA LB gA dA gB dB dDA dDB
     ⊛ ‵ (EndsAs Row a.0 (λ n. LendsLocal gB.answers (record_of a.0.now) a.1.0 (widened r) (record_of n))))))) (id⊢ 𝓤 (G.post y u)) $
     await ! tt $ pick ! (λ r. split ! $ move ! (1 ∷ []) $ pick ! (λ _. split ! $ drop ! $ move ! (1 ∷ []) $ split ! $ move ! (1 ∷ []) $
     peeks ! In (Is In) (shows 𝓛 In) r (u ∷ []) (λ is. lands_as ! refl refl ((in_laws.lawful 𝓛).typed r (u ∷ []) is).0 $
-    -- [what was shown; the tokens; how the lender ends]
+    -- [what was shown; the tokens; how the borrow ends]
     let y' : W.Ghost = (((κs.0, tt), (qs.0, tt), tt, (r, tt), (u ∷ [], tt)), tt) in
     nothing ! $ move ! (1 ∷ 0 ∷ []) $ join ! $ move ! (1 ∷ []) $ split ! $ nothing ! $ move ! (1 ∷ 0 ∷ []) $ join ! $ move ! (0 ∷ 2 ∷ []) $ join ! $
     nothing ! $ move ! (1 ∷ 0 ∷ []) $ use2 𝓛 (raw (W.pre y')) (id⊢ 𝓤 _) $
@@ -109,7 +109,7 @@ add_local_candidate_spec 𝓤 𝓛 𝓜 𝓡 wired A B LA LB gA dA gB dB dDA dDB
     await ! tt $ pick ! (λ r'. split ! $ move ! (1 ∷ []) $ pick ! (λ _. split ! $ drop ! $ heard ! (r' ≡ widened r) (λ same. split ! $ move ! (1 ∷ []) $
     peeks ! Out (Is Out) (shows 𝓛 Out) r' (u' ∷ []) (λ is'. lands_as ! refl refl ((out_laws.lawful 𝓛).typed r' (u' ∷ []) is').0 $
     returns ! (look_at ! 0 refl) $ free_all ! refl $
-    -- [the result; its token; the other tokens; how the lender ends]
+    -- [the result; its token; the other tokens; how the borrow ends]
     move ! (1 ∷ []) $ split ! $ move ! (0 ∷ 3 ∷ []) $ join ! $ nothing ! $ nothing ! $ fjoin ! $ nothing ! $ fjoin ! $ move ! (4 ∷ []) $
     use1 𝓛 (‵ (EndsAs Row a.0 (λ n. LendsLocal gB.answers (record_of a.0.now) a.1.0 r' (record_of n))))
     (ends_also 𝓛 Row a.0 _ _ (λ n p. subst (λ (x : Result (Option (Bor CandidateRecord)) IceError). LendsLocal gB.answers (record_of a.0.now) a.1.0 x (record_of n)) (sym same) p)) $

@@ -5,7 +5,7 @@ use Rattle.is_stun.specs.Writing.{written}
 use Rattle.is_rules.specs.Sending.{carried}
 use Rattle.is_agent.proofs.agent.Agent.reply.Goals as goal
 
--- the provider with the kept key has the function of the agent's provider
+-- the provider with the stored key has the function of the agent's provider
 pub returns-clause-put : goal.returns-clause-put
 returns-clause-put g c =
     let request = c.args.request.now in let mac = g.H.Sha1HmacProvider.mac in

@@ -7,7 +7,7 @@ use Rattle.is_rules.specs.Sending.{with_packet}
 use Rattle.is_agent.specs.View.{record_of}
 use Rattle.is_agent.proofs.agent.Agent.send_role_conflict.Goals as goal
 
--- the provider with the kept key has the function of the agent's provider
+-- the provider with the stored key has the function of the agent's provider
 pub returns-clause-conflict_sent : goal.returns-clause-conflict_sent
 returns-clause-conflict_sent g c =
     let self = c.args.self.now in let mac = g.H.Sha1HmacProvider.mac in let kept = mac c.by_local_key.result.provider.now in

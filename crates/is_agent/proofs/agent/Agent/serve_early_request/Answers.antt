@@ -10,7 +10,7 @@ use Rattle.is_rules.specs.Queue.{first_taken}
 use Rattle.is_rules.specs.Timeouts.{timeout_begun}
 use Rattle.is_agent.proofs.agent.Agent.serve_early_request.Goals as goal
 
--- it names the peer, and gets to its local place
+-- the request names the peer, and reaches its local index
 served-here : {H P : Type 0} (mac : H → List ℕ → List ℕ → List ℕ) (q : RequestRecord) (l : ℕ) (s : AgentRecord H P) (emitted : Emitted) (new : AgentRecord H P)
     → names_another s q ≡ false → local_place s.local q ≡ Some l → ResolvesRoleConflict mac q l s emitted new → Serves mac q s emitted new
 served-here mac q l s emitted new names gets here = rw (names, gets) here

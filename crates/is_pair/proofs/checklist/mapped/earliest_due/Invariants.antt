@@ -4,7 +4,7 @@ use Rattle.is_pair.specs.Due.{due_moment}
 use Rattle.is_pair.specs.Entries.{pairs_of}
 use Rattle.is_pair.proofs.checklist.mapped.earliest_due.Given as goal
 
--- the least of what is left and of what was seen is the least of all
+-- the least of what is left and of what was visited is the least of all
 abbrev pub invariant-loop-pair : goal.invariant-loop-pair
 invariant-loop-pair l =
     fold min l.due.0 (map (due_moment l.now.0 l.timing) l.pair-iterator) ≡ fold min MAX (map (due_moment l.now.0 l.timing) (pairs_of l.pairs.entries))
