@@ -40,7 +40,7 @@ pub enum Did {
     Disagreed,
 }
 
-/// A new agent that the observed request is for, in a random role, with its peer's credentials or without them.
+/// A new agent that the observed request is for, in a random role, with the peer's credentials or without them.
 pub fn start(agent: &mut Agent, alloc: Global, random: &mut Pcg32) -> Result<(), Broken> {
     renew(agent, alloc, UFRAG, PASSWORD)?;
     take_role(agent, below(random, 2) == 0);

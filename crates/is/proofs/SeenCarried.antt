@@ -292,7 +292,7 @@ module _ (z : Setting) (es : List Emitted) (side : Side) (old new : Standing) (d
   cleared_or : (e.clear ≡ false) ⊎ IsBare
   cleared_or = elim d.clears as (λ b. d.clears ≡ b → (e.clear ≡ false) ⊎ IsBare) [ true ↦ λ is. inr (t.effect.cleared is) | false ↦ λ is. inl (t.clear_is ∙ is) ] refl
 
-  -- the response to a stored check arrived: the check reached the other side, which answered it
+  -- the response to a pending transaction arrived: the check reached the other side, which answered it
   met_trace : (path : Path) → DistinctChecks es → e.clear ≡ false → MeetsSuccess old d path → Trace (es ++ e ∷ []) side path
   met_trace path distinct go is =
       let m = is.mail in

@@ -106,8 +106,8 @@ module _ {H P : Type 0} where
     -- Two agents are newly created. In a segment of the log the controlling side has rounds that suffice for a nominated pair on
     -- the reverse path, in which it nominates that path. The controlled side has rounds that suffice for a pair on the path, in
     -- which its checks are answered. A `handle_timeout` call of the controlled side that serves no early request follows. By then
-    -- the controlled side selected a path, if only one of its pairs joins this path, unless one of its calls may have removed
-    -- such a pair. This holds whatever else happens.
+    -- the controlled side selected a path, if only one of its pairs uses this path's addresses, unless one of its calls may have
+    -- removed such a pair. This holds whatever else happens.
     abbrev pub BothConnect : WorldRecord H P → Stream → List (Logged P) → Type 0
     BothConnect first s log =
         (last : WorldRecord H P) (t : Stream) (run : Run mac answers first s 0 log last t) (before part rest : List (Occurrence H P)) (moment : Occurrence H P)

@@ -82,8 +82,8 @@ module _ {H P : Type 0} where
 
     -- Two agents are newly created. In a segment of the log the peer nominates a path to the controlled side, and the controlled
     -- side's own check on it is answered, in either order. A `handle_timeout` call of the controlled side that serves no early
-    -- request follows. By then it selected a path, if only one of its pairs joins this path, unless one of its calls may have
-    -- removed such a pair.
+    -- request follows. By then it selected a path, if only one of its pairs uses this path's addresses, unless one of its calls
+    -- may have removed such a pair.
     abbrev pub GrantedPathsAnnounce : WorldRecord H P → Stream → List (Logged P) → Type 0
     GrantedPathsAnnounce first s log =
         (last : WorldRecord H P) (t : Stream) (run : Run mac answers first s 0 log last t) (before part rest : List (Occurrence H P)) (moment : Occurrence H P)

@@ -16,7 +16,7 @@ is_plain_setting (SetControlling _) = true
 is_plain_setting (SkipPairIds _) = true
 is_plain_setting _ = false
 
--- neither a packet nor a moment
+-- neither a packet nor a `handle_timeout` call
 abbrev pub is_quiet : {P : Type 0} → Call P → Bool
 is_quiet (ReceivePacket _ _ _) = false
 is_quiet (HandleTimeout _) = false

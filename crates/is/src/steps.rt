@@ -131,7 +131,7 @@ fn take_limit<H: Sha1HmacProvider + Drop, P: LocalPreference>(
     Answer::Done
 }
 
-/// A setting that is never refused.
+/// A setting that never fails.
 fn take_setting<H: Sha1HmacProvider + Drop, P: LocalPreference>(
     agent: &mut Agent<H, P>,
     call: AgentCall<P>,
@@ -155,7 +155,7 @@ fn take_setting<H: Sha1HmacProvider + Drop, P: LocalPreference>(
     }
 }
 
-/// A call that issues and announces nothing.
+/// A call that issues no packet and selects no path.
 fn take_quiet<H: Sha1HmacProvider + Drop, P: LocalPreference>(
     agent: &mut Agent<H, P>,
     call: AgentCall<P>,

@@ -452,7 +452,7 @@ impl<H: Sha1HmacProvider + Drop, P: LocalPreference> TwoAgents<H, P> {
         // Progress of the controlled agent: the controlling agent checks the reverse of a path whose pairs it nominated, and the
         // controlled agent checks the path. The network delivers the first check, the second, and its success response. Then the
         // controlled agent selected a path by its next `handle_timeout` call that serves no early request. Precondition: only one
-        // of its pairs joins the path, and none of its calls may have removed such a pair.
+        // of its pairs uses the path's addresses, and none of its calls may have removed such a pair.
         ensures granted { GrantedPathsAnnounce H.mac P.answers (world_of self.old) (R.stream rng.old) (logged events.items result.entries.items) }
 
         // Progress of both: the controlling agent has a nominated pair, and the controlled agent a pair on the reverse path. Each

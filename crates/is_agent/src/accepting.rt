@@ -53,8 +53,8 @@ impl<H: Sha1HmacProvider + Drop, P: LocalPreference> Agent<H, P> {
 
     /// Whether the agent accepts the message, as far as the message shows: a Binding request whose USERNAME is the agent's
     /// own username fragment, a colon and the peer's fragment, if that is known, and which is signed with the agent's
-    /// password (RFC 8445, section 7.3); or a Binding success or error response with the ID of a stored check, signed with
-    /// the peer's password. Does not allocate. A message that was built, not parsed, is never accepted.
+    /// password (RFC 8445, section 7.3); or a Binding success or error response with the ID of a pending transaction,
+    /// signed with the peer's password. Does not allocate. A message that was built, not parsed, is never accepted.
     pub fn accepts_message(&self, message: &StunMessage<'_>) -> bool
         ensures { IsTrue result ↔ IsAccepted H.mac (record_of self.now) (message_view message.now) }
     {
@@ -71,7 +71,8 @@ impl<H: Sha1HmacProvider + Drop, P: LocalPreference> Agent<H, P> {
     }
 
     /// Whether `handle_packet` accepts the packet: the message is accepted (`accepts_message`), and a response was received
-    /// on the reverse path of the pair that stores its check, from the remote address to the local base. Does not allocate.
+    /// on the reverse path of the pair with its pending transaction, from the remote address to the local base. Does not
+    /// allocate.
     pub fn accepts_packet(&self, packet: &StunPacket<'_>) -> bool
         ensures { IsTrue result ↔ IsAcceptedOn H.mac (record_of self.now) (packet_path packet.now) (message_view packet.now.message) }
     {

@@ -33,8 +33,8 @@ use std::net::SocketAddr;
 // ---- which responses are expected
 
 impl<H: Sha1HmacProvider + Drop, P: LocalPreference> Agent<H, P> {
-    /// The number of a pair that stores a check with this ID, and on the reverse of whose path the packet was received, if
-    /// there is one.
+    /// The number of a pair that has a pending transaction with this ID, and on the reverse of whose path the packet was
+    /// received, if there is one.
     fn pair_awaiting(&self, path: &Path, id: TransId) -> Option<u64>
         ensures any { list_any (keeps_check_on (record_of self.now) path.now id.0) (record_of self.now).pairs ≡ is_some result }
         ensures kept { IfSome result (λ number. KeepsCheckOn (record_of self.now) path.now id.0 number) }
@@ -58,8 +58,8 @@ impl<H: Sha1HmacProvider + Drop, P: LocalPreference> Agent<H, P> {
         }
     }
 
-    /// The number of the pair that the response is for: it stores a check with the same ID, the response was received on the
-    /// reverse of its path, and the peer signed it.
+    /// The number of the pair that the response is for: it has a pending transaction with the same ID, the response was
+    /// received on the reverse of its path, and the peer signed it.
     pub(crate) fn awaited_pair(&self, path: &Path, message: &StunMessage<'_>) -> Option<u64>
         ensures awaited { IfSome result (λ _. IsAwaited H.mac (keeps_check_on (record_of self.now) path.now (message_view message.now).id)
             (record_of self.now) (message_view message.now)) }

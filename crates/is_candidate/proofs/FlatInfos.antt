@@ -1,4 +1,4 @@
--- What the members of candidate info say so far, as they are put in one after another.
+-- What the members of candidate JSON say so far, as they are put in one after another.
 use Rattle.std.proofs.Common.{◌≡◌, ℕ, ◌-◌, ◌≤◌, List, ◌∷◌, length, Bool, true, false, ◌||◌, Option, Some, None, option_map, option_and_then, codes, Ordering, Less, Equal, Greater, refl, sym, ap, ◌∙◌, arith}
 use Rattle.std.specs.Prelude.{Ok}
 use Rattle.std.specs.Ordering.{nat_cmp, match_ordering}

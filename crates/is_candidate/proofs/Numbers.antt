@@ -9,7 +9,7 @@ use Rattle.serde_json.specs.Read.{number_of, is_integer}
 integer : (p : Parts) → IsInteger p → is_integer p ≡ true
 integer p h = rw (lt-ltb _ _ h.0, h.1, h.2)
 
--- digits alone, with no sign, that 64 bits hold
+-- only digits, with no sign, that 64 bits hold
 pub unsigned_number : (s : List ℕ) → (get_or s 0 0 ≡ 45 → ⊥) → IsInteger (scan s) → digits_of (scan s) < 2 ^ 64 → number_of s ≡ Some (unsigned (digits_of (scan s)))
 unfolding number_of
 unsigned_number s sign whole fits = rw (ne_eqb (get_or s 0 0) 45 sign, integer (scan s) whole, lt-ltb _ _ fits)

@@ -1,4 +1,4 @@
--- A printed line reads as what it tells of.
+-- A printed candidate attribute reads as the candidate that it describes.
 use Rattle.std.proofs.Common.{◌≡◌, ℕ, ◌^◌, ◌<◌, cond, List, [], ◌∷◌, ◌++◌, get_or, drop, codes, decimal, Option, unwrap_or, IfSome, Some, None, Ok, refl, sym, ap, ◌∙◌, arith, inl, inr, ne_eqb, append_assoc}
 use Rattle.std.proofs.lemmas.List.{append-nil}
 use Rattle.std.proofs.lemmas.Fmt.{decimal_is_IsNumeral}

@@ -32,6 +32,6 @@ spaced_words : (ws : List (List ℕ)) → AllWords ws → HasWords (spaced ws) w
 spaced_words [] h = NoCharPasses-nil is_not_whitespace
 spaced_words (w ∷ ws) h = (32 ∷ [], spaced ws, refl, space_gap, h.0, ends ws, spaced_words ws h.1)
 
--- a word, and further ones behind spaces
+-- a word, and further ones after spaces
 pub line_words : (w : List ℕ) (ws : List (List ℕ)) → IsWord w → AllWords ws → HasWords (w ++ spaced ws) (w ∷ ws)
 line_words w ws first more = ([], spaced ws, refl, NoCharPasses-nil is_not_whitespace, first, ends ws, spaced_words ws more)

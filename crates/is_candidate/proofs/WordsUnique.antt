@@ -63,7 +63,7 @@ starts-none : (p : ℕ → Bool) → Starts p []
 unfolding Starts
 starts-none p = inl refl
 
--- a gap alone has no word in it
+-- a gap has no word in it
 no-word : (text gap word rest : List ℕ) → IsGap text → IsGap gap → IsWord word → text ≡ gap ++ (word ++ rest) → ⊥
 no-word text gap word rest g h w e =
     let k = front is_not_whitespace text gap [] (word ++ rest) g h (starts-none is_not_whitespace) (starts-word word rest w) (append-none text ∙ e) in

@@ -1,4 +1,4 @@
-//! Parsing candidate attributes, here also called candidate lines (RFC 5245, section 15.1).
+//! Parsing candidate attributes (RFC 5245, section 15.1).
 ghost use Rattle.std.specs.Prelude.{◌≡◌, ◌≤◌, ◌++◌, codes, length, take, IfSome, List, MatchOption, ℕ};
 ghost use Rattle.is_candidate.specs.Candidates.{CandidateRecord};
 ghost use Rattle.is_candidate.specs.Lines.{Answer, ReadsText};

@@ -42,7 +42,7 @@ list_any-no_position p i (x ∷ xs) none =
       | false ↦ list_any-no_position p (i + 1) xs
     ]) none
 
--- a stored check is found
+-- a pending transaction is found
 pub found_where_kept : (id : List ℕ) (checks : List Check) → is_kept id checks ≡ true → None ≡ position (has_id id) checks → ⊥
 found_where_kept id checks kept none =
     let nowhere = list_any-no_position (has_id id) 0 checks (sym (none ∙ position_from-zero (has_id id) checks)) in

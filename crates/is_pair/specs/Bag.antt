@@ -1,4 +1,4 @@
--- The abstract state of a checklist, its bag: the pairs, listed in the order of their numbers.
+-- The abstract state of a checklist: its pairs, listed in the order of their numbers.
 use Rattle.std.specs.Prelude.{◌≡◌, ℕ, ◌<◌, ◌≤◌, ◌==◌, ◌&&◌, Bool, true, not, nat_lt, List, [], ◌∷◌, length, map, filter, find, Option, Some}
 use Rattle.std.specs.Prelude.{None, if◌then◌else◌}
 use Rattle.std.specs.List.{list_any, list_all}
@@ -70,16 +70,16 @@ rises (p ∷ ps) = list_all (λ q. nat_lt p.number q.number) ps && rises ps
 abbrev pub are_below : ℕ → List PairRecord → Bool
 are_below number pairs = list_all (λ p. nat_lt p.number number) pairs
 
--- ---- stored checks
+-- ---- pending transactions
 
 abbrev pub keeps_check : List ℕ → PairRecord → Bool
 keeps_check id p = is_kept id p.checks
 
--- some pair has the number and stores a check with the transaction ID
+-- the pair with the number has a pending transaction with the ID
 abbrev pub keeps : List ℕ → ℕ → List PairRecord → Bool
 keeps id number pairs = list_any (passes_at number (keeps_check id)) pairs
 
--- the pair stores a check with the transaction ID and passes the test
+-- the pair has a pending transaction with the ID and passes the test
 abbrev pub is_awaiting : List ℕ → (PairRecord → Bool) → PairRecord → Bool
 is_awaiting id test p = keeps_check id p && test p
 
@@ -118,7 +118,7 @@ abbrev pub IsLowest : List PairRecord → Option PairRecord → Type 0
 IsLowest pairs None = pairs ≡ []
 IsLowest pairs (Some least) = IsLeast pairs least
 
--- these pairs are removed one after another: each has lowest priority when it is removed, and the bag is over the limit
+-- these pairs are removed one after another: each has lowest priority when it is removed, and the list is over the limit
 -- until then
 abbrev pub Drops : ℕ → List PairRecord → List PairRecord → List PairRecord → Type 0
 Drops limit [] old new = (length old ≤ limit) × (new ≡ old)

@@ -1,4 +1,4 @@
--- The abstract state of a checklist, as contracts see it: its bag of pairs, and its capacity.
+-- The abstract state of a checklist, as contracts see it: its list of pairs, and its capacity.
 use Rattle.std.specs.Prelude.{◌≡◌, ℕ, ◌+◌, ◌<◌, ◌≤◌, true, List, vec_len, vec_capacity}
 use Rattle.std.specs.HashMap.{spare}
 use Rattle.std.specs.VecDeque.{deque_capacity}

@@ -1,5 +1,5 @@
--- The stored checks of a pair (RFC 8445, section 7.2), oldest first. Each is a pending transaction: the pair still
--- accepts a response to it, even if it already had one.
+-- The pending transactions of a pair (RFC 8445, section 7.2), oldest first: the checks that it stores. The pair still accepts
+-- a response to each of them, even if it already had one.
 use Rattle.std.specs.Prelude.{◌≡◌, ℕ, ◌-◌, Bool, bytes_eq, List, length, drop, find, reverse, position, slice_get, Option, Some, None}
 use Rattle.std.specs.Prelude.{option_map, unwrap_or, is_some}
 use Rattle.std.specs.List.{list_any}

@@ -1,4 +1,4 @@
--- The entries in the index and in the ordered set of a checklist, compared with its bag.
+-- The entries in the index and in the ordered set of a checklist, compared with its list of pairs.
 use Rattle.std.specs.Prelude.{◌≡◌, ℕ, ◌==◌, ◌&&◌, ◌||◌, not, Bool, true, nat_eq, nat_le, bytes_eq, List, [], ◌∷◌, map, if◌then◌else◌}
 use Rattle.std.specs.List.{list_any, list_all}
 use Rattle.std.specs.Cmp.Lexicographic.{slice_cmp}
@@ -34,7 +34,7 @@ names id number k = k.number == number && bytes_eq k.id.0 id
 abbrev pub is_named : List ℕ → ℕ → List Kept → Bool
 is_named id number index = list_any (names id number) index
 
--- the index names, for each ID, exactly the pairs that store a check with it
+-- the index names, for each ID, exactly the pairs with a pending transaction of this ID
 abbrev pub IsIndex : List Kept → List PairRecord → Type 0
 IsIndex index pairs = (id : List ℕ) (number : ℕ) → is_named id number index ≡ keeps id number pairs
 

@@ -115,7 +115,7 @@ once_sent kept p = record p {
 abbrev pub checked : ℕ → StunTiming → Bool → List ℕ → PairRecord → PairRecord
 checked now t controlling id p = once_sent t.max_retransmits (record p { checks = p.checks ++ check_of now controlling id p ∷ [] })
 
--- after a response to a stored check, also a repeated one (RFC 8445, section 7.2.5.3)
+-- after a response to a pending transaction, also a repeated one (RFC 8445, section 7.2.5.3)
 
 abbrev pub answered : ℕ → ℕ → Check → PairRecord → PairRecord
 answered now place c p = record p {
@@ -127,7 +127,7 @@ answered now place c p = record p {
   due = None;
 }
 
--- if several stored checks have the transaction ID, the response may go to any of them
+-- if several pending transactions have the ID, the response may go to any of them
 abbrev pub TakesAnswer : PairRecord → ℕ → List ℕ → PairRecord → Type 0
 TakesAnswer old now id new =
     (place : ℕ) × (c : Check) × IsCheckAt old.checks id place c × (new ≡ answered now place c old)

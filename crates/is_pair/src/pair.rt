@@ -34,7 +34,7 @@ pub struct CandidatePair {
     local_idx: usize,
     remote_idx: usize,
     prio: u64,
-    /// The stored checks: the last ones that were sent, oldest first.
+    /// The pending transactions: the checks that were sent last, oldest first.
     binding_attempts: VecDeque<BindingAttempt>,
     nomination_state: NominationState,
     state: CheckState,
@@ -178,7 +178,7 @@ impl CandidatePair {
 
     /// Copies the pair. The copy is equal in every part, including the fixed due time of the next check.
     ///
-    /// Fails with `OutOfMemory` if there is no memory for the stored checks.
+    /// Fails with `OutOfMemory` if there is no memory for the pending transactions.
     pub fn try_clone(&self) -> Result<CandidatePair, IceError>
         ensures copy { IfOk result (λ copy. copy ≡ self.now) }
         ensures refusal { IfErr result (λ e. e ≡ IceError.OutOfMemory) }

@@ -1,4 +1,4 @@
--- Where a text spells one value at most, it reads in one way.
+-- If a text encodes at most one value, there is one way to read it.
 use Rattle.std.proofs.Common.{◌≡◌, ℕ, List, Option, Some, None, refl, ap}
 use Rattle.std.specs.declared.net.socket_addr.SocketAddr.{SocketAddr}
 use Rattle.std.proofs.NetLemmas.Theorems.{IsSocketText_unique}

@@ -132,6 +132,6 @@ module _ {H P : Type 0} (mac : H → List ℕ → List ℕ → List ℕ) where
       number_below = below_on (last_of e.emitted.announced) refl (o, emitted, posted);
     }
 
-    -- each step of a sound agent, and the invariant of its pairs after it
+    -- each step from a state that satisfies the invariant, and the invariant of its pairs after it
     pub path_effect : IsSound old → Step mac answers old s call e new t → PathPart old call e new × Fit (parts_of A M S new) × Posted mac answers old new s t e call
     path_effect sound h = let k = paired mac answers old new s t e call sound h in (by_paths k, k.0.fit, k.2)

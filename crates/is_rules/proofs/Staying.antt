@@ -1,4 +1,4 @@
--- Packets and polls leave each stored check of a pair, on its path.
+-- Packets and polls leave each pending transaction of a pair, on its path.
 use Rattle.std.proofs.Common.{◌≡◌, ℕ, zero, suc, ◌+◌, ◌<◌, ◌&&◌, ◌||◌, Bool, true, false, not, List, [], ◌∷◌, ◌++◌, length, map, Option, Some, None, Result, Ok, Err, inl, inr, ◌⊎◌, refl, ap, sym, ◌∙◌, subst, arith, if◌then◌else◌}
 use Rattle.std.specs.Prelude.{MatchOption, slice_get, slice_set}
 use Rattle.std.specs.List.{list_any}

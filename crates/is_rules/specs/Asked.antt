@@ -29,11 +29,11 @@ abbrev pub IsAnsweredIn : {P : Type 0} → List (Logged P) → Path → Type 0
 IsAnsweredIn part path = (x : Logged _) × Has part x × IsAnsweredOn x path
 
 module _ {H P : Type 0} where
-  -- The pair joins the path: it goes from the path's source to its destination.
+  -- The pair uses the path's addresses: it goes from the path's source to its destination.
   abbrev pub Joins : AgentRecord H P → Path → PairRecord → Type 0
   Joins a path p = ((path_of a p).source ≡ path.source) × ((path_of a p).destination ≡ path.destination)
 
-  -- At most one pair joins the path.
+  -- At most one pair uses the path's addresses.
   abbrev pub IsAlone : AgentRecord H P → Path → Type 0
   IsAlone a path = (p q : PairRecord) → Has a.pairs p → Has a.pairs q → Joins a path p → Joins a path q → p ≡ q
 
@@ -53,15 +53,15 @@ module _ {H P : Type 0} where
         IsAskedOn run.0 x last path ⊎ IsAskedIn before start s part run.0 run.1 run.2 path
 
     module _ (first : AgentRecord H P) (s : Stream) (log : List (Logged P)) where
-      -- At an entry of the segment a pair that joins the path may be removed.
+      -- At an entry of the segment a pair that uses the path's addresses may be removed.
       abbrev pub MayEndIn : List (Logged P) → Path → Type 0
       MayEndIn part path =
           (before : List (Logged P)) × (mid after : AgentRecord H P) × (x : Logged P) × (p : PairRecord)
           × Point mac answers first s log before mid x after × Has part x × Has mid.pairs p × Joins mid path p × MayEnd mid x.call x.entry p
 
       -- In a segment of the log the peer nominated a path and a success response was received on it, in either order. A
-      -- `handle_timeout` call that serves no early request follows. If only one pair joins the path then, a path is selected by
-      -- the end of this call, unless a pair that joins the path may have been removed.
+      -- `handle_timeout` call that serves no early request follows. If only one pair uses the path's addresses then, a path is
+      -- selected by the end of this call, unless a pair that uses them may have been removed.
       abbrev pub AskedPathsAnnounce : Type 0
       AskedPathsAnnounce =
           (before part : List (Logged P)) (start last : AgentRecord H P) (moment : Logged P) (now : ℕ) (path : Path)

@@ -33,7 +33,7 @@ abbrev pub AnnouncesAlong : {P : Type 0} → List (Call P × Entry) → Type 0
 AnnouncesAlong xs = (x : Call _ × Entry) × Has xs x × (is_some (last_of x.1.emitted.announced) ≡ true)
 
 module _ {H P : Type 0} where
-  -- The transition may remove a pair that joins the path.
+  -- The transition may remove a pair that uses the path's addresses.
   abbrev pub Ends : AgentRecord H P → Call P → Entry → Path → Type 0
   Ends a call e path = (p : PairRecord) × Has a.pairs p × Joins a path p × MayEnd a call e p
 
@@ -49,8 +49,8 @@ module _ {H P : Type 0} where
         (Grants old x.0 x.1 path × (course.0.controlling ≡ false)) ⊎ GrantsAlong rest course.0 new course.5 path
 
     -- In a segment of an execution the agent accepted the nomination of a path and received a success response on it, in either
-    -- order. A `handle_timeout` call that serves no early request follows. If only one pair joins the path then, a path was
-    -- selected by the end of this call, unless a pair that joins the path may have been removed.
+    -- order. A `handle_timeout` call that serves no early request follows. If only one pair uses the path's addresses then, a
+    -- path was selected by the end of this call, unless a pair that uses them may have been removed.
     abbrev pub GrantedAreAnnounced : Type 0
     GrantedAreAnnounced =
         (first start near last : AgentRecord H P) (before xs : List (Call P × Entry)) (s t : Stream) (now : ℕ) (moment : Entry) (path : Path)

@@ -1,4 +1,4 @@
--- What a call brought to the agent, and parts of its state by path.
+-- What the agent received in a call, and parts of its state by path.
 use Rattle.std.specs.Prelude.{◌≡◌, ℕ, Bool, true, false, not, List, Some, is_some}
 use Rattle.is_proto.specs.Lists.{Has}
 use Rattle.is_pair.specs.Checks.{Check}
@@ -28,7 +28,7 @@ abbrev pub role_once : Conflict → Bool → Bool
 role_once Yields controlling = not controlling
 role_once _ controlling = controlling
 
--- The call brought this message, on this path at this time, and it was accepted.
+-- The agent received this message in the call, on this path at this time, and accepted it.
 abbrev pub Brings : {P : Type 0} → Call P → Entry → ℕ → Path → Message → Type 0
 Brings (ReceivePacket now path bytes) e at by m = (now ≡ at) × (path ≡ by) × Reads bytes m × (e.answer ≡ Flag true)
 Brings _ e at by m = ⊥
@@ -59,8 +59,8 @@ module _ {H P : Type 0} where
 
   -- ---- requests
 
-  -- The transition serves this request: the one that the call brought, or the early request that `handle_timeout` takes from the
-  -- queue.
+  -- The transition serves this request: the one that was received in the call, or the early request that `handle_timeout` takes
+  -- from the queue.
   abbrev pub IsServing : AgentRecord H P → Call P → Entry → RequestRecord → Type 0
   IsServing old (HandleTimeout now) e q = (request_at now old ≡ Some q) × (e.answer ≡ Done)
   IsServing old call e q =

@@ -72,7 +72,7 @@ last_of (path ∷ paths) = option_or (last_of paths) path
 
 module _ {H P : Type 0} where
   module _ (mac : H → List ℕ → List ℕ → List ℕ) where
-    -- The call brought bytes that do not encode a message that the agent accepts.
+    -- The bytes that were received in the call do not encode a message that the agent accepts.
     abbrev pub IsTurnedDown : AgentRecord H P → Call P → Type 0
     IsTurnedDown old (ReceivePacket now path bytes) = ¬ ((m : Message) × Reads bytes m × IsAcceptedOn mac old path m)
     IsTurnedDown old _ = ⊥
@@ -83,7 +83,7 @@ module _ {H P : Type 0} where
       pub provider : new.provider ≡ old.provider
       pub lite : new.lite ≡ lite_set_by call old.lite
       pub remote_creds : new.remote_creds ≡ remote_after call e.answer old.remote_creds
-      -- A message that the call brought was accepted. So it is a Binding message, and signed.
+      -- A message in `Brings` was accepted. So it is a Binding message, and signed.
       pub accepted : (at : ℕ) (by : Path) (m : Message) → Brings call e at by m → IsAcceptedOn mac old by m
       -- Each early request was in the queue before, or was received now. The responses and the early requests after the
       -- transition are, as multisets, among the early requests before it and the requests received now.

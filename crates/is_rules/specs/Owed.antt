@@ -36,7 +36,7 @@ requested_as via id _ _ = []
 abbrev pub requested_by : Path → Message → List Transaction
 requested_by via m = requested_as via m.id m.method m.class
 
--- the transaction of the Binding request that a packet brought, if it was accepted
+-- the transaction of the Binding request in a packet, if it was accepted
 abbrev pub requested_in : Path → List ℕ → Answer → List Transaction
 requested_in via bytes (Flag true) = requested_by via (message_of bytes)
 requested_in via bytes _ = []

@@ -1,5 +1,5 @@
 -- What an agent achieves if `handle_timeout` is called at the times that `poll_timeout` returns: timeouts are not late, every
--- timeout makes progress, and no pair starves.
+-- timeout makes progress, and each due pair is checked (starvation freedom).
 use Rattle.std.specs.Prelude.{◌≡◌, ◌≢◌, ℕ, ◌<◌, ◌≤◌, max, true, false, List, [], ◌∷◌, length, Option, Some, None, is_some, IfSome, Ok, ◌⊎◌}
 use Rattle.rand_core.specs.Stream.{Stream}
 use Rattle.is_proto.specs.Lists.{Has, is_empty}

@@ -68,8 +68,9 @@ module _ {H P : Type 0} where
         → ChecksIn rounds (path_of start p) ⊎ IsAnsweredIn (entries_of rounds) (path_of start p)
 
     -- Assume also that each check on the pair's path is answered in its round, and that the peer nominates the path to the
-    -- controlled agent in one of them. A `handle_timeout` call that serves no early request follows. If only one pair joins the
-    -- pair's path then, a path is selected by the end of this call, unless a pair that joins the path may have been removed.
+    -- controlled agent in one of them. A `handle_timeout` call that serves no early request follows. If only one pair uses the
+    -- addresses of the pair's path then, a path is selected by the end of this call, unless a pair that uses them may have been
+    -- removed.
     abbrev pub AskedRoundsAnnounceIn : AgentRecord H P → Stream → List (Logged P) → Type 0
     AskedRoundsAnnounceIn first s log =
         (before : List (Logged P)) (start last : AgentRecord H P) (rounds : List (LoggedRound P)) (moment : Logged P) (now : ℕ)

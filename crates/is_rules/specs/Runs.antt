@@ -99,8 +99,8 @@ module _ {H P : Type 0} (mac : H → List ℕ → List ℕ → List ℕ) (answer
       AtEach first s log (λ before mid x after. (at : ℕ) (by : Path) (m : Message) → Brings x.call x.entry at by m → m.class ≡ class.Success
       → (p : PairRecord) × Has after.pairs p × (keeps_check_on after by m.id p ≡ true) × (is_valid p ≡ true))
 
-  -- If a packet brought a request with USE-CANDIDATE that gets a success response, and the agent is controlled afterwards, a pair
-  -- on the path of the response is nominated.
+  -- If a request with USE-CANDIDATE is received and gets a success response, and the agent is controlled afterwards, a pair on
+  -- the path of the response is nominated.
   abbrev pub RequestsNominate : AgentRecord H P → Stream → List (Logged P) → Type 0
   RequestsNominate first s log =
       AtEach first s log (λ before mid x after. (at : ℕ) (by : Path) (m : Message) (issued : Issued) → Brings x.call x.entry at by m

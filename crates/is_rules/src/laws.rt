@@ -190,9 +190,9 @@ pub fn checks_stay<H: Sha1HmacProvider, P: LocalPreference>()
     ensures { ChecksStay H.mac P.answers }
 {}
 
-/// Each transition leaves each pair that it does not remove its stored checks, in their order, answered or not. It adds at most
-/// one, and then only the last `max_retransmits` are stored. So a transaction is pending over any calls, until that many later
-/// checks were sent.
+/// Each transition leaves each pair that it does not remove its pending transactions, in their order, answered or not. It adds
+/// at most one, and then only the last `max_retransmits` stay pending. So a transaction is pending over any calls, until that
+/// many later checks were sent.
 pub fn checks_pend<H: Sha1HmacProvider, P: LocalPreference>()
     ensures one { PairsKeepChecks H.mac P.answers }
     ensures kept { ChecksPend H.mac P.answers }
@@ -246,8 +246,8 @@ pub fn pairs_stay_in_logs<H: Sha1HmacProvider, P: LocalPreference>()
 {}
 
 /// From a newly created agent: the peer nominated a path to a controlled agent, and a success response was received on it, in
-/// either order. Then a path is selected by the end of the next `handle_timeout` call, if only one pair joins this path and no
-/// pair that joins it may have been removed.
+/// either order. Then a path is selected by the end of the next `handle_timeout` call that serves no early request, if only one
+/// pair uses this path's addresses and no pair that does may have been removed.
 pub fn asked_are_announced<H: Sha1HmacProvider, P: LocalPreference>()
     ensures { AskedAreAnnounced H.mac P.answers }
 {}
@@ -265,8 +265,8 @@ pub fn courses_reach<H: Sha1HmacProvider, P: LocalPreference>()
 {}
 
 /// In such rounds the checks on the pair's path are answered, and the peer nominates the path to a controlled agent. Then a path
-/// is selected by the end of the next `handle_timeout` call, if only one pair joins this path and no pair that joins it may have
-/// been removed.
+/// is selected by the end of the next `handle_timeout` call that serves no early request, if only one pair uses this path's
+/// addresses and no pair that does may have been removed.
 pub fn asked_rounds_announce<H: Sha1HmacProvider, P: LocalPreference>()
     ensures { AskedRoundsAnnounce H.mac P.answers }
 {}
@@ -284,8 +284,8 @@ pub fn checks_ask<H: Sha1HmacProvider, P: LocalPreference>()
 }
 
 /// A controlled agent, which may share its random source, accepted the nomination of a path and received a success response on
-/// it. Then a path is selected by the end of the next `handle_timeout` call that serves no early request, unless a pair that
-/// joins the path may have been removed.
+/// it. Then a path is selected by the end of the next `handle_timeout` call that serves no early request, if only one pair uses
+/// this path's addresses and no pair that does may have been removed.
 pub fn granted_are_announced<H: Sha1HmacProvider, P: LocalPreference>()
     ensures { GrantedAreAnnounced H.mac P.answers }
 {}

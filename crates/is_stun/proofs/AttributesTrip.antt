@@ -1,4 +1,4 @@
--- The attributes of a message that was written are read again.
+-- The attributes of a message that was written round-trip.
 use Rattle.std.proofs.Common.{◌≡◌, ℕ, ◌^◌, ◌<◌, ◌≤◌, Bool, true, false, ◌||◌, cond, ltb, List, length, Option, Some, None, Ok, Err, refl, ap, ◌∙◌, arith}
 use Rattle.std.specs.Prelude.{IfSome, is_some, option_and_then}
 use Rattle.std.specs.Option.{option_map}
@@ -23,7 +23,7 @@ use Rattle.is_stun.proofs.KindLemmas.{Trips, text_trips, u32_trips, u64_trips, c
 
 -- ---- values that are written
 
--- what is known of values that are not refused
+-- what is known of values that can be written
 pub record HasShortValues (a : AttributesRecord) : Type 0 where
   pub username : IfSome a.username (λ t. length t ≤ WRITTEN_USERNAME_LIMIT)
   pub realm : IfSome a.realm (λ t. length t ≤ WRITTEN_TEXT_LIMIT)
@@ -115,7 +115,7 @@ fault_by true c x y = refl
 fault_by false true x y = refl
 fault_by false false x y = refl
 
--- an address that can't be read is told without the transaction id
+-- whether an address can be read does not depend on the transaction id
 pub address_fault-is : (id v : List ℕ) → address_fault v ≡ fault_in (address_in id v)
 unfolding address_fault address_in
 address_fault-is id v = fault_by (is_ipv4_value v) (is_ipv6_value v) _ _
@@ -172,7 +172,7 @@ rows_fit id a trips = (
   ),
 )
 
--- ---- each attribute stands in its row
+-- ---- each attribute is in its row
 
 username_row : (id : List ℕ) (a : AttributesRecord) → last_row 6 (rows_of id a) ≡ a.username
 unfolding last_row

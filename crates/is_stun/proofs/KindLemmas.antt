@@ -64,7 +64,7 @@ pub if_all : {A : Type 0} {P Q : A → Type 0} (o : Option A) → ((x : A) → P
 if_all None f p = tt
 if_all (Some x) f p = f x p
 
--- the row of a kind that is told by its reading
+-- the row of a kind, given how it is read
 pub fits_row : {A : Type 0} (code : ℕ) (read : List ℕ → Result A ParseFault) (write : A → List ℕ) (o : Option A) → code < 2 ^ 16 → (code ≡ 8 → ⊥)
     → ((v : List ℕ) → is_skipped (tlv_of 0 code v) ≡ false) → ((v : List ℕ) → value_fault code v ≡ fault_in (read v)) → IfSome o (λ x. Trips read (write x) x)
     → FitsRow (row code (option_map write o))

@@ -1,4 +1,4 @@
--- The laws of reading.
+-- The theorems of reading.
 use Rattle.std.proofs.Common.{◌≡◌, ℕ, List, Option, Some, None, refl, sym, ◌∙◌, inl, inr, ◌⊎◌, subst, ◌↔◌}
 use Rattle.std.specs.Prelude.{IsSomeAnd}
 use Rattle.std.specs.Option.{option_map}

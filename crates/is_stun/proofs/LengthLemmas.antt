@@ -58,7 +58,7 @@ joined_length : (a b c d : List ℕ) → length (a ++ (b ++ (c ++ (d ++ [])))) �
 joined_length a b c d =
     omega (arith, length-append a (b ++ (c ++ (d ++ []))), length-append b (c ++ (d ++ [])), length-append c (d ++ []), length-append d [])
 
--- a user name, a role, a priority and a flag, or no flag
+-- a USERNAME, a role, a priority and a flag, or no flag
 with_flag : (name : List ℕ) (code tie prio : ℕ)
     → length (attribute USERNAME name ++ (attribute code (to_be_bytes w64 tie) ++ (attribute PRIORITY (to_be_bytes w32 prio) ++ (attribute USE_CANDIDATE [] ++ [])))) ≡ 28 + padded_len (length name)
 with_flag name code tie prio =

@@ -1,4 +1,4 @@
--- A message that was written with a key is read again.
+-- A message that was written with a key round-trips.
 use Rattle.std.proofs.Common.{◌≡◌, ℕ, ◌+◌, ◌^◌, ◌<◌, ◌≤◌, true, false, List, ◌++◌, length, take, drop, Option, Some, None, Result, Ok, Err, refl, sym, ap, subst, ◌∙◌, arith, append_assoc}
 use Rattle.std.specs.Prelude.{IsSomeAnd, IfSome, IfOk, OnOk, is_none, bit_xor}
 use Rattle.std.specs.Option.{option_map}
@@ -28,7 +28,7 @@ use Rattle.is_stun.proofs.WrittenLemmas.{writes_message}
 use Rattle.is_stun.proofs.PlainLemmas.{rows_plain, written_plain, refusal_plain}
 use Rattle.is_stun.proofs.AttributesTrip.{HasShortValues, short_values, all_trip, rows_fit, attributes_back}
 
--- ---- what is not refused
+-- ---- what can be written
 
 pub record IsAccepted (key : Option (List ℕ)) (m : Message) : Type 0 where
   pub method : is_known m.method ≡ true
@@ -145,7 +145,7 @@ text_of_rows key m rows =
 abbrev pub text_of_mac : List ℕ → Message → List ℕ
 text_of_mac key m = text_of_rows key m (rows_of m.id m.attributes)
 
--- what the bytes of a message are read as, but for what a reader demands
+-- what the bytes of a message are read as, except what a reader demands
 record IsBack (mac : List ℕ → List ℕ → List ℕ) (key bytes : List ℕ) (m : Message) : Type 0 where
   pub header : header_fault bytes ≡ None
   pub sound : attributes_fault (tlvs_of (body_of bytes)) ≡ None

@@ -1,4 +1,4 @@
--- Texts that are put one behind the other.
+-- Texts that are put one after another.
 use Rattle.std.proofs.Common.{◌≡◌, ℕ, ◌+◌, ◌≤◌, List, [], ◌++◌, length, take, drop, sym, ap, ◌∙◌, arith, append_assoc, length-append, add-zero, length-take, length-drop}
 use Rattle.std.proofs.lemmas.List.{take_at, take-append-drop}
 use Rattle.std.proofs.lemmas.Slice.{drop-append-drop}
@@ -31,7 +31,7 @@ pub Puts-nothing : (s : List ℕ) (at : ℕ) → at ≤ length s → Puts s s at
 unfolding splice
 Puts-nothing s at fits = record { bytes = rw add-zero (sym (take-append-drop at s)); ends = omega arith; fits = fits }
 
--- one text behind another is their join
+-- one text after another is their concatenation
 pub Puts-then : {s t u : List ℕ} {at mid end : ℕ} {a b : List ℕ} → Puts s t at mid a → Puts t u mid end b → Puts s u at end (a ++ b)
 Puts-then {s} {t} {u} {at} {mid} {end} {a} {b} p q =
     let t_len : length t ≡ length s = ap length p.bytes ∙ length-splice s a at (omega (arith, p.ends, p.fits)) in

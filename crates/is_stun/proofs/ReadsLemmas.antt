@@ -1,4 +1,4 @@
--- The parts of what a message's bytes spell.
+-- The parts of what a message's bytes encode.
 use Rattle.std.proofs.Common.{◌≡◌, ℕ, Bool, true, false, not, cond, List, Option, Some, None, refl}
 use Rattle.std.specs.Option.{option_or}
 use Rattle.is_proto.specs.declared.error.ParseFault.{ParseFault}
@@ -12,7 +12,7 @@ pub fault_of-parts : (bytes : List ℕ) (header attributes demand : Option Parse
 unfolding fault_of
 fault_of-parts bytes header attributes demand h a d = rw (h, a, d) refl
 
--- what is refused neither by a test nor behind it
+-- what fails neither in a test nor after it
 pub refused_or : {A : Type 0} (b : Bool) (x : A) (o : Option A) → cond b (Some x) o ≡ None → (b ≡ false) × (o ≡ None)
 refused_or true x o e = absurd (cc)
 refused_or false x o e = (refl, e)

@@ -1,4 +1,4 @@
--- Rows one behind the other.
+-- Rows one after another.
 use Rattle.std.proofs.Common.{◌≡◌, ℕ, ◌+◌, ◌-◌, ◌<◌, ◌≤◌, List, [], ◌∷◌, ◌++◌, length, map, take, drop, get_or, Some, refl, sym, ap, ◌∙◌, arith, replicate, length-append}
 use Rattle.std.proofs.lemmas.List.{take_more, map-append, append-nil, take-append-drop, length-replicate}
 use Rattle.std.proofs.lemmas.List.Concat.{flat_map-append}

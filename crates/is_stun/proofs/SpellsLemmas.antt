@@ -1,4 +1,4 @@
--- What is read is what the bytes spell.
+-- What is read is what the bytes encode.
 use Rattle.std.proofs.Common.{◌≡◌, ℕ, ◌+◌, ◌%◌, Bool, true, false, not, ◌&&◌, cond, eqb, List, [], ◌∷◌, length, Option, Some, None, Result, Ok, Err, refl, sym, ap, subst, ◌∙◌}
 use Rattle.std.specs.Prelude.{is_none, is_some, IsSome, MatchOption}
 use Rattle.std.specs.Option.{option_or}

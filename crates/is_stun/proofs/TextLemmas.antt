@@ -16,7 +16,7 @@ text_of_other limit value within other =
     let fails : is_utf8 value ≡ false = false_from_ne_true _ (λ e. other (IsUtf8-from_is_utf8 value e)) in
     rw (le-ltb limit (length value) within, fails) refl
 
--- a text may be tlv before and behind a colon
+-- a text may be tlv before and after a colon
 pub colon_boundary : (name : List ℕ) (found : Option ℕ) → found ≡ position (λ b. b == 58) name → IsUtf8 name → IfSome found (λ i. IsCharBoundary name i × IsCharBoundary name (i + 1))
 colon_boundary name None e utf8 = tt
 colon_boundary name (Some i) e utf8 =

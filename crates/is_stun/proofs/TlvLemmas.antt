@@ -15,7 +15,7 @@ tlvs_short place (a ∷ b ∷ []) h = refl
 tlvs_short place (a ∷ b ∷ c ∷ []) h = refl
 tlvs_short place (a ∷ b ∷ c ∷ d ∷ rest) h = absurd (omega arith)
 
--- behind some bytes are those of what follows them
+-- after some bytes are those of what follows them
 pub tlvs_behind-drop : (skip place : ℕ) (bytes : List ℕ) → tlvs_behind skip place bytes ≡ tlvs_behind 0 (place + skip) (drop skip bytes)
 unfolding tlvs_behind
 tlvs_behind-drop zero place bytes = rw add-zero refl
@@ -27,7 +27,7 @@ tlvs_behind-drop (suc skip) place (b ∷ bytes) =
 take_within : (n : ℕ) (xs : List ℕ) → take (min n (length xs)) xs ≡ take n xs
 take_within n xs = grind (arith, common_steps)
 
--- behind a value with its padding, or at the end where it states more than is left
+-- after a value with its padding, or at the end if it states more than is left
 behind_value : (len place : ℕ) (rest : List ℕ) → cond (ltb (length rest) len) [] (tlvs_behind (padded_len len) place rest) ≡ tlvs_behind 0 (place + min (padded_len len) (length rest)) (drop (min (padded_len len) (length rest)) rest)
 behind_value len place rest =
     elim (cases_lt (length rest) len) [
@@ -50,7 +50,7 @@ behind_value len place rest =
           ])
     ]
 
--- the first attribute and those behind it
+-- the first attribute and those after it
 pub next_tlv : (place code len value_len behind : ℕ) (bytes rest left : List ℕ) → 4 ≤ length bytes → rest ≡ drop 4 bytes → left ≡ drop behind rest
     → code ≡ u16_of (get_or bytes 0 0) (get_or bytes 1 0) → len ≡ u16_of (get_or bytes 2 0) (get_or bytes 3 0)
     → value_len ≡ min len (length rest) → behind ≡ min (padded_len len) (length rest)
@@ -94,6 +94,6 @@ first_integrity-ends_behind zero place (a0 ∷ a1 ∷ a2 ∷ a3 ∷ rest) c limi
           ]
     ]
 
--- the first integrity lies within the body
+-- the first integrity is within the body
 pub first_integrity-ends : (body : List ℕ) (c : Tlv) → first_integrity (tlvs_of body) ≡ Some c → EndsBy (length body) c
 first_integrity-ends body c e = first_integrity-ends_behind 0 0 body c (length body) (omega arith) e

@@ -7,7 +7,7 @@ use Rattle.std.specs.Option.{option_or}
 use Rattle.is_proto.specs.declared.error.StunError.{StunError}
 use Rattle.is_stun.proofs.PutLemmas.{Puts-then, take-Puts}
 
--- a text behind a front that is stated by that front
+-- a text after another one, of which it is a function
 puts_by : (s t u : List ℕ) (mid end : ℕ) (a : List ℕ) (text : List ℕ → List ℕ) → Puts s t 0 mid a → Puts t u mid end (text (take mid t)) → Puts s u 0 end (a ++ text a)
 puts_by s t u mid end a text p q =
     let named : Puts t u mid end (text a) = subst (λ (x : List ℕ). Puts t u mid end (text x)) (take-Puts p) q in

@@ -1,4 +1,4 @@
-//! The faults of a candidate line.
+//! The faults of a candidate attribute.
 ghost use Rattle.std.specs.Prelude.{Some};
 ghost use Rattle.is_candidate.specs.Faults.{fault_text};
 

@@ -63,7 +63,7 @@ impl Checklist {
         }
     }
 
-    /// Returns a pair that stores a check with the transaction ID and passes the test.
+    /// Returns a pair that has a pending transaction with the ID and passes the test.
     pub fn awaiting<T: PairTest>(&self, trans_id: TransId, test: &T) -> Option<&CandidatePair>
         ensures awaiting { IsAwaiting trans_id.0 (T.passes test.now) (bag_of self.now) (option_copied result) }
         ensures kept { IfSome (option_copied result) (λ p. keeps trans_id.0 p.number (bag_of self.now) ≡ true) }
@@ -74,14 +74,14 @@ impl Checklist {
         }
     }
 
-    /// Whether a pair stores a check with the transaction ID and passes the test.
+    /// Whether a pair has a pending transaction with the ID and passes the test.
     pub fn has_awaiting<T: PairTest>(&self, trans_id: TransId, test: &T) -> bool
         ensures { result ≡ list_any (is_awaiting trans_id.0 (T.passes test.now)) (bag_of self.now) }
     {
         self.awaiting(trans_id, test).is_some()
     }
 
-    /// Records the response on the pair with the number, which stores a check with the transaction ID.
+    /// Records the response on the pair with the number, which has a pending transaction with the ID.
     pub fn record_binding_response(&mut self, number: u64, now: Instant, trans_id: TransId)
         requires kept { keeps trans_id.0 number (bag_of self.old) ≡ true }
         ensures answered { RecordsAnswer number now.0 trans_id.0 (bag_of self.old) (bag_of self.new) }

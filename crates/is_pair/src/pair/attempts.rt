@@ -1,4 +1,4 @@
-//! The stored checks of a pair, oldest first.
+//! The pending transactions of a pair, oldest first.
 
 ghost use Rattle.std.specs.Prelude.{◌≡◌, ◌<◌, ◌≤◌, OnOk, find, length, position, reverse, slice_get};
 ghost use Rattle.std.specs.Option.{option_copied};

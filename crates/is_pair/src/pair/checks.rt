@@ -17,8 +17,8 @@ use rand_core::Rng;
 use std::collections::VecDeque;
 
 impl CandidatePair {
-    /// Stores a check that is sent now, and returns its transaction ID. The pair stores at most the last
-    /// `max_retransmits` checks. A check of a nominated pair is a nominating check.
+    /// Stores a check that is sent now, and returns its transaction ID. The pair has at most the last
+    /// `max_retransmits` checks as pending transactions. A check of a nominated pair is a nominating check.
     ///
     /// Fails with `OutOfMemory` if there is no memory for the check; then the pair is unchanged, and nothing was drawn
     /// from the generator.
@@ -112,7 +112,7 @@ impl CandidatePair {
         self.binding_attempts.len()
     }
 
-    /// Returns the stored check with this transaction ID, if there is one: the first, if several have it.
+    /// Returns the pending transaction with this ID, if there is one: the first, if several have it.
     pub fn binding_attempt(&self, trans_id: TransId) -> Option<&BindingAttempt>
         ensures kept { is_some result ≡ is_kept trans_id.0 self.now.checks }
         ensures found { option_copied result ≡ find (has_id trans_id.0) self.now.checks }
@@ -120,10 +120,10 @@ impl CandidatePair {
         attempts::with_id(&self.binding_attempts, trans_id)
     }
 
-    /// Records the response to a stored check. It counts even if the check had a response before: its round-trip time
-    /// is added to the total, and its time replaces that of the previous response. The pair is valid from now on, and a
-    /// nomination that was sent with the check has succeeded. `_valid_idx`, the local candidate with the mapped address
-    /// of the response, has no effect on the pair.
+    /// Records the response to a pending transaction. It counts even if the check had a response before: its round-trip
+    /// time is added to the total, and its time replaces that of the previous response. The pair is valid from now on,
+    /// and a nomination that was sent with the check has succeeded. `_valid_idx`, the local candidate with the mapped
+    /// address of the response, has no effect on the pair.
     pub fn record_binding_response(&mut self, now: Instant, trans_id: TransId, _valid_idx: usize)
         requires { IsTrue (is_kept trans_id.0 self.old.checks) }
         ensures { TakesAnswer self.old now.0 trans_id.0 self.new }

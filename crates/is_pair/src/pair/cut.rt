@@ -2,7 +2,7 @@
 
 use is_stun::stun::TransId;
 
-/// Which of the stored checks are dropped when one more is sent.
+/// Which of the pending transactions are dropped when one more is sent.
 #[derive(Clone, Copy)]
 pub(crate) enum Cut {
     /// No check.

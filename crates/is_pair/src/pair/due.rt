@@ -21,9 +21,9 @@ impl CandidatePair {
     /// Returns the due time of the next check. The call fixes this time until a check is sent or a response arrives.
     ///
     /// A nominated pair without a check since its nomination is due before all others. A pair that was never checked is
-    /// due now. Otherwise the check is due one RTO after the last one. The RTO depends on the number of stored checks,
-    /// or, if the peer has been silent for longer than half of `max_rto`, on the number of checks without a response.
-    /// The due time is at most `max_rto` from now.
+    /// due now. Otherwise the check is due one RTO after the last one. The RTO depends on the number of pending
+    /// transactions, or, if the peer has been silent for longer than half of `max_rto`, on the number of checks without a
+    /// response. The due time is at most `max_rto` from now.
     pub fn next_binding_attempt(&mut self, now: Instant, timing_config: &StunTiming) -> Instant
         requires { 0 < timing_config.now.max_retransmits }
         ensures moment { result.0 ≡ due_moment now.0 timing_config.now self.old }

@@ -7,7 +7,7 @@ use super::{CandidatePair, attempts};
 use is_proto::Duration;
 
 impl CandidatePair {
-    /// Returns the round-trip time of the last check that had a response, or `None` if no stored check had one.
+    /// Returns the round-trip time of the last pending transaction that had a response, or `None` if none had one.
     pub fn last_successful_rtt(&self) -> Option<Duration>
         ensures { option_map (λ took. took.0) result ≡ last_round_trip self.now.checks }
     {

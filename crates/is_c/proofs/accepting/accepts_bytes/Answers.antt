@@ -2,7 +2,7 @@ use Rattle.std.proofs.Common.{rules, ◌≡◌, ◌∙◌, inr, w32, to_z, of_z}
 use Rattle.is_stun.specs.MessageView.{message_view}
 use Rattle.is_c.proofs.accepting.accepts_bytes.Goals as goal
 
--- the bytes read as the message, which the agent is asked about
+-- the bytes read as the message that the agent is to accept or not
 pub returns-in-Ok : goal.returns-in-Ok
 returns-in-Ok c =
     let back : to_z w32 (of_z w32 c.found_code.result) ≡ c.found_code.result = search rules in

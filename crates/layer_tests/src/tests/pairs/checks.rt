@@ -54,7 +54,7 @@ fn a_check_beyond_the_limit_is_forgotten(rt: HostRuntime) -> Result<(), Fail> {
     Ok(())
 }
 
-/// A path whose nominating check is pending.
+/// A path whose nominating check has no response yet.
 fn nominating(alloc: Global) -> Result<Path, Fail> {
     let mut path = Path::new(alloc);
     let id = path.check(at(0))?;
