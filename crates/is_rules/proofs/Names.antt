@@ -1,4 +1,4 @@
--- Where a USERNAME splits, and the first candidate that passes a test.
+-- At which colon a USERNAME splits, and the first candidate that passes a test.
 use Rattle.std.proofs.Common.{◌≡◌, ℕ, ◌+◌, ◌<◌, ◌==◌, ◌||◌, Bool, true, false, nat_lt, List, [], ◌∷◌, ◌++◌, length, position, Some, refl, subst, arith, inl, inr}
 use Rattle.std.specs.List.{list_any, position_or_len}
 use Rattle.std.proofs.lemmas.Bool.{lt-ltb}
