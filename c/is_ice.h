@@ -323,8 +323,8 @@ IS_ICE_QUIET_CALL int32_t is_ice_reset_local_preference(is_ice_agent *agent);
 IS_ICE_CALL int32_t is_ice_set_local_credentials(
     is_ice_agent *agent, const uint8_t *ufrag, size_t ufrag_length, const uint8_t *pass, size_t pass_length);
 
-/* is_ice_set_remote_credentials - sets the other agent's credentials, which signaling brings. Before this call no check
- * is sent, and the last 100 early requests of the other agent are stored; they are served after it.
+/* is_ice_set_remote_credentials - sets the other agent's credentials, from signaling. Before this call no check is
+ * sent, and the last 100 early requests of the other agent are stored; they are served after it.
  *
  * IS_ICE_OK. IS_ICE_NOT_UTF8. IS_ICE_CREDENTIALS_TOO_LONG. IS_ICE_OUT_OF_MEMORY. */
 IS_ICE_CALL int32_t is_ice_set_remote_credentials(
@@ -348,7 +348,7 @@ IS_ICE_CALL int32_t is_ice_add_local(is_ice_agent *agent, const is_ice_candidate
  *
  * Browsers hide host addresses in mDNS names, as in "candidate:.. 3f2b8c1e.local 2000 typ host", which fail with
  * IS_ICE_BAD_CANDIDATE. Resolve the name by mDNS and put the address in its place, or leave the candidate out: the
- * other agent's checks bring its address as a peer-reflexive candidate.
+ * agent discovers the address as a peer-reflexive candidate, if a check of the other agent arrives.
  *
  * IS_ICE_OK: added or ignored. IS_ICE_NOT_UTF8. IS_ICE_BAD_CANDIDATE: it is not a candidate (is_ice_line_refusal says
  * why). IS_ICE_PAIR_IDS_EXHAUSTED. IS_ICE_OUT_OF_MEMORY. */
@@ -459,8 +459,8 @@ IS_ICE_CALL int32_t is_ice_poll_event(is_ice_agent *agent, is_ice_event *event);
 /* is_ice_restart - makes an ICE restart (RFC 8445, section 9) with new local credentials.
  *
  * The agent removes the remote credentials, remote candidates, pairs, packets, events and statistics. Local candidates
- * stay if `keep_local_candidates` is true. Set the other agent's new credentials and candidates again, as signaling
- * brings them. Keep sending media on the old path until the next IS_ICE_NOMINATED_SEND.
+ * stay if `keep_local_candidates` is true. Set the other agent's new credentials and candidates again when they
+ * arrive by signaling. Keep sending media on the old path until the next IS_ICE_NOMINATED_SEND.
  *
  * IS_ICE_OK. IS_ICE_NOT_UTF8. IS_ICE_CREDENTIALS_TOO_LONG. IS_ICE_OUT_OF_MEMORY. */
 IS_ICE_CALL int32_t is_ice_restart(

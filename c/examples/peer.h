@@ -95,7 +95,7 @@ int32_t signal_restart(is_ice_agent *agent);
 int32_t signal_take(is_ice_agent *agent, char *text);
 
 /* Takes one candidate of the other peer. A malformed one is reported on standard error and left out. So is one with an mDNS
- * name instead of an address: the other peer's checks bring its address. */
+ * name instead of an address: its address is discovered from the other peer's checks. */
 int32_t signal_take_candidate(is_ice_agent *agent, const char *line);
 
 #endif

@@ -221,7 +221,7 @@ def silent_server():
 
 
 def mdns():
-    """A candidate with an mDNS name is left out; the other peer's checks bring its address."""
+    """A candidate with an mDNS name is left out; its address is discovered from the other peer's checks."""
     a, b = pair("-a", "127.0.0.1")
     ufrag, password, candidate = b.says("signal ").split(" ", 2)
     hidden = candidate.replace(" 127.0.0.1 ", " 3f2b8c1e-5c1e-4b0a-9f5e-1f2e3d4c5b6a.local ")

@@ -176,7 +176,7 @@ class IceAgent:
         self._with_creds(self._c.is_ice_set_local_credentials, creds)
 
     def set_remote_credentials(self, creds: IceCreds) -> None:
-        """Sets the peer's credentials, which signaling brings. Before this call no check is sent."""
+        """Sets the peer's credentials, from signaling. Before this call no check is sent."""
         self._with_creds(self._c.is_ice_set_remote_credentials, creds)
 
     def _with_creds(self, call: Callable[..., int], creds: IceCreds, *more: bool) -> None:
@@ -223,11 +223,11 @@ class IceAgent:
         return done(self._c.is_ice_invalidate(self._at, text, len(text)))
 
     def local_candidates(self) -> list[str]:
-        """Returns the local candidates for signaling, with the peer-reflexive ones that responses brought."""
+        """Returns the local candidates for signaling, with the peer-reflexive ones that were discovered from responses."""
         return self._lines(self._c.is_ice_local_candidate)
 
     def remote_candidates(self) -> list[str]:
-        """Returns the remote candidates, with the peer-reflexive ones that requests brought."""
+        """Returns the remote candidates, with the peer-reflexive ones that were discovered from requests."""
         return self._lines(self._c.is_ice_remote_candidate)
 
     def _lines(self, call: Callable[..., int]) -> list[str]:

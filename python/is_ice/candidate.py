@@ -75,7 +75,7 @@ def has_mdns_name(line: str) -> bool:
     """Returns whether a candidate has an mDNS name, as `3f2b8c1e.local`, instead of an address, to hide it from the peer.
 
     `IceAgent.add_remote_candidate` raises BadCandidate for it. Resolve the name by mDNS and put the address in its place, or leave
-    the candidate out: the peer's checks bring its address as a peer-reflexive candidate.
+    the candidate out: the agent discovers it as a peer-reflexive candidate, from the peer's checks.
     """
     words = line.split()
     return len(words) > 4 and words[4].lower().endswith(".local")

@@ -224,7 +224,8 @@ class Connection:
     async def add_remote_candidate(self, remote_candidate: RemoteCandidate | None) -> None:
         """Adds a candidate of the peer: a text, or an object with `to_sdp`. None: there are no more. Malformed ones are left out.
 
-        An mDNS name is resolved if aioice is installed. Otherwise the candidate is left out, and the peer's checks bring its address.
+        An mDNS name is resolved if aioice is installed. Otherwise the candidate is left out, and the agent discovers the address
+        from the peer's checks.
         """
         if self._remote_end:
             raise ValueError("a candidate after end-of-candidates")

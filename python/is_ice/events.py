@@ -40,7 +40,7 @@ class IceConnectionState(enum.IntEnum):
 
 @dataclass(frozen=True)
 class IceCreds:
-    """A username fragment and a password, which signaling brings to the peer."""
+    """A username fragment and a password. Signaling sends them to the peer."""
 
     ufrag: str
     pass_: str

@@ -17,7 +17,7 @@ from .events import IceAgentEvent
 
 # Time starts at 60 s: the agent gives a newly nominated pair a due time 60 s in the past.
 _BEGINNING = 60_000_000_000
-# The least pacing interval (RFC 8445, section 14.2): how long after a timeout a packet of the peer may bring the next one.
+# The least pacing interval (RFC 8445, section 14.2): how soon after a timeout a packet of the peer may cause the next one.
 _LEAST_PACING = 5_000_000
 _WITHOUT_TIMEOUT = 50_000_000
 _EARLY_CHECKS = 16

@@ -83,7 +83,7 @@ impl Candidate {
     /// Reads a candidate attribute (RFC 8839) without `a=`, as `candidate:1 1 udp 2130706175 10.0.0.2 2000 typ host`.
     ///
     /// A candidate with an mDNS name instead of an address is an error. Resolve the name by mDNS and put the address in its place,
-    /// or leave the candidate out, as here: the peer's checks bring its address as a peer-reflexive candidate.
+    /// or leave the candidate out, as here: the agent discovers a peer-reflexive candidate from the peer's checks.
     ///
     /// ```
     /// # let mut agent = is::IceAgent::new(is::IceCreds::new());

@@ -4,7 +4,7 @@ use crate::ffi;
 use std::fs::File;
 use std::io::Read;
 
-/// The credentials of an agent, which signaling brings to the peer.
+/// The credentials of an agent. Signaling sends them to the peer.
 #[derive(Clone, Debug, PartialEq, Eq, Hash)]
 pub struct IceCreds {
     /// The username fragment, of `a=ice-ufrag`.

@@ -115,7 +115,7 @@ impl IceAgent {
         self.remote.as_ref()
     }
 
-    /// Sets the peer's credentials, which signaling brings. Before this call no check is sent.
+    /// Sets the peer's credentials, from signaling. Before this call no check is sent.
     ///
     /// # Panics
     ///
