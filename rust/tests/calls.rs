@@ -32,7 +32,7 @@ fn addressed() -> IceAgent {
     agent
 }
 
-/// A controlling agent with its peer's credentials and one candidate of the peer.
+/// A controlling agent with the peer's credentials and one candidate of the peer.
 fn paired() -> IceAgent {
     let mut agent = IceAgent::new(creds("near"));
     agent.set_controlling(true);
