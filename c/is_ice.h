@@ -263,9 +263,9 @@ IS_ICE_QUIET_CALL void is_ice_agent_free(is_ice_agent *agent);
  * Value: false. */
 IS_ICE_QUIET_CALL int32_t is_ice_set_controlling(is_ice_agent *agent, bool controlling);
 
-/* is_ice_set_lite - makes the agent a lite agent, or a full one. A lite agent has only host candidates, and answers
- * checks without sending any. It has to be controlled, and the other agent a full one: a lite agent that stays
- * controlling never finds a path, and no call reports it. IS_ICE_OK. Value: false. */
+/* is_ice_set_lite - makes the agent a lite agent, or a full one. A lite agent has only host candidates. It responds to
+ * checks and sends none. It has to be controlled, and the other agent a full one: a lite agent that stays controlling
+ * never finds a path, and no call reports it. IS_ICE_OK. Value: false. */
 IS_ICE_QUIET_CALL int32_t is_ice_set_lite(is_ice_agent *agent, bool lite);
 
 /* is_ice_set_tie_breaker - sets the number that decides role conflicts: the greater one keeps its role. IS_ICE_OK.
