@@ -17,7 +17,7 @@ COLOURS = ("#08519c", "#6baed6", "#c6dbef")
 WIDTH, ROW, THICK, TOP, BOTTOM = 520, 24, 14, 64, 50
 # About the width of a letter.
 LETTER = 6.7
-NONE = "no path"
+NONE = "never"
 
 
 @dataclass(frozen=True)
@@ -35,8 +35,7 @@ def quantiles(milliseconds: Sequence[float]) -> tuple[float, ...] | None:
 
 
 def write(path: Path, title: str, x: str, bars: Sequence[Bar], own: bool = False) -> None:
-    """Writes a plot, the least median first. It is plain SVG if `own` is true or matplotlib is not installed."""
-    bars = sorted(bars, key=lambda bar: (bar.quantiles is None, bar.quantiles))
+    """Writes a plot. It is plain SVG if `own` is true or matplotlib is not installed."""
     if not own:
         try:
             _write_by_matplotlib(path, title, x, bars)
@@ -67,6 +66,11 @@ def _write_by_matplotlib(path: Path, title: str, x: str, bars: Sequence[Bar]) ->
     axes.legend(loc="lower right", fontsize="small")
     figure.savefig(path, bbox_inches="tight", metadata={"Date": None} if path.suffix == ".svg" else None)
     pyplot.close(figure)
+
+
+def by_median(bars: Sequence[Bar]) -> list[Bar]:
+    """Returns the bars in order, the least median first, and those without times at the end."""
+    return sorted(bars, key=lambda bar: (bar.quantiles is None, bar.quantiles))
 
 
 # ---- plain SVG

@@ -53,7 +53,7 @@ def _measure(options: argparse.Namespace) -> None:
 
 def _plot(options: argparse.Namespace, scenarios: list[Scenario], told: dict[str, figures.Figures]) -> None:
     rows = [bars.Bar(s.title, bars.quantiles(told[s.name].first)) for s in scenarios]
-    bars.write(options.plot, "When both sides have a path", "seconds from the first signaling message, logarithmic", rows, options.own_svg)
+    bars.write(options.plot, "When both sides have a path", "seconds from the first signaling message, logarithmic", bars.by_median(rows), options.own_svg)
 
 
 def main() -> int:

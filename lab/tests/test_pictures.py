@@ -85,7 +85,7 @@ class Bars(unittest.TestCase):
         rows = [bars.Bar("slow", (5.0, 6.0, 9.0)), bars.Bar("none", None), bars.Bar("quick", (0.2, 0.3, 0.4))]
         self.assertEqual(bars.limits(rows), (0.1, 10.0))
         with tempfile.TemporaryDirectory() as folder:
-            bars.write(path := Path(folder) / "bars.svg", "", "", rows, own=True)
+            bars.write(path := Path(folder) / "bars.svg", "", "", bars.by_median(rows), own=True)
             drawn = path.read_text(encoding="utf-8")
         labels = [text for text in re.findall(r">([^<]+)<", drawn) if text in ("slow", "quick", "none", bars.NONE)]
         self.assertEqual(labels, ["quick", "slow", "none", bars.NONE])
