@@ -1,4 +1,4 @@
-"""Compares settings: three questions, each with its plot and its table."""
+"""Compares settings: four questions, each with its plot and its table."""
 
 from __future__ import annotations
 
@@ -6,20 +6,18 @@ from collections.abc import Callable, Sequence
 from dataclasses import dataclass, replace
 from pathlib import Path
 
-from . import figures, plot, pool, scenario
+from . import bars, figures, plot, pool, scenario
 from .figures import Figures
 from .scenario import AgentSettings, Scenario
 
 
 @dataclass(frozen=True)
 class Setting:
-    """A setting: a scenario with its own name, and the style of its curve."""
+    """A setting: a scenario with its own name, and the colour of its curve, if it has one."""
 
     label: str
     scenario: Scenario
-    colour: str
-    dashed: bool = False
-    is_drawn: bool = True
+    colour: str | None = None
 
 
 @dataclass(frozen=True)
@@ -32,11 +30,12 @@ class Question:
     settings: Callable[[], list[Setting]]
     times: Callable[[Figures], Sequence[float]]
     shift: float = 0.0  # milliseconds to subtract from the times
+    has_bars: bool = False  # the plot has bars, not curves
+    has_slowest: bool = False  # the table has the slowest session
 
 
-# One colour for each value of the first parameter, one shade for each value of the second.
-SHADES = (("#9ecae1", "#4292c6", "#2171b5", "#08306b"), ("#fdae6b", "#f16913", "#d94801", "#7f2704"),
-          ("#a1d99b", "#41ab5d", "#238b45", "#00441b"))
+# One colour for each loss, one shade for each initial RTO.
+SHADES = (("#9ecae1", "#2171b5", "#08306b"), ("#fdae6b", "#d94801", "#7f2704"), ("#a1d99b", "#238b45", "#00441b"))
 LOSSES = (0, 5, 20)
 RETRANSMITS = (100, 250, 500)
 INTERFACES = (2, 5, 10)
@@ -52,7 +51,7 @@ def _retransmit(loss: int, rto: int) -> Setting:
     changes = (f"link.home.loss={by_link}", f"a.initial_rto_ms={RETRANSMITS[rto]}",
                f"b.initial_rto_ms={RETRANSMITS[rto]}", 'connects="sometimes"')
     label = f"{RETRANSMITS[rto]} ms, {LOSSES[loss]} % lost"
-    return Setting(label, replace(scenario.load("two_homes", changes), name=label), SHADES[loss][rto + (rto > 0)])
+    return Setting(label, replace(scenario.load("two_homes", changes), name=label), SHADES[loss][rto])
 
 
 def _pairs() -> list[Setting]:
@@ -71,25 +70,43 @@ def _many(interfaces: int, advance: int, limit: int) -> Setting:
         return replace(own, interface=own.interface[-count:], max_pairs=limit, advance_ms=ADVANCES[advance])
 
     changed = replace(made, name=label, a=side("a"), b=side("b"), connects="sometimes")
-    return Setting(label, changed, SHADES[interfaces][advance], is_drawn=limit == 100)
+    return Setting(label, changed)
 
 
 def _consent() -> list[Setting]:
     settings = []
-    for number, (retransmits, greatest) in enumerate(((9, 3000), (7, 3000), (5, 3000), (9, 1000))):
+    for retransmits, greatest in ((9, 3000), (7, 3000), (5, 3000), (9, 1000)):
         changes = tuple(f"{side}.{key}={value}" for side in "ab" for key, value in (("retransmits", retransmits), ("max_rto_ms", greatest)))
         label = f"{retransmits} checks, {greatest} ms apart"
-        settings.append(Setting(label, replace(scenario.load("consent", changes), name=label), plot.COLOURS[number]))
+        settings.append(Setting(label, replace(scenario.load("consent", changes), name=label)))
     return settings
 
 
+# The initial RTO, the greatest RTO and the pacing interval Ta, in milliseconds; the defaults first.
+TAILS = ((250, 3000, 50), (250, 3000, 20), (250, 1000, 50), (250, 500, 50), (250, 500, 20), (100, 500, 20))
+
+
+def _tails() -> list[Setting]:
+    return [_tail(*values) for values in TAILS]
+
+
+def _tail(*values: int) -> Setting:
+    by_link = round(1 - 0.7 ** 0.5, 6)  # 30 % of the packets on the path, which has two links
+    changes = [f"{side}.{key}={value}" for side in "ab" for key, value in zip(("initial_rto_ms", "max_rto_ms", "advance_ms"), values)]
+    changes += [f"link.home.loss={by_link}", 'connects="sometimes"']
+    label = "RTO {} to {} ms, Ta {} ms".format(*values)
+    return Setting(label, replace(scenario.load("two_homes", tuple(changes)), name=label))
+
+
 QUESTIONS = {
-    "first-retransmit": Question("Time to connect, by initial RTO and loss on the path", "seconds from the first signal",
+    "first-retransmit": Question("Time to connect, by initial RTO and loss on the path", "seconds from the first signaling message",
                                  "sessions connected, %", _first_retransmit, lambda f: f.first),
-    "pairs": Question("Time to connect if only the last pair works", "seconds from the first signal",
-                      "sessions connected, %", _pairs, lambda f: f.first),
-    "consent": Question("How long consent takes to expire", "seconds after the last packet that arrived",
-                        "sessions disconnected, %", _consent, lambda f: f.lost, 10000.0),
+    "pairs": Question("Time to connect if only the last pair works", "seconds from the first signaling message, logarithmic",
+                      "sessions connected, %", _pairs, lambda f: f.first, has_bars=True),
+    "consent": Question("How long consent takes to expire", "seconds after the last packet that arrived, logarithmic",
+                        "sessions disconnected, %", _consent, lambda f: f.lost, 10000.0, has_bars=True),
+    "tails": Question("Time to connect if 30 % of the packets are lost", "seconds from the first signaling message, logarithmic",
+                      "sessions connected, %", _tails, lambda f: f.first, has_bars=True, has_slowest=True),
 }
 
 
@@ -98,16 +115,21 @@ def run(name: str, count: int, seed: int, processes: int, quiet: bool, path: Pat
     question = QUESTIONS[name]
     settings = question.settings()
     told = figures.gather(pool.run([s.scenario for s in settings], count, seed, processes, quiet))
-    print(f"| setting | sessions | {question.y} | median, s | 95 %, s | 99 %, s |")
-    print("|---|---|---|---|---|---|")
-    curves, end = [], 1.0
-    for s in settings:
-        times = [time - question.shift for time in question.times(told[s.label])]
-        at = [figures.quantile(times, share) for share in (0.5, 0.95, 0.99)]
-        cells = ["-" if value is None else f"{value / 1000:.2f}" for value in at]
-        print(f"| {s.label} | {told[s.label].sessions} | {100 * len(times) / count:.1f} | {' | '.join(cells)} |")
-        end = max(end, (figures.quantile(times, 0.995) or 0.0) / 1000 * 1.05)
-    for s in (s for s in settings if s.is_drawn):
-        times = [time - question.shift for time in question.times(told[s.label])]
-        curves.append(plot.share_over_time(s.label, times, told[s.label].sessions, end, s.dashed, s.colour))
+    times = {s.label: [time - question.shift for time in question.times(told[s.label])] for s in settings}
+    _print(question, times, count)
+    if question.has_bars:
+        bars.write(path, question.title, question.x, [bars.Bar(label, bars.quantiles(of)) for label, of in times.items()], own)
+        return
+    end = max(1.0, *((figures.quantile(of, 0.995) or 0.0) / 1000 * 1.05 for of in times.values()))
+    curves = [plot.share_over_time(s.label, times[s.label], count, end, s.colour) for s in settings]
     plot.write(path, question.title, question.x, question.y, curves, own)
+
+
+def _print(question: Question, times: dict[str, list[float]], count: int) -> None:
+    shares = {"median": 0.5, "95 %": 0.95, "99 %": 0.99, **({"slowest": 1.0} if question.has_slowest else {})}
+    print(f"| setting | sessions | {question.y} | {' | '.join(f'{name}, s' for name in shares)} |")
+    print("|---" * (3 + len(shares)) + "|")
+    for label, of in times.items():
+        at = [figures.quantile(of, share) for share in shares.values()]
+        cells = ["-" if value is None else f"{value / 1000:.2f}" for value in at]
+        print(f"| {label} | {count} | {100 * len(of) / count:.1f} | {' | '.join(cells)} |")

@@ -6,7 +6,7 @@ import argparse
 import sys
 from pathlib import Path
 
-from . import mermaid, scenario, svg
+from . import capture, mermaid, scenario, svg
 from .picture import Picture, of_session
 from .guarantees import Broken
 from .script import of_script
@@ -25,12 +25,12 @@ def _arguments() -> argparse.Namespace:
     parser.add_argument("--title")
     parser.add_argument("--svg", type=Path, metavar="FILE")
     parser.add_argument("--mermaid", type=Path, metavar="FILE", help="without any file Mermaid text is printed")
+    parser.add_argument("--pcap", type=Path, metavar="FILE", help="writes what the agents sent and received as a capture for Wireshark")
+    parser.add_argument("--side", choices=("a", "b"), help="the capture has only what this side sent and received")
     return parser.parse_args()
 
 
-def _picture(options: argparse.Namespace) -> Picture:
-    if options.script:
-        return of_script(options.script, options.output or options.script.with_name(options.script.name + ".out"))
+def _traced(options: argparse.Namespace) -> tuple[Picture, Trace]:
     if not options.scenario:
         raise ValueError("needs a scenario or --script")
     chosen, trace = scenario.load(options.scenario, tuple(options.set)), Trace()
@@ -38,21 +38,35 @@ def _picture(options: argparse.Namespace) -> Picture:
         Session(chosen, options.seed, trace).run()
     except Broken as broken:
         print(f"lab: BROKEN GUARANTEE: {broken}", file=sys.stderr)
-    return of_session(chosen, trace)
+    return of_session(chosen, trace), trace
+
+
+def _of_script(options: argparse.Namespace) -> Picture:
+    if options.pcap:
+        raise ValueError("--pcap needs a scenario")
+    return of_script(options.script, options.output or options.script.with_name(options.script.name + ".out"))
+
+
+def _write(options: argparse.Namespace) -> None:
+    picture, trace = (_of_script(options), Trace()) if options.script else _traced(options)
+    begin, end = round(options.begin * 1e9), round(options.end * 1e9)
+    picture = picture.between(begin, end)
+    picture.title = options.title or picture.title
+    if options.svg:
+        options.svg.write_text(svg.draw(picture), encoding="utf-8")
+    if options.mermaid:
+        options.mermaid.write_text(mermaid.text_of(picture), encoding="utf-8")
+    if options.pcap:
+        packets = capture.of_trace(trace, options.side or "ab")
+        options.pcap.write_bytes(capture.bytes_of(p for p in packets if begin <= p.time < end))
+    if not options.svg and not options.mermaid and not options.pcap:
+        print(mermaid.text_of(picture), end="")
 
 
 def main() -> int:
     """Returns the exit status: 0, or 2 if a file has an error."""
-    options = _arguments()
     try:
-        picture = _picture(options).between(round(options.begin * 1e9), round(options.end * 1e9))
-        picture.title = options.title or picture.title
-        if options.svg:
-            options.svg.write_text(svg.draw(picture), encoding="utf-8")
-        if options.mermaid:
-            options.mermaid.write_text(mermaid.text_of(picture), encoding="utf-8")
-        if not options.svg and not options.mermaid:
-            print(mermaid.text_of(picture), end="")
+        _write(_arguments())
         return 0
     except (ValueError, OSError) as fault:
         print(f"lab/draw: {fault}", file=sys.stderr)

@@ -8,7 +8,7 @@ import time
 from contextlib import ExitStack
 from pathlib import Path
 
-from . import compare, figures, plot, pool, scenario
+from . import bars, compare, figures, pool, scenario
 from .guarantees import Broken
 from .scenario import BadScenario, Scenario
 
@@ -22,7 +22,7 @@ def _arguments() -> argparse.Namespace:
     measure.add_argument("-n", "--sessions", type=int, default=200, help="sessions of each scenario (200)")
     measure.add_argument("--set", action="append", default=[], metavar="KEY=VALUE", help="changes a scenario: a.initial_rto_ms=100")
     measure.add_argument("--csv", type=Path, metavar="FILE", help="writes a row for each session")
-    measure.add_argument("--plot", type=Path, metavar="FILE", help="plots the share of connected sessions over time, as .svg or (by matplotlib) .png")
+    measure.add_argument("--plot", type=Path, metavar="FILE", help="plots when both sides have a path: median, 95 % and 99 %, as .svg or (by matplotlib) .png")
     comparing = words.add_parser("compare", help="compares settings, and plots them")
     comparing.add_argument("question", choices=sorted(compare.QUESTIONS))
     comparing.add_argument("-n", "--sessions", type=int, default=1000, help="sessions of each setting (1000)")
@@ -52,10 +52,8 @@ def _measure(options: argparse.Namespace) -> None:
 
 
 def _plot(options: argparse.Namespace, scenarios: list[Scenario], told: dict[str, figures.Figures]) -> None:
-    latest = [figures.quantile(f.first, 0.995) or 0.0 for f in told.values()]
-    end = max(1.0, max(latest) / 1000 * 1.05)
-    curves = [plot.share_over_time(s.title, told[s.name].first, told[s.name].sessions, end) for s in scenarios]
-    plot.write(options.plot, "How soon both have a path", "seconds from the first signal", "sessions connected, %", curves, options.own_svg)
+    rows = [bars.Bar(s.title, bars.quantiles(told[s.name].first)) for s in scenarios]
+    bars.write(options.plot, "When both sides have a path", "seconds from the first signaling message, logarithmic", bars.by_median(rows), options.own_svg)
 
 
 def main() -> int:

@@ -2,12 +2,12 @@
 
 from __future__ import annotations
 
-from .picture import Picture, Arrow
+from .picture import Arrow, Picture
 from .svg import time_text
 
 
 def text_of(picture: Picture) -> str:
-    """Returns the diagram: packets in the order of their arrival, lost ones at their end."""
+    """Returns the diagram: packets in the order of their arrival, those that do not arrive at their end."""
     names = {lane: f"L{n}" for n, lane in enumerate(picture.lanes)}
     lines = ["sequenceDiagram", *(f"  participant {name} as {lane}" for lane, name in names.items())]
     happenings: list[tuple[int, int, str]] = []
@@ -22,10 +22,10 @@ def text_of(picture: Picture) -> str:
 def _legs(arrow: Arrow, names: dict[str, str]) -> list[tuple[int, str]]:
     legs = []
     for (_, here), (time, there) in zip(arrow.stops, arrow.stops[1:]):
-        legs.append((time, f"  {names[here]}->>{names[there]}: {_clean(arrow.label)}"))
-    if arrow.end and arrow.end != "refused":
+        legs.append((time, f"  {names[here]}->>{names[there]}: {_clean(arrow.text)}"))
+    if arrow.is_cut:
         time, here = arrow.stops[-1]
-        legs.append((time, f"  {names[here]}-x{names[arrow.toward or here]}: {_clean(arrow.label)} ({_clean(arrow.end)})"))
+        legs.append((time, f"  {names[here]}-x{names[arrow.toward or here]}: {_clean(arrow.text)} ({_clean(arrow.end)})"))
     return legs
 
 

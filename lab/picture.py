@@ -12,16 +12,34 @@ from .scenario import Scenario
 from .session import Trace
 from .stun import message_of
 
+# Why an arrow ends: the agent did not accept the packet; the script does not deliver it.
+REJECTED, UNDELIVERED = "not accepted", "not delivered"
+
 
 @dataclass
 class Arrow:
-    """A packet: the lanes that it passed, each with its time. `end` is why it went no further, or empty."""
+    """A packet: the lanes that it passed, each with its time. `end` is why it went no further or was not accepted, or empty."""
 
     label: str
     kind: str  # check, nomination, response, failure
     stops: list[tuple[int, str]]
     end: str = ""
     toward: str = ""  # the lane that it did not reach
+
+    @property
+    def is_cut(self) -> bool:
+        """Whether it did not arrive."""
+        return self.end not in ("", REJECTED)
+
+    @property
+    def is_undelivered(self) -> bool:
+        """Whether a script has no call that delivers it: it is not lost."""
+        return self.end == UNDELIVERED
+
+    @property
+    def text(self) -> str:
+        """Its label, with whether it arrived and was not accepted."""
+        return f"{self.label}, {self.end}" if self.end == REJECTED else self.label
 
 
 @dataclass
@@ -68,7 +86,7 @@ def flag_of(event: IceAgentEvent) -> str:
     if isinstance(event, NominatedSend):
         return f"path {event.source} to {event.destination}"
     if isinstance(event, DiscoveredRecv):
-        return f"discovers {event.source}"
+        return f"discovered {event.source}"
     if isinstance(event, IceRestart):
         return "session starts"
     return event.state.name.capitalize()
@@ -111,9 +129,9 @@ def _arrow(datagram: Datagram, lanes: list[str], transactions: Transactions) -> 
             stops.append((time - BEGINNING, place))
     taken = [time for time, fate in datagram.fates if fate in ("taken", "refused")]
     if taken:
-        is_refused = all(fate != "taken" for _, fate in datagram.fates)
+        is_rejected = all(fate != "taken" for _, fate in datagram.fates)
         times = " (twice)" if len(taken) > 1 else ""
-        return Arrow(label + times, kind, [*stops, (taken[0] - BEGINNING, goal)], "refused" if is_refused else "")
+        return Arrow(label + times, kind, [*stops, (taken[0] - BEGINNING, goal)], REJECTED if is_rejected else "")
     why = datagram.fates[-1][1] if datagram.fates else "in flight"
     place = stops[-1][1]
     step = 1 if start == "A" else -1

@@ -26,14 +26,13 @@ class Curve:
     colour: str | None = None
 
 
-def share_over_time(label: str, times: Sequence[float], sessions: int, end: float, dashed: bool = False,
-                    colour: str | None = None) -> Curve:
+def share_over_time(label: str, times: Sequence[float], sessions: int, end: float, colour: str | None = None) -> Curve:
     """Returns the curve over seconds of the share of sessions, in per cent, whose time (in milliseconds) has passed."""
     points = [(0.0, 0.0)]
     for count, time in enumerate(sorted(times), 1):
         points += [(time / 1000, points[-1][1]), (time / 1000, 100 * count / sessions)]
     points.append((end, points[-1][1]))
-    return Curve(label, [p for p in points if p[0] <= end], dashed, colour)
+    return Curve(label, [p for p in points if p[0] <= end], colour=colour)
 
 
 def write(path: Path, title: str, x: str, y: str, curves: Sequence[Curve], own: bool = False) -> None:

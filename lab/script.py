@@ -6,7 +6,7 @@ import json
 from collections.abc import Iterator
 from pathlib import Path
 
-from .picture import Picture, Transactions, Arrow
+from .picture import REJECTED, UNDELIVERED, Arrow, Picture, Transactions
 
 
 class BadScript(ValueError):
@@ -32,7 +32,7 @@ def of_script(lines: Path, output: Path) -> Picture:
             _take(picture, transactions, times[lane], lane, line)
     for arrow in picture.arrows:
         if len(arrow.stops) == 1:
-            arrow.end, arrow.toward = "lost", "B" if arrow.stops[0][1] == "A" else "A"
+            arrow.end, arrow.toward = UNDELIVERED, "B" if arrow.stops[0][1] == "A" else "A"
     picture.arrows += again
     return picture
 
@@ -62,7 +62,7 @@ def _take(picture: Picture, transactions: Transactions, time: int, lane: str, li
         picture.flags.append((time, lane, "session starts"))
         picture.states.append((time, lane, "Checking"))
     elif words[1:3] == ["event", "discovered"]:
-        picture.flags.append((time, lane, f"discovers {words[4]}"))
+        picture.flags.append((time, lane, f"discovered {words[4]}"))
     elif words[1:3] == ["event", "nominated"]:
         picture.flags.append((time, lane, f"path {words[4]} to {words[5]}"))
 
@@ -71,6 +71,6 @@ def _deliver(picture: Picture, again: list[Arrow], number: int, time: int, lane:
     arrow = picture.arrows[number]
     if len(arrow.stops) == 1:
         arrow.stops.append((time, lane))
-        arrow.end = "" if answer == "true" else "refused"
+        arrow.end = "" if answer == "true" else REJECTED
     else:
-        again.append(Arrow(arrow.label + " again", arrow.kind, [arrow.stops[0], (time, lane)], "" if answer == "true" else "refused"))
+        again.append(Arrow(arrow.label + " again", arrow.kind, [arrow.stops[0], (time, lane)], "" if answer == "true" else REJECTED))

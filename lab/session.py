@@ -57,11 +57,16 @@ class Outcome:
         return None if a is None or b is None else max(a, b)
 
 
+# A packet as a side received it: its time, the side, the source, the local address, the contents.
+Received = tuple[int, str, SocketAddress, SocketAddress, bytes]
+
+
 @dataclass
 class Trace:
-    """Everything that a picture needs."""
+    """Everything that a picture or a capture needs."""
 
     datagrams: list[Datagram] = field(default_factory=list)
+    received: list[Received] = field(default_factory=list)
     events: list[tuple[int, str, IceAgentEvent]] = field(default_factory=list)
     scenario_events: list[tuple[int, str, str]] = field(default_factory=list)
 
@@ -128,6 +133,8 @@ class Session:
 
     def took(self, side: str, datagram: Datagram, source: SocketAddress, local: SocketAddress, accepted: bool) -> None:
         """Records a received packet."""
+        if self.trace is not None:
+            self.trace.received.append((self.clock.now, side, source, local, datagram.contents))
         self._routes[datagram.side, datagram.source, datagram.destination] = (local, source)
         if accepted:
             self._guarantees[side].took(datagram, source, local)

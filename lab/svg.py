@@ -1,64 +1,25 @@
-"""Draws a picture as SVG: time goes down, and long waits are shortened."""
+"""Draws a picture as SVG: time goes down, and a long wait is cut, with a break mark."""
 
 from __future__ import annotations
 
 import math
 from xml.sax.saxutils import escape
 
-from .picture import Picture, Arrow
+from .labels import Labels, Point
+from .picture import Arrow, Picture
+from .scale import ROW, Scale
 
-COLOURS = {"check": "#1f77b4", "nomination": "#6a3d9a", "response": "#2ca02c", "failure": "#d62728"}
+COLOURS = {"check": "#1f77b4", "nomination": "#6a3d9a", "response": "#2c8a2c", "failure": "#d62728"}
 STATES = {"New": "#bdbdbd", "Checking": "#f0b429", "Connected": "#7bc96f", "Completed": "#1b8a3a", "Disconnected": "#d62728"}
-TOP, LANE, FLAG = 78, 250, 13
-# The width of the times at the left, and about that of a letter of a flag.
-TIMES, LETTER = 72, 6.9
-
-
-class Scale:
-    """Maps times to heights. The gap between two times at which something happens counts by its logarithm."""
-
-    def __init__(self, picture: Picture) -> None:
-        stacked: dict[int, dict[str, int]] = {}
-        for time, lane, _ in picture.flags:
-            lanes = stacked.setdefault(time, {})
-            lanes[lane] = lanes.get(lane, 0) + 1
-        times = {time for arrow in picture.arrows for time, _ in arrow.stops} | set(stacked) | {s[0] for s in picture.states}
-        self.times = sorted(times) or [0]
-        self._places = [TOP + 14.0]
-        for before, after in zip(self.times, self.times[1:]):
-            room = FLAG * max(stacked.get(before, {"": 0}).values())
-            gap = 3 + 9 * math.log10(1 + (after - before) / 1e6)
-            self._places.append(self._places[-1] + max(room + 2 if room else 0, gap))
-        self.bottom = self._places[-1] + FLAG * max(stacked.get(self.times[-1], {"": 0}).values()) + 26
-        self._by_time = dict(zip(self.times, self._places))
-
-    def at(self, time: int) -> float:
-        """Returns the height of a time."""
-        return self._by_time[time]
-
-
-def draw(picture: Picture) -> str:
-    """Returns the SVG of a picture."""
-    scale = Scale(picture)
-    left, right = TIMES + _room(picture, picture.lanes[0]), max(_room(picture, lane) for lane in picture.lanes[1:])
-    places = {lane: left + LANE * n for n, lane in enumerate(picture.lanes)}
-    width, height = round(left + LANE * (len(places) - 1) + right), scale.bottom + 34
-    lines = [f'<svg xmlns="http://www.w3.org/2000/svg" width="{width}" height="{height:.0f}" viewBox="0 0 {width} {height:.0f}" '
-             'font-family="sans-serif" font-size="11">',
-             f'<rect width="{width}" height="{height:.0f}" fill="#ffffff"/>',
-             _text(width / 2, 24, picture.title, "middle", "#222222", 'font-size="16" font-weight="bold"')]
-    lines += _times(scale, width)
-    for lane, x in places.items():
-        lines += _lane(picture, scale, lane, x)
-    for arrow in picture.arrows:
-        lines += _arrow(arrow, scale, places)
-    lines += _flags(picture, scale, places)
-    lines += _legend(width, height)
-    return "\n".join([*lines, "</svg>", ""])
-
-
-def _room(picture: Picture, lane: str) -> float:
-    return 24 + LETTER * max((len(text) for _, of, text in picture.flags if of == lane), default=10)
+# The same as text, dark enough to be read.
+WORDS = {**STATES, "New": "#666666", "Checking": "#8a5a00", "Connected": "#2b7a1f"}
+LOST, UNDELIVERED, PALE = "#d62728", "#777777", "#777777"
+TOP = 78
+# The distance of two lanes, and of A and B if nothing is between them.
+LANE, WIDE = 250, 480
+# The width of a time beside its lane, and about those of a letter of a flag and of a label.
+TIMES, LETTER, LETTERS = 66, 6.9, 5.2
+HALO = 'paint-order="stroke" stroke="#ffffff" stroke-width="3.5" stroke-linejoin="round"'
 
 
 def time_text(time: int) -> str:
@@ -66,16 +27,37 @@ def time_text(time: int) -> str:
     return f"{time / 1e6:.1f} ms" if time < 10**9 else f"{time / 1e9:.3f} s"
 
 
-def _times(scale: Scale, width: float) -> list[str]:
-    lines, last = [], 0.0
-    for time in scale.times:
-        y = scale.at(time)
-        if y - last >= 12:
-            last = y
-            lines.append(_text(8, y + 4, time_text(time), "start", "#777777"))
-            lines.append(f'<line x1="66" y1="{y:.1f}" x2="{width - 8}" y2="{y:.1f}" stroke="#f1f1f1"/>')
-    return lines
+def wait_text(time: int) -> str:
+    """Returns a duration as text."""
+    return f"{time / 1e6:.0f} ms" if time < 10**9 else f"{time / 1e9:.1f} s"
 
+
+def draw(picture: Picture) -> str:
+    """Returns the SVG of a picture."""
+    scale = Scale(picture, TOP)
+    apart = WIDE if len(picture.lanes) == 2 else LANE
+    left, right = _room(picture, picture.lanes[0]), max(_room(picture, lane) for lane in picture.lanes[1:])
+    places = {lane: left + apart * n for n, lane in enumerate(picture.lanes)}
+    legend, needed = _legend(picture, scale)
+    width, height = round(max(left + apart * (len(places) - 1) + right, needed)), scale.bottom + 34
+    lines = [f'<svg xmlns="http://www.w3.org/2000/svg" width="{width}" height="{height:.0f}" viewBox="0 0 {width} {height:.0f}" '
+             'font-family="sans-serif" font-size="11">',
+             f'<rect width="{width}" height="{height:.0f}" fill="#ffffff"/>',
+             _text(width / 2, 24, picture.title, "middle", "#222222", 'font-size="16" font-weight="bold"')]
+    for lane, x in places.items():
+        lines += _lane(picture, scale, lane, x)
+    lines += _cuts(scale, places)
+    lines += _arrows(picture, scale, places)
+    lines += _flags(picture, scale, places)
+    lines.append(f'<g transform="translate(20 {height - 20:.0f})">{legend}</g>')
+    return "\n".join([*lines, "</svg>", ""])
+
+
+def _room(picture: Picture, lane: str) -> float:
+    return 24 + TIMES + LETTER * max((len(text) for _, of, text in picture.flags if of == lane), default=3)
+
+
+# ---- lanes
 
 def _lane(picture: Picture, scale: Scale, lane: str, x: float) -> list[str]:
     lines = [_text(x, TOP - 22, lane, "middle", "#222222", 'font-size="13" font-weight="bold"')]
@@ -88,29 +70,77 @@ def _lane(picture: Picture, scale: Scale, lane: str, x: float) -> list[str]:
     return lines
 
 
-def _arrow(arrow: Arrow, scale: Scale, places: dict[str, float]) -> list[str]:
-    points = [(places[lane], scale.at(time)) for time, lane in arrow.stops]
-    colour = COLOURS[arrow.kind]
-    is_cut = bool(arrow.end) and arrow.end != "refused"
-    if is_cut and arrow.toward:
-        x, y = points[-1]
-        points.append((x + (places[arrow.toward] - x) * 0.42, y + 7))
-    if len(points) == 1:
-        return []
-    dash = ' stroke-dasharray="5 3"' if arrow.end else ""
-    path = " ".join(f"{x:.1f},{y:.1f}" for x, y in points)
-    lines = [f'<polyline points="{path}" fill="none" stroke="{colour}" stroke-width="1.5"{dash}/>']
-    lines.append(_cross(*points[-1]) if is_cut else _head(points[-2], points[-1], colour))
-    if is_cut:
-        x, y = points[-1]
-        is_right = points[-1][0] > points[-2][0]
-        lines.append(_text(x + (8 if is_right else -8), y + 4, arrow.end, "start" if is_right else "end", "#d62728", 'font-size="9"'))
-    (x1, y1), (x2, y2) = points[0], points[1]
-    lines.append(_text((x1 + x2) / 2, (y1 + y2) / 2 - 3, arrow.label, "middle", colour, 'font-size="10"'))
+def _cuts(scale: Scale, places: dict[str, float]) -> list[str]:
+    """Draws a break mark on each lane, and how much time it stands for."""
+    lines = []
+    for above, below, wait in scale.cuts:
+        y = below - 17
+        for x in places.values():
+            lines.append(f'<polygon points="{x - 9},{y + 4:.1f} {x + 9},{y - 4:.1f} {x + 9},{y + 2:.1f} {x - 9},{y + 10:.1f}" fill="#ffffff"/>')
+            lines.append(f'<path d="M{x - 9} {y + 4:.1f} L{x + 9} {y - 4:.1f} M{x - 9} {y + 10:.1f} L{x + 9} {y + 2:.1f}" stroke="#555555"/>')
+        first = next(iter(places.values()))
+        lines.append(_text(first - 14, y + 6, f"{wait_text(wait)} cut", "end", PALE, 'font-size="10" font-style="italic"'))
     return lines
 
 
-def _head(before: tuple[float, float], end: tuple[float, float], colour: str) -> str:
+def _flags(picture: Picture, scale: Scale, places: dict[str, float]) -> list[str]:
+    """Draws the events of each side, and one time for them or for the packet that is sent then."""
+    lines: list[str] = []
+    for time, lane in scale.rows:
+        is_left = lane == picture.lanes[0]
+        side, anchor, y = (-1, "end", scale.at(time) + 4) if is_left else (1, "start", scale.at(time) + 4)
+        lines.append(_text(places[lane] + 10 * side, y, time_text(time), anchor, PALE, HALO))
+        for row, text in enumerate(text for at, of, text in picture.flags if (at, of) == (time, lane)):
+            weight = ' font-weight="bold"' if text in STATES or text.startswith(("path", "[")) else ""
+            lines.append(_text(places[lane] + (10 + TIMES) * side, y + ROW * row, text, anchor, WORDS.get(text, "#111111"), HALO + weight))
+    return lines
+
+
+# ---- arrows
+
+def _arrows(picture: Picture, scale: Scale, places: dict[str, float]) -> list[str]:
+    """Draws all arrows, and over them what ended some, and their labels."""
+    drawn = [(arrow, points) for arrow in picture.arrows if len(points := _points(arrow, scale, places)) > 1]
+    labels, over = Labels([points for _, points in drawn]), []
+    for arrow, points in drawn:
+        if arrow.is_cut:
+            (x, end), is_right = points[-1], points[-1][0] > points[-2][0]
+            x, anchor = (x + 8, "start") if is_right else (x - 8, "end")
+            y = labels.place_end(arrow.end, x, end, anchor)
+            colour = UNDELIVERED if arrow.is_undelivered else LOST
+            over.append(_text(x, y + 3.5, arrow.end, anchor, colour, f'font-size="9" {HALO}'))
+    for arrow, points in drawn:
+        x, y = labels.place(arrow.text, points)
+        over.append(_ground(arrow.text, x, y))
+        over.append(_text(x, y + 3.5, arrow.text, "middle", COLOURS[arrow.kind], f'font-size="10" {HALO}'))
+    return [line for arrow, points in drawn for line in _line(arrow, points)] + over
+
+
+def _ground(text: str, x: float, y: float) -> str:
+    """Draws the white ground of a label, so that no line shows between its words."""
+    half = LETTERS * len(text) / 2
+    return f'<rect x="{x - half:.1f}" y="{y - 4.5:.1f}" width="{2 * half:.1f}" height="9" fill="#ffffff"/>'
+
+
+def _points(arrow: Arrow, scale: Scale, places: dict[str, float]) -> list[Point]:
+    points = [(places[lane], scale.at(time)) for time, lane in arrow.stops]
+    if arrow.is_cut and arrow.toward:
+        x, y = points[-1]
+        points.append((x + (places[arrow.toward] - x) * (0.66 if len(points) == 1 else 0.42), y + 7))
+    return points
+
+
+def _line(arrow: Arrow, points: list[Point]) -> list[str]:
+    colour, dash = COLOURS[arrow.kind], ' stroke-dasharray="5 3"' if arrow.end else ""
+    path = " ".join(f"{x:.1f},{y:.1f}" for x, y in points)
+    line = f'<polyline points="{path}" fill="none" stroke="{colour}" stroke-width="1.5"{dash}/>'
+    if arrow.is_undelivered:
+        x, y = points[-1]
+        return [line, f'<circle cx="{x:.1f}" cy="{y:.1f}" r="3.5" fill="#ffffff" stroke="{UNDELIVERED}" stroke-width="1.5"/>']
+    return [line, _cross(*points[-1]) if arrow.is_cut else _head(points[-2], points[-1], colour)]
+
+
+def _head(before: Point, end: Point, colour: str) -> str:
     angle = math.atan2(end[1] - before[1], end[0] - before[0])
     corners = [end] + [(end[0] - 9 * math.cos(angle + turn), end[1] - 9 * math.sin(angle + turn)) for turn in (0.35, -0.35)]
     return f'<polygon points="{" ".join(f"{x:.1f},{y:.1f}" for x, y in corners)}" fill="{colour}"/>'
@@ -118,31 +148,27 @@ def _head(before: tuple[float, float], end: tuple[float, float], colour: str) ->
 
 def _cross(x: float, y: float) -> str:
     return (f'<path d="M{x - 4:.1f} {y - 4:.1f} L{x + 4:.1f} {y + 4:.1f} M{x - 4:.1f} {y + 4:.1f} L{x + 4:.1f} {y - 4:.1f}" '
-            'stroke="#d62728" stroke-width="2" fill="none"/>')
+            f'stroke="{LOST}" stroke-width="2" fill="none"/>')
 
 
-def _flags(picture: Picture, scale: Scale, places: dict[str, float]) -> list[str]:
-    lines: list[str] = []
-    stacked: dict[tuple[int, str], int] = {}
-    for time, lane, text in picture.flags:
-        row = stacked.get((time, lane), 0)
-        stacked[time, lane] = row + 1
-        is_left = lane == picture.lanes[0]
-        x = places[lane] + (-10 if is_left else 10)
-        colour = STATES.get(text, "#111111")
-        weight = ' font-weight="bold"' if text in STATES or text.startswith(("path", "[")) else ""
-        lines.append(_text(x, scale.at(time) + 4 + FLAG * row, text, "end" if is_left else "start", colour, weight))
-    return lines
+# ---- legend
 
-
-def _legend(width: float, height: float) -> list[str]:
-    lines, x = [], 20.0
-    for name, colour in (("check", COLOURS["check"]), ("check with USE-CANDIDATE", COLOURS["nomination"]), ("response", COLOURS["response"]),
-                         ("487", COLOURS["failure"]), *STATES.items()):
-        lines.append(f'<rect x="{x:.0f}" y="{height - 20:.0f}" width="11" height="8" fill="{colour}"/>')
-        lines.append(_text(x + 15, height - 12, name, "start", "#555555", 'font-size="10"'))
-        x += 28 + 6 * len(name)
-    return lines
+def _legend(picture: Picture, scale: Scale) -> tuple[str, float]:
+    """Returns the legend of what the picture has, and its width."""
+    kinds, states = {arrow.kind for arrow in picture.arrows}, {name for _, _, name in picture.states}
+    rows = [(name, COLOURS[kind]) for name, kind in (("check", "check"), ("check with USE-CANDIDATE", "nomination"), ("success response", "response"),
+                                                     ("error response", "failure")) if kind in kinds]
+    rows += [(f"state {name}", colour) for name, colour in STATES.items() if name in states]
+    lines, x = [], 0.0
+    for name, colour in rows:
+        lines.append(f'<rect x="{x:.0f}" y="0" width="11" height="8" fill="{colour}"/>')
+        lines.append(_text(x + 15, 8, name, "start", "#555555", 'font-size="10"'))
+        x += 32 + LETTER * 0.87 * len(name)
+    if scale.cuts:
+        lines.append(f'<path d="M{x:.0f} 6 l12 -5 M{x:.0f} 11 l12 -5" stroke="#555555"/>')
+        lines.append(_text(x + 17, 8, "time is cut", "start", "#555555", 'font-size="10"'))
+        x += 90
+    return "".join(lines), x + 40
 
 
 def _text(x: float, y: float, text: str, anchor: str, colour: str, more: str = "") -> str:

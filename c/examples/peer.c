@@ -26,7 +26,7 @@
 enum { INPUT = 16384, BURST = 64, LONGEST = 86400 };
 
 struct options {
-    const char *addresses[NET_SOCKETS], *server, *message;
+    const char *addresses[NET_SOCKETS], *server, *message, *capture;
     size_t address_count;
     bool loopback, lite, controlling;
     uint64_t patience;
@@ -311,6 +311,7 @@ static void run(struct session *s)
 static void begin_sockets(struct session *s, const struct options *o)
 {
     const char *why;
+    if (o->capture && !pcap_open(&s->net.pcap, o->capture)) stop_option('w', o->capture, strerror(errno));
     for (size_t i = 0; i < o->address_count; i++)
         if (!net_bind(&s->net, o->addresses[i], &why)) stop_option('a', o->addresses[i], why);
     if (o->address_count == 0) net_bind_all(&s->net, o->loopback);
@@ -340,7 +341,7 @@ static void begin_agent(struct session *s, const struct options *o)
 }
 
 static const char usage[] =
-    "peer [-h] [-l] [-a ADDRESS].. [-s SERVER[:PORT]] [-L] [-m TEXT] [-t SECONDS] controlling|controlled";
+    "peer [-h] [-l] [-a ADDRESS].. [-s SERVER[:PORT]] [-L] [-m TEXT] [-t SECONDS] [-w FILE] controlling|controlled";
 
 static const char help[] =
     "Connects to another peer over UDP, and lets both users chat.\n"
@@ -356,6 +357,7 @@ static const char help[] =
     "  -L                  runs as a lite agent, which has to be controlled\n"
     "  -m TEXT             sends TEXT until chat was received, and ends a second later\n"
     "  -t SECONDS          ends with status 1 after this time, at most %d\n"
+    "  -w FILE             writes what is sent and received as a capture for Wireshark (pcap)\n"
     "  -h                  prints this text\n"
     "\n"
     "Standard output is for the other peer's standard input. Standard input takes these lines:\n"
@@ -382,7 +384,7 @@ static void read_options(struct options *o, int count, char **words)
 {
     int option;
     o->patience = UINT64_MAX;
-    while ((option = getopt(count, words, "hla:s:Lm:t:")) != -1) {
+    while ((option = getopt(count, words, "hla:s:Lm:t:w:")) != -1) {
         switch (option) {
         case 'h': printf(help, usage, (int)NET_SOCKETS, (int)LONGEST); exit(0);
         case 'l': o->loopback = true; break;
@@ -394,6 +396,7 @@ static void read_options(struct options *o, int count, char **words)
         case 'L': o->lite = true; break;
         case 'm': o->message = optarg; break;
         case 't': o->patience = seconds(optarg); break;
+        case 'w': o->capture = optarg; break;
         default: stop("usage", usage);
         }
     }
@@ -417,6 +420,7 @@ int main(int count, char **words)
     if (session.net.lost > 0)
         fprintf(stderr, "peer: %llu datagrams could not be sent: %s\n", (unsigned long long)session.net.lost,
                 strerror(session.net.lost_why));
+    if (!pcap_close(&session.net.pcap)) fprintf(stderr, "peer: -w %s: not all could be written\n", options.capture);
     is_ice_agent_free(&session.agent);
     net_close(&session.net);
     return session.is_late ? 1 : 0;

@@ -3,10 +3,27 @@
 #define PEER_H
 
 #include "is_ice.h"
+#include <stdio.h>
 #include <sys/types.h>
 
 #define SECOND UINT64_C(1000000000)
 #define MILLISECOND UINT64_C(1000000)
+
+/* ---- peer_pcap.c: a packet capture (pcap), which Wireshark opens */
+
+/* The file of a capture. All zero: there is none, and nothing is written. */
+struct pcap {
+    FILE *file;
+};
+
+/* Creates the file. Returns false, with errno, if that fails. */
+bool pcap_open(struct pcap *pcap, const char *path);
+
+/* Writes a datagram with its IP and UDP headers, and the time of day. */
+void pcap_write(struct pcap *pcap, const is_ice_address *from, const is_ice_address *to, const void *bytes, size_t length);
+
+/* Closes the file. Returns false if a write failed since it was opened. */
+bool pcap_close(struct pcap *pcap);
 
 /* ---- peer_net.c: clock, random bytes, sockets and addresses of the machine */
 
@@ -19,6 +36,7 @@ struct net {
     is_ice_address addresses[NET_SOCKETS];
     uint64_t lost; /* datagrams that could not be sent */
     int lost_why;  /* errno of the last one */
+    struct pcap pcap; /* what was sent and received, if it is captured */
 };
 
 /* The current time, of a monotonic clock that starts at 60 s. */
@@ -43,7 +61,7 @@ size_t net_resolve(const char *server, const char *port, is_ice_address found[2]
 void net_send(struct net *net, const is_ice_address *from, const is_ice_address *to, const void *bytes, size_t length);
 
 /* Reads a datagram from a socket. Returns its length, or -1 if there is none. */
-ssize_t net_receive(const struct net *net, size_t index, void *bytes, size_t size, is_ice_address *from);
+ssize_t net_receive(struct net *net, size_t index, void *bytes, size_t size, is_ice_address *from);
 
 bool net_equal(const is_ice_address *a, const is_ice_address *b);
 

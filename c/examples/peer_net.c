@@ -221,16 +221,20 @@ void net_send(struct net *net, const is_ice_address *from, const is_ice_address 
         if (sendto(net->sockets[i], bytes, length, 0, (struct sockaddr *)&name, size) < 0) {
             net->lost++;
             net->lost_why = errno;
+        } else {
+            pcap_write(&net->pcap, from, to, bytes, length);
         }
         return;
     }
 }
 
-ssize_t net_receive(const struct net *net, size_t index, void *bytes, size_t size, is_ice_address *from)
+ssize_t net_receive(struct net *net, size_t index, void *bytes, size_t size, is_ice_address *from)
 {
     struct sockaddr_storage name;
     memset(&name, 0, sizeof name);
     socklen_t length = sizeof name;
     ssize_t got = recvfrom(net->sockets[index], bytes, size, 0, (struct sockaddr *)&name, &length);
-    return got >= 0 && address_of((struct sockaddr *)&name, from) ? got : -1;
+    if (got < 0 || !address_of((struct sockaddr *)&name, from)) return -1;
+    pcap_write(&net->pcap, from, &net->addresses[index], bytes, (size_t)got);
+    return got;
 }

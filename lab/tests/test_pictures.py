@@ -1,0 +1,96 @@
+"""Tests pictures: the height of a time, break marks, where labels are, and what a script does not deliver."""
+
+import re
+import tempfile
+import unittest
+from pathlib import Path
+
+from lab import bars, scenario, svg
+from lab.labels import Box, box_of
+from lab.picture import Arrow, Picture, of_session
+from lab.scale import CUT, ROW, Scale
+from lab.script import of_script
+from lab.session import Session, Trace
+
+MS = 10**6
+SCRIPT = Path(__file__).resolve().parents[2] / "crates" / "ice_run" / "scripts" / "connect"
+TEXT = re.compile(r'<text x="([\d.-]+)" y="([\d.-]+)" text-anchor="(\w+)" fill="[^"]*" font-size="(?:9|10)" paint-order[^>]*>([^<]*)<')
+
+
+def check(number: int, start: int, end: int, lanes: str = "AB") -> Arrow:
+    return Arrow(f"check {number}", "check", [(start, lanes[0]), (end, lanes[1])])
+
+
+def boxes(drawn: str) -> list[tuple[str, Box]]:
+    """Returns the texts between the lanes of a drawn picture, with their places."""
+    return [(text, box_of(text, float(x), float(y) - 3.5, anchor)) for x, y, anchor, text in TEXT.findall(drawn)]
+
+
+def traced(name: str, seed: int) -> Picture:
+    chosen, trace = scenario.load(name), Trace()
+    Session(chosen, seed, trace).run()
+    return of_session(chosen, trace)
+
+
+class Scales(unittest.TestCase):
+    def test_time_is_linear_and_a_long_wait_is_cut(self) -> None:
+        arrows = [check(1, 0, 20 * MS), check(2, 60 * MS, 70 * MS), check(3, 1070 * MS, 1090 * MS)]
+        scale = Scale(Picture("", ["A", "B"], arrows), 0)
+        self.assertAlmostEqual(scale.at(60 * MS) - scale.at(0), 3 * (scale.at(20 * MS) - scale.at(0)))
+        self.assertEqual([(below - above, wait) for above, below, wait in scale.cuts], [(CUT, 1000 * MS)])
+
+    def test_flags_of_a_lane_have_rows_of_their_own(self) -> None:
+        flags = [(0, "A", "one"), (0, "A", "two"), (0, "A", "three"), (5 * MS, "A", "four"), (6 * MS, "B", "five")]
+        scale = Scale(Picture("", ["A", "B"], flags=flags), 0)
+        self.assertGreaterEqual(scale.at(5 * MS) - scale.at(0), 3 * ROW)
+
+
+class Labels(unittest.TestCase):
+    def overlaps(self, picture: Picture) -> list[tuple[str, str]]:
+        texts = boxes(svg.draw(picture))
+        self.assertGreaterEqual(len(texts), len(picture.arrows))
+        return [(a, b) for n, (a, one) in enumerate(texts) for b, two in texts[:n] if one.overlaps(two)]
+
+    def test_a_label_is_at_a_quarter_of_its_arrow(self) -> None:
+        (_, box), = boxes(svg.draw(Picture("", ["A", "B"], [check(1, 0, 40 * MS)])))
+        left = float(re.findall(r'<polyline points="([\d.]+)', svg.draw(Picture("", ["A", "B"], [check(1, 0, 40 * MS)])))[0])
+        self.assertAlmostEqual((box.left + box.right) / 2, left + svg.WIDE / 4, places=1)
+
+    def test_no_label_is_over_another(self) -> None:
+        crossing = [check(n, n * 3 * MS, n * 3 * MS + 30 * MS, "AB" if n % 2 else "BA") for n in range(30)]
+        self.assertEqual(self.overlaps(Picture("", ["A", "B"], crossing)), [])
+        self.assertEqual(self.overlaps(Picture("", ["A", "B"], [check(1, 0, 9 * MS), check(2, 0, 9 * MS)])), [])
+
+    def test_no_label_is_over_another_in_any_scenario(self) -> None:
+        for name in scenario.names():
+            with self.subTest(scenario=name):
+                self.assertEqual(self.overlaps(traced(name, 1)), [])
+
+    def test_an_arrow_has_one_time(self) -> None:
+        drawn = svg.draw(Picture("", ["A", "R", "B"], [Arrow("check 1", "check", [(0, "A"), (9 * MS, "R"), (30 * MS, "B")])]))
+        self.assertEqual(re.findall(r">([\d.]+ ms)<", drawn), ["0.0 ms"])
+
+
+class Words(unittest.TestCase):
+    def test_what_a_script_does_not_deliver_is_not_lost(self) -> None:
+        drawn = svg.draw(of_script(SCRIPT, SCRIPT.with_name("connect.out")))
+        self.assertIn(">not delivered<", drawn)
+        self.assertNotIn("lost", drawn)
+        self.assertIn(">check 3, USE-CANDIDATE<", drawn)
+        self.assertIn(">discovered 10.0.0.2:2000<", drawn)
+
+
+class Bars(unittest.TestCase):
+    def test_the_axis_is_logarithmic_and_includes_all(self) -> None:
+        rows = [bars.Bar("slow", (5.0, 6.0, 9.0)), bars.Bar("none", None), bars.Bar("quick", (0.2, 0.3, 0.4))]
+        self.assertEqual(bars.limits(rows), (0.1, 10.0))
+        with tempfile.TemporaryDirectory() as folder:
+            bars.write(path := Path(folder) / "bars.svg", "", "", bars.by_median(rows), own=True)
+            drawn = path.read_text(encoding="utf-8")
+        labels = [text for text in re.findall(r">([^<]+)<", drawn) if text in ("slow", "quick", "none", bars.NONE)]
+        self.assertEqual(labels, ["quick", "slow", "none", bars.NONE])
+        self.assertIn("5.00 / 6.00 / 9.00 s", drawn)
+
+
+if __name__ == "__main__":
+    unittest.main()
