@@ -3,15 +3,17 @@
 from __future__ import annotations
 
 import asyncio
+import contextlib
 import itertools
 import time
-from collections.abc import Awaitable, Callable
+from collections.abc import Awaitable, Callable, Iterator
 from typing import Any
 
 from aiortc import RTCConfiguration, RTCPeerConnection, RTCSessionDescription, VideoStreamTrack
 from aiortc.mediastreams import MediaStreamError
 
 import is_ice.aiortc
+import is_ice.connection
 from browser import Browser
 from plays import Outcome
 
@@ -26,10 +28,8 @@ class Peer:
     """A peer of aiortc: it echoes texts, and counts the bytes and pictures that it receives."""
 
     def __init__(self, uses_agent: bool, video: bool) -> None:
-        (is_ice.aiortc.install if uses_agent else is_ice.aiortc.uninstall)()
         self.connection = RTCPeerConnection(RTCConfiguration(iceServers=[]))
-        is_ice.aiortc.uninstall()
-        self.video = video
+        self.uses_agent, self.video = uses_agent, video
         self.channel: Any = None
         self.texts: list[str] = []
         self.received = self.pictures = 0
@@ -57,21 +57,32 @@ class Peer:
         except MediaStreamError:
             pass  # the track ended
 
+    @contextlib.contextmanager
+    def _ice(self) -> Iterator[None]:
+        """aiortc creates its ICE transports in here, when a channel, a track or the first description is added."""
+        agents: list[is_ice.connection.Connection] = []
+        (is_ice.aiortc.install(agents.append) if self.uses_agent else is_ice.aiortc.uninstall())
+        yield
+        is_ice.aiortc.uninstall()
+        assert bool(agents) == self.uses_agent
+
     def _add_video(self) -> None:
         if self.video:
             self.connection.addTrack(VideoStreamTrack())
 
     async def offer(self) -> str:
         """Returns an offer with all candidates."""
-        self._listen(self.connection.createDataChannel("talk"))
-        self._add_video()
+        with self._ice():
+            self._listen(self.connection.createDataChannel("talk"))
+            self._add_video()
         await self.connection.setLocalDescription(await self.connection.createOffer())
         return str(self.connection.localDescription.sdp)
 
     async def answer(self, sdp: str) -> str:
         """Returns the answer to an offer."""
-        await self.connection.setRemoteDescription(RTCSessionDescription(sdp, "offer"))
-        self._add_video()
+        with self._ice():
+            await self.connection.setRemoteDescription(RTCSessionDescription(sdp, "offer"))
+            self._add_video()
         await self.connection.setLocalDescription(await self.connection.createAnswer())
         return str(self.connection.localDescription.sdp)
 
