@@ -38,8 +38,14 @@ class Chromium(Browser):
         target = await self._command_result("Target.createTarget", {"url": self.page})
         attached = await self._command_result("Target.attachToTarget", {"targetId": target["targetId"], "flatten": True})
         self._session = attached["sessionId"]
-        while not await self._evaluate("location.href !== 'about:blank' && document.readyState === 'complete'"):
+        while not await self._is_loaded():
             await asyncio.sleep(0.05)
+
+    async def _is_loaded(self) -> bool:
+        try:
+            return bool(await self._evaluate("location.href !== 'about:blank' && document.readyState === 'complete'"))
+        except BrowserError:
+            return False  # between two pages there is nothing that evaluates
 
     async def _end(self) -> None:
         await self._command_result("Browser.close", {})
