@@ -26,7 +26,7 @@ from typing import Any, Protocol, Union
 from .address import SocketAddress
 from .agent import IceAgent
 from .attribute import CandidateAttribute
-from .candidate import AddResult, Candidate, has_mdns_name
+from .candidate import Candidate, has_mdns_name
 from .errors import IceError
 from .events import IceAgentEvent, IceConnectionState, IceConnectionStateChange, IceCreds, NominatedSend
 from .gather import Allocation, MdnsResolver, ServerAddress, TurnServer, allocate, server_reflexive_candidates, turn_client
@@ -245,7 +245,7 @@ class Connection:
         except (IceError, ValueError) as error:
             _log.info("left out %s: %s", line, error)
             return
-        if result is not AddResult.IGNORED and attribute not in self._remote_candidates:
+        if not result.is_ignored and attribute not in self._remote_candidates:
             self._remote_candidates.append(attribute)
         self._loop.wake()
 
