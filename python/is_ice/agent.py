@@ -198,7 +198,7 @@ class IceAgent:
         return next((line for line in after if line not in before), after[-1])
 
     def add_remote_candidate(self, line: str) -> AddResult:
-        """Adds a candidate of the peer, by its text ("candidate:.."), and returns whether it was added, known or ignored.
+        """Adds a candidate of the peer, by its text ("candidate:.."), and returns whether it was added, known, or why it was ignored.
 
         BadCandidate says what is wrong with it. A candidate with an mDNS name is a BadCandidate too; `has_mdns_name` says what to do
         with it.
@@ -211,9 +211,11 @@ class IceAgent:
         done(code)
         if self.remote_candidates() != before:
             return AddResult.ADDED
+        if line.split()[1] != "1":
+            return AddResult.OTHER_COMPONENT
         creds, ufrag = self.remote_credentials, ufrag_of(line)
         is_other = creds is not None and ufrag is not None and ufrag != creds.ufrag
-        return AddResult.IGNORED if is_other or line.split()[1] != "1" else AddResult.KNOWN
+        return AddResult.OTHER_UFRAG if is_other else AddResult.KNOWN
 
     def invalidate_candidate(self, candidate: Candidate | str) -> bool:
         """Removes a candidate and its pairs, as when an interface is gone. Returns False if there is no such candidate."""

@@ -3,12 +3,14 @@
     import is_ice.aiortc
     is_ice.aiortc.install()
 
-RTCPeerConnections that are created after this call use it. The others, and aiortc itself, are unchanged.
+An RTCPeerConnection creates its ICE transports when the first channel, track or transceiver is added, or the first description is set.
+Those that are created after this call use the agent. The others, and aiortc itself, are unchanged.
 """
 
 from __future__ import annotations
 
 import importlib
+from collections.abc import Callable
 from typing import Any
 
 from . import connection
@@ -22,8 +24,8 @@ def _modules() -> tuple[Any, Any]:
         raise ImportError("aiortc is not installed: pip install 'is_ice[aiortc]', or apt install python3-aiortc") from error
 
 
-def install() -> None:
-    """Makes each RTCPeerConnection that is created from now on use the agent."""
+def install(created: Callable[[connection.Connection], None] | None = None) -> None:
+    """Makes each ICE transport that aiortc creates from now on use the agent. `created` is called with its connection."""
     transport, aioice = _modules()
 
     class Connection(connection.Connection):
@@ -31,10 +33,15 @@ def install() -> None:
 
         closed_event = aioice.ConnectionClosed
 
+        def __init__(self, *arguments: Any, **more: Any) -> None:
+            super().__init__(*arguments, **more)
+            if created:
+                created(self)
+
     transport.Connection = Connection
 
 
 def uninstall() -> None:
-    """Makes each RTCPeerConnection that is created from now on use aioice."""
+    """Makes each ICE transport that aiortc creates from now on use aioice."""
     transport, aioice = _modules()
     transport.Connection = aioice.Connection

@@ -56,13 +56,19 @@ class KindPreferences:
 class AddResult(enum.Enum):
     """What became of a remote candidate.
 
-    KNOWN: it equals a remote candidate that the agent has. IGNORED: it is of another component than 1, or of another username fragment
-    than the peer's.
+    KNOWN: it equals a remote candidate that the agent has. The others say why it was ignored. OTHER_COMPONENT: it is of another component
+    than 1. OTHER_UFRAG: it is of another username fragment than the peer's, as one from before an ICE restart.
     """
 
     ADDED = enum.auto()
     KNOWN = enum.auto()
-    IGNORED = enum.auto()
+    OTHER_COMPONENT = enum.auto()
+    OTHER_UFRAG = enum.auto()
+
+    @property
+    def is_ignored(self) -> bool:
+        """Whether the candidate was ignored."""
+        return self in (AddResult.OTHER_COMPONENT, AddResult.OTHER_UFRAG)
 
 
 def ufrag_of(line: str) -> str | None:

@@ -26,12 +26,12 @@ from typing import Any, Protocol, Union
 from .address import SocketAddress
 from .agent import IceAgent
 from .attribute import CandidateAttribute
-from .candidate import AddResult, Candidate, has_mdns_name
+from .candidate import Candidate, has_mdns_name
 from .errors import IceError
 from .events import IceAgentEvent, IceConnectionState, IceConnectionStateChange, IceCreds, NominatedSend
 from .gather import Allocation, MdnsResolver, ServerAddress, TurnServer, allocate, server_reflexive_candidates, turn_client
 from .interfaces import host_addresses
-from .loop import IceLoop
+from .loop import EventHandler, IceLoop
 from .stun_client import StunClient
 
 _log = logging.getLogger(__name__)
@@ -97,6 +97,7 @@ class Connection:
         self.agent.set_controlling(ice_controlling)
         self.agent.set_max_stun_retransmits(_CONSENT_CHECKS)
         self._controlling, self._creds = ice_controlling, self.agent.local_credentials
+        self.on_event: EventHandler | None = None  # called with each event of the agent
         self._loop = IceLoop(self.agent, self._on_event, self._on_media, self._on_stun)
         self._stun = StunClient(self._loop.send)
         self._mdns = MdnsResolver()
@@ -245,7 +246,7 @@ class Connection:
         except (IceError, ValueError) as error:
             _log.info("left out %s: %s", line, error)
             return
-        if result is not AddResult.IGNORED and attribute not in self._remote_candidates:
+        if not result.is_ignored and attribute not in self._remote_candidates:
             self._remote_candidates.append(attribute)
         self._loop.wake()
 
@@ -301,6 +302,8 @@ class Connection:
                 self._closing = asyncio.ensure_future(self.close())
             elif self._remote_end and not self._unknown_hosts:
                 self._finish(False)
+        if self.on_event:
+            self.on_event(event)
 
     def _on_stun(self, source: SocketAddress, local: SocketAddress, data: bytes) -> None:
         self._stun.receive(source, local, data)

@@ -207,9 +207,10 @@ class Values(unittest.TestCase):
         agent.add_local_candidate(Candidate.host(HERE))
         self.assertEqual(agent.add_remote_candidate(LINE_OF_THERE + " ufrag BBBB"), AddResult.ADDED)
         self.assertEqual(agent.add_remote_candidate(LINE_OF_THERE), AddResult.KNOWN)
-        self.assertEqual(agent.add_remote_candidate(LINE_OF_THERE + " ufrag CCCC"), AddResult.IGNORED)
-        self.assertEqual(agent.add_remote_candidate(LINE_OF_THERE.replace("1 1 udp", "1 2 udp")), AddResult.IGNORED)
+        self.assertEqual(agent.add_remote_candidate(LINE_OF_THERE + " ufrag CCCC"), AddResult.OTHER_UFRAG)
+        self.assertEqual(agent.add_remote_candidate(LINE_OF_THERE.replace("1 1 udp", "1 2 udp")), AddResult.OTHER_COMPONENT)
         self.assertEqual(agent.add_remote_candidate(LINE_OF_THERE.replace("2000", "2002")), AddResult.ADDED)
+        self.assertEqual([result.name for result in AddResult if result.is_ignored], ["OTHER_COMPONENT", "OTHER_UFRAG"])
 
     def test_addresses_print_as_in_scripts(self) -> None:
         self.assertEqual(str(SocketAddress("2001:db8::1", 80)), "[2001:db8::1]:80")

@@ -82,6 +82,23 @@ class PeerConnections(unittest.IsolatedAsyncioTestCase):
                 self.assertEqual(heard, ["echo one", "echo two"])
                 self.assertEqual((offering.iceConnectionState, answering.iceConnectionState), ("closed", "closed"))
 
+    async def test_the_connections_are_reported(self) -> None:
+        created: list[is_ice.connection.Connection] = []
+        states: list[str] = []
+        is_ice.aiortc.install(created.append)
+        offering = aiortc.RTCPeerConnection(aiortc.RTCConfiguration(iceServers=[]))
+        offering.createDataChannel("talk")
+        self.assertEqual(len(created), 1)
+        created[0].on_event = lambda event: states.append(str(getattr(event, "state", "")))
+        answering = peer(False)
+        await offering.setLocalDescription(await offering.createOffer())
+        await answering.setRemoteDescription(offering.localDescription)
+        await answering.setLocalDescription(await answering.createAnswer())
+        await offering.setRemoteDescription(answering.localDescription)
+        await until(lambda: "State.Completed" in states)
+        await asyncio.gather(offering.close(), answering.close())
+        self.assertEqual(len(created), 1)
+
     async def test_install_and_uninstall(self) -> None:
         is_ice.aiortc.install()
         self.assertTrue(issubclass(aiortc.rtcicetransport.Connection, is_ice.connection.Connection))

@@ -1,0 +1,107 @@
+"""The table of cases: what happens in a session, how many sessions there are, and how they have to come out."""
+
+from __future__ import annotations
+
+import functools
+from collections.abc import Awaitable, Callable
+from dataclasses import dataclass
+from typing import Any
+
+import plays
+from plays import Outcome
+from side import Setup
+
+# One session, with the browser (None without one) and the number of the session in its case.
+Play = Callable[[Any, int], Awaitable[Outcome]]
+
+
+@dataclass(frozen=True)
+class Case:
+    """`sessions` sessions, each of which has to come out in one of the words of `expected`."""
+
+    name: str
+    play: Play
+    expected: tuple[str, ...] = ("connected",)
+    sessions: int = 20
+    quick: int = 2  # sessions with --quick; 0: the case takes too long for it
+    waits: bool = False  # its sessions mostly wait, so they run at the same time, and next to those of other such cases
+    mdns: bool = False
+    ipv6: bool = False
+    aiortc: bool = False
+
+
+def _case(name: str, setup: Setup, play: Callable[..., Awaitable[Outcome]] = plays.connect, *expected: str) -> Case:
+    return Case(name, lambda browser, _: play(browser, setup), expected or ("connected",), mdns=setup.mdns, ipv6=setup.ipv6)
+
+
+def _cut(name: str, seconds: float, setup: Setup, *expected: str, play: Callable[..., Awaitable[Outcome]] = plays.cut) -> Case:
+    return Case(name, lambda browser, _: play(browser, setup, seconds), expected, sessions=5, quick=0, waits=True)
+
+
+_restart_by_browser = functools.partial(plays.restart, by_browser=True)
+_restart_by_agent = functools.partial(plays.restart, by_browser=False)
+
+CONNECTING = [
+    _case("browser offers", Setup(True)),
+    _case("agent offers", Setup(False)),
+    _case("browser offers, agent lite", Setup(True, lite=True)),
+    _case("agent offers, agent lite", Setup(False, lite=True)),
+    _case("browser offers, candidates 300 ms late", Setup(True, late=True)),
+    _case("agent offers, candidates 300 ms late", Setup(False, late=True)),
+    _case("browser offers, agent lite, candidates 300 ms late", Setup(True, lite=True, late=True)),
+    _case("both controlling", Setup(True, conflict=True)),
+    _case("both controlled", Setup(False, conflict=True)),
+    _case("IPv6, browser offers", Setup(True, ipv6=True)),
+    _case("IPv6, agent offers", Setup(False, ipv6=True)),
+    _case("IPv6, browser offers, agent lite", Setup(True, lite=True, ipv6=True)),
+    _case("mDNS names, browser offers", Setup(True, mdns=True)),
+    _case("mDNS names, agent offers", Setup(False, mdns=True)),
+    _case("mDNS names, browser offers, agent lite", Setup(True, lite=True, mdns=True)),
+]
+
+RESTARTS = [
+    _case("restart by the browser, which offered", Setup(True), _restart_by_browser, "connected again"),
+    _case("restart by the browser, which answered", Setup(False), _restart_by_browser, "connected again"),
+    _case("restart by the browser, agent lite", Setup(True, lite=True), _restart_by_browser, "connected again"),
+    _case("restart by the agent, which offered", Setup(False), _restart_by_agent, "connected again"),
+    _case("restart by the agent, which answered", Setup(True), _restart_by_agent, "connected again"),
+    _case("restart by the agent, agent lite", Setup(True, lite=True), _restart_by_agent, "connected again"),
+]
+
+# A lite agent removes a pair 15 s after the last check of the peer, a full one after 9 unanswered checks, which takes 21.5 s or more.
+# A browser nominates a pair once, so what a controlled agent removed comes back only by an ICE restart.
+CUTS = [
+    _cut("cut for 8 s, agent controlled", 8, Setup(True), "kept"),
+    _cut("cut for 8 s, agent controlling", 8, Setup(False), "kept"),
+    _cut("cut for 8 s, agent lite", 8, Setup(True, lite=True), "kept"),
+    _cut("cut for 16 s, agent lite", 16, Setup(True, lite=True), "no path"),
+    _cut("cut for 22.5 s, agent controlled", 22.5, Setup(True), "no path"),
+    _cut("cut for 22.5 s, agent controlled, 12 checks", 22.5, Setup(True, checks=12), "kept"),
+    _cut("cut for 22.5 s, agent controlled, then restarted", 22.5, Setup(True), "connected again", play=plays.cut_and_restart),
+    _cut("nothing happens for 60 s", 60, Setup(True), "kept", play=plays.peace),
+]
+
+
+async def _with_browser(browser: Any, number: int) -> Outcome:
+    import rtc
+    return await rtc.with_browser(browser, browser_offers=number // 2 % 2 == 0, video=number % 2 == 1)
+
+
+def _with_itself(offers_by_agent: bool, answers_by_agent: bool) -> Play:
+    async def play(_: Any, number: int) -> Outcome:
+        import rtc
+        return await rtc.with_itself(offers_by_agent, answers_by_agent, video=number % 2 == 1)
+
+    return play
+
+
+AIORTC_WITH_BROWSER = [
+    Case("aiortc: data channel, half with video", _with_browser, ("works",), 12, 4, aiortc=True),
+    Case("aiortc: data channel, half with video, mDNS names", _with_browser, ("works",), 12, 4, mdns=True, aiortc=True),
+]
+AIORTC_WITH_ITSELF = [
+    Case("aiortc offers to aiortc", _with_itself(True, True), ("works",), 12, aiortc=True),
+    Case("aiortc offers to aiortc over aioice", _with_itself(True, False), ("works",), 12, aiortc=True),
+    Case("aiortc over aioice offers to aiortc", _with_itself(False, True), ("works",), 12, aiortc=True),
+]
+WITH_BROWSER = CONNECTING + RESTARTS + CUTS + AIORTC_WITH_BROWSER
