@@ -23,10 +23,13 @@ def why_not():
         return "needs root"
     if shutil.which("ip") is None:
         return "needs iproute2"
+    spaces = Namespaces()
     try:
-        Namespaces().close_after(lambda spaces: spaces.add())
+        spaces.add()
     except RuntimeError as error:
         return f"no network namespaces: {error}"
+    finally:
+        spaces.close()
     return None
 
 
@@ -86,9 +89,3 @@ class Namespaces:
         """Removes all."""
         while self.names:
             subprocess.run(["ip", "netns", "del", self.names.pop()], capture_output=True)
-
-    def close_after(self, call):
-        try:
-            return call(self)
-        finally:
-            self.close()

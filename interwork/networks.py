@@ -17,38 +17,59 @@ LOOPBACK_ADDRESSES = ("10.9.0.1/32", "10.9.0.2/32", "10.9.0.3/32", "fd00::1/128"
 KINDS = ("none", "cone", "port", "symmetric")
 
 
-class Loopback:
-    """A namespace whose loopback interface has several addresses, or without root the machine's own loopback interface."""
+class Network:
+    """Exists within a `with` statement. `namespaces` and `options` have an entry for each side."""
 
-    same_path = True
+    same_path = True  # whether the path of each side is that of the other, reversed
 
-    def __init__(self, with_namespace):
-        self.spaces = Namespaces()
-        namespace = self.spaces.add() if with_namespace else None
-        for address in LOOPBACK_ADDRESSES if with_namespace else ():
-            self.spaces.address(namespace, address, "lo")
-        self.namespaces = [namespace, namespace]
-        self.options = [[], []]
+    def __init__(self):
+        self.spaces, self.namespaces, self.options = Namespaces(), [], []
+
+    def __enter__(self):
+        try:
+            self.build()
+        except BaseException:
+            self.close()
+            raise
+        return self
+
+    def __exit__(self, *_):
+        self.close()
 
     def close(self):
         self.spaces.close()
 
 
-class Wire:
+class Loopback(Network):
+    """A namespace whose loopback interface has several addresses, or without root the machine's own loopback interface."""
+
+    def __init__(self, with_namespace=True):
+        super().__init__()
+        self.with_namespace = with_namespace
+
+    def build(self):
+        namespace = self.spaces.add() if self.with_namespace else None
+        for address in LOOPBACK_ADDRESSES if self.with_namespace else ():
+            self.spaces.address(namespace, address, "lo")
+        self.namespaces, self.options = [namespace, namespace], [[], []]
+
+
+class Wire(Network):
     """Two hosts with a wire between them that loses, delays, reorders and duplicates packets: wire.py passes them on."""
 
-    same_path = True
     addresses = ("10.8.0.1", "10.8.0.2")
 
     def __init__(self, loss, delay, duplicates):
-        self.spaces = Namespaces()
+        super().__init__()
+        self.settings, self.process = (f"loss={loss}", f"delay={delay}", f"dup={duplicates}"), None
+
+    def build(self):
         self.namespaces = [self.spaces.add(), self.spaces.add()]
         self.options = [["-a", address] for address in self.addresses]
         words = [word for pair in zip(self.namespaces, self.addresses) for word in pair]
-        command = [sys.executable, here / "wire.py", *words, f"loss={loss}", f"delay={delay}", f"dup={duplicates}"]
+        command = [sys.executable, here / "wire.py", *words, *self.settings]
         self.process = subprocess.Popen(command, stdin=subprocess.PIPE, stdout=subprocess.PIPE, text=True)
         if self.process.stdout.readline().strip() != "ready":
-            self.close()
             raise RuntimeError("wire.py did not start")
 
     def tell(self, line):
@@ -62,13 +83,14 @@ class Wire:
         return self.process.stdout.readline().strip()
 
     def close(self):
-        self.process.stdin.close()
-        self.process.wait()
-        self.process.stdout.close()
-        self.spaces.close()
+        if self.process:
+            self.process.stdin.close()
+            self.process.wait()
+            self.process.stdout.close()
+        super().close()
 
 
-class Nats:
+class Nats(Network):
     """Two hosts, each with its own NAT to a public network that has a STUN and TURN server (coturn).
 
     none        the host has a public address
@@ -80,13 +102,15 @@ class Nats:
     same_path = False  # each side sees its own addresses, and the other's NAT
 
     def __init__(self, *kinds):
-        self.spaces, self.server = Namespaces(), None
+        super().__init__()
+        self.kinds, self.server = kinds, None
+
+    def build(self):
         self.public = self.spaces.add()
         self.spaces.address(self.public, SERVER + "/32", "lo")
         self.spaces.on(self.public, "sysctl -qw net.ipv4.ip_forward=1")
         self.add_sink()
-        self.namespaces, self.options = [], []
-        for index, kind in enumerate(kinds):
+        for index, kind in enumerate(self.kinds):
             namespace, address = self.add_host(index, kind)
             self.namespaces.append(namespace)
             self.options.append(["-a", address, "-s", f"{SERVER}:{PORT}"])
@@ -118,8 +142,7 @@ class Nats:
 
     def start_server(self):
         """Starts coturn, and waits until it listens."""
-        folder = tempfile.mkdtemp(prefix="interwork")
-        self.folder = folder
+        self.folder = folder = tempfile.mkdtemp(prefix="interwork")
         options = f"-n -L {SERVER} -E {SERVER} --lt-cred-mech -u {USER} -r realm --no-tls --no-dtls --no-cli --log-file /dev/null" \
                   f" --simple-log --pidfile {folder}/pid --db {folder}/db --allow-loopback-peers"
         command = ["ip", "netns", "exec", self.public, "turnserver", *options.split()]
@@ -127,7 +150,6 @@ class Nats:
         end = time.monotonic() + 10
         while f":{PORT:04X} " not in self.spaces.on(self.public, "cat /proc/net/udp"):
             if time.monotonic() > end or self.server.poll() is not None:
-                self.close()
                 raise RuntimeError("coturn did not start")
             time.sleep(0.1)
 
@@ -136,7 +158,7 @@ class Nats:
             self.server.terminate()
             self.server.wait()
             shutil.rmtree(self.folder, ignore_errors=True)
-        self.spaces.close()
+        super().close()
 
 
 def rules(kind, host):

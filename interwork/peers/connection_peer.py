@@ -40,6 +40,11 @@ def joined(host, port):
     return f"[{host}]:{port}" if ":" in host else f"{host}:{port}"
 
 
+def printable(data):
+    """Returns received bytes as one line."""
+    return "".join(c if c.isprintable() else "?" for c in data.decode(errors="replace"))
+
+
 class OfAioice:
     """What is particular to aioice."""
 
@@ -101,7 +106,7 @@ class Peer:
         watching = asyncio.ensure_future(self.watch())
         try:
             while True:
-                report("heard", (await self.connection.recv()).decode(errors="replace"))
+                report("heard", printable(await self.connection.recv()))
         except ConnectionError as error:
             report("state disconnected", error)
         finally:
