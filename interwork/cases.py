@@ -118,7 +118,7 @@ QUICK_NATS = {("port", "port"), ("none", "symmetric"), ("symmetric", "symmetric"
 def without_relay(a, b, kinds):
     """Both use the STUN server. Neither can reach the other if one NAT is symmetric, and the other one filters."""
     none = kinds in UNREACHABLE
-    why = "no address that the STUN server sees is that of the path" if none else ""
+    why = "the peer sees other ports than the STUN server" if none else ""
     return Case(nat(*kinds), (a, b), "STUN", none=none, seconds=15 if none else 20, quick=int(kinds in QUICK_NATS), why=why)
 
 

@@ -17,15 +17,15 @@ class Counts:
         signal.signal(signal.SIGTERM, signal.default_int_handler)  # ends as Ctrl-C does: `with` and `finally` remove everything
         namespaces.remove_old()
 
-    def row(self, name, is_expected, text):
+    def row(self, name, is_expected, text, *notes):
         """Prints a row."""
         self.counts["as expected" if is_expected else "not"] += 1
-        print(f"{name} {text}  {'ok' if is_expected else 'NOT AS EXPECTED'}", flush=True)
+        print(name, text, "ok" if is_expected else "NOT AS EXPECTED", *notes, sep="  ", flush=True)
 
     def skip(self, name, why):
         """Prints a row that was skipped."""
         self.counts["skipped"] += 1
-        print(f"{name} skipped: {why}", flush=True)
+        print(name, f"skipped: {why}", sep="  ", flush=True)
 
     def finish(self):
         """Looks for what is left over, prints the counts and returns the status of the program."""
