@@ -1,0 +1,172 @@
+"""The table of cases: which stacks, in which network, how many sessions, and how many of them are expected to connect."""
+from dataclasses import dataclass, replace
+
+import networks
+
+ING, ED = "controlling", "controlled"
+ONE, ONE_IPV6 = ("-a", "127.0.0.1"), ("-a", "fd00::1")
+MANY = tuple(word for address in networks.LOOPBACK_ADDRESSES for word in ("-a", address.split("/")[0]))
+GREATEST = str(2**64 - 1)
+
+
+@dataclass(frozen=True)
+class Case:
+    """Sessions of one kind between two stacks, of which the first is ours if one is."""
+
+    network: tuple  # its kind and settings
+    stacks: tuple
+    title: str
+    words: tuple = ((), ())  # the options of both programs
+    roles: tuple | None = None  # of both; None: they alternate
+    restarts: str | None = None  # "a" or "b": who restarts
+    relay: tuple = (False, False)  # who uses the TURN server
+    sessions: int = 4
+    quick: int = 1  # sessions in a quick run; 0: left out
+    at_least: float = 1.0  # the part of the sessions that has to connect
+    none: bool = False  # none may connect
+    seconds: float = 20  # to connect
+    why: str = ""  # why it is not that all connect
+
+    def expected(self, sessions):
+        """The least and the greatest number of sessions that connect."""
+        return (0, 0) if self.none else (int(sessions * self.at_least), sessions)
+
+    def roles_of(self, number):
+        """The roles in a session."""
+        return self.roles or ((ING, ED), (ED, ING))[number % 2]
+
+    def relay_options(self):
+        """The options for the TURN server, of both."""
+        server = ("-u", f"{networks.SERVER}:{networks.PORT}", "-U", networks.USER)
+        return [server if uses else () for uses in self.relay]
+
+    def is_for_everybody(self):
+        """Whether the case needs neither root nor namespaces."""
+        return self.network == LOOPBACK and self.words and all(set(words) <= {*ONE, "-L", "-t", "0", GREATEST} for words in self.words)
+
+
+LOOPBACK = ("loopback",)
+LOSSY = ("wire", 0.3, 0.2, 0.1)
+
+
+def nat(a, b):
+    return ("nat", a, b)
+
+
+# ---- loopback
+
+def roles_over_loopback(a, b):
+    """The roles, with one address, with IPv6 and with five addresses."""
+    for title, words in (("one address", ONE), ("IPv6", ONE_IPV6), ("five addresses", MANY)):
+        yield Case(LOOPBACK, (a, b), f"{title}, {a} controls", (words, words), (ING, ED), quick=int(words != ONE_IPV6))
+        yield Case(LOOPBACK, (a, b), f"{title}, {b} controls", (words, words), (ED, ING), quick=int(words != ONE_IPV6))
+
+
+def conflicts(a, b):
+    """Both begin with one role, and the tie-breakers decide."""
+    for role in (ING, ED):
+        yield Case(LOOPBACK, (a, b), f"role conflict, both {role}", (ONE, ONE), (role, role))
+
+
+def pion_conflicts():
+    """Our tie-breaker decides: pion neither repairs a role conflict nor lets the peer repair its role."""
+    why = "pion ignores requests in a role conflict, and error responses 487"
+    for role in (ING, ED):
+        for number, none, reason in (("0", False, ""), (GREATEST, True, why)):
+            words = ((*ONE, "-t", number), ONE)
+            title = f"role conflict, both {role}, our tie-breaker is the {'greatest' if none else 'least'}"
+            yield Case(LOOPBACK, ("Connection", "pion"), title, words, (role, role), none=none, seconds=10 if none else 20, why=reason)
+
+
+def lite(a, b, both=True):
+    """One side is lite, which is the controlled one."""
+    yield Case(LOOPBACK, (a, b), f"{a} is lite", ((*ONE, "-L"), ONE), (ED, ING))
+    if both:
+        yield Case(LOOPBACK, (a, b), f"{b} is lite", (ONE, (*ONE, "-L")), (ING, ED))
+
+
+def restarts(a, b):
+    """One side restarts a connected session."""
+    for words, addresses in ((ONE, "one address"), (MANY, "five addresses")):
+        for who, name in (("a", a), ("b", b)):
+            yield Case(LOOPBACK, (a, b), f"{name} restarts, {addresses}", (words, words), restarts=who, quick=int(words == MANY))
+
+
+def over_loopback():
+    """All cases over loopback."""
+    for other in ("peer", "pion", "libnice", "aioice", "Connection"):
+        yield from roles_over_loopback("peer", other)
+    for other in ("peer", "libnice", "aioice", "Connection"):
+        yield from conflicts("peer", other)
+    yield from pion_conflicts()
+    yield Case(LOOPBACK, ("peer", "pion"), "five addresses, pion trickles", (MANY, (*MANY, "-T")))
+    for nomination in ("regular", "aggressive"):
+        yield Case(LOOPBACK, ("peer", "libnice"), f"{nomination} nomination", (MANY, (*MANY, "-N", nomination)), (ED, ING))
+    for other, both in (("pion", True), ("libnice", True), ("aioice", False), ("peer", False)):
+        yield from lite("peer", other, both)
+    for other in ("peer", "pion", "libnice"):
+        yield from restarts("peer", other)
+
+
+# ---- NATs
+
+KEEP_PORTS = ("none", "cone", "port")
+UNREACHABLE = {("port", "symmetric"), ("symmetric", "port"), ("symmetric", "symmetric")}
+QUICK_NATS = {("port", "port"), ("none", "symmetric"), ("symmetric", "symmetric")}
+
+
+def without_relay(a, b, kinds):
+    """Both use the STUN server. Neither can reach the other if one NAT is symmetric, and the other one filters."""
+    none = kinds in UNREACHABLE
+    why = "the peer sees other ports than the STUN server" if none else ""
+    return Case(nat(*kinds), (a, b), "STUN", none=none, seconds=15 if none else 20, quick=int(kinds in QUICK_NATS), why=why)
+
+
+def over_nats():
+    """All combinations of two NATs, without a relay and, if they need one, with it."""
+    for a in networks.KINDS:
+        for b in networks.KINDS:
+            for other in ("peer", "pion"):
+                yield without_relay("peer", other, (a, b))
+            if (a, b) in (("port", "port"), ("symmetric", "none"), ("cone", "symmetric"), ("symmetric", "symmetric")):
+                for other in ("libnice", "aioice"):
+                    yield without_relay("peer", other, (a, b))
+            if (a, b) in UNREACHABLE:
+                yield from with_relay((a, b))
+
+
+def with_relay(kinds):
+    """One side uses the TURN server, or both do."""
+    quick = int(kinds in QUICK_NATS)
+    for other in ("Connection", "pion", "aioice", "libnice"):
+        yield Case(nat(*kinds), ("Connection", other), "TURN for both", relay=(True, True), quick=quick)
+    yield Case(nat(*kinds), ("Connection", "pion"), "TURN for ours", relay=(True, False), quick=0)
+    yield Case(nat(*kinds), ("peer", "pion"), "TURN for pion", relay=(False, True), quick=quick)
+
+
+# ---- a lossy wire
+
+def over_the_wire():
+    """30 % of the packets are lost, 10 % come twice, and each waits up to 0.2 s, so that they overtake each other."""
+    for other in ("peer", "pion", "libnice"):
+        yield Case(LOSSY, ("peer", other), "30 % loss", sessions=10, quick=2, at_least=0.9, seconds=40)
+    yield Case(LOSSY, ("peer", "aioice"), "30 % loss", sessions=10, quick=0, at_least=0.8, seconds=40, why="aioice gives up early")
+    yield Case(LOSSY, ("Connection", "Connection"), "30 % loss", sessions=10, quick=0, at_least=0.9, seconds=40)
+
+
+def foreign():
+    """Sessions without our agent, which show that the tests themselves work."""
+    yield Case(LOOPBACK, ("pion", "pion"), "five addresses", (MANY, MANY))
+    yield Case(LOOPBACK, ("aioice", "libnice"), "one address", (ONE, ONE))
+    yield Case(nat("port", "port"), ("pion", "aioice"), "STUN")
+    yield Case(nat("symmetric", "symmetric"), ("pion", "libnice"), "TURN for both", relay=(True, True))
+    yield Case(LOSSY, ("pion", "pion"), "30 % loss", sessions=10, quick=0, at_least=0.9, seconds=40)
+
+
+def table(quick=False, is_foreign=False):
+    """The cases in order, those of a network after each other."""
+    cases = list(foreign()) if is_foreign else [*over_loopback(), *over_nats(), *over_the_wire()]
+    if quick:
+        cases = [replace(case, sessions=case.quick) for case in cases if case.quick]
+    order = list(dict.fromkeys(case.network for case in cases))
+    return sorted(cases, key=lambda case: order.index(case.network))

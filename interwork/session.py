@@ -1,0 +1,63 @@
+"""Plays one session of a case: both connect, hear each other, agree on the path and perhaps restart."""
+import asyncio
+from dataclasses import dataclass
+
+import programs
+from programs import Program, are_connected, introduce, settle, talk, until
+
+
+@dataclass
+class Result:
+    """What became of a session. `fault` says what failed first, or is None if the session did all that it should."""
+
+    fault: str | None
+    seconds: float | None
+    log: str
+
+
+async def play(case, network, stacks, roles):
+    """Plays a session, and ends both programs."""
+    words = [[*own, *of_network, *relay, role] for own, of_network, relay, role
+             in zip(case.words, network.options, case.relay_options(), roles)]
+    a, b = (Program(stacks[name], each, namespace) for name, each, namespace in zip(case.stacks, words, network.namespaces))
+    try:
+        await introduce(a, b)
+        fault, seconds = await connect(a, b, case, network)
+        if fault is None and case.restarts:
+            fault, seconds = await restart(a, b, case, network)
+        return Result(fault, seconds, f"      paths {a.path} and {b.path}, states {a.state} and {b.state}\n" + programs.log(a, b))
+    finally:
+        await asyncio.gather(a.end(), b.end())
+
+
+async def connect(a, b, case, network):
+    """Waits for the first path. Returns a fault or None, and the seconds from the last signal until both had a path."""
+    if not await until(lambda: are_connected(a, b), (a, b), case.seconds):
+        return "not connected", None
+    seconds = max(a.connected_at, b.connected_at) - max(a.signal_at, b.signal_at)
+    return await after_path(a, b, network, "first"), seconds
+
+
+async def after_path(a, b, network, word):
+    """What both do on a path. Returns a fault or None."""
+    if network.same_path and not await settle(a, b):
+        return "different paths"
+    heard = await talk(a, b, word)
+    return None if all(heard) else "not heard"
+
+
+async def restart(a, b, case, network):
+    """One of both restarts. Each has to report a path of the new session, and chat passes meanwhile."""
+    counts = len(a.paths), len(b.paths)
+    begun = asyncio.get_running_loop().time()
+    (a if case.restarts == "a" else b).tell("/restart")
+    chat = asyncio.ensure_future(talk(a, b, "meanwhile"))
+    is_new = lambda: len(a.paths) > counts[0] and len(b.paths) > counts[1] and are_connected(a, b)
+    is_done = await until(is_new, (a, b), case.seconds)
+    seconds = asyncio.get_running_loop().time() - begun
+    heard = await chat
+    if not is_done:
+        return "no path after the restart", None
+    if not all(heard):
+        return "not heard during the restart", seconds
+    return await after_path(a, b, network, "second"), seconds

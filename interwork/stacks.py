@@ -1,0 +1,151 @@
+"""The ICE stacks: which are installed, their versions, and how their programs are built and started.
+
+Ours are the C program c/examples/peer.c and the class Connection of Python. Files that are built go to interwork/out.
+"""
+import os
+import shutil
+import subprocess
+import sys
+from dataclasses import dataclass, field
+from pathlib import Path
+
+here = Path(__file__).resolve().parent
+top = here.parent
+out = here / "out"
+PEER_SOURCES = [top / "c" / "examples" / f"{name}.c" for name in ("peer", "peer_net", "peer_signal", "peer_stun")]
+
+
+class Missing(Exception):
+    """What has to be installed or built first."""
+
+
+@dataclass
+class Stack:
+    """A stack, and the command that starts its program. `missing` says what it lacks, or is None."""
+
+    name: str
+    command: list = field(default_factory=list)
+    version: str = ""
+    environment: dict = field(default_factory=dict)
+    missing: str | None = None
+
+
+def run(*words, what=None, **options):
+    """Runs a command, and returns its standard output. Missing if it fails."""
+    try:
+        ran = subprocess.run([str(word) for word in words], capture_output=True, text=True, **options)
+    except FileNotFoundError:
+        raise Missing(f"{words[0]} is not installed")
+    if ran.returncode != 0:
+        raise Missing(what or f"{words[0]}: {(ran.stderr.strip().splitlines() or ['failed'])[-1]}")
+    return ran.stdout.strip()
+
+
+def package(name):
+    """The version of a Debian package, or "unknown version"."""
+    try:
+        return run("dpkg-query", "-W", "-f", "${Version}", name)
+    except Missing:
+        return "unknown version"
+
+
+def python_with(modules, name):
+    """An interpreter that can import the modules."""
+    for python in dict.fromkeys([os.environ.get("PYTHON", sys.executable), sys.executable, "/usr/bin/python3"]):
+        if subprocess.run([python, "-c", modules], capture_output=True).returncode == 0:
+            return python
+    raise Missing(f"no Python has {name}")
+
+
+# ---- ours
+
+def kit_archive():
+    """The kit's archive over malloc, realloc and free."""
+    if path := os.environ.get("IS_ICE_KIT_ARCHIVE"):
+        return path
+    return Path(run("rt", "doc", what="IS_ICE_KIT_ARCHIVE is not set")).parent / "c" / "liblibc_c.a"
+
+
+def archive():
+    """The library, which `rt lib` builds in crates/is_c."""
+    path = Path(os.environ.get("IS_ICE_LIB", top / "crates" / "is_c" / "out" / "libis_c.a"))
+    if not path.exists():
+        raise Missing(f"{path.name} is not built: run rt lib in crates/is_c")
+    return path
+
+
+def our_version():
+    text = (top / "python" / "pyproject.toml").read_text()
+    return next(line.split('"')[1] for line in text.splitlines() if line.startswith("version"))
+
+
+def ours_in_c():
+    program = out / "peer"
+    run(os.environ.get("CC", "cc"), "-O2", f"-I{top / 'c'}", "-o", program, *PEER_SOURCES, archive(), kit_archive())
+    return Stack("peer", [str(program)], our_version())
+
+
+def ours_in_python():
+    library = os.environ.get("IS_ICE_LIBRARY")
+    if not library:
+        run(top / "python" / "build", archive())
+        library = top / "python" / "out" / "libis_ice.so"
+    try:  # aioice has the TURN client
+        python = python_with("import aioice", "aioice")
+    except Missing:
+        python = sys.executable
+    environment = {"PYTHONPATH": str(top / "python"), "IS_ICE_LIBRARY": str(library), "PYTHONDONTWRITEBYTECODE": "1"}
+    return Stack("Connection", [python, str(here / "peers" / "connection_peer.py"), "is_ice.connection"], our_version(), environment)
+
+
+# ---- others
+
+def pion():
+    sources = Path("/usr/share/gocode/src/github.com/pion/ice/v2")
+    if not sources.exists():
+        raise Missing("golang-github-pion-ice.v2-dev is not installed")
+    program = out / "pion"
+    environment = {**os.environ, "GO111MODULE": "off", "GOPATH": "/usr/share/gocode", "GOCACHE": str(out / "go")}
+    run("go", "build", "-p", "2", "-o", program, ".", cwd=here / "peers" / "pion", env=environment)
+    return Stack("pion", [str(program)], package("golang-github-pion-ice.v2-dev"))
+
+
+def aioice():
+    python = python_with("import aioice", "aioice: install python3-aioice")
+    version = run(python, "-c", "import aioice; print(aioice.__version__)")
+    return Stack("aioice", [python, str(here / "peers" / "connection_peer.py"), "aioice"], version)
+
+
+def libnice():
+    modules = "import gi; gi.require_version('Nice', '0.1'); from gi.repository import Nice"
+    python = python_with(modules, "libnice: install python3-gi and gir1.2-nice-0.1")
+    return Stack("libnice", [python, str(here / "peers" / "libnice_peer.py")], package("libnice10"))
+
+
+MAKERS = {"peer": ours_in_c, "Connection": ours_in_python, "pion": pion, "aioice": aioice, "libnice": libnice}
+
+
+def find(names):
+    """The stacks with these names, built."""
+    out.mkdir(exist_ok=True)
+    found = {}
+    for name in names:
+        try:
+            found[name] = MAKERS[name]()
+        except Missing as error:
+            found[name] = Stack(name, missing=str(error))
+    return found
+
+
+def sender():
+    """The program that sends forged datagrams (send.c)."""
+    out.mkdir(exist_ok=True)
+    program = out / "send"
+    run(os.environ.get("CC", "cc"), "-O2", "-o", program, here / "send.c")
+    return program
+
+
+def tools():
+    """Versions of the other tools that the networks need, by name; None if one is not installed."""
+    return {"coturn": package("coturn") if shutil.which("turnserver") else None,
+            "nftables": package("nftables") if shutil.which("nft") else None}
