@@ -1,0 +1,96 @@
+//! Two ICE agents over UDP sockets find a path, and one says hello on it. Each side runs its own loop.
+
+use is::stun::{StunMessage, StunPacket};
+use is::{Candidate, IceAgent, IceAgentEvent, IceCreds, Protocol};
+use std::error::Error;
+use std::io::ErrorKind;
+use std::net::{SocketAddr, UdpSocket};
+use std::time::{Duration, Instant};
+
+struct Side {
+    agent: IceAgent,
+    socket: UdpSocket,
+    local: SocketAddr,
+    /// When to call `handle_timeout` next.
+    timeout: Option<Instant>,
+    /// The destination of media, once a path is selected.
+    peer: Option<SocketAddr>,
+}
+
+impl Side {
+    fn new(controlling: bool, creds: IceCreds, peer: IceCreds) -> Result<Side, Box<dyn Error>> {
+        let socket = UdpSocket::bind("127.0.0.1:0")?; // one socket for each local address
+        socket.set_nonblocking(true)?;
+        let local = socket.local_addr()?;
+        let mut agent = IceAgent::new(creds);
+        agent.set_controlling(controlling);
+        agent.set_remote_credentials(peer);
+        Ok(Side { agent, socket, local, timeout: Some(Instant::now()), peer: None })
+    }
+
+    /// Adds the socket as a host candidate. Returns the line for signaling.
+    fn gather(&mut self) -> Result<String, Box<dyn Error>> {
+        let host = Candidate::host(self.local, Protocol::Udp)?;
+        Ok(self.agent.add_local_candidate(host).ok_or("redundant candidate")?.to_sdp_string())
+    }
+
+    /// One iteration of the loop. Returns media that arrived.
+    fn turn(&mut self) -> Result<Option<Vec<u8>>, Box<dyn Error>> {
+        let (mut buffer, mut media, mut called) = ([0; 1500], None, false);
+        let now = Instant::now();
+        // 1. A datagram arrived.
+        match self.socket.recv_from(&mut buffer) {
+            Ok((length, source)) => {
+                if let Ok(message) = StunMessage::parse(&buffer[..length]) {
+                    let packet = StunPacket { proto: Protocol::Udp, source, destination: self.local, message };
+                    called = self.agent.handle_packet(now, packet);
+                } else if Some(source) == self.peer || self.agent.has_viable_remote_candidate(source) {
+                    media = Some(buffer[..length].to_vec());
+                }
+            }
+            Err(error) if error.kind() == ErrorKind::WouldBlock => {}
+            Err(error) => return Err(error.into()),
+        }
+        // 2. The timeout expired.
+        if self.timeout.is_some_and(|at| at <= now) {
+            self.agent.handle_timeout(now);
+            called = true;
+        }
+        if called {
+            // 3. The next timeout, before packets are polled.
+            self.timeout = self.agent.poll_timeout();
+            // 4. Packets. This side has only one socket, so packet.source is its address.
+            while let Some(packet) = self.agent.poll_transmit() {
+                self.socket.send_to(&packet.contents, packet.destination)?;
+            }
+            // 5. Events.
+            while let Some(event) = self.agent.poll_event() {
+                if let IceAgentEvent::NominatedSend { destination, .. } = event {
+                    self.peer = Some(destination);
+                }
+            }
+        }
+        Ok(media)
+    }
+}
+
+fn main() -> Result<(), Box<dyn Error>> {
+    let (a_creds, b_creds) = (IceCreds::new(), IceCreds::new());
+    let mut a = Side::new(true, a_creds.clone(), b_creds.clone())?;
+    let mut b = Side::new(false, b_creds, a_creds)?;
+    b.agent.add_remote_candidate(Candidate::from_sdp_string(&a.gather()?)?); // signaling
+    a.agent.add_remote_candidate(Candidate::from_sdp_string(&b.gather()?)?);
+    let begun = Instant::now();
+    while begun.elapsed() < Duration::from_secs(10) {
+        a.turn()?;
+        if let Some(media) = b.turn()? {
+            println!("heard {}", String::from_utf8_lossy(&media));
+            return Ok(());
+        }
+        if let (Some(peer), Some(_)) = (a.peer, b.peer) {
+            a.socket.send_to(b"hello", peer)?;
+        }
+        std::thread::sleep(Duration::from_millis(1));
+    }
+    Err("no path".into())
+}
