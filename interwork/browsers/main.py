@@ -11,7 +11,6 @@ import asyncio
 import collections
 import importlib.metadata
 import importlib.util
-import itertools
 import statistics
 import sys
 from dataclasses import dataclass, field
@@ -75,9 +74,8 @@ class Run:
         return not patterns or any(pattern in case.name for pattern in patterns)
 
     def _count(self, case: Any) -> int:
-        if self.options.quick:
-            return int(case.quick)
-        return min(self.options.sessions or case.sessions, case.sessions)
+        most: int = case.quick if self.options.quick else case.sessions
+        return min(self.options.sessions or most, most)
 
     def _row(self, subject: str, case: Any, skipped: str = "") -> Row:
         row = Row(subject, case.name, " or ".join(case.expected), self._count(case), skipped=skipped)
