@@ -40,6 +40,10 @@ class Case:
         server = ("-u", f"{networks.SERVER}:{networks.PORT}", "-U", networks.USER)
         return [server if uses else () for uses in self.relay]
 
+    def network_name(self):
+        """The network for people."""
+        return {"loopback": "loopback", "wire": "lossy wire"}.get(self.network[0]) or f"{self.network[1]} - {self.network[2]}"
+
     def is_for_everybody(self):
         """Whether the case needs neither root nor namespaces."""
         return self.network == LOOPBACK and self.words and all(set(words) <= {*ONE, "-L", "-t", "0", GREATEST} for words in self.words)
@@ -58,8 +62,8 @@ def nat(a, b):
 def roles_over_loopback(a, b):
     """The roles, with one address, with IPv6 and with five addresses."""
     for title, words in (("one address", ONE), ("IPv6", ONE_IPV6), ("five addresses", MANY)):
-        yield Case(LOOPBACK, (a, b), f"{title}, {a} controls", (words, words), (ING, ED), quick=int(words != ONE_IPV6))
-        yield Case(LOOPBACK, (a, b), f"{title}, {b} controls", (words, words), (ED, ING), quick=int(words != ONE_IPV6))
+        yield Case(LOOPBACK, (a, b), f"{title}, ours controls", (words, words), (ING, ED), quick=int(words != ONE_IPV6))
+        yield Case(LOOPBACK, (a, b), f"{title}, theirs controls", (words, words), (ED, ING), quick=int(words != ONE_IPV6))
 
 
 def conflicts(a, b):
@@ -69,26 +73,27 @@ def conflicts(a, b):
 
 
 def pion_conflicts():
-    """Our tie-breaker decides: pion neither repairs a role conflict nor lets the peer repair its role."""
+    """Our tie-breaker decides whether we switch. If pion has to, nothing repairs the conflict."""
     why = "pion ignores requests in a role conflict, and error responses 487"
     for role in (ING, ED):
-        for number, none, reason in (("0", False, ""), (GREATEST, True, why)):
-            words = ((*ONE, "-t", number), ONE)
-            title = f"role conflict, both {role}, our tie-breaker is the {'greatest' if none else 'least'}"
-            yield Case(LOOPBACK, ("Connection", "pion"), title, words, (role, role), none=none, seconds=10 if none else 20, why=reason)
+        for name, number in (("least", "0"), ("greatest", GREATEST)):
+            we_switch = (role == ING) == (name == "least")  # the side with the greater tie-breaker becomes controlling
+            yield Case(LOOPBACK, ("Connection", "pion"), f"role conflict, both {role}, our tie-breaker {name}",
+                       ((*ONE, "-t", number), ONE), (role, role), none=not we_switch, seconds=20 if we_switch else 10,
+                       why="" if we_switch else why)
 
 
 def lite(a, b, both=True):
     """One side is lite, which is the controlled one."""
-    yield Case(LOOPBACK, (a, b), f"{a} is lite", ((*ONE, "-L"), ONE), (ED, ING))
+    yield Case(LOOPBACK, (a, b), "ours is lite", ((*ONE, "-L"), ONE), (ED, ING))
     if both:
-        yield Case(LOOPBACK, (a, b), f"{b} is lite", (ONE, (*ONE, "-L")), (ING, ED))
+        yield Case(LOOPBACK, (a, b), "theirs is lite", (ONE, (*ONE, "-L")), (ING, ED))
 
 
 def restarts(a, b):
     """One side restarts a connected session."""
     for words, addresses in ((ONE, "one address"), (MANY, "five addresses")):
-        for who, name in (("a", a), ("b", b)):
+        for who, name in (("a", "ours"), ("b", "theirs")):
             yield Case(LOOPBACK, (a, b), f"{name} restarts, {addresses}", (words, words), restarts=who, quick=int(words == MANY))
 
 
@@ -99,7 +104,7 @@ def over_loopback():
     for other in ("peer", "libnice", "aioice", "Connection"):
         yield from conflicts("peer", other)
     yield from pion_conflicts()
-    yield Case(LOOPBACK, ("peer", "pion"), "five addresses, pion trickles", (MANY, (*MANY, "-T")))
+    yield Case(LOOPBACK, ("peer", "pion"), "five addresses, theirs trickles", (MANY, (*MANY, "-T")))
     for nomination in ("regular", "aggressive"):
         yield Case(LOOPBACK, ("peer", "libnice"), f"{nomination} nomination", (MANY, (*MANY, "-N", nomination)), (ED, ING))
     for other, both in (("pion", True), ("libnice", True), ("aioice", False), ("peer", False)):
@@ -141,7 +146,7 @@ def with_relay(kinds):
     for other in ("Connection", "pion", "aioice", "libnice"):
         yield Case(nat(*kinds), ("Connection", other), "TURN for both", relay=(True, True), quick=quick)
     yield Case(nat(*kinds), ("Connection", "pion"), "TURN for ours", relay=(True, False), quick=0)
-    yield Case(nat(*kinds), ("peer", "pion"), "TURN for pion", relay=(False, True), quick=quick)
+    yield Case(nat(*kinds), ("peer", "pion"), "TURN for theirs", relay=(False, True), quick=quick)
 
 
 # ---- a lossy wire
@@ -149,9 +154,9 @@ def with_relay(kinds):
 def over_the_wire():
     """30 % of the packets are lost, 10 % come twice, and each waits up to 0.2 s, so that they overtake each other."""
     for other in ("peer", "pion", "libnice"):
-        yield Case(LOSSY, ("peer", other), "30 % loss", sessions=10, quick=2, at_least=0.9, seconds=40)
-    yield Case(LOSSY, ("peer", "aioice"), "30 % loss", sessions=10, quick=0, at_least=0.8, seconds=40, why="aioice gives up early")
-    yield Case(LOSSY, ("Connection", "Connection"), "30 % loss", sessions=10, quick=0, at_least=0.9, seconds=40)
+        yield Case(LOSSY, ("peer", other), "30 % loss, reordering", sessions=10, quick=2, at_least=0.9, seconds=40)
+    yield Case(LOSSY, ("peer", "aioice"), "30 % loss, reordering", sessions=10, quick=0, at_least=0.8, seconds=40, why="aioice gives up early")
+    yield Case(LOSSY, ("Connection", "Connection"), "30 % loss, reordering", sessions=10, quick=0, at_least=0.9, seconds=40)
 
 
 def foreign():
@@ -160,7 +165,7 @@ def foreign():
     yield Case(LOOPBACK, ("aioice", "libnice"), "one address", (ONE, ONE))
     yield Case(nat("port", "port"), ("pion", "aioice"), "STUN")
     yield Case(nat("symmetric", "symmetric"), ("pion", "libnice"), "TURN for both", relay=(True, True))
-    yield Case(LOSSY, ("pion", "pion"), "30 % loss", sessions=10, quick=0, at_least=0.9, seconds=40)
+    yield Case(LOSSY, ("pion", "pion"), "30 % loss, reordering", sessions=10, quick=0, at_least=0.9, seconds=40)
 
 
 def table(quick=False, is_foreign=False):

@@ -1,4 +1,4 @@
-"""Ten kinds of forged datagrams. Whoever sends them knows the user names and both addresses of a session, and not the passwords."""
+"""Ten kinds of forged datagrams. Who sends them knows the USERNAME and both addresses of a session, but no password."""
 import secrets
 import socket
 import struct
@@ -64,7 +64,7 @@ def large(number):
 
 
 def kinds(user, other, count=2000):
-    """Datagrams of each kind, by name. `user` is the user name of the session's checks, `other` the peer's address."""
+    """Datagrams of each kind, by name. `user` is the USERNAME of checks to the agent, `other` the peer's address."""
     every = lambda make, number=count: [make(i) for i in range(number)]
     return {
         "requests with a wrong MAC": every(lambda _: request(user)),

@@ -47,7 +47,7 @@ def arguments():
 
 
 def end_of(line):
-    """Returns the address and the type in a candidate line."""
+    """Returns the address and the type of a candidate attribute."""
     words = line.split()
     return f"[{words[4]}]:{words[5]}" if ":" in words[4] else f"{words[4]}:{words[5]}", words[7]
 
