@@ -32,38 +32,42 @@ only_self : {X : Type 0} (side : Side) (x : X) → Has (only side (other (other 
 only_self A x = inl refl
 only_self B x = inl refl
 
+-- the packet on another path
+abbrev pub rewritten : Path → Packet → Packet
+rewritten via packet = record { proto = via.proto; source = via.source; destination = via.destination; contents = packet.contents }
+
 module _ {H P : Type 0} (mac : H → List ℕ → List ℕ → List ℕ) (answers : P → CandidateRecord → ℕ → ℕ → Type 0) where
   -- ---- a packet that is delivered
 
-  pub handed : (side : Side) (packet : Packet) (w w' : WorldRecord H P) (s t : Stream) (x : Logged P) → (h : Hands side packet w x) → Happens mac answers w s x.event x.outcome w' t
-      → Turns mac answers w s side (agent.ReceivePacket h.now (via_out packet) packet.contents) x.outcome w' t
-  handed side packet w w' s t x h happens =
-      subst (λ z. Turns mac answers w s z (agent.ReceivePacket h.now (via_out packet) packet.contents) x.outcome w' t) (twice side)
-      (subst (λ o. world.Delivers mac answers w s o h.now (via_out packet) x.outcome w' t) h.sent
+  pub handed : (side : Side) (via : Path) (packet : Packet) (w w' : WorldRecord H P) (s t : Stream) (x : Logged P) → (h : Hands side via packet w x) → Happens mac answers w s x.event x.outcome w' t
+      → Turns mac answers w s side (agent.ReceivePacket h.now via packet.contents) x.outcome w' t
+  handed side via packet w w' s t x h happens =
+      subst (λ z. Turns mac answers w s z (agent.ReceivePacket h.now via packet.contents) x.outcome w' t) (twice side)
+      (subst (λ o. world.Delivers mac answers w s o h.now via x.outcome w' t) h.sent
       (subst (λ (v : Event P). Happens mac answers w s v x.outcome w' t) h.event happens))
 
-  pub handed_has : (side : Side) (packet : Packet) (w : WorldRecord H P) (x : Logged P) → (h : Hands side packet w x)
-      → Has (acts side w x.event x.outcome.entry) (agent.ReceivePacket h.now (via_out packet) packet.contents, x.outcome.entry)
-  handed_has side packet w x h =
-      subst (λ (v : Event P). Has (acts side w v x.outcome.entry) (agent.ReceivePacket h.now (via_out packet) packet.contents, x.outcome.entry)) (sym h.event)
-      (subst (λ o. Has (handed_as {P = P} side h.now (via_out packet) x.outcome.entry o) (agent.ReceivePacket h.now (via_out packet) packet.contents, x.outcome.entry)) (sym h.sent)
-      (only_self side (agent.ReceivePacket h.now (via_out packet) packet.contents, x.outcome.entry)))
+  pub handed_has : (side : Side) (via : Path) (packet : Packet) (w : WorldRecord H P) (x : Logged P) → (h : Hands side via packet w x)
+      → Has (acts side w x.event x.outcome.entry) (agent.ReceivePacket h.now via packet.contents, x.outcome.entry)
+  handed_has side via packet w x h =
+      subst (λ (v : Event P). Has (acts side w v x.outcome.entry) (agent.ReceivePacket h.now via packet.contents, x.outcome.entry)) (sym h.event)
+      (subst (λ o. Has (handed_as {P = P} side h.now via x.outcome.entry o) (agent.ReceivePacket h.now via packet.contents, x.outcome.entry)) (sym h.sent)
+      (only_self side (agent.ReceivePacket h.now via packet.contents, x.outcome.entry)))
 
-  pub delivered : (side : Side) (packet : Packet) (w w' : WorldRecord H P) (s t : Stream) (x : Logged P) → (h : Hands side packet w x) → Happens mac answers w s x.event x.outcome w' t
-      → Delivered mac answers packet h.now (at side w) x.outcome.entry (at side w')
-  delivered side packet w w' s t x h happens = record {
+  pub delivered : (side : Side) (via : Path) (packet : Packet) (w w' : WorldRecord H P) (s t : Stream) (x : Logged P) → (h : Hands side via packet w x) → Happens mac answers w s x.event x.outcome w' t
+      → Delivered mac answers (rewritten via packet) h.now (at side w) x.outcome.entry (at side w')
+  delivered side via packet w w' s t x h happens = record {
     before = s;
     behind = t;
-    step = turn_step mac answers w w' s t side (agent.ReceivePacket h.now (via_out packet) packet.contents) x.outcome (handed side packet w w' s t x h happens);
+    step = turn_step mac answers w w' s t side (agent.ReceivePacket h.now via packet.contents) x.outcome (handed side via packet w w' s t x h happens);
     granted = h.granted;
   }
 
   -- the other one is as it was
-  pub aside : (side : Side) (packet : Packet) (w w' : WorldRecord H P) (s t : Stream) (x : Logged P) → Hands (other side) packet w x → Happens mac answers w s x.event x.outcome w' t
+  pub aside : (side : Side) (via : Path) (packet : Packet) (w w' : WorldRecord H P) (s t : Stream) (x : Logged P) → Hands (other side) via packet w x → Happens mac answers w s x.event x.outcome w' t
       → at side w' ≡ at side w
-  aside side packet w w' s t x h happens =
+  aside side via packet w w' s t x h happens =
       subst (λ z. at z w' ≡ at z w) (twice side)
-      (turn_other mac answers w w' s t (other side) (agent.ReceivePacket h.now (via_out packet) packet.contents) x.outcome (handed (other side) packet w w' s t x h happens))
+      (turn_other mac answers w w' s t (other side) (agent.ReceivePacket h.now via packet.contents) x.outcome (handed (other side) via packet w w' s t x h happens))
 
   module _ (side : Side) where
     -- ---- the preconditions
@@ -92,10 +96,10 @@ module _ {H P : Type 0} (mac : H → List ℕ → List ℕ → List ℕ) (answer
         → Returns mac answers side reply w s n log last t run → Met (own mac answers side w s n log last t run)
     returns reply near good [] w last s t n run ys fits course polls comes = absurd comes
     returns reply near good (x ∷ rest) w last s t n (mid, u, number, happens, run) ys fits course polls (inl h) =
-        let taken = good (at side w) (at side mid) ys h.now x.outcome.entry fits course (delivered side reply w mid s u x h happens) in (
+        let taken = good (at side w) (at side mid) ys h.now x.outcome.entry fits course (delivered side (via_out reply) reply w mid s u x h happens) in (
           (agent.ReceivePacket h.now (via_out reply) reply.contents, x.outcome.entry),
           Has-front (acts side w x.event x.outcome.entry) (own mac answers side mid u (suc n) rest last t run) (agent.ReceivePacket h.now (via_out reply) reply.contents, x.outcome.entry)
-              (handed_has side reply w x h),
+              (handed_has side (via_out reply) reply w x h),
           (h.now, via_out reply, taken.0, taken.1, taken.2),
         )
     returns reply near good (x ∷ rest) w last s t n (mid, u, number, happens, run) ys fits course polls (inr later) =
@@ -118,9 +122,9 @@ module _ {H P : Type 0} (mac : H → List ℕ → List ℕ → List ℕ) (answer
         exchanges (x ∷ rest) w last s t n (mid, u, number, happens, run) xs fits course sound role polls apart (inl (h, know, reached, back)) =
             let known : KnowEachOther mac (at side w) (at (other side) w) = search know in
             let there = succeeds a sent (at side w) (at (other side) w) (at (other side) mid) s₀ t₀ now h.now check id moment x.outcome.entry xs sound_a (sound (other side))
-            step sends fits course known (role ∙ ap not (sym role_a)) reached (delivered (other side) check w mid s u x h happens) in
+            step sends fits course known (role ∙ ap not (sym role_a)) reached (delivered (other side) (via_out check) check w mid s u x h happens) in
             met_later (acts side w x.event x.outcome.entry) (own mac answers side mid u (suc n) rest last t run)
-            (returns there.1.0 (at side w) there.1.3 rest mid last u t (suc n) run [] (λ y none. absurd none) (aside side check w mid s u x h happens)
+            (returns there.1.0 (at side w) there.1.3 rest mid last u t (suc n) run [] (λ y none. absurd none) (aside side (via_out check) check w mid s u x h happens)
             (λ y has. polls y (inr has)) (search (back there.1.0 there.1.2)))
         exchanges (x ∷ rest) w last s t n (mid, u, number, happens, run) xs fits course sound role polls apart (inr later) =
             met_later (acts side w x.event x.outcome.entry) (own mac answers side mid u (suc n) rest last t run)

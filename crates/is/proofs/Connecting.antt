@@ -6,31 +6,28 @@ use Rattle.rand_core.specs.Stream.{Stream}
 use Rattle.is_proto.specs.Lists.{Has}
 use Rattle.is_proto.specs.Packets.{Packet}
 use Rattle.is_candidate.specs.Candidates.{CandidateRecord}
-use Rattle.is_stun.specs.declared.header.Class.TheVariants.{Request}
 use Rattle.is_rules.specs.declared.emitted.Path.{Path}
 use Rattle.is_rules.specs.Agent.{fresh}
 use Rattle.is_rules.specs.Asked.{IsAlone}
 use Rattle.is_rules.specs.AskedCourses.{AcceptsSuccessOn, IsAnsweredAlong, GrantedAreAnnounced}
-use Rattle.is_rules.specs.Asking.{ChecksAsk}
+use Rattle.is_rules.specs.Carried.{CarriedAsk, CarriedSucceedLater}
 use Rattle.is_rules.specs.Courses.{CourseRound}
-use Rattle.is_rules.specs.Effects.{PathLaw, TradeLaw}
-use Rattle.is_rules.specs.Exchange.{ExchangesSucceed}
-use Rattle.is_rules.specs.Issuing.{IsQueued}
+use Rattle.is_rules.specs.Effects.{PathLaw}
 use Rattle.is_rules.specs.Queue.{request_at}
 use Rattle.is_rules.specs.ReachedCourses.{IsPassed, ChecksAmong, IsAnsweredAmong, PassRounds, CoursesReach}
 use Rattle.is_rules.specs.Sound.{FreshIsSound}
 use Rattle.is_rules.specs.Steps as agent
 use Rattle.is_rules.specs.Steps.{Answer, Entry, Done, Refused, quiet, Step}
-use Rattle.is_rules.specs.Emitted.{issued_as, reversed}
 use Rattle.is.specs.declared.world.Side.{Side}
-use Rattle.is.specs.Connections.{Round, all_of, IsKept, HasRounds, SendsOn, IsHanded, Succeeds, BothConnect}
-use Rattle.is.specs.Grantings.{Occurrence, Arrival, HandedCheck, IsAskedOver}
+use Rattle.is.specs.Connections.{Round, all_of, IsKept, HasRounds, Checks, Succeeds, BothConnect}
+use Rattle.is.specs.Grantings.{Occurrence, IsAskedOver}
 use Rattle.is.specs.World as world
 use Rattle.is.specs.World.{WorldRecord, InFlightRecord, Event, Logged, Happens, Run, at, other, in_world}
 use Rattle.is.specs.WorldRoles.{IsNewAgent}
 use Rattle.is.proofs.Following.{Has-front, Has-rear, AreSound}
 use Rattle.is.proofs.Owning.{either_has, acts, only, only_own, handed_as, polled_as, course_on, turn_step}
-use Rattle.is.proofs.Granted.{Follow, follows, cut, meet, sound_along, acts_at, own, own_course, own_between, apart_at, answered, announced_where}
+use Rattle.is.proofs.Occurring.{Follow, follows, cut, acts_at, own, own_course, own_between, Found}
+use Rattle.is.proofs.Granted.{apart_at, answered, announced_where}
 
 module _ {H P : Type 0} (mac : H → List ℕ → List ℕ → List ℕ) (answers : P → CandidateRecord → ℕ → ℕ → Type 0) where
   -- ---- what a side does in its rounds
@@ -91,16 +88,15 @@ module _ {H P : Type 0} (mac : H → List ℕ → List ℕ → List ℕ) (answer
 
   -- ---- a check is sent in one of them, or the path is answered in one
 
-  abbrev Checks : Side → Path → List (Round H P) → Type 0
-  Checks side path rounds =
-      (r : Round H P) × (id : List ℕ) × Has rounds r × (r.moment.entry.outcome.entry.emitted.issued ≡ Some (issued_as path Request id))
+  abbrev SomeChecks : Path → List (Round H P) → Type 0
+  SomeChecks path rounds = (r : Round H P) × Has rounds r × Checks path r
 
   abbrev Answers : Side → Path → List (Round H P) → Type 0
   Answers side path rounds = (r : Round H P) × Has rounds r × IsAnsweredAlong (own mac answers side r.behind) path
 
   reached : CoursesReach {H = H} {P = P} mac answers → (side : Side) (path : Path) (first start last : WorldRecord H P) (s : Stream) (before part : List (Occurrence H P))
       → IsNewAgent (at side first) → Follow mac answers first before start → Follow mac answers start part last → (k : HasRounds side path part last)
-      → Checks side path (k.first ∷ k.later) ⊎ Answers side path (k.first ∷ k.later)
+      → SomeChecks path (k.first ∷ k.later) ⊎ Answers side path (k.first ∷ k.later)
   reached reach side path first start last s before part n led on k =
       let rounds : List (Round H P) = k.first ∷ k.later in
       let c = cut mac answers k.ahead (all_of rounds) start last (subst (λ xs. Follow mac answers start xs last) k.split on) in
@@ -122,7 +118,7 @@ module _ {H P : Type 0} (mac : H → List ℕ → List ℕ → List ℕ) (answer
       )
       k.line (passes side rounds begin last rest (λ r has. (k.kept r has).comes)) (are_passed side k.by rounds k.kept) (omega (arith, many, enough))) in
       elim found [
-        | inl (x, id, has, out) ↦ (let r = back side rounds x has in inl (r.0, id, r.1, ap (λ (z : CourseRound P). z.moment.emitted.issued) r.2 ∙ out))
+        | inl (x, id, has, out) ↦ (let r = back side rounds x has in inl (r.0, r.1, (id, ap (λ (z : CourseRound P). z.moment.emitted.issued) r.2 ∙ out)))
         | inr (x, has, is) ↦ (let r = back side rounds x has in inr (r.0, r.1, subst (λ (z : CourseRound P). IsAnsweredAlong z.behind path) (sym r.2) is))
       ]
 
@@ -138,62 +134,6 @@ module _ {H P : Type 0} (mac : H → List ℕ → List ℕ → List ℕ) (answer
         k.1,
         ap (λ xs. z.moment ∷ (z.behind ++ xs)) k.2 ∙ ap (λ xs. z.moment ∷ xs) (sym (append_assoc z.behind k.0 (r.moment ∷ (r.behind ++ k.1)))),
       )
-
-  abbrev longer : (waiting side : Side) (packet : Packet) (xs ys : List (Occurrence H P)) → Arrival waiting side packet xs → Arrival waiting side packet (xs ++ ys)
-  longer waiting side packet xs ys a = record {
-    between = a.between;
-    handed = a.handed;
-    rest = a.rest ++ ys;
-    split = ap (λ zs. zs ++ ys) a.split ∙ append_assoc a.between (a.handed ∷ a.rest) ys;
-    polls = a.polls;
-    hands = a.hands;
-  }
-
-  module _ (side : Side) (path : Path) (part : List (Occurrence H P)) (start last : WorldRecord H P) (sound : AreSound start) (follow : Follow mac answers start part last)
-      (k : HasRounds side path part last) where
-    -- the round of a check is in the segment
-    record Stood (r : Round H P) (id : List ℕ) : Type 0 where
-      pub ahead : List (Occurrence H P)
-      pub rear : List (Occurrence H P)
-      pub split : part ≡ ahead ++ r.moment ∷ (r.behind ++ rear)
-      pub check : Packet
-      pub sends : SendsOn side path r check id
-
-    stood : PathLaw {H = H} {P = P} mac answers → TradeLaw {H = H} {P = P} mac answers → (r : Round H P) (id : List ℕ) → Has (k.first ∷ k.later) r
-        → r.moment.entry.outcome.entry.emitted.issued ≡ Some (issued_as path Request id) → Stood r id
-    stood paths trades r id has out =
-        let p = place (k.first ∷ k.later) r has in
-        let split : part ≡ (k.ahead ++ p.0) ++ r.moment ∷ (r.behind ++ p.1) = k.split ∙ (ap (λ xs. k.ahead ++ xs) p.2 ∙ sym (append_assoc k.ahead p.0 (r.moment ∷ (r.behind ++ p.1)))) in
-        let m = meet mac answers (k.ahead ++ p.0) (r.behind ++ p.1) r.moment start last (subst (λ xs. Follow mac answers start xs last) split follow) in
-        let sound_at : AreSound r.moment.before = sound_along mac answers paths (k.ahead ++ p.0) start r.moment.before m.led sound in
-        let queued : IsQueued (Some (issued_as path Request id)) (at side r.moment.before).packets (at side r.moment.behind).packets =
-        subst (λ o. IsQueued o (at side r.moment.before).packets (at side r.moment.behind).packets) out
-        (trades (at side r.moment.before) (at side r.moment.behind) m.s m.t (agent.HandleTimeout r.now) r.moment.entry.outcome.entry (sound_at side) tt
-        (moved side r m.s m.t (k.kept r has).comes m.happens)).sends in
-        record {
-          ahead = k.ahead ++ p.0;
-          rear = p.1;
-          split = split;
-          check = queued.0;
-          sends = record { on = queued.1; sends = record { emitted = out ∙ ap (λ z. Some (issued_as z Request id)) (sym queued.1); put = queued.2 } };
-        }
-
-    abbrev handed : (r : Round H P) (id : List ℕ) → Has (k.first ∷ k.later) r → (z : Stood r id) → IsHanded mac side path r z.check → HandedCheck mac side path part
-    handed r id has z h = record {
-      before = z.ahead;
-      sent = r.moment;
-      behind = r.behind ++ z.rear;
-      split = z.split;
-      now = r.now;
-      check = z.check;
-      id = id;
-      moment = (k.kept r has).comes;
-      on = z.sends.on;
-      sends = z.sends.sends;
-      comes = longer side (other side) z.check r.behind z.rear h.comes;
-      know = h.know;
-      reached = h.reached;
-    }
 
   -- ---- a success response in the rounds
 
@@ -245,9 +185,9 @@ module _ {H P : Type 0} (mac : H → List ℕ → List ℕ → List ℕ) (answer
 
   -- ---- both
 
-  pub both_connect : PathLaw {H = H} {P = P} mac answers → TradeLaw {H = H} {P = P} mac answers → FreshIsSound H P → ChecksAsk {H = H} {P = P} mac answers → ExchangesSucceed {H = H} {P = P} mac answers
+  pub both_connect : PathLaw {H = H} {P = P} mac answers → FreshIsSound H P → CarriedAsk {H = H} {P = P} mac answers → CarriedSucceedLater {H = H} {P = P} mac answers
       → GrantedAreAnnounced {H = H} {P = P} mac answers → CoursesReach {H = H} {P = P} mac answers → (first : WorldRecord H P) (s : Stream) (log : List (Logged P)) → BothConnect mac answers first s log
-  both_connect paths trades new_sound asks succeeds announce reach first s log last t run before part rest moment now side path new split roles asking asks_so asked answered_so comes done none alone =
+  both_connect paths new_sound asks succeeds announce reach first s log last t run before part rest moment now side path its new split roles asking asks_so asked answered_so comes done none alone =
       let idle : request_at now (at side moment.before) ≡ None = search none in
       let lone : IsAlone (at side moment.behind) path = search alone in
       announced_where mac answers paths new_sound asks succeeds announce first last s before part rest moment now side path new
@@ -257,33 +197,21 @@ module _ {H P : Type 0} (mac : H → List ℕ → List ℕ → List ℕ) (answer
         part_roles x has = apart_at mac answers side (part ++ moment ∷ []) x roles (Has-front part (moment ∷ []) x has)
 
         ask : (start : WorldRecord H P) → Follow mac answers first before start → AreSound start → Follow mac answers start part moment.before → IsAskedOver mac side path part
-        ask start led sound follow = by (reached reach (other side) (reversed path) first start moment.before s before part (new (other side)) led follow asking) where
-          goes : (r : Round H P) (id : List ℕ) → Has (asking.first ∷ asking.later) r → r.moment.entry.outcome.entry.emitted.issued ≡ Some (issued_as (reversed path) Request id) → IsAskedOver mac side path part
-          goes r id has out =
-              let z = stood (other side) (reversed path) part start moment.before sound follow asking paths trades r id has out in
-              let so = asks_so r has in
-              (handed (other side) (reversed path) part start moment.before sound follow asking r id has z (so.handed z.check id z.sends), search so.nominated)
+        ask start led sound follow = by (reached reach (other side) its first start moment.before s before part (new (other side)) led follow asking) where
+          by : SomeChecks its (asking.first ∷ asking.later) ⊎ Answers (other side) its (asking.first ∷ asking.later) → IsAskedOver mac side path part
+          by (inl (r, has, sent)) = (let so = asks_so r has in search (so.asked sent))
+          by (inr (r, has, is)) = (let x = succeeds_in (other side) its r.behind is in let so = asks_so r has in search (so.early x.0 x.1 x.2))
 
-          by : Checks (other side) (reversed path) (asking.first ∷ asking.later) ⊎ Answers (other side) (reversed path) (asking.first ∷ asking.later) → IsAskedOver mac side path part
-          by (inl (r, id, has, out)) = goes r id has out
-          by (inr (r, has, is)) =
-              let x = succeeds_in (other side) (reversed path) r.behind is in
-              let k : (id : List ℕ) × (r.moment.entry.outcome.entry.emitted.issued ≡ Some (issued_as (reversed path) Request id)) = search ((asks_so r has).timely x.0 x.1 x.2) in
-              goes r k.0 has k.1
-
-        answer : (start : WorldRecord H P) → Follow mac answers first before start → AreSound start → Follow mac answers start part moment.before → IsAnsweredAlong (own mac answers side part) path
+        answer : (start : WorldRecord H P) → Follow mac answers first before start → AreSound start → Follow mac answers start part moment.before
+            → IsAnsweredAlong (own mac answers side part) path ⊎ Found mac answers side path (part ++ moment ∷ [])
         answer start led sound follow = by (reached reach side path first start moment.before s before part (new side) led follow asked) where
-          by : Checks side path (asked.first ∷ asked.later) ⊎ Answers side path (asked.first ∷ asked.later) → IsAnsweredAlong (own mac answers side part) path
-          by (inl (r, id, has, out)) =
-              let z = stood side path part start moment.before sound follow asked paths trades r id has out in
-              let k = answered_so r has z.check id z.sends in
-              answered mac answers paths asks succeeds part part start moment.before sound follow (λ x there. there) side path part_roles (
-                handed side path part start moment.before sound follow asked r id has z k.0,
-                λ reply sends. longer side side reply k.0.comes.rest z.rear (search (k.1 reply sends)),
-              )
+          by : SomeChecks path (asked.first ∷ asked.later) ⊎ Answers side path (asked.first ∷ asked.later) → IsAnsweredAlong (own mac answers side part) path ⊎ Found mac answers side path (part ++ moment ∷ [])
+          by (inl (r, has, sent)) =
+              answered mac answers paths asks succeeds part (part ++ moment ∷ []) start moment.before sound follow (λ x there. Has-front part (moment ∷ []) x there) side path part_roles
+              (search (answered_so r has sent))
           by (inr (r, has, (y, in_round, accepts))) =
               let p = place (asked.first ∷ asked.later) r has in
-              (y, subst (λ xs. Has (own mac answers side xs) y) (sym (asked.split ∙ ap (λ xs. asked.ahead ++ xs) p.2)) (among asked.ahead p.0 r p.1 y in_round), accepts) where
+              inl (y, subst (λ xs. Has (own mac answers side xs) y) (sym (asked.split ∙ ap (λ xs. asked.ahead ++ xs) p.2)) (among asked.ahead p.0 r p.1 y in_round), accepts) where
                 own_rear : (xs ys : List (Occurrence H P)) (y : agent.Call P × Entry) → Has (own mac answers side ys) y → Has (own mac answers side (xs ++ ys)) y
                 own_rear [] ys y there = there
                 own_rear (x ∷ xs) ys y there = Has-rear (acts_at mac answers side x) (own mac answers side (xs ++ ys)) y (own_rear xs ys y there)

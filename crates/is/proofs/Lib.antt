@@ -13,6 +13,7 @@ mod Settled
 mod Traced
 mod Owning
 mod Connected
+mod Occurring
 mod Granted
 mod Connecting
 mod Meeting

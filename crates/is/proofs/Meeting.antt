@@ -13,6 +13,7 @@ use Rattle.is_rules.specs.Conflicts.{ConflictsSettle, IsConflictSent, handing}
 use Rattle.is_rules.specs.Delivery.{Sends}
 use Rattle.is_rules.specs.Effects.{PathLaw}
 use Rattle.is_rules.specs.Exchange.{AreBetween, Course}
+use Rattle.is_rules.specs.Issuing.{via_out}
 use Rattle.is_rules.specs.RoleView.{RoleLaw}
 use Rattle.is_rules.specs.Sound.{IsSound, FreshIsSound}
 use Rattle.is_rules.specs.Steps as agent
@@ -60,7 +61,7 @@ module _ {H P : Type 0} where
   tie_of B w = refl
 
   -- the event delivers the packet to the side
-  handed_makes : (side : Side) (packet : Packet) (w : WorldRecord H P) (x : Logged P) → (h : Hands side packet w x) → Makes w x.event side (handing packet h.now)
+  handed_makes : (side : Side) (packet : Packet) (w : WorldRecord H P) (x : Logged P) → (h : Hands side (via_out packet) packet w x) → Makes w x.event side (handing packet h.now)
   handed_makes side packet w x h = subst (λ (v : Event P). Makes w v side (handing packet h.now)) (sym h.event) (record { sender = other side; packet = packet }, h.sent, twice side, refl)
 
   module _ (first : WorldRecord H P) (greater : Side) where
@@ -127,7 +128,7 @@ module _ {H P : Type 0} where
         returns near a b served check id handed lesser i [] w last s t n run ys fits course polls k comes = absurd comes
         returns near a b served check id handed lesser i (x ∷ rest) w last s t n (mid, u, number, happens, run) ys fits course polls k (inl h) =
             let (now, via, path, m, role, brings, failure, conflict, kept, gives) =
-            (i.returns (at side w) (at side mid) ys h.now x.outcome.entry fits course (delivered mac answers side i.refusal w mid s u x h happens)).0 in
+            (i.returns (at side w) (at side mid) ys h.now x.outcome.entry fits course (delivered mac answers side (via_out i.refusal) i.refusal w mid s u x h happens)).0 in
             let met : Meets side w x = (handing i.refusal h.now, handed_makes side i.refusal w x h, inr (now, via, m, brings, failure, conflict)) in
             let differs : Apart mid = met_on w mid s u x (rest ++ left) k happens (subst (λ z. Meets z w x) lesser met) in
             (apart_run rest left mid last u t (suc n) (comes_on w mid s u x (rest ++ left) k happens) run differs).0
@@ -156,7 +157,7 @@ module _ {H P : Type 0} where
           confronts [] w last s t n run xs fits course polls k comes = absurd comes
           confronts (x ∷ rest) w last s t n (mid, u, number, happens, run) xs fits course polls k (inl (h, know, reached, back)) =
               let there = resolves a sent (at side w) (at (other side) w) (at (other side) mid) s₀ t₀ now h.now check id moment x.outcome.entry xs sound_a (k.sound (other side))
-              step sends fits course know reached (delivered mac answers (other side) check w mid s u x h happens) in
+              step sends fits course know reached (delivered mac answers (other side) (via_out check) check w mid s u x h happens) in
               elim (sides side greater) [
                 | inl is ↦ (
                     let met : Meets (other side) w x = (handing check h.now, handed_makes (other side) check w x h, inl there.0) in
@@ -173,7 +174,7 @@ module _ {H P : Type 0} where
                     elim (there.1 alike) [
                       | inl (below, _) ↦ absurd (let none : ⊥ = omega (arith, below, above, tie_a, tie_b) in none)
                       | inr i ↦ conflict_sent w mid last s u t n x rest run lesser k happens (λ y has. polls y (inr has)) i (λ refusal gives. search (back refusal gives))
-                          (aside mac answers side check w mid s u x h happens)
+                          (aside mac answers side (via_out check) check w mid s u x h happens)
                     ])
               ]
           confronts (x ∷ rest) w last s t n (mid, u, number, happens, run) xs fits course polls k (inr later) =

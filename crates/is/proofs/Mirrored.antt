@@ -1,6 +1,6 @@
 -- The paths that two agents select, if all their pairs are on one path. The preconditions that refused/laws changes
 -- are read by tactics where they are used: if one of them is weaker, that goal stays unproved.
-use Rattle.std.proofs.Common.{◌≡◌, ℕ, Bool, true, false, List, [], ◌∷◌, Option, Some, None, inl, inr, ◌⊎◌, refl, ap, sym, ◌∙◌, subst}
+use Rattle.std.proofs.Common.{◌≡◌, ℕ, Bool, true, false, List, [], ◌∷◌, Option, Some, None, inl, inr, ◌⊎◌, sym, ◌∙◌, subst}
 use Rattle.std.specs.Prelude.{MatchBool, slice_get}
 use Rattle.rand_core.specs.Stream.{Stream}
 use Rattle.is_proto.specs.Lists.{Has}
@@ -16,16 +16,14 @@ use Rattle.is_rules.specs.Steps as agent
 use Rattle.is_rules.specs.Steps.{Answer, Entry}
 use Rattle.is_rules.specs.Emitted.{reversed}
 use Rattle.is.specs.declared.world.Side.{Side}
-use Rattle.is.specs.declared.world.Side.TheVariants.{A, B}
 use Rattle.is.specs.Grantings.{Occurrence, occurrences_in}
 use Rattle.is.specs.Mirrors.{Tells, KeepsTo, LonePathsMirror}
 use Rattle.is.specs.World as world
 use Rattle.is.specs.World.{WorldRecord, InFlightRecord, Event, Outcome, Logged, Turns, Stands, Happens, Run, at, other, in_world, plain}
-use Rattle.is.specs.WorldRoles.{IsNewAgent}
 use Rattle.is.proofs.Following.{AreSound}
 use Rattle.is.proofs.Settled.{sound_new}
 use Rattle.is.proofs.Owning.{turn_step, sound_on}
-use Rattle.is.proofs.Granted.{Follow, follows}
+use Rattle.is.proofs.Occurring.{Follow, follows}
 
 -- a pair on the path
 abbrev HasOn : {H P : Type 0} → AgentRecord H P → Path → Type 0

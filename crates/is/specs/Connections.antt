@@ -4,25 +4,21 @@ use Rattle.std.specs.Prelude.{◌≡◌, ℕ, ◌+◌, ◌*◌, ◌<◌, ◌≤�
 use Rattle.rand_core.specs.Stream.{Stream}
 use Rattle.is_proto.specs.Lists.{Has}
 use Rattle.is_proto.specs.Moments.{MAX}
-use Rattle.is_proto.specs.Packets.{Packet}
 use Rattle.is_candidate.specs.Candidates.{CandidateRecord}
 use Rattle.is_pair.specs.Pairs.{PairRecord}
-use Rattle.is_stun.specs.declared.header.Class.TheVariants.{Request, Success}
+use Rattle.is_stun.specs.declared.header.Class.TheVariants.{Request}
 use Rattle.is_rules.specs.declared.emitted.Path.{Path}
 use Rattle.is_rules.specs.Asked.{IsAlone}
 use Rattle.is_rules.specs.AskedCourses.{AcceptsSuccessOn}
-use Rattle.is_rules.specs.Asking.{AreNominatedOn}
-use Rattle.is_rules.specs.Delivery.{KnowEachOther, IsReachedBy, Sends}
-use Rattle.is_rules.specs.Issuing.{via_out}
 use Rattle.is_rules.specs.Progress.{HasAnnounced}
 use Rattle.is_rules.specs.Queue.{request_at}
 use Rattle.is_rules.specs.Reached.{IsInLine}
 use Rattle.is_rules.specs.Sending.{path_of}
 use Rattle.is_rules.specs.Steps as agent
-use Rattle.is_rules.specs.Emitted.{issued_as, reversed}
+use Rattle.is_rules.specs.Emitted.{issued_as}
 use Rattle.is.specs.declared.world.Side.{Side}
 use Rattle.is.specs.Deliveries.{MakesPolls, Announces}
-use Rattle.is.specs.Grantings.{Occurrence, IsControlled, Arrival, MayEndAt, occurrences_in}
+use Rattle.is.specs.Grantings.{Occurrence, IsControlled, IsAskedOver, IsExchangedOver, MayEndAt, occurrences_in}
 use Rattle.is.specs.World.{WorldRecord, InFlightRecord, Call, Deliver, Logged, Run, at, other}
 use Rattle.is.specs.WorldRoles.{IsNewAgent}
 
@@ -62,17 +58,9 @@ module _ {H P : Type 0} where
     pub enough : 2 * length (at side first.moment.before).pairs + (at side last).next_number
         ≤ length (first ∷ later) + 1 + (at side first.moment.before).next_number
 
-  -- The `handle_timeout` call sends this check on the path.
-  pub record SendsOn (side : Side) (path : Path) (r : Round H P) (check : Packet) (id : List ℕ) : Type 0 where
-    pub on : via_out check ≡ path
-    pub sends : Sends (at side r.moment.before) r.moment.entry.outcome.entry Request id check (at side r.moment.behind)
-
-  -- The check is delivered to the other side before the next `handle_timeout` call, and reaches it, while both agents know each
-  -- other.
-  pub record IsHanded (mac : H → List ℕ → List ℕ → List ℕ) (side : Side) (path : Path) (r : Round H P) (check : Packet) : Type 0 where
-    pub comes : Arrival side (other side) check r.behind
-    pub know : KnowEachOther mac (at side comes.handed.before) (at (other side) comes.handed.before)
-    pub reached : IsReachedBy (at (other side) comes.handed.before) path
+  -- The `handle_timeout` call sends a check on the path.
+  abbrev pub Checks : Path → Round H P → Type 0
+  Checks path r = (id : List ℕ) × (r.moment.entry.outcome.entry.emitted.issued ≡ Some (issued_as path Request id))
 
   -- A success response that is received on the reverse path is accepted.
   pub record Succeeds (side : Side) (path : Path) (x : Occurrence H P) : Type 0 where
@@ -85,39 +73,34 @@ module _ {H P : Type 0} where
     pub its : other in_flight.sender ≡ side
     pub accepts : AcceptsSuccessOn {P = P} (agent.ReceivePacket now via in_flight.packet.contents) x.entry.outcome.entry path
 
-  -- A round of the side that nominates: a check that is sent on the path is delivered, and the pairs on the path are nominated by
-  -- then. A success response for the path is received only in a round in which a check is sent on it.
-  pub record Asks (mac : H → List ℕ → List ℕ → List ℕ) (side : Side) (path : Path) (r : Round H P) : Type 0 where
-    pub handed : (check : Packet) (id : List ℕ) → SendsOn side path r check id → IsHanded mac side path r check
-    pub nominated : AreNominatedOn (at side r.moment.behind) path
-    pub timely : (x : Occurrence H P) → Has r.behind x → Succeeds side path x
-        → (id : List ℕ) × (r.moment.entry.outcome.entry.emitted.issued ≡ Some (issued_as path Request id))
+  -- A round of the other side, with its path `its`: if a check is sent on this path, a check of the segment nominates the side's
+  -- path (`IsAskedOver`). So it does if a success response for `its` is received.
+  pub record Asks (mac : H → List ℕ → List ℕ → List ℕ) (side : Side) (path its : Path) (part : List (Occurrence H P)) (r : Round H P) : Type 0 where
+    pub asked : Checks its r → IsAskedOver mac side path part
+    pub early : (x : Occurrence H P) → Has r.behind x → Succeeds (other side) its x → IsAskedOver mac side path part
 
-  -- A round of the side whose peer nominates: a check that is sent on the path is delivered, and its success response is received
-  -- before the next `handle_timeout` call.
-  abbrev pub IsAnswered : (H → List ℕ → List ℕ → List ℕ) → Side → Path → Round H P → Type 0
-  IsAnswered mac side path r =
-      (check : Packet) (id : List ℕ) → SendsOn side path r check id
-      → (h : IsHanded mac side path r check)
-      × ((reply : Packet) → Sends (at (other side) h.comes.handed.before) h.comes.handed.entry.outcome.entry Success id reply (at (other side) h.comes.handed.behind)
-      → Arrival side side reply h.comes.rest)
+  -- A round of the side whose peer nominates: if a check is sent on the path, a check of the segment is answered
+  -- (`IsExchangedOver`).
+  abbrev pub IsAnswered : (H → List ℕ → List ℕ → List ℕ) → Side → Path → List (Occurrence H P) → Round H P → Type 0
+  IsAnswered mac side path part r = Checks path r → IsExchangedOver mac side path part
 
   module _ (mac : H → List ℕ → List ℕ → List ℕ) (answers : P → CandidateRecord → ℕ → ℕ → Type 0) where
-    -- Two agents are newly created. In a segment of the log the controlling side has rounds that suffice for a nominated pair on
-    -- the reverse path, in which it nominates that path. The controlled side has rounds that suffice for a pair on the path, in
-    -- which its checks are answered. A `handle_timeout` call of the controlled side that serves no early request follows. By then
-    -- the controlled side selected a path, if only one of its pairs uses this path's addresses, unless one of its calls may have
-    -- removed such a pair. This holds whatever else happens.
+    -- Two agents are newly created. In a segment of the log the controlling side has rounds that suffice for a pair on its path
+    -- `its`. If it sends checks on `its` in them, one that nominates is delivered on the reverse of the controlled side's path. The
+    -- controlled side has rounds that suffice for a pair on its path. If it sends checks on it in them, one is answered. Both may
+    -- happen at any time in the segment, and through NATs. A `handle_timeout` call of the controlled side that serves no early
+    -- request follows. By then the controlled side selected a path, if only one of its pairs uses this path's addresses, unless one
+    -- of its calls may have removed such a pair. This holds whatever else happens.
     abbrev pub BothConnect : WorldRecord H P → Stream → List (Logged P) → Type 0
     BothConnect first s log =
         (last : WorldRecord H P) (t : Stream) (run : Run mac answers first s 0 log last t) (before part rest : List (Occurrence H P)) (moment : Occurrence H P)
-        (now : ℕ) (side : Side) (path : Path)
+        (now : ℕ) (side : Side) (path its : Path)
         → ((x : Side) → IsNewAgent (at x first)) → occurrences_in mac answers first s 0 log last t run ≡ before ++ ((part ++ moment ∷ []) ++ rest)
         → IsControlled side (part ++ moment ∷ [])
-        → (asking : HasRounds (other side) (reversed path) part moment.before)
-        → ((r : Round H P) → Has (asking.first ∷ asking.later) r → Asks mac (other side) (reversed path) r)
+        → (asking : HasRounds (other side) its part moment.before)
+        → ((r : Round H P) → Has (asking.first ∷ asking.later) r → Asks mac side path its part r)
         → (asked : HasRounds side path part moment.before)
-        → ((r : Round H P) → Has (asked.first ∷ asked.later) r → IsAnswered mac side path r)
+        → ((r : Round H P) → Has (asked.first ∷ asked.later) r → IsAnswered mac side path part r)
         → moment.entry.event ≡ Call side (agent.HandleTimeout now) → moment.entry.outcome.entry.answer ≡ agent.Done → request_at now (at side moment.before) ≡ None
         → IsAlone (at side moment.behind) path
         → (((x : Occurrence H P) × Has (before ++ (part ++ moment ∷ [])) x × Announces side x.entry) × HasAnnounced (at side moment.behind))

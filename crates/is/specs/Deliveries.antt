@@ -46,20 +46,21 @@ abbrev pub Announces : {P : Type 0} → Side → Logged P → Type 0
 Announces side x = (x.outcome.side ≡ Some side) × (is_some (last_of x.outcome.entry.emitted.announced) ≡ true)
 
 module _ {H P : Type 0} where
-  -- The event delivers the packet to the side, as the other side sent it, and the call does not fail.
-  pub record Hands (side : Side) (packet : Packet) (w : WorldRecord H P) (x : Logged P) : Type 0 where
+  -- The event delivers the packet to the side on the path `via`, with the bytes that the other side sent, and the call does not
+  -- fail. A NAT may have changed the path.
+  pub record Hands (side : Side) (via : Path) (packet : Packet) (w : WorldRecord H P) (x : Logged P) : Type 0 where
     pub place : ℕ
     pub now : ℕ
-    pub event : x.event ≡ Deliver place now (via_out packet)
+    pub event : x.event ≡ Deliver place now via
     pub sent : slice_get w.bag place ≡ Some record { sender = other side; packet = packet }
     pub granted : is_refusal x.outcome.entry.answer ≡ false
 
   module _ (mac : H → List ℕ → List ℕ → List ℕ) (answers : P → CandidateRecord → ℕ → ℕ → Type 0) (side : Side) where
-    -- One of the events delivers the packet to the side.
+    -- One of the events delivers the packet to the side, on the path on which it was sent.
     abbrev pub Returns : Packet → (w : WorldRecord H P) (s : Stream) (n : ℕ) (log : List (Logged P)) (last : WorldRecord H P) (t : Stream)
         → Run mac answers w s n log last t → Type 0
     Returns packet w s n [] last t run = ⊥
-    Returns packet w s n (x ∷ rest) last t run = Hands side packet w x ⊎ Returns packet run.0 run.1 (suc n) rest last t run.4
+    Returns packet w s n (x ∷ rest) last t run = Hands side (via_out packet) packet w x ⊎ Returns packet run.0 run.1 (suc n) rest last t run.4
 
     -- One event delivers the check to the other side, which it reaches, while both agents know each other. A later event delivers
     -- the success response back.
@@ -67,7 +68,7 @@ module _ {H P : Type 0} where
         → Run mac answers w s n log last t → Type 0
     Exchanges check id w s n [] last t run = ⊥
     Exchanges check id w s n (x ∷ rest) last t run =
-        (Hands (other side) check w x × KnowEachOther mac (at side w) (at (other side) w) × IsReachedBy (at (other side) w) (via_out check)
+        (Hands (other side) (via_out check) check w x × KnowEachOther mac (at side w) (at (other side) w) × IsReachedBy (at (other side) w) (via_out check)
         × ((reply : Packet) → Sends (at (other side) w) x.outcome.entry Success id reply (at (other side) run.0)
         → Returns reply run.0 run.1 (suc n) rest last t run.4))
         ⊎ Exchanges check id run.0 run.1 (suc n) rest last t run.4

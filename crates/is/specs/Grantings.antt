@@ -1,24 +1,27 @@
 -- How the controlled one of two agents selects a path: the other one nominates it, and its own check on it is answered (RFC 8445,
 -- sections 7.2.5.3.2 and 7.3.1.5).
-use Rattle.std.specs.Prelude.{◌≡◌, ℕ, suc, true, false, List, [], ◌∷◌, ◌++◌, None, ◌⊎◌}
+use Rattle.std.specs.Prelude.{◌≡◌, ℕ, suc, ◌+◌, ◌<◌, ◌≤◌, ◌&&◌, Bool, true, false, List, [], ◌∷◌, ◌++◌, Option, Some, None, ◌⊎◌, if◌then◌else◌}
 use Rattle.rand_core.specs.Stream.{Stream}
 use Rattle.is_proto.specs.Lists.{Has}
 use Rattle.is_proto.specs.Packets.{Packet}
 use Rattle.is_candidate.specs.Candidates.{CandidateRecord}
 use Rattle.is_stun.specs.declared.header.Class.TheVariants.{Request, Success}
 use Rattle.is_rules.specs.declared.emitted.Path.{Path}
+use Rattle.is_rules.specs.Answers.{goes_back}
 use Rattle.is_rules.specs.Asked.{IsAlone}
 use Rattle.is_rules.specs.AskedCourses.{Ends}
 use Rattle.is_rules.specs.Asking.{AreNominatedOn}
 use Rattle.is_rules.specs.Delivery.{KnowEachOther, IsReachedBy, Sends}
 use Rattle.is_rules.specs.Issuing.{via_out}
+use Rattle.is_rules.specs.Pending.{is_check_on}
 use Rattle.is_rules.specs.Progress.{HasAnnounced}
 use Rattle.is_rules.specs.Queue.{request_at}
 use Rattle.is_rules.specs.Steps as agent
 use Rattle.is_rules.specs.Emitted.{reversed}
 use Rattle.is.specs.declared.world.Side.{Side}
-use Rattle.is.specs.Deliveries.{MakesPolls, Announces, Hands}
-use Rattle.is.specs.World.{WorldRecord, Call, Logged, Run, at, other}
+use Rattle.is.specs.declared.world.Side.TheVariants.{A, B}
+use Rattle.is.specs.Deliveries.{Announces, Hands}
+use Rattle.is.specs.World.{WorldRecord, Call, Outcome, Logged, Run, at, other}
 use Rattle.is.specs.WorldRoles.{IsNewAgent}
 
 -- a log entry, with the states of the network model before and after it
@@ -27,23 +30,31 @@ pub record Occurrence (H P : Type 0) : Type 0 where
   pub entry : Logged P
   pub behind : WorldRecord H P
 
+abbrev pub is_of : Side → Option Side → Bool
+is_of A (Some A) = true
+is_of B (Some B) = true
+is_of _ _ = false
+
+-- 1 if the side sends a check on the path, and 0 otherwise
+abbrev pub check_count : Side → Path → Outcome → ℕ
+check_count side path e = if is_of side e.side && is_check_on path e.entry.emitted.issued then 1 else 0
+
 module _ {H P : Type 0} where
   -- Before each of these entries the side is controlled, and the other side is controlling.
   abbrev pub IsControlled : Side → List (Occurrence H P) → Type 0
   IsControlled side all = (x : Occurrence H P) → Has all x → ((at side x.before).controlling ≡ false) × ((at (other side) x.before).controlling ≡ true)
 
-  -- The packet is delivered to `side`. Before that, the `waiting` side makes only polls.
-  pub record Arrival (waiting side : Side) (packet : Packet) (all : List (Occurrence H P)) : Type 0 where
+  -- The packet is delivered to the side, on the path `via`.
+  pub record Arrival (side : Side) (via : Path) (packet : Packet) (all : List (Occurrence H P)) : Type 0 where
     pub between : List (Occurrence H P)
     pub handed : Occurrence H P
     pub rest : List (Occurrence H P)
     pub split : all ≡ between ++ handed ∷ rest
-    pub polls : (x : Occurrence H P) → Has between x → MakesPolls waiting x.entry.event
-    pub hands : Hands side packet handed.before handed.entry
+    pub hands : Hands side via packet handed.before handed.entry
 
-  -- In a `handle_timeout` call the side sends a check on the path. It is delivered to the other side before the next such call,
-  -- and reaches it, while both agents know each other.
-  pub record HandedCheck (mac : H → List ℕ → List ℕ → List ℕ) (side : Side) (path : Path) (all : List (Occurrence H P)) : Type 0 where
+  -- In a `handle_timeout` call the side sends a check on the path. At any time after that the check is delivered to the other
+  -- side, on a path `over` that reaches it. The side that sent the check and the side that receives it know each other.
+  pub record HandedCheck (mac : H → List ℕ → List ℕ → List ℕ) (side : Side) (path over : Path) (all : List (Occurrence H P)) : Type 0 where
     pub before : List (Occurrence H P)
     pub sent : Occurrence H P
     pub behind : List (Occurrence H P)
@@ -54,20 +65,42 @@ module _ {H P : Type 0} where
     pub moment : sent.entry.event ≡ Call side (agent.HandleTimeout now)
     pub on : via_out check ≡ path
     pub sends : Sends (at side sent.before) sent.entry.outcome.entry Request id check (at side sent.behind)
-    pub comes : Arrival side (other side) check behind
-    pub know : KnowEachOther mac (at side comes.handed.before) (at (other side) comes.handed.before)
-    pub reached : IsReachedBy (at (other side) comes.handed.before) path
+    pub comes : Arrival (other side) over check behind
+    pub know : KnowEachOther mac (at side sent.before) (at (other side) comes.handed.before)
+    pub reached : IsReachedBy (at (other side) comes.handed.before) over
 
-  -- The other side nominates the path: it checks the reverse path, whose pairs are nominated.
+  -- The other side nominates the path: it sends a check on a path of its own, `its`, whose pairs are nominated. The check is
+  -- delivered on the reverse path.
   abbrev pub IsAskedOver : (H → List ℕ → List ℕ → List ℕ) → Side → Path → List (Occurrence H P) → Type 0
-  IsAskedOver mac side path all = (k : HandedCheck mac (other side) (reversed path) all) × AreNominatedOn (at (other side) k.sent.behind) (reversed path)
+  IsAskedOver mac side path all =
+      (its : Path) × (k : HandedCheck mac (other side) its (reversed path) all) × AreNominatedOn (at (other side) k.sent.behind) its
 
-  -- The side checks the path, and receives the success response before its next `handle_timeout` call.
+  -- how many checks the side sends on the path
+  abbrev pub checks_of : Side → Path → List (Occurrence H P) → ℕ
+  checks_of side path [] = 0
+  checks_of side path (x ∷ rest) = check_count side path x.entry.outcome + checks_of side path rest
+
+  -- A check on the path stays pending: the side sends fewer later checks on the path than it stores of a pair.
+  pub record StaysPending (side : Side) (path : Path) (all : List (Occurrence H P)) : Type 0 where
+    pub limit : ℕ
+    pub kept : (x : Occurrence H P) → Has all x → limit ≤ (at side x.before).timing.max_retransmits
+    pub few : checks_of side path all < limit
+
+  -- The success response to the delivered check is delivered back to the side, from the path's destination to its source, while
+  -- the check is pending. The side and the one that received the check still know each other.
+  pub record IsReturned (mac : H → List ℕ → List ℕ → List ℕ) (side : Side) (path over : Path) (all : List (Occurrence H P)) (k : HandedCheck mac side path over all) (reply : Packet) : Type 0 where
+    pub via : Path
+    pub back : goes_back via path ≡ true
+    pub comes : Arrival side via reply k.comes.rest
+    pub know : KnowEachOther mac (at side comes.handed.before) (at (other side) k.comes.handed.before)
+    pub pending : StaysPending side path (k.comes.between ++ k.comes.handed ∷ comes.between)
+
+  -- The side checks the path, and receives the success response while the check is pending.
   abbrev pub IsExchangedOver : (H → List ℕ → List ℕ → List ℕ) → Side → Path → List (Occurrence H P) → Type 0
   IsExchangedOver mac side path all =
-      (k : HandedCheck mac side path all)
+      (over : Path) × (k : HandedCheck mac side path over all)
       × ((reply : Packet) → Sends (at (other side) k.comes.handed.before) k.comes.handed.entry.outcome.entry Success k.id reply (at (other side) k.comes.handed.behind)
-      → Arrival side side reply k.comes.rest)
+      → IsReturned mac side path over all k reply)
 
   -- A call of the side may remove a pair of the path.
   abbrev pub MayEndAt : Side → Path → Occurrence H P → Type 0
@@ -81,9 +114,9 @@ module _ {H P : Type 0} where
     occurrences_in w s n (x ∷ rest) last t run = record { before = w; entry = x; behind = run.0 } ∷ occurrences_in run.0 run.1 (suc n) rest last t run.4
 
     -- Two agents are newly created. In a segment of the log the peer nominates a path to the controlled side, and the controlled
-    -- side's own check on it is answered, in either order. A `handle_timeout` call of the controlled side that serves no early
-    -- request follows. By then it selected a path, if only one of its pairs uses this path's addresses, unless one of its calls
-    -- may have removed such a pair.
+    -- side's own check on it is answered, in either order and at any time, also through NATs. A `handle_timeout` call of the
+    -- controlled side that serves no early request follows. By then it selected a path, if only one of its pairs uses this path's
+    -- addresses, unless one of its calls may have removed such a pair.
     abbrev pub GrantedPathsAnnounce : WorldRecord H P → Stream → List (Logged P) → Type 0
     GrantedPathsAnnounce first s log =
         (last : WorldRecord H P) (t : Stream) (run : Run mac answers first s 0 log last t) (before part rest : List (Occurrence H P)) (moment : Occurrence H P)

@@ -28,7 +28,7 @@ module _ {H P : Type 0} (mac : H → List ℕ → List ℕ → List ℕ) (answer
         → Run mac answers w s n log last t → Type 0
     Confronts check id w s n [] last t run = ⊥
     Confronts check id w s n (x ∷ rest) last t run =
-        (Hands (other side) check w x × KnowEachOther mac (at side w) (at (other side) w) × IsReachedBy (at (other side) w) (via_out check)
+        (Hands (other side) (via_out check) check w x × KnowEachOther mac (at side w) (at (other side) w) × IsReachedBy (at (other side) w) (via_out check)
         × ((refusal : Packet) → Sends (at (other side) w) x.outcome.entry Failure id refusal (at (other side) run.0)
         → Returns mac answers side refusal run.0 run.1 (suc n) rest last t run.4))
         ⊎ Confronts check id run.0 run.1 (suc n) rest last t run.4

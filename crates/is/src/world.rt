@@ -449,16 +449,17 @@ impl<H: Sha1HmacProvider + Drop, P: LocalPreference> TwoAgents<H, P> {
         // controlling agent selects a path in one of the rounds, whatever else happens.
         ensures rounds { DeliveredRoundsAnnounce H.mac P.answers (world_of self.old) (R.stream rng.old) (logged events.items result.entries.items) }
 
-        // Progress of the controlled agent: the controlling agent checks the reverse of a path whose pairs it nominated, and the
-        // controlled agent checks the path. The network delivers the first check, the second, and its success response. Then the
-        // controlled agent selected a path by its next `handle_timeout` call that serves no early request. Precondition: only one
-        // of its pairs uses the path's addresses, and none of its calls may have removed such a pair.
+        // Progress of the controlled agent: the controlling agent checks a path whose pairs it nominated, and the check arrives on
+        // the reverse of a path that the controlled agent checks. The network delivers the first check, the second, and its success
+        // response, at any time while the second is pending, and through any NATs. Then the controlled agent selected a path by its
+        // next `handle_timeout` call that serves no early request. Precondition: only one of its pairs uses the path's
+        // addresses, and none of its calls may have removed such a pair.
         ensures granted { GrantedPathsAnnounce H.mac P.answers (world_of self.old) (R.stream rng.old) (logged events.items result.entries.items) }
 
-        // Progress of both: the controlling agent has a nominated pair, and the controlled agent a pair on the reverse path. Each
-        // has rounds that suffice: 2n - 1 if it has n pairs, and one more for each pair that it adds. Each check that is sent on
-        // these paths is delivered, and so is the success response to the controlled agent. Then the controlled agent selected a
-        // path by its next `handle_timeout` call, as above.
+        // Progress of both: the controlling agent has a nominated pair, and the controlled agent a pair. Each has rounds that
+        // suffice: 2n - 1 if it has n pairs, and one more for each pair that it adds. If checks are sent on the two paths in these
+        // rounds, one of each agent is delivered, and so is the success response to the controlled agent, as above. Then the
+        // controlled agent selected a path by its next `handle_timeout` call, as above.
         ensures connect { BothConnect H.mac P.answers (world_of self.old) (R.stream rng.old) (logged events.items result.entries.items) }
 
         // And on the same path: while neither is lite, all pairs of one are on a path, and all pairs of the other on the reverse

@@ -6,7 +6,8 @@ use is_candidate::LocalPreference;
 use is_proto::Sha1HmacProvider;
 use is_rules::laws::{
     checks_ask, conflicts_settle, courses_announce, courses_reach, exchanges_succeed,
-    fresh_is_sound, granted_are_announced, path_effect, role_effect, trade_effect,
+    exchanges_succeed_later, fresh_is_sound, granted_are_announced, path_effect, role_effect,
+    trade_effect,
 };
 
 /// Of two agents over any network, the one with the greater tie-breaker keeps its role.
@@ -64,7 +65,7 @@ pub(crate) fn granted_paths_announce<H: Sha1HmacProvider, P: LocalPreference>()
 {
     path_effect::<H, P>();
     fresh_is_sound::<H, P>();
-    exchanges_succeed::<H, P>();
+    exchanges_succeed_later::<H, P>();
     checks_ask::<H, P>();
     granted_are_announced::<H, P>();
 }
@@ -75,9 +76,8 @@ pub(crate) fn both_connect<H: Sha1HmacProvider, P: LocalPreference>()
     ensures { ConnectionsLaw H.mac P.answers }
 {
     path_effect::<H, P>();
-    trade_effect::<H, P>();
     fresh_is_sound::<H, P>();
-    exchanges_succeed::<H, P>();
+    exchanges_succeed_later::<H, P>();
     checks_ask::<H, P>();
     granted_are_announced::<H, P>();
     courses_reach::<H, P>();
