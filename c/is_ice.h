@@ -39,8 +39,10 @@
  * Memory comes from the program's malloc, realloc and free, through three functions that are linked with the library.
  * The comment of a call says if it does not allocate.
  *
- * Threads. Use an is_ice_agent only on the thread that created it, one call at a time. Agents share no data: other
- * threads may have other agents. A call without an agent may be made on any thread at any time.
+ * Threads. An agent may move between threads: any thread may use an is_ice_agent, one call at a time. The caller orders
+ * the calls, by a lock, by the start or the join of a thread, or by a sequentially consistent atomic. Agents share no
+ * data, so threads may use different agents at the same time. A call without an agent may be made on any thread at any
+ * time.
  *
  * The caller must keep these rules, which no call checks:
  * - No pointer is null, not even that of a text or buffer of length 0. (GCC and Clang warn about a plain NULL, and
@@ -244,7 +246,7 @@ IS_ICE_CALL int32_t is_ice_make_credentials(
  *
  * The agent is controlled and has no candidates, and its session has not started. `tie_breaker` is a random number,
  * drawn once for the agent: if both agents claim one role, it decides which of them switches. After IS_ICE_OK the
- * is_ice_agent refers to heap memory, until is_ice_agent_free, and only the calling thread may use it.
+ * is_ice_agent refers to heap memory, until is_ice_agent_free.
  *
  * IS_ICE_OK. IS_ICE_HAS_AGENT: there is one, which stays. IS_ICE_NOT_UTF8. IS_ICE_CREDENTIALS_TOO_LONG.
  * IS_ICE_OUT_OF_MEMORY. */
