@@ -28,8 +28,9 @@
  * to the caller's memory. An agent is the only thing to free.
  *
  * Texts are UTF-8, a pointer and a length, without a terminating zero byte. A call that returns a text writes it to the
- * start of the caller's buffer and its length to *length. If the buffer is too short, the call returns
- * IS_ICE_BUFFER_TOO_SHORT, leaves the buffer unchanged and writes the required length to *length.
+ * start of the caller's buffer, leaves the rest of the buffer unchanged and writes the text's length to *length. If the
+ * buffer is too short, the call returns IS_ICE_BUFFER_TOO_SHORT, leaves the buffer unchanged and writes the required
+ * length to *length.
  *
  * Times and durations are whole nanoseconds. Times count from an origin that the caller chooses, as CLOCK_MONOTONIC
  * does. Start at 60 s or later: the agent gives a newly nominated pair a due time 60 s in the past, to check it before
@@ -38,8 +39,10 @@
  * Memory comes from the program's malloc, realloc and free, through three functions that are linked with the library.
  * The comment of a call says if it does not allocate.
  *
- * Threads. Use an is_ice_agent only on the thread that created it, one call at a time. Agents share no data: other
- * threads may have other agents. A call without an agent may be made on any thread at any time.
+ * Threads. An agent may move between threads: any thread may use an is_ice_agent, one call at a time. The caller orders
+ * the calls, by a lock, by the start or the join of a thread, or by a sequentially consistent atomic. Agents share no
+ * data, so threads may use different agents at the same time. A call without an agent may be made on any thread at any
+ * time.
  *
  * The caller must keep these rules, which no call checks:
  * - No pointer is null, not even that of a text or buffer of length 0. (GCC and Clang warn about a plain NULL, and
@@ -232,8 +235,8 @@ typedef struct is_ice_preference_table {
  * knows the password. A username fragment of 16 characters is written to the start of `ufrag`, and a password of 22
  * characters to the start of `pass`.
  *
- * IS_ICE_OK. IS_ICE_TOO_FEW_RANDOM_BYTES: fewer than 38. IS_ICE_BUFFER_TOO_SHORT: no password was written, perhaps a
- * username fragment. IS_ICE_OUT_OF_MEMORY. On any thread. */
+ * IS_ICE_OK. IS_ICE_TOO_FEW_RANDOM_BYTES: fewer than 38. IS_ICE_BUFFER_TOO_SHORT: `ufrag` or `pass` is shorter than its
+ * text. IS_ICE_OUT_OF_MEMORY. After an error both buffers are unchanged. On any thread. */
 enum { IS_ICE_CREDENTIALS_RANDOM = 38, IS_ICE_UFRAG_LENGTH = 16, IS_ICE_PASS_LENGTH = 22 };
 IS_ICE_CALL int32_t is_ice_make_credentials(
     const uint8_t *random, size_t random_length, uint8_t *ufrag, size_t ufrag_length, uint8_t *pass,
@@ -243,7 +246,7 @@ IS_ICE_CALL int32_t is_ice_make_credentials(
  *
  * The agent is controlled and has no candidates, and its session has not started. `tie_breaker` is a random number,
  * drawn once for the agent: if both agents claim one role, it decides which of them switches. After IS_ICE_OK the
- * is_ice_agent refers to heap memory, until is_ice_agent_free, and only the calling thread may use it.
+ * is_ice_agent refers to heap memory, until is_ice_agent_free.
  *
  * IS_ICE_OK. IS_ICE_HAS_AGENT: there is one, which stays. IS_ICE_NOT_UTF8. IS_ICE_CREDENTIALS_TOO_LONG.
  * IS_ICE_OUT_OF_MEMORY. */
@@ -444,7 +447,7 @@ IS_ICE_CALL int32_t is_ice_accepts_message(is_ice_agent *agent, const uint8_t *b
 IS_ICE_CALL int32_t is_ice_poll_timeout(is_ice_agent *agent, uint64_t *at);
 
 /* is_ice_poll_transmit - returns the next packet to send and removes it from the agent. Its bytes are at the start of
- * the buffer; *packet has their length, the addresses and the protocol. Does not allocate.
+ * the buffer, whose rest is unchanged; *packet has their length, the addresses and the protocol. Does not allocate.
  *
  * IS_ICE_OK: a packet. IS_ICE_NOTHING: there is none; buffer and *packet are unchanged. IS_ICE_BUFFER_TOO_SHORT: the
  * packet stays the next one, the buffer is unchanged, and packet->length is the required length. 1500 bytes are enough

@@ -23,7 +23,6 @@ from .errors import (
     PriorityTooHigh,
     TooFewRandomBytes,
     Unparsed,
-    WrongThread,
 )
 from .events import (
     DiscoveredRecv,
@@ -43,5 +42,5 @@ __all__ = [
     "DiscoveredRecv", "HasAgent", "IceAgent", "IceAgentEvent", "IceAgentStats", "IceConnectionState", "IceConnectionStateChange",
     "IceCreds", "IceError", "IceRestart", "KindPreferences", "MtuTooSmall", "NoAgent", "NominatedPair", "NominatedSend",
     "NotUtf8", "OutOfMemory", "PairIdsExhausted", "PriorityTooHigh", "Protocol", "SocketAddress", "TooFewRandomBytes",
-    "Transmit", "Unparsed", "WrongThread", "has_mdns_name", "line_refusal", "new_creds",
+    "Transmit", "Unparsed", "has_mdns_name", "line_refusal", "new_creds",
 ]

@@ -12,9 +12,10 @@ from functools import cached_property
 from types import TracebackType
 
 from . import _abi
+from ._locked import one_call_at_a_time
 from .address import Protocol, SocketAddress, address_of, in_range, socket_of
 from .candidate import AddResult, Candidate, KindPreferences, struct_of, table_of, ufrag_of
-from .errors import BUFFER_TOO_SHORT, BadCandidate, NoAgent, WrongThread, done, error_of
+from .errors import BUFFER_TOO_SHORT, BadCandidate, NoAgent, done, error_of
 from .events import (
     DiscoveredRecv,
     IceAgentEvent,
@@ -67,18 +68,19 @@ def line_refusal(line: str) -> str | None:
     return _text(lambda *into: _library.calls.is_ice_line_refusal(text, len(text), *into))
 
 
+@one_call_at_a_time
 class IceAgent:
     """One side of a session. Its names are those of the Rust crate `is`. Times and durations are whole nanoseconds.
 
-    Use it only on the thread that created it: on another thread each method raises WrongThread. It is freed by `close`, at the end
-    of a `with` statement, or when nothing refers to it any more.
+    Any thread may use it: its calls are made one at a time, and a thread waits for another one's call. It is freed by `close`, at the
+    end of a `with` statement, or when nothing refers to it any more.
     """
 
     def __init__(self, creds: IceCreds | None = None, tie_breaker: int | None = None) -> None:
         """Creates a controlled agent. By default credentials and tie-breaker come from the system's random source."""
         self._slot = _abi.Agent()
-        self._pointer = byref(self._slot)
-        self._thread = threading.get_ident()
+        self._at = byref(self._slot)
+        self._lock = threading.RLock()
         self._c = _library.calls
         self._buffer = create_string_buffer(2048)
         self._packet, self._event, self._time = _abi.Packet(), _abi.Event(), c_uint64()
@@ -88,13 +90,6 @@ class IceAgent:
         tie = int.from_bytes(os.urandom(8), "little") if tie_breaker is None else in_range(tie_breaker, 64, "a tie-breaker")
         ufrag, pass_ = creds.ufrag.encode(), creds.pass_.encode()
         done(self._c.is_ice_agent_new(self._at, ufrag, len(ufrag), pass_, len(pass_), tie))
-
-    @property
-    def _at(self) -> object:
-        """The agent's address for a call of the library, which only one thread may use."""
-        if threading.get_ident() != self._thread:
-            raise WrongThread("an agent is used only on the thread that created it")
-        return self._pointer
 
     def close(self) -> None:
         """Frees the agent. Every later call raises NoAgent, except for another `close`."""
@@ -108,8 +103,7 @@ class IceAgent:
         self.close()
 
     def __del__(self) -> None:
-        # on another thread the agent is not freed, since only its own thread may use it
-        if getattr(self, "_c", None) is not None and self._thread == threading.get_ident():
+        if getattr(self, "_c", None) is not None:
             self.close()
 
     # ---- settings: at any time

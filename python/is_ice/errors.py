@@ -102,10 +102,6 @@ class TooFewRandomBytes(IceError):
     code, text = -14, "too few random bytes"
 
 
-class WrongThread(RuntimeError):
-    """An agent was used on another thread than the one that created it. The call was not made."""
-
-
 _BY_CODE: dict[int, type[IceError]] = {kind.code: kind for kind in IceError.__subclasses__()}
 
 

@@ -32,7 +32,6 @@ from is_ice import (
     SocketAddress,
     TooFewRandomBytes,
     Unparsed,
-    WrongThread,
     has_mdns_name,
     line_refusal,
     new_creds,
@@ -149,9 +148,21 @@ class Errors(unittest.TestCase):
 
     def test_an_agent_on_another_thread(self) -> None:
         with ThreadPoolExecutor(1) as other:
-            for call in (lambda: self.agent.state, lambda: self.agent.handle_timeout(BEGINNING), self.agent.close):
-                self.assertRaises(WrongThread, other.submit(call).result)
-        self.assertEqual(self.agent.state, IceConnectionState.NEW)
+            other.submit(self.agent.handle_timeout, BEGINNING).result()
+            self.assertEqual(other.submit(lambda: self.agent.state).result(), IceConnectionState.CHECKING)
+            other.submit(self.agent.close).result()
+        self.assertRaises(NoAgent, self.agent.poll_event)
+
+    def test_an_agent_of_several_threads(self) -> None:
+        def use(number: int) -> None:
+            for turn in range(100):
+                self.agent.handle_timeout(BEGINNING + (4 * turn + number) * MS)
+                self.agent.poll_event()
+                self.agent.poll_transmit()
+
+        with ThreadPoolExecutor(4) as pool:
+            list(pool.map(use, range(4)))
+        self.assertEqual(self.agent.state, IceConnectionState.CHECKING)
 
     def test_candidates_say_why(self) -> None:
         with self.assertRaises(BadCandidate):
@@ -274,7 +285,7 @@ class Values(unittest.TestCase):
         declared = set(re.findall(r"^(?:IS_ICE_CALL|IS_ICE_QUIET_CALL|uint32_t)\s[^;(]*?\b(is_ice_\w+)\([^)]*\);", text, re.M))
         self.assertEqual(declared, {*_abi.PROTOTYPES, "is_ice_version", "is_ice_agent_free"})
 
-    def test_an_agent_that_is_dropped_on_another_thread_is_not_freed(self) -> None:
+    def test_an_agent_that_is_dropped_on_another_thread(self) -> None:
         kept = [IceAgent()]
         thread = threading.Thread(target=kept.clear)
         thread.start()

@@ -16,11 +16,19 @@ const BEGINNING: Duration = Duration::from_secs(60);
 
 /// One side of a connection: a state machine without sockets, threads or clocks.
 ///
-/// It is used only on the thread that created it:
+/// It may move between threads:
+///
+/// ```
+/// let agent = is::IceAgent::new(is::IceCreds::new());
+/// let state = std::thread::spawn(move || agent.state()).join().unwrap();
+/// assert_eq!(state, is::IceConnectionState::New);
+/// ```
+///
+/// One thread uses it at a time: it is not `Sync`. Several threads share it in a `Mutex`.
 ///
 /// ```compile_fail
-/// fn send<T: Send>(_: T) {}
-/// send(is::IceAgent::new(is::IceCreds::new()));
+/// fn share<T: Sync>(_: T) {}
+/// share(is::IceAgent::new(is::IceCreds::new()));
 /// ```
 pub struct IceAgent {
     /// Queries take `&self`, although each call of the library borrows the agent mutably.

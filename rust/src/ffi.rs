@@ -3,8 +3,8 @@
 //! Why the calls are safe, in addition to the reason at each block:
 //! - An `Agent` is created zeroed, in a box that it never leaves, and its fields are private to this module. So it is never copied,
 //!   and only the library writes it.
-//! - It has a raw pointer, so it is neither `Send` nor `Sync` and stays on the thread that created it. A call borrows it mutably,
-//!   so there is one call at a time.
+//! - A call borrows an `Agent` mutably, so there is one call at a time. An `Agent` is `Send`, for the reason at its impl. It has a
+//!   raw pointer, so it is not `Sync`.
 //! - References and slices are not null, and a mutable one overlaps no other argument.
 
 use std::ptr;
@@ -45,6 +45,12 @@ pub(crate) struct Agent {
     is_held: bool,
     at: *mut u8,
 }
+
+#[allow(unsafe_code)]
+// SAFETY: the header allows an agent on any thread, one call at a time, if the calls are ordered: `crates/is_c` proves that what it
+// owns may move to another thread. Each call borrows the agent mutably, and whatever passes a value to another thread orders what
+// this one did with it before what that one does. The library has no state except its agents.
+unsafe impl Send for Agent {}
 
 #[repr(C)]
 #[derive(Clone, Copy, Default)]

@@ -13,7 +13,7 @@
 //! ```
 //!
 //! Differences, in addition to those of the agent in docs/DIFFERENCES.md:
-//! - An [`IceAgent`] is neither `Send` nor `Sync`: the C interface requires that it is used only on the thread that created it.
+//! - An [`IceAgent`] is `Send` and not `Sync`: it may move between threads, and threads share it in a `Mutex`.
 //! - An error that the original does not have, such as out of memory, is a panic that names it. Each method documents its panics.
 //! - A local preference is a number or a table, [`LocalPreference`], not a callback.
 //! - HMAC-SHA1 is the proved one: there is no `with_hmac`. Random bytes are read from `/dev/urandom`.

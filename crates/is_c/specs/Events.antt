@@ -17,19 +17,21 @@ state_number Connected = pos 2
 state_number Completed = pos 3
 state_number Disconnected = pos 4
 
--- what C gets of an event, by its kind
-abbrev pub IsEvent : IceAgentEvent → Event → Type 0
-IsEvent (IceRestart creds) event = event.kind ≡ pos 1
-IsEvent (IceConnectionStateChange state) event = (event.kind ≡ pos 2) × (event.state ≡ state_number state)
-IsEvent (DiscoveredRecv proto source) event =
-    (event.kind ≡ pos 3) × (protocol_of event.protocol ≡ Some proto) × (socket_of event.source ≡ Some source)
-IsEvent (NominatedSend proto source destination) event =
-    (event.kind ≡ pos 4) × (protocol_of event.protocol ≡ Some proto) × (socket_of event.source ≡ Some source)
-    × (socket_of event.destination ≡ Some destination)
+-- what C gets of an event, by its kind; a field that the kind does not have stays as it was
+abbrev pub IsEvent : IceAgentEvent → Event → Event → Type 0
+IsEvent (IceRestart creds) before after = after ≡ record before { kind = pos 1 }
+IsEvent (IceConnectionStateChange state) before after = after ≡ record before { kind = pos 2; state = state_number state }
+IsEvent (DiscoveredRecv proto source) before after =
+    (after ≡ record before { kind = pos 3; protocol = after.protocol; source = after.source })
+    × (protocol_of after.protocol ≡ Some proto) × (socket_of after.source ≡ Some source)
+IsEvent (NominatedSend proto source destination) before after =
+    (after ≡ record before { kind = pos 4; protocol = after.protocol; source = after.source; destination = after.destination })
+    × (protocol_of after.protocol ≡ Some proto) × (socket_of after.source ≡ Some source)
+    × (socket_of after.destination ≡ Some destination)
 
 abbrev pub TellsOf : Option IceAgentEvent → Event → Event → ℤ → Type 0
 TellsOf None before after code = (code ≡ NOTHING) × (after ≡ before)
-TellsOf (Some e) before after code = (code ≡ OK) × IsEvent e after
+TellsOf (Some e) before after code = (code ≡ OK) × IsEvent e before after
 
 -- `is_ice_poll_event`
 abbrev pub TellsEvent : Event → Event → HomeRecord → ℤ → HomeRecord → Type 0

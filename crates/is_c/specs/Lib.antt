@@ -10,6 +10,7 @@ pub mod Held
 pub mod Given
 pub mod Refusals
 pub mod Credentials
+pub mod Making
 pub mod Packets
 pub mod Accepting
 pub mod Events

@@ -1,5 +1,5 @@
 -- Packets, `handle_timeout` calls, and ICE restarts.
-use Rattle.std.specs.Prelude.{◌≡◌, ◌≢◌, ℕ, List, ◌∷◌, length, take, nat_lt, ◌⊎◌, Bool, Option, Some, None, option_map, MatchBool}
+use Rattle.std.specs.Prelude.{◌≡◌, ◌≢◌, ℕ, List, ◌∷◌, length, nat_lt, ◌⊎◌, Bool, Option, Some, None, option_map, MatchBool}
 use Rattle.std.specs.Prelude.{MatchOption, MatchResult, Result, Ok, Err, ℤ}
 use Rattle.std.specs.Option.{option_and_then}
 use Rattle.rand_core.specs.Stream.{Stream}
@@ -24,6 +24,7 @@ use Rattle.is_c.specs.Codes.{OK, NOTHING, BAD_ADDRESS, UNPARSED, BUFFER_TOO_SHOR
 use Rattle.is_c.specs.Credentials.{MakesCreds}
 use Rattle.is_c.specs.Held.{Held, HomeRecord, Refuses}
 use Rattle.is_c.specs.Random.{given_steps}
+use Rattle.is_c.specs.Texts.{with_front}
 
 abbrev pub Mac : Type 0
 Mac = DefaultSha1HmacProvider → List ℕ → List ℕ → List ℕ
@@ -95,23 +96,24 @@ IsTold p packet =
     (packet.length ≡ length p.contents) × (protocol_of packet.protocol ≡ Some p.proto)
     × (socket_of packet.source ≡ Some p.source) × (socket_of packet.destination ≡ Some p.destination)
 
--- the first packet goes to the caller: its bytes are at the front of the buffer, and it is removed; or the buffer is too
--- short, and it stays
+-- the first packet goes to the caller: its bytes are written to the front of the buffer, and it is removed; or the buffer
+-- is too short, and it stays
 abbrev pub GivesFirst : List ℕ → List ℕ → packets.Packet → List packets.Packet → ℤ → List packets.Packet → Type 0
 GivesFirst before after p rest code new =
     MatchBool (nat_lt (length before) (length p.contents))
     ((code ≡ BUFFER_TOO_SHORT) × (after ≡ before) × (new ≡ p ∷ rest))
-    ((code ≡ OK) × (take (length p.contents) after ≡ p.contents) × (new ≡ rest))
+    ((code ≡ OK) × (after ≡ with_front p.contents before) × (new ≡ rest))
 
-abbrev pub GivesOf : Option packets.Packet → List packets.Packet → List ℕ → List ℕ → Packet → ℤ → List packets.Packet → Type 0
-GivesOf None rest before after packet code new = (code ≡ NOTHING) × (new ≡ rest)
-GivesOf (Some p) rest before after packet code new = IsTold p packet × GivesFirst before after p rest code new
+-- without a packet, the caller's buffer and packet stay as they were
+abbrev pub GivesOf : Option packets.Packet → List packets.Packet → List ℕ → List ℕ → Packet → Packet → ℤ → List packets.Packet → Type 0
+GivesOf None rest before after known told code new = (code ≡ NOTHING) × (after ≡ before) × (told ≡ known) × (new ≡ rest)
+GivesOf (Some p) rest before after known told code new = IsTold p told × GivesFirst before after p rest code new
 
 -- `is_ice_poll_transmit`: nothing of the agent changes except the packets to send
-abbrev pub Gives : List ℕ → List ℕ → Packet → HomeRecord → ℤ → HomeRecord → Type 0
-Gives before after packet old code new =
+abbrev pub Gives : List ℕ → List ℕ → Packet → Packet → HomeRecord → ℤ → HomeRecord → Type 0
+Gives before after known told old code new =
     ((first : Option packets.Packet) × ((rest : List packets.Packet) × IsPolled (queue_of old) first rest
-    × GivesOf first rest before after packet code (queue_of new)))
+    × GivesOf first rest before after known told code (queue_of new)))
     × (new.agent ≡ record old.agent { packets = new.agent.packets })
 
 -- ---- ICE restarts

@@ -1,7 +1,7 @@
 //! Credentials: set, made and read.
 
 ghost use Rattle.std.specs.Prelude.{◌≡◌, IfOk};
-ghost use Rattle.is_c.specs.Credentials.{MakesCreds, CallsWith, drawn, Draws, Tells};
+ghost use Rattle.is_c.specs.Credentials.{MakesCreds, CallsWith, drawn, PutsBoth, Draws, Tells};
 ghost use Rattle.is_c.specs.Held.{home_of, held_by, At};
 ghost use Rattle.is_rules.specs.Credentials.{SetsLocal, SetsRemote};
 
@@ -94,6 +94,20 @@ fn drawn(alloc: Global, random: &[u8]) -> Result<IceCreds, IceError>
     IceCreds::new(alloc, &mut given)
 }
 
+/// Writes both texts, each to the front of its buffer. If one of the buffers is too short, both are unchanged.
+fn put_both(creds: &IceCreds, ufrag: &mut [u8], pass: &mut [u8]) -> i32
+    ensures { PutsBoth creds.now ufrag.old pass.old result ufrag.new pass.new }
+{
+    let own_ufrag = creds.ufrag.as_str().as_bytes();
+    let own_pass = creds.pass.as_str().as_bytes();
+    if own_ufrag.len() > ufrag.len() || own_pass.len() > pass.len() {
+        return codes::BUFFER_TOO_SHORT;
+    }
+    ufrag[..own_ufrag.len()].copy_from_slice(own_ufrag);
+    pass[..own_pass.len()].copy_from_slice(own_pass);
+    codes::OK
+}
+
 /// Makes credentials from 38 random bytes: a username fragment of 16 characters, and a password of 22.
 #[unsafe(no_mangle)]
 pub extern "C" fn is_ice_make_credentials(
@@ -102,19 +116,15 @@ pub extern "C" fn is_ice_make_credentials(
     ufrag: &mut [u8],
     pass: &mut [u8],
 ) -> i32
-    ensures { Draws random.now result ufrag.new pass.new }
+    ensures { Draws random.now ufrag.old pass.old result ufrag.new pass.new }
 {
     if random.len() < WANTED {
         return codes::TOO_FEW_RANDOM_BYTES;
     }
-    let Ok(creds) = drawn(alloc, random) else {
-        return codes::OUT_OF_MEMORY;
-    };
-    let mut length = 0;
-    if put(creds.ufrag.as_str().as_bytes(), ufrag, &mut length) != codes::OK {
-        return codes::BUFFER_TOO_SHORT;
+    match drawn(alloc, random) {
+        Ok(creds) => put_both(&creds, ufrag, pass),
+        Err(_) => codes::OUT_OF_MEMORY,
     }
-    put(creds.pass.as_str().as_bytes(), pass, &mut length)
 }
 
 // ---- reading

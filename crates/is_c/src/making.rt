@@ -1,9 +1,9 @@
 //! Agents: made and freed.
 
-ghost use Rattle.std.specs.Prelude.{◌≡◌, ◌≢◌, None, IfOk, IfErr};
-ghost use Rattle.is_rules.specs.Agent.{fresh};
-ghost use Rattle.is_c.specs.Codes.{OK};
-ghost use Rattle.is_c.specs.Credentials.{MakesAt};
+ghost use Rattle.std.specs.Prelude.{◌≡◌, None, false, IfOk, IfErr, MatchBool};
+ghost use Rattle.is_rules.specs.Fitting.{are_too_long};
+ghost use Rattle.is_c.specs.Codes.{OUT_OF_MEMORY, CREDENTIALS_TOO_LONG};
+ghost use Rattle.is_c.specs.Making.{fresh_home, MakesAt};
 ghost use Rattle.is_c.specs.Held.{home_of, held_by};
 
 use crate::codes;
@@ -14,8 +14,8 @@ use is_agent::{Agent, IceCreds};
 use std::alloc::Global;
 
 fn boxed_agent(alloc: Global, creds: IceCreds, tie_breaker: u64) -> Result<Box<Home>, i32>
-    ensures made { IfOk result (λ home. home_of home.value ≡ record { agent = fresh (record {}) creds tie_breaker; waiting = None }) }
-    ensures refused { IfErr result (λ code. code ≢ OK) }
+    ensures made { IfOk result (λ home. (are_too_long creds None ≡ false) × (home_of home.value ≡ fresh_home creds tie_breaker)) }
+    ensures refused { IfErr result (λ why. MatchBool (are_too_long creds None) (why ≡ CREDENTIALS_TOO_LONG) (why ≡ OUT_OF_MEMORY)) }
 {
     let agent = match Agent::new(alloc, creds, tie_breaker) {
         Ok(agent) => agent,

@@ -200,7 +200,7 @@ fn hand_over(home: &mut Home, next: Transmit, buffer: &mut [u8]) -> i32
 }
 
 fn transmit(home: &mut Home, buffer: &mut [u8], packet: &mut Packet) -> i32
-    ensures { Gives buffer.old buffer.new packet.new (home_of home.old) result (home_of home.new) }
+    ensures { Gives buffer.old buffer.new packet.old packet.new (home_of home.old) result (home_of home.new) }
 {
     let Some(next) = next_packet(home) else {
         return codes::NOTHING;
@@ -217,7 +217,7 @@ pub extern "C" fn is_ice_poll_transmit(
     buffer: &mut [u8],
     packet: &mut Packet,
 ) -> i32
-    ensures { At (Gives buffer.old buffer.new packet.new) (held_by slot.old) result (held_by slot.new) }
+    ensures { At (Gives buffer.old buffer.new packet.old packet.new) (held_by slot.old) result (held_by slot.new) }
 {
     let Some(mut home) = slot.take(alloc) else {
         return codes::NO_AGENT;

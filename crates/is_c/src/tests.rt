@@ -164,6 +164,9 @@ fn credentials_are_made_and_told(rt: HostRuntime) {
     let mut length = 0;
     let few = is_ice_make_credentials(alloc, &[0; 37], &mut ufrag, &mut pass);
     assert!(rt; few == codes::TOO_FEW_RANDOM_BYTES);
+    let short = is_ice_make_credentials(alloc, &[26; 38], &mut ufrag, &mut pass[..21]);
+    assert!(rt; short == codes::BUFFER_TOO_SHORT);
+    assert!(rt; ufrag == [0; 16]);
     let drawn = is_ice_make_credentials(alloc, &[26; 38], &mut ufrag, &mut pass);
     assert!(rt; drawn == codes::OK);
     assert!(rt; ufrag[..] == b"aaaaaaaaaaaaaaaa"[..]);
@@ -171,10 +174,11 @@ fn credentials_are_made_and_told(rt: HostRuntime) {
     assert!(rt; made == codes::NOT_UTF8);
     let made = is_ice_agent_new(alloc, &mut slot, &ufrag, &pass, 1);
     assert!(rt; made == codes::OK);
-    let mut text = [0; 22];
+    let mut text = [7; 22];
     let told = is_ice_local_ufrag(alloc, &mut slot, &mut text, &mut length);
     assert!(rt; told == codes::OK);
     assert!(rt; length == 16);
+    assert!(rt; text[16..] == [7; 6]);
     let told = is_ice_local_pass(alloc, &mut slot, &mut text, &mut length);
     assert!(rt; told == codes::OK);
     assert!(rt; text[..] == pass[..]);

@@ -1,0 +1,31 @@
+"""Objects that several threads may use, one call at a time."""
+
+from __future__ import annotations
+
+import functools
+import inspect
+from collections.abc import Callable
+from typing import Any, TypeVar
+
+C = TypeVar("C", bound=type)
+
+
+def _holding(method: Callable[..., Any]) -> Callable[..., Any]:
+    """The method, which holds the lock of its object while it runs."""
+    @functools.wraps(method)
+    def held(self: Any, *arguments: Any, **named: Any) -> Any:
+        with self._lock:
+            return method(self, *arguments, **named)
+    return held
+
+
+def one_call_at_a_time(kind: C) -> C:
+    """Makes each public method and property of a class hold the lock `_lock` of its object, a `threading.RLock`."""
+    for name, member in list(vars(kind).items()):
+        if name.startswith("_"):
+            continue
+        if inspect.isfunction(member):
+            setattr(kind, name, _holding(member))
+        elif isinstance(member, property) and member.fget is not None:
+            setattr(kind, name, property(_holding(member.fget), doc=member.__doc__))
+    return kind
