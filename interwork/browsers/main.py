@@ -131,7 +131,7 @@ class Run:
         """Runs the cases with a browser, in one browser without and one with mDNS names."""
         import cases
         kind = getattr(importlib.import_module(name), name.capitalize())
-        chosen = [case for case in cases.WITH_BROWSER if self._is_chosen(case)]
+        chosen = [case for case in cases.WITH_BROWSER if self._is_chosen(case) and case.only in ("", name)]
         if missing := kind.missing():
             for case in chosen:
                 self._print(self._row(name, case, f"{missing} is not installed"))

@@ -3,6 +3,8 @@
 from __future__ import annotations
 
 import asyncio
+import os
+import unittest
 from typing import Any
 
 from is_ice.connection import Connection
@@ -53,3 +55,10 @@ async def talk(a: Any, b: Any) -> None:
 
 async def close(*connections: Any) -> None:
     await asyncio.gather(*(connection.close() for connection in connections))
+
+
+def check_soon(test: unittest.TestCase, took: list[float], limit: float = 0.04) -> None:
+    """The least of some durations is below a limit, 40 ms of the pacing interval of 50. Skips the test if the machine is busy."""
+    if min(took) >= limit and os.getloadavg()[0] > (os.cpu_count() or 1):
+        test.skipTest("the machine is busy")
+    test.assertLess(min(took), limit)

@@ -14,7 +14,7 @@ from is_ice.connection import Connection, ConnectionClosed, TransportPolicy
 from is_ice.gather import MdnsResolver
 from is_ice.interfaces import host_addresses
 
-from pairs import add_candidates, agent, aioice, close, gather, join, talk
+from pairs import add_candidates, agent, aioice, check_soon, close, gather, join, talk
 from test_stun_client import SEEN, StunServer
 
 NOBODY = "candidate:1 1 udp 2130706431 127.0.0.1 9 typ host"
@@ -39,7 +39,7 @@ class Sessions(unittest.IsolatedAsyncioTestCase):
             await join(a, b)
             took.append(time.monotonic() - start)
             await close(a, b)
-        self.assertLess(min(took), 0.04)
+        check_soon(self, took)
 
     async def test_one_side_connects_earlier(self) -> None:
         for first in (0, 1):

@@ -13,6 +13,8 @@ from is_ice import Candidate, IceAgent, IceCreds, NominatedSend, SocketAddress
 from is_ice.demux import PacketKind, is_stun, packet_kind
 from is_ice.loop import IceLoop
 
+from pairs import check_soon
+
 COOKIE = bytes.fromhex("2112a442")
 BINDING_RESPONSE = b"\x01\x01\0\0" + COOKIE + bytes(12)  # without MESSAGE-INTEGRITY
 ALLOCATE_ERROR = b"\x01\x13\0\0" + COOKIE + bytes(12)
@@ -173,7 +175,7 @@ class Datagrams(unittest.IsolatedAsyncioTestCase):
             took.append(time.monotonic() - start)
             a.loop.close()
             b.loop.close()
-        self.assertLess(min(took), 0.04)
+        check_soon(self, took)
 
     async def test_a_burst_has_room(self) -> None:
         most = Path("/proc/sys/net/core/rmem_max")

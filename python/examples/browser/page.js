@@ -59,6 +59,7 @@ function say(text) {
 
 function draw(told) {
   if (!told || !session) return;
+  session.zero = told.events.length ? told.first : told.seconds;
   $("role").textContent = `\u2013 the agent is ${told.role ?? "closed"}, the browser made the offer`;
   drawStates(told);
   drawPairs(told);
@@ -71,18 +72,20 @@ function draw(told) {
   $("events").replaceChildren();
   for (const [seconds, text] of told.events) {
     const time = document.createElement("b");
-    time.textContent = (1000 * seconds).toFixed(0) + " ms";
+    time.textContent = (1000 * (seconds - session.zero)).toFixed(0) + " ms";
     item($("events"), time, text);
   }
 }
 
-// Two strips from the start until now, on a logarithmic scale: most happens in the first 100 ms.
+// Two strips from the agent's first event until now, on a logarithmic scale: most happens in the first 100 ms.
 function drawStates(told) {
-  const svg = $("states"), end = Math.max(told.seconds, 0.1), [left, width] = [70, 640];
+  const svg = $("states"), end = Math.max(told.seconds - session.zero, 0.1), [left, width] = [70, 640];
   const x = seconds => left + width * Math.log1p(100 * seconds) / Math.log1p(100 * end);
   svg.replaceChildren();
-  const browser = session.states.map(([at, state]) => [Math.max(at - session.start, 0) / 1000, state]);
-  const rows = [["agent", [[0, "New"], ...told.states]], ["browser", browser]];
+  const since = at => Math.max(at - session.zero, 0);
+  const agent = told.states.map(([at, state]) => [since(at), state]);
+  const browser = session.states.map(([at, state]) => [since((at - session.start) / 1000), state]);
+  const rows = [["agent", [[0, "New"], ...agent]], ["browser", browser]];
   rows.forEach(([name, states], row) => {
     const y = 4 + 24 * row;
     svg.append(node("text", {x: 0, y: y + 14, class: "name"}, name));

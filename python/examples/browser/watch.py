@@ -96,7 +96,8 @@ class Watch:
     def snapshot(self) -> dict[str, Any]:
         """Returns everything as JSON has it. The agent's own figures are missing once the connection is closed."""
         told: dict[str, Any] = {
-            "seconds": self._seconds(), "states": self.states, "events": self.events[-40:], "selected": self.selected,
+            "seconds": self._seconds(), "first": self.events[0][0] if self.events else None, "states": self.states,
+            "events": self.events[-40:], "selected": self.selected,
             "pairs": [asdict(pair) for pair in self.pairs.values()]}
         agent = self.connection.agent
         try:
