@@ -35,12 +35,12 @@ async def connect(a, b, case, network):
     if not await until(lambda: are_connected(a, b), (a, b), case.seconds):
         return "not connected", None
     seconds = max(a.connected_at, b.connected_at) - max(a.signal_at, b.signal_at)
-    return await after_path(a, b, network, "first"), seconds
+    return await after_path(a, b, case, network, "first"), seconds
 
 
-async def after_path(a, b, network, word):
+async def after_path(a, b, case, network, word):
     """What both do on a path. Returns a fault or None."""
-    if network.same_path and not await settle(a, b):
+    if network.same_path and case.same_path and not await settle(a, b):
         return "different paths"
     heard = await talk(a, b, word)
     return None if all(heard) else "not heard"
@@ -60,4 +60,4 @@ async def restart(a, b, case, network):
         return "no path after the restart", None
     if not all(heard):
         return "not heard during the restart", seconds
-    return await after_path(a, b, network, "second"), seconds
+    return await after_path(a, b, case, network, "second"), seconds
