@@ -52,7 +52,8 @@ class Row:
         """The row of a table."""
         came = ", ".join(f"{count} {word}" for word, count in self.words.most_common()) or "-"
         times = ", ".join(f"{who} {statistics.median(all_):.0f}" for who, all_ in self.ms.items()) or "-"
-        return [self.subject, self.name, self.expected, f"{self.good} of {self.sessions}", came, times, self.verdict]
+        count = "-" if self.skipped else f"{self.good} of {self.sessions}"
+        return [self.subject, self.name, self.expected, count, came, times, self.verdict]
 
 
 HEAD = ["with", "case", "expected", "sessions", "came out", "median ms", "verdict"]
