@@ -1,4 +1,4 @@
-"""Compares settings: four questions, each with its plot and its table."""
+"""Compares settings: five questions, each with its plot and its table."""
 
 from __future__ import annotations
 
@@ -87,15 +87,19 @@ TAILS = ((250, 3000, 50), (250, 3000, 20), (250, 1000, 50), (250, 500, 50), (250
 
 
 def _tails() -> list[Setting]:
-    return [_tail(*values) for values in TAILS]
+    return [_tail("same_lan", "cable", *values) for values in TAILS]
 
 
-def _tail(*values: int) -> Setting:
+def _tails_nat() -> list[Setting]:
+    return [_tail("two_homes", "home", *values) for values in TAILS]
+
+
+def _tail(name: str, link: str, *values: int) -> Setting:
     by_link = round(1 - 0.7 ** 0.5, 6)  # 30 % of the packets on the path, which has two links
     changes = [f"{side}.{key}={value}" for side in "ab" for key, value in zip(("initial_rto_ms", "max_rto_ms", "advance_ms"), values)]
-    changes += [f"link.home.loss={by_link}", 'connects="sometimes"']
+    changes += [f"link.{link}.loss={by_link}", 'connects="sometimes"']
     label = "RTO {} to {} ms, Ta {} ms".format(*values)
-    return Setting(label, replace(scenario.load("two_homes", tuple(changes)), name=label))
+    return Setting(label, replace(scenario.load(name, tuple(changes)), name=label))
 
 
 QUESTIONS = {
@@ -105,8 +109,10 @@ QUESTIONS = {
                       "sessions connected, %", _pairs, lambda f: f.first, has_bars=True),
     "consent": Question("How long consent takes to expire", "seconds after the last packet that arrived, logarithmic",
                         "sessions disconnected, %", _consent, lambda f: f.lost, 10000.0, has_bars=True),
-    "tails": Question("Time to connect if 30 % of the packets are lost", "seconds from the first signaling message, logarithmic",
+    "tails": Question("Time to connect in a LAN that loses 30 % of the packets", "seconds from the first signaling message, logarithmic",
                       "sessions connected, %", _tails, lambda f: f.first, has_bars=True, has_slowest=True),
+    "tails-nat": Question("Time to connect through two NATs, with 30 % loss", "seconds from the first signaling message, logarithmic",
+                          "sessions connected, %", _tails_nat, lambda f: f.first, has_bars=True, has_slowest=True),
 }
 
 

@@ -61,22 +61,24 @@ class Labels:
         self._lines = lines
         self.boxes: list[Box] = []
 
-    def place_end(self, text: str, x: float, y: float, anchor: str) -> float:
+    def place_end(self, text: str, x: float, points: list[Point], anchor: str) -> float:
         """Returns the height of the text at the end of an arrow: beside it, or a little lower or higher."""
-        boxes = [box_of(text, x, y + aside, anchor) for aside in (0.0, 7.0, -7.0, 11.0, -11.0)]
-        free = [box for box in boxes if not any(box.overlaps(other) for other in self.boxes)]
-        chosen = (free or boxes)[0]
+        boxes = [box_of(text, x, points[-1][1] + aside, anchor) for aside in (0.0, 7.0, -7.0, 11.0, -11.0)]
+        chosen = self._best(boxes, points)
         self.boxes.append(chosen)
         return chosen.top + HALF
 
     def place(self, text: str, points: list[Point]) -> Point:
         """Returns the middle of the label of an arrow: the first free place, if possible one that no other arrow crosses."""
-        places = [self._at(text, points, share) for share in SHARES]
-        free = [p for p in places if not any(box_of(text, *p).overlaps(box) for box in self.boxes)]
-        clear = [p for p in free if not self._is_crossed(box_of(text, *p), points)]
-        chosen = (clear or free or places)[0]
-        self.boxes.append(box_of(text, *chosen))
-        return chosen
+        places = {box_of(text, *place): place for place in (self._at(text, points, share) for share in SHARES)}
+        chosen = self._best(list(places), points)
+        self.boxes.append(chosen)
+        return places[chosen]
+
+    def _best(self, boxes: list[Box], points: list[Point]) -> Box:
+        free = [box for box in boxes if not any(box.overlaps(other) for other in self.boxes)]
+        clear = [box for box in free if not self._is_crossed(box, points)]
+        return (clear or free or boxes)[0]
 
     def _at(self, text: str, points: list[Point], share: float) -> Point:
         """Returns the place at this share of the arrow, but not over the lane of its sender."""

@@ -104,9 +104,8 @@ def _arrows(picture: Picture, scale: Scale, places: dict[str, float]) -> list[st
     labels, over = Labels([points for _, points in drawn]), []
     for arrow, points in drawn:
         if arrow.is_cut:
-            (x, end), is_right = points[-1], points[-1][0] > points[-2][0]
-            x, anchor = (x + 8, "start") if is_right else (x - 8, "end")
-            y = labels.place_end(arrow.end, x, end, anchor)
+            x, anchor = (points[-1][0] + 8, "start") if points[-1][0] > points[-2][0] else (points[-1][0] - 8, "end")
+            y = labels.place_end(arrow.end, x, points, anchor)
             colour = UNDELIVERED if arrow.is_undelivered else LOST
             over.append(_text(x, y + 3.5, arrow.end, anchor, colour, f'font-size="9" {HALO}'))
     for arrow, points in drawn:
@@ -118,7 +117,7 @@ def _arrows(picture: Picture, scale: Scale, places: dict[str, float]) -> list[st
 
 def _ground(text: str, x: float, y: float) -> str:
     """Draws the white ground of a label, so that no line shows between its words."""
-    half = LETTERS * len(text) / 2
+    half = LETTERS * len(text) / 2 - 2
     return f'<rect x="{x - half:.1f}" y="{y - 4.5:.1f}" width="{2 * half:.1f}" height="9" fill="#ffffff"/>'
 
 

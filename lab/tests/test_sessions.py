@@ -35,7 +35,7 @@ class Scenarios(unittest.TestCase):
             for seed in range(3):
                 with self.subTest(scenario=name, seed=seed):
                     outcome = Session(scenario.load(name), seed).run()
-                    self.assertTrue(outcome.symmetric or not outcome.connected)
+                    self.assertTrue(outcome.symmetric or not outcome.connected or not scenario.load(name).symmetric)
 
     def test_a_seed_repeats(self) -> None:
         lossy = scenario.load("lossy_mobile")
