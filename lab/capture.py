@@ -31,7 +31,8 @@ class Captured:
 def of_trace(trace: Trace, sides: str = "ab") -> list[Captured]:
     """Returns what these sides sent and received, in the order of time."""
     sent = [(d.time, d.side, d.source, d.destination, d.contents) for d in trace.datagrams]
-    packets = [Captured(time - BEGINNING, side, *rest) for time, side, *rest in [*sent, *trace.received] if side in sides]
+    packets = [Captured(time - BEGINNING, side, source, destination, contents)
+               for time, side, source, destination, contents in [*sent, *trace.received] if side in sides]
     return sorted(packets, key=lambda packet: packet.time)
 
 
@@ -61,7 +62,7 @@ def ip_packet(source: SocketAddress, destination: SocketAddress, contents: bytes
 def checksum(data: bytes) -> int:
     """Returns the Internet checksum (RFC 1071)."""
     data += b"\0" * (len(data) % 2)
-    total = sum(struct.unpack(f"!{len(data) // 2}H", data))
+    total: int = sum(struct.unpack(f"!{len(data) // 2}H", data))
     while total > 0xFFFF:
         total = (total & 0xFFFF) + (total >> 16)
     return total ^ 0xFFFF
