@@ -71,8 +71,8 @@ RESTARTS = [
 ]
 
 # A lite agent removes a pair 15 s after the last check of the peer, a full one after 9 unanswered checks, which takes 21.5 s or more.
-# A browser nominates a pair of a full agent once, so what that agent removed comes back only by an ICE restart. With a lite agent each
-# check of Chromium nominates again, and none of Firefox does.
+# What a controlled agent removed comes back only by an ICE restart: Chromium sends no more checks, and those of Firefox do not nominate
+# again. With a lite agent each check of Chromium nominates, and Firefox nominates only once.
 CUTS = [
     _cut("cut for 8 s, agent controlled", 8, Setup(True), "kept"),
     _cut("cut for 8 s, agent controlling", 8, Setup(False), "kept"),
