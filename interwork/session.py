@@ -33,7 +33,8 @@ async def play(case, network, stacks, roles):
 async def connect(a, b, case, network):
     """Waits for the first path. Returns a fault or None, and the seconds from the last signal until both had a path."""
     if not await until(lambda: are_connected(a, b), (a, b), case.seconds):
-        return "not connected", None
+        ended = [f"{p.stack.name} ended with status {p.process.returncode}" for p in (a, b) if not p.is_running()]
+        return ", ".join(ended) or "not connected", None
     seconds = max(a.connected_at, b.connected_at) - max(a.signal_at, b.signal_at)
     return await after_path(a, b, case, network, "first"), seconds
 
