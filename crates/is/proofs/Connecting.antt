@@ -22,7 +22,7 @@ use Rattle.is.specs.declared.world.Side.{Side}
 use Rattle.is.specs.Connections.{Round, all_of, IsKept, HasRounds, Checks, Succeeds, BothConnect}
 use Rattle.is.specs.Grantings.{Occurrence, IsAskedOver}
 use Rattle.is.specs.World as world
-use Rattle.is.specs.World.{WorldRecord, InFlightRecord, Event, Logged, Happens, Run, at, other, in_world}
+use Rattle.is.specs.World.{WorldRecord, InFlightRecord, Event, Logged, Happens, at, other, in_world}
 use Rattle.is.specs.WorldRoles.{IsNewAgent}
 use Rattle.is.proofs.Following.{Has-front, Has-rear, AreSound}
 use Rattle.is.proofs.Owning.{either_has, acts, only, only_own, handed_as, polled_as, course_on, turn_step}

@@ -22,14 +22,14 @@ use Rattle.is_rules.specs.Pending.{IsValidBy}
 use Rattle.is_rules.specs.Queue.{request_at}
 use Rattle.is_rules.specs.Sound.{FreshIsSound}
 use Rattle.is_rules.specs.Steps as agent
-use Rattle.is_rules.specs.Steps.{Answer, Entry, Refused, Done, quiet, Step}
+use Rattle.is_rules.specs.Steps.{Entry, Done, quiet}
 use Rattle.is_rules.specs.Emitted.{reversed}
 use Rattle.is.specs.declared.world.Side.{Side}
 use Rattle.is.specs.declared.world.Side.TheVariants.{A, B}
 use Rattle.is.specs.Deliveries.{Announces}
 use Rattle.is.specs.Grantings.{Occurrence, IsControlled, HandedCheck, IsAskedOver, IsReturned, IsExchangedOver, MayEndAt, GrantedPathsAnnounce}
 use Rattle.is.specs.World as world
-use Rattle.is.specs.World.{WorldRecord, InFlightRecord, Event, Outcome, Logged, Turns, Stands, Happens, Run, at, other, in_world}
+use Rattle.is.specs.World.{WorldRecord, Event, Logged, Turns, Happens, at, other}
 use Rattle.is.specs.WorldRoles.{IsNewAgent}
 use Rattle.is.proofs.Following.{Has-front, Has-rear, AreSound}
 use Rattle.is.proofs.Settled.{sound_new}

@@ -1,32 +1,34 @@
 -- One delivered check, and its 487 if there is one, make roles opposite. The preconditions that refused/laws changes
 -- are read by tactics where they are used: if one of them is weaker, that goal stays unproved.
-use Rattle.std.proofs.Common.{◌≡◌, ◌⊎◌, ℕ, suc, ◌<◌, Bool, true, false, not, List, [], ◌∷◌, ◌++◌, map, length, inl, inr, refl, ap, sym, ◌∙◌, subst, arith, ◌+◌, append_assoc, append-nil}
-use Rattle.std.specs.List.{AllByRecursion}
+use Rattle.std.proofs.Common.{◌≡◌, ◌⊎◌, ℕ, suc, ◌<◌, Bool, true, false, not, List, [], ◌∷◌, ◌++◌, map, inl, inr, refl, ap, sym, ◌∙◌, subst, arith, ◌+◌, append_assoc, append-nil}
 use Rattle.std.specs.Prelude.{◌≢◌}
 use Rattle.rand_core.specs.Stream.{Stream}
 use Rattle.is_proto.specs.Lists.{Has}
 use Rattle.is_proto.specs.Packets.{Packet}
 use Rattle.is_candidate.specs.Candidates.{CandidateRecord}
-use Rattle.is_stun.specs.declared.header.Class.TheVariants.{Request, Failure}
-use Rattle.is_rules.specs.Agent.{AgentRecord}
-use Rattle.is_rules.specs.Conflicts.{ConflictsSettle, IsConflictSent, handing}
+use Rattle.is_stun.specs.declared.header.Class.TheVariants.{Failure}
+use Rattle.is_rules.specs.declared.emitted.Path.{Path}
+use Rattle.is_rules.specs.AskedCourses.{EndsAlong}
+use Rattle.is_rules.specs.Brought.{IsRefusedBy}
+use Rattle.is_rules.specs.Carried.{IsConflictCarried, CarriedSettle}
+use Rattle.is_rules.specs.Conflicts.{AreSentUnder, IsMet, handing}
 use Rattle.is_rules.specs.Delivery.{Sends}
 use Rattle.is_rules.specs.Effects.{PathLaw}
-use Rattle.is_rules.specs.Exchange.{AreBetween, Course}
 use Rattle.is_rules.specs.Issuing.{via_out}
 use Rattle.is_rules.specs.RoleView.{RoleLaw}
-use Rattle.is_rules.specs.Sound.{IsSound, FreshIsSound}
+use Rattle.is_rules.specs.Sound.{FreshIsSound}
 use Rattle.is_rules.specs.Steps as agent
-use Rattle.is_rules.specs.Steps.{Entry, Step}
 use Rattle.is.specs.declared.world.Side.{Side}
 use Rattle.is.specs.declared.world.Side.TheVariants.{A, B}
-use Rattle.is.specs.Deliveries.{WorldRound, MakesPolls, Hands, Returns}
-use Rattle.is.specs.Meetings.{AreOpposite, Confronts, IsMeeting, RolesMeet}
+use Rattle.is.specs.Deliveries.{Hands}
+use Rattle.is.specs.Grantings.{Occurrence, HandedCheck, IsReturned, occurrences_in}
+use Rattle.is.specs.Meetings.{AreOpposite, StayOpposite, IsErrorReturned, RolesMeet}
 use Rattle.is.specs.World.{WorldRecord, Event, Logged, Happens, Run, at, other}
 use Rattle.is.specs.WorldRoles.{IsFairWorld, Makes, Meets, role_in}
-use Rattle.is.proofs.Connected.{delivered, aside}
+use Rattle.is.proofs.Connected.{rewritten, delivered}
+use Rattle.is.proofs.Occurring.{Follow, follows, cut, meet, own, Checked, checked, Awaited, awaits, removed}
 use Rattle.is.proofs.Following.{seen_of, emitted_at, AreSound, event}
-use Rattle.is.proofs.Owning.{twice, between_both, acts, acts_between, course_on, turn_step, acts_course, role_behind}
+use Rattle.is.proofs.Owning.{twice, role_behind}
 use Rattle.is.proofs.Seen as seen
 use Rattle.is.proofs.Seen.{Seen, Happening, emitted_of}
 use Rattle.is.proofs.SeenCarried.{sides}
@@ -48,6 +50,9 @@ not_same true h = cc
 not_same false h = cc
 
 module _ {H P : Type 0} where
+  abbrev entries : List (Occurrence H P) → List (Logged P)
+  entries xs = map (λ (x : Occurrence H P). x.entry) xs
+
   -- one agent is controlling, and the other is not
   abbrev Apart : WorldRecord H P → Type 0
   Apart w = w.a.controlling ≢ w.b.controlling
@@ -61,8 +66,9 @@ module _ {H P : Type 0} where
   tie_of B w = refl
 
   -- the event delivers the packet to the side
-  handed_makes : (side : Side) (packet : Packet) (w : WorldRecord H P) (x : Logged P) → (h : Hands side (via_out packet) packet w x) → Makes w x.event side (handing packet h.now)
-  handed_makes side packet w x h = subst (λ (v : Event P). Makes w v side (handing packet h.now)) (sym h.event) (record { sender = other side; packet = packet }, h.sent, twice side, refl)
+  handed_makes : (side : Side) (via : Path) (packet : Packet) (w : WorldRecord H P) (x : Logged P) → (h : Hands side via packet w x)
+      → Makes w x.event side (agent.ReceivePacket h.now via packet.contents)
+  handed_makes side via packet w x h = subst (λ (v : Event P). Makes w v side (agent.ReceivePacket h.now via packet.contents)) (sym h.event) (record { sender = other side; packet = packet }, h.sent, twice side, refl)
 
   module _ (first : WorldRecord H P) (greater : Side) where
     -- a network model that an execution leads to, with the entries of the log that are left
@@ -105,124 +111,187 @@ module _ {H P : Type 0} where
 
       -- ---- events
 
-      comes_run : (log left : List (Logged P)) (w last : WorldRecord H P) (s t : Stream) (n : ℕ) → Comes w (log ++ left) → Run mac answers w s n log last t → Comes last left
-      comes_run [] left w last s t n k (is, _) = subst (λ (v : WorldRecord H P). Comes v left) (sym is) k
-      comes_run (x ∷ log) left w last s t n k (mid, u, number, happens, run) = comes_run log left mid last u t (suc n) (comes_on w mid s u x (log ++ left) k happens) run
+      comes_first : (x : Occurrence H P) (left : List (Logged P)) (w : WorldRecord H P) → x.before ≡ w → Comes w (x.entry ∷ left) → Comes x.before (x.entry ∷ left)
+      comes_first x left w from k = subst (λ (v : WorldRecord H P). Comes v (x.entry ∷ left)) (sym from) k
 
-      apart_run : (log left : List (Logged P)) (w last : WorldRecord H P) (s t : Stream) (n : ℕ) → Comes w (log ++ left) → Run mac answers w s n log last t → Apart w
-          → Apart last × AllByRecursion AreOpposite log
-      apart_run [] left w last s t n k (is, _) differs = (subst (λ (v : WorldRecord H P). Apart v) (sym is) differs, tt)
-      apart_run (x ∷ log) left w last s t n k (mid, u, number, happens, run) differs =
-          let now : Apart mid = apart_on w mid s u x (log ++ left) k happens differs in
-          let more = apart_run log left mid last u t (suc n) (comes_on w mid s u x (log ++ left) k happens) run now in
-          (more.0, (λ both. now (role_behind mac answers w mid s u A x (role_in A x) happens refl ∙ both ∙ sym (role_behind mac answers w mid s u B x (role_in B x) happens refl)), more.1))
+      comes_at : (xs ys : List (Occurrence H P)) (x : Occurrence H P) (left : List (Logged P)) (w last : WorldRecord H P) → Comes w (entries (xs ++ x ∷ ys) ++ left)
+          → Follow mac answers w (xs ++ x ∷ ys) last → Comes x.before (x.entry ∷ (entries ys ++ left))
+      comes_at [] ys x left w last k (from, s, t, happens, more) = comes_first x (entries ys ++ left) w from k
+      comes_at (y ∷ xs) ys x left w last k (from, s, t, happens, more) =
+          comes_at xs ys x left y.behind last
+          (comes_on y.before y.behind s t y.entry (entries (xs ++ x ∷ ys) ++ left) (comes_first y (entries (xs ++ x ∷ ys) ++ left) w from k) happens) more
+
+      comes_behind : (xs : List (Occurrence H P)) (left : List (Logged P)) (w last : WorldRecord H P) → Comes w (entries xs ++ left) → Follow mac answers w xs last → Comes last left
+      comes_behind [] left w last k is = subst (λ (v : WorldRecord H P). Comes v left) (sym is) k
+      comes_behind (x ∷ xs) left w last k (from, s, t, happens, more) =
+          comes_behind xs left x.behind last (comes_on x.before x.behind s t x.entry (entries xs ++ left) (comes_first x (entries xs ++ left) w from k) happens) more
+
+      apart_along : (xs : List (Occurrence H P)) (left : List (Logged P)) (w last : WorldRecord H P) → Comes w (entries xs ++ left) → Follow mac answers w xs last → Apart w
+          → Apart last × ((x : Occurrence H P) → Has xs x → StayOpposite x)
+      apart_along [] left w last k is differs = (subst (λ (v : WorldRecord H P). Apart v) (sym is) differs, λ x none. absurd none)
+      apart_along (x ∷ xs) left w last k (from, s, t, happens, more) differs =
+          let k_x = comes_first x (entries xs ++ left) w from k in
+          let here : Apart x.before = subst (λ (v : WorldRecord H P). Apart v) (sym from) differs in
+          let now : Apart x.behind = apart_on x.before x.behind s t x.entry (entries xs ++ left) k_x happens here in
+          let later = apart_along xs left x.behind last (comes_on x.before x.behind s t x.entry (entries xs ++ left) k_x happens) more now in
+          let opposite : AreOpposite x.entry =
+          λ both. now (role_behind mac answers x.before x.behind s t A x.entry (role_in A x.entry) happens refl ∙ both ∙ sym (role_behind mac answers x.before x.behind s t B x.entry (role_in B x.entry) happens refl)) in
+          (later.0, λ y has. elim has [ inl is ↦ subst (λ (z : Occurrence H P). StayOpposite z) is (here, opposite) | inr h ↦ later.1 y h ])
+
+      -- roles that are different after one of them are different after all
+      apart_from : (xs ys : List (Occurrence H P)) (x : Occurrence H P) (left : List (Logged P)) (w last : WorldRecord H P) → Comes w (entries (xs ++ x ∷ ys) ++ left)
+          → Follow mac answers w (xs ++ x ∷ ys) last
+          → (Comes x.before (x.entry ∷ (entries ys ++ left)) → (s t : Stream) → Happens mac answers x.before s x.entry.event x.entry.outcome x.behind t → Apart x.behind) → Apart last
+      apart_from xs ys x left w last k follow differs =
+          let m = meet mac answers xs ys x w last follow in
+          let k_x = comes_at xs ys x left w last k follow in
+          (apart_along ys left x.behind last (comes_on x.before x.behind m.s m.t x.entry (entries ys ++ left) k_x m.happens) m.rest (differs k_x m.s m.t m.happens)).0
 
       -- ---- the check of a side, and its 487
 
-      module _ (resolves : ConflictsSettle {H = H} {P = P} mac answers) (side : Side) (left : List (Logged P)) (less : (at (other greater) first).tie_breaker < (at greater first).tie_breaker) where
+      module _ (resolves : CarriedSettle {H = H} {P = P} mac answers) (side : Side) (path over : Path) (part : List (Occurrence H P)) (left : List (Logged P)) (last : WorldRecord H P)
+          (less : (at (other greater) first).tie_breaker < (at greater first).tie_breaker) (from : Comes first (entries part ++ left)) (follow : Follow mac answers first part last)
+          (k : HandedCheck mac side path over part) (c : Checked mac answers side path over part last k) where
+        abbrev handed : Occurrence H P
+        handed = k.comes.handed
+
+        split_sent : part ≡ k.before ++ k.sent ∷ k.behind
+        split_sent = k.split
+
+        split_handed : part ≡ (k.before ++ k.sent ∷ k.comes.between) ++ handed ∷ k.comes.rest
+        split_handed = k.split ∙ (ap (λ xs. k.before ++ k.sent ∷ xs) k.comes.split ∙ sym (append_assoc k.before (k.sent ∷ k.comes.between) (handed ∷ k.comes.rest)))
+
+        abbrev came : Packet
+        came = rewritten over k.check
+
+        comes_here : (xs ys : List (Occurrence H P)) (x : Occurrence H P) → part ≡ xs ++ x ∷ ys → Comes x.before (x.entry ∷ (entries ys ++ left))
+        comes_here xs ys x split =
+            comes_at xs ys x left first last (subst (λ zs. Comes first (entries zs ++ left)) split from) (subst (λ zs. Follow mac answers first zs last) split follow)
+
+        -- an event after which the roles are different
+        so : (xs ys : List (Occurrence H P)) (x : Occurrence H P) → part ≡ xs ++ x ∷ ys
+            → (Comes x.before (x.entry ∷ (entries ys ++ left)) → (s t : Stream) → Happens mac answers x.before s x.entry.event x.entry.outcome x.behind t → Apart x.behind) → Apart last
+        so xs ys x split differs =
+            apart_from xs ys x left first last (subst (λ zs. Comes first (entries zs ++ left)) split from) (subst (λ zs. Follow mac answers first zs last) split follow) differs
+
         -- the 487 comes back to the agent with the lesser tie-breaker
-        returns : (near a b served : AgentRecord H P) (check : Packet) (id : List ℕ) (handed : Entry) → side ≡ other greater → (i : IsConflictSent mac answers a near b served check id handed)
-            → (log : List (Logged P)) (w last : WorldRecord H P) (s t : Stream) (n : ℕ) (run : Run mac answers w s n log last t) (ys : List (agent.Call P × Entry))
-            → AreBetween ys → Course mac answers ys near (at side w) → ((x : Logged P) → Has log x → MakesPolls side x.event) → Comes w (log ++ left)
-            → Returns mac answers side i.refusal w s n log last t run → Apart last
-        returns near a b served check id handed lesser i [] w last s t n run ys fits course polls k comes = absurd comes
-        returns near a b served check id handed lesser i (x ∷ rest) w last s t n (mid, u, number, happens, run) ys fits course polls k (inl h) =
-            let (now, via, path, m, role, brings, failure, conflict, kept, gives) =
-            (i.returns (at side w) (at side mid) ys h.now x.outcome.entry fits course (delivered mac answers side (via_out i.refusal) i.refusal w mid s u x h happens)).0 in
-            let met : Meets side w x = (handing i.refusal h.now, handed_makes side i.refusal w x h, inr (now, via, m, brings, failure, conflict)) in
-            let differs : Apart mid = met_on w mid s u x (rest ++ left) k happens (subst (λ z. Meets z w x) lesser met) in
-            (apart_run rest left mid last u t (suc n) (comes_on w mid s u x (rest ++ left) k happens) run differs).0
-        returns near a b served check id handed lesser i (x ∷ rest) w last s t n (mid, u, number, happens, run) ys fits course polls k (inr later) =
-            returns near a b served check id handed lesser i rest mid last u t (suc n) run (ys ++ acts side w x.event x.outcome.entry)
-            (between_both ys (acts side w x.event x.outcome.entry) fits (acts_between side w x.event x.outcome.entry (polls x (inl refl))))
-            (course_on mac answers ys (acts side w x.event x.outcome.entry) near (at side w) (at side mid) course (acts_course mac answers w mid s u side x happens))
-            (λ y has. polls y (inr has)) (comes_on w mid s u x (rest ++ left) k happens) later
+        refused : side ≡ other greater
+            → (i : IsConflictCarried mac answers (at side k.sent.before) (at side k.sent.behind) (at (other side) handed.before) (at (other side) handed.behind) k.check came k.id handed.entry.outcome.entry)
+            → IsErrorReturned mac side path over part k i.refusal → Apart last
+        refused lesser i e = by (i.returns (at side again.before) (at side again.behind) (rewritten r.via i.refusal) (own mac answers side between) r.comes.hands.now r.pending.limit
+            again.entry.outcome.entry z.course.0 z.course.2 z.few z.know refl z.goes z.comes) where
+              r : IsReturned mac side path over part k i.refusal
+              r = e.returned
 
-        module _ (a sent : AgentRecord H P) (s₀ t₀ : Stream) (now : ℕ) (moment : Entry) (check : Packet) (id : List ℕ) (sound_a : IsSound a)
-            (step : Step mac answers a s₀ (agent.HandleTimeout now) moment sent t₀) (sends : Sends a moment Request id check sent)
-            (role_a : a.controlling ≡ (at greater first).controlling) (tie_a : a.tie_breaker ≡ (at side first).tie_breaker) where
-          -- the check of the lesser one arrives at the greater one, which has the same role
-          conflict_sent : (w mid last : WorldRecord H P) (s u t : Stream) (n : ℕ) (x : Logged P) (rest : List (Logged P)) (run : Run mac answers mid u (suc n) rest last t) → side ≡ other greater
-              → Comes w (x ∷ (rest ++ left)) → Happens mac answers w s x.event x.outcome mid u → ((y : Logged P) → Has rest y → MakesPolls side y.event)
-              → IsConflictSent mac answers a (at side w) (at (other side) w) (at (other side) mid) check id x.outcome.entry
-              → ((refusal : Packet) → Sends (at (other side) w) x.outcome.entry Failure id refusal (at (other side) mid) → Returns mac answers side refusal mid u (suc n) rest last t run)
-              → at side mid ≡ at side w → Apart last
-          conflict_sent w mid last s u t n x rest run lesser k happens polls i back same =
-              returns (at side w) a (at (other side) w) (at (other side) mid) check id x.outcome.entry lesser i rest mid last u t (suc n) run []
-              (λ y none. absurd none) same polls (comes_on w mid s u x (rest ++ left) k happens) (back i.refusal i.sends)
+              again : Occurrence H P
+              again = r.comes.handed
 
-          confronts : (log : List (Logged P)) (w last : WorldRecord H P) (s t : Stream) (n : ℕ) (run : Run mac answers w s n log last t) (xs : List (agent.Call P × Entry))
-              → AreBetween xs → Course mac answers xs sent (at side w) → ((x : Logged P) → Has log x → MakesPolls side x.event) → Comes w (log ++ left)
-              → Confronts mac answers side check id w s n log last t run → Apart last
-          confronts [] w last s t n run xs fits course polls k comes = absurd comes
-          confronts (x ∷ rest) w last s t n (mid, u, number, happens, run) xs fits course polls k (inl (h, know, reached, back)) =
-              let there = resolves a sent (at side w) (at (other side) w) (at (other side) mid) s₀ t₀ now h.now check id moment x.outcome.entry xs sound_a (k.sound (other side))
-              step sends fits course know reached (delivered mac answers (other side) (via_out check) check w mid s u x h happens) in
-              elim (sides side greater) [
-                | inl is ↦ (
-                    let met : Meets (other side) w x = (handing check h.now, handed_makes (other side) check w x h, inl there.0) in
-                    let differs : Apart mid = met_on w mid s u x (rest ++ left) k happens (subst (λ z. Meets (other z) w x) is met) in
-                    (apart_run rest left mid last u t (suc n) (comes_on w mid s u x (rest ++ left) k happens) run differs).0)
-                | inr lesser ↦ (
-                    let there_is : other side ≡ greater = ap other lesser ∙ twice greater in
-                    let alike : (at (other side) w).controlling ≡ a.controlling =
-                    subst (λ z. (at z w).controlling ≡ a.controlling) (sym there_is) (role_kept w (x ∷ (rest ++ left)) k ∙ sym role_a) in
-                    let tie_b : (at (other side) w).tie_breaker ≡ (at (other side) first).tie_breaker = tie_kept w (x ∷ (rest ++ left)) (other side) k in
-                    let above : (at side first).tie_breaker < (at (other side) first).tie_breaker =
-                    subst (λ z. (at z first).tie_breaker < (at (other side) first).tie_breaker) (sym lesser)
-                    (subst (λ z. (at (other greater) first).tie_breaker < (at z first).tie_breaker) (sym there_is) less) in
-                    elim (there.1 alike) [
-                      | inl (below, _) ↦ absurd (let none : ⊥ = omega (arith, below, above, tie_a, tie_b) in none)
-                      | inr i ↦ conflict_sent w mid last s u t n x rest run lesser k happens (λ y has. polls y (inr has)) i (λ refusal gives. search (back refusal gives))
-                          (aside mac answers side (via_out check) check w mid s u x h happens)
-                    ])
+              between : List (Occurrence H P)
+              between = k.comes.between ++ handed ∷ r.comes.between
+
+              z : Awaited mac answers side path between over part last k i.refusal r
+              z = awaits mac answers side path between over part last k i.refusal r c.onward (λ x has. has)
+
+              split : part ≡ (k.before ++ k.sent ∷ between) ++ again ∷ r.comes.rest
+              split =
+                  k.split ∙ (ap (λ xs. k.before ++ k.sent ∷ xs) (k.comes.split ∙ (ap (λ xs. k.comes.between ++ handed ∷ xs) r.comes.split
+                  ∙ sym (append_assoc k.comes.between (handed ∷ r.comes.between) (again ∷ r.comes.rest))))
+                  ∙ sym (append_assoc k.before (k.sent ∷ between) (again ∷ r.comes.rest)))
+
+              by : (IsRefusedBy (at side again.before) (handing (rewritten r.via i.refusal) r.comes.hands.now) again.entry.outcome.entry (at side again.behind)
+                  × (AreSentUnder (at side k.sent.before).controlling (at side again.before) k.id → (at side again.behind).controlling ≡ not (at (other side) handed.before).controlling))
+                  ⊎ EndsAlong mac answers (own mac answers side between) (at side k.sent.behind) (at side again.before) z.course.0 (via_out k.check) → Apart last
+              by (inl ((now, via, way, m, role, brings, failure, conflict, kept, gives), under)) =
+                  let met : Meets side again.before again.entry =
+                  (agent.ReceivePacket r.comes.hands.now r.via i.refusal.contents, handed_makes side r.via i.refusal again.before again.entry r.comes.hands, inr (now, via, m, brings, failure, conflict)) in
+                  so (k.before ++ k.sent ∷ between) r.comes.rest again split
+                  (λ k_x s t happens. met_on again.before again.behind s t again.entry (entries r.comes.rest ++ left) k_x happens (subst (λ y. Meets y again.before again.entry) lesser met))
+              by (inr ends) =
+                  let f = removed mac answers side path between over part last k i.refusal r z ends in
+                  absurd (let none : ⊥ = search (e.stays f.0 f.1 f.2) in none)
+
+        -- equal roles when the check is sent
+        alike : (at side k.sent.before).controlling ≡ (at greater first).controlling
+            → ((error : Packet) → Sends (at (other side) handed.before) handed.entry.outcome.entry Failure k.id error (at (other side) handed.behind) → IsErrorReturned mac side path over part k error)
+            → Apart last
+        alike role back = by (sides side greater) where
+          k_sent : Comes k.sent.before (k.sent.entry ∷ (entries k.behind ++ left))
+          k_sent = comes_here k.before k.behind k.sent split_sent
+
+          k_handed : Comes handed.before (handed.entry ∷ (entries k.comes.rest ++ left))
+          k_handed = comes_here (k.before ++ k.sent ∷ k.comes.between) k.comes.rest handed split_handed
+
+          there : IsMet (at (other side) handed.before) (handing came k.comes.hands.now) handed.entry.outcome.entry
+              × ((at (other side) handed.before).controlling ≡ (at side k.sent.before).controlling
+              → (((at (other side) handed.before).tie_breaker < (at side k.sent.before).tie_breaker) × ((at (other side) handed.behind).controlling ≡ not (at side k.sent.before).controlling))
+              ⊎ IsConflictCarried mac answers (at side k.sent.before) (at side k.sent.behind) (at (other side) handed.before) (at (other side) handed.behind) k.check came k.id handed.entry.outcome.entry)
+          there = resolves (at side k.sent.before) (at side k.sent.behind) (at (other side) handed.before) (at (other side) handed.behind) c.s c.t k.now k.comes.hands.now k.check came k.id
+              k.sent.entry.outcome.entry handed.entry.outcome.entry (c.sound_sent side) (c.sound (other side)) c.step k.sends c.know refl c.reached
+              (delivered mac answers (other side) over k.check handed.before handed.behind c.u c.v handed.entry k.comes.hands c.happens)
+
+          by : (side ≡ greater) ⊎ (side ≡ other greater) → Apart last
+          by (inl is) =
+              let met : Meets (other side) handed.before handed.entry =
+              (agent.ReceivePacket k.comes.hands.now over k.check.contents, handed_makes (other side) over k.check handed.before handed.entry k.comes.hands, inl there.0) in
+              so (k.before ++ k.sent ∷ k.comes.between) k.comes.rest handed split_handed
+              (λ k_x s t happens. met_on handed.before handed.behind s t handed.entry (entries k.comes.rest ++ left) k_x happens (subst (λ y. Meets (other y) handed.before handed.entry) is met))
+          by (inr lesser) =
+              let there_is : other side ≡ greater = ap other lesser ∙ twice greater in
+              let same : (at (other side) handed.before).controlling ≡ (at side k.sent.before).controlling =
+              subst (λ y. (at y handed.before).controlling ≡ (at side k.sent.before).controlling) (sym there_is)
+              (role_kept handed.before (handed.entry ∷ (entries k.comes.rest ++ left)) k_handed ∙ sym role) in
+              let tie_a : (at side k.sent.before).tie_breaker ≡ (at side first).tie_breaker = tie_kept k.sent.before (k.sent.entry ∷ (entries k.behind ++ left)) side k_sent in
+              let tie_b : (at (other side) handed.before).tie_breaker ≡ (at (other side) first).tie_breaker =
+              tie_kept handed.before (handed.entry ∷ (entries k.comes.rest ++ left)) (other side) k_handed in
+              let above : (at side first).tie_breaker < (at (other side) first).tie_breaker =
+              subst (λ y. (at y first).tie_breaker < (at (other side) first).tie_breaker) (sym lesser)
+              (subst (λ y. (at (other greater) first).tie_breaker < (at y first).tie_breaker) (sym there_is) less) in
+              elim (there.1 same) [
+                | inl (below, _) ↦ absurd (let none : ⊥ = omega (arith, below, above, tie_a, tie_b) in none)
+                | inr i ↦ refused lesser i (search (back i.refusal i.sends))
               ]
-          confronts (x ∷ rest) w last s t n (mid, u, number, happens, run) xs fits course polls k (inr later) =
-              confronts rest mid last u t (suc n) run (xs ++ acts side w x.event x.outcome.entry)
-              (between_both xs (acts side w x.event x.outcome.entry) fits (acts_between side w x.event x.outcome.entry (polls x (inl refl))))
-              (course_on mac answers xs (acts side w x.event x.outcome.entry) sent (at side w) (at side mid) course (acts_course mac answers w mid s u side x happens))
-              (λ y has. polls y (inr has)) (comes_on w mid s u x (rest ++ left) k happens) later
+
+        -- in any roles
+        differs : ((error : Packet) → Sends (at (other side) handed.before) handed.entry.outcome.entry Failure k.id error (at (other side) handed.behind) → IsErrorReturned mac side path over part k error)
+            → Apart last
+        differs back = by (one_or_other (at (other greater) start).controlling (at greater start).controlling) where
+          start : WorldRecord H P
+          start = k.sent.before
+
+          role_greater : (at greater start).controlling ≡ (at greater first).controlling
+          role_greater = role_kept start (k.sent.entry ∷ (entries k.behind ++ left)) (comes_here k.before k.behind k.sent split_sent)
+
+          by : ((at (other greater) start).controlling ≡ (at greater start).controlling) ⊎ ((at (other greater) start).controlling ≡ not (at greater start).controlling) → Apart last
+          by (inl same) = elim (sides side greater) [
+            | inl is ↦ alike (subst (λ y. (at y start).controlling ≡ (at greater first).controlling) (sym is) role_greater) back
+            | inr is ↦ alike (subst (λ y. (at y start).controlling ≡ (at greater first).controlling) (sym is) (same ∙ role_greater)) back
+          ]
+          by (inr apart) =
+              so k.before k.behind k.sent split_sent
+              (λ k_x s t happens. apart_on start k.sent.behind s t k.sent.entry (entries k.behind ++ left) k_x happens (apart_if greater start apart))
 
 module _ {H P : Type 0} (mac : H → List ℕ → List ℕ → List ℕ) (answers : P → CandidateRecord → ℕ → ℕ → Type 0) (paths : PathLaw {H = H} {P = P} mac answers) (roles : RoleLaw {H = H} {P = P} mac answers)
-    (new_sound : FreshIsSound H P) (resolves : ConflictsSettle {H = H} {P = P} mac answers) where
-  -- equal roles at the start of the `handle_timeout` call
-  met : (first : WorldRecord H P) (greater side : Side) (left : List (Logged P)) (r : WorldRound P) (check : Packet) (id : List ℕ) (start last : WorldRecord H P) (u t : Stream) (n : ℕ)
-      → (at (other greater) first).tie_breaker < (at greater first).tie_breaker → Comes first greater start (r.moment ∷ (r.behind ++ left)) → IsMeeting mac answers side check id r start u n last t
-      → (at side start).controlling ≡ (at greater first).controlling → Apart last
-  met first greater side left r check id start last u t n less k m role =
-      let moved : Step mac answers (at side start) u (agent.HandleTimeout r.now) r.moment.outcome.entry (at side m.mid) m.u =
-      turn_step mac answers start m.mid u m.u side (agent.HandleTimeout r.now) r.moment.outcome (subst (λ (v : Event P). Happens mac answers start u v r.moment.outcome m.mid m.u) m.comes m.happens) in
-      confronts first greater mac answers paths roles resolves side left less (at side start) (at side m.mid) u m.u r.now r.moment.outcome.entry check id (k.sound side) moved m.sends role
-      (tie_kept first greater start (r.moment ∷ (r.behind ++ left)) side k) r.behind m.mid last m.u t (suc n) m.run [] (λ y none. absurd none) refl (λ x has. search (m.polls x has))
-      (comes_on first greater mac answers paths roles start m.mid u m.u r.moment (r.behind ++ left) k m.happens) m.confronts
+    (new_sound : FreshIsSound H P) (resolves : CarriedSettle {H = H} {P = P} mac answers) where
+  entries_in : (w last : WorldRecord H P) (s t : Stream) (n : ℕ) (log : List (Logged P)) → (run : Run mac answers w s n log last t) → entries (occurrences_in mac answers w s n log last t run) ≡ log
+  entries_in w last s t n [] run = refl
+  entries_in w last s t n (x ∷ rest) (mid, u, number, happens, run) = ap (λ (l : List (Logged P)). x ∷ l) (entries_in mid last u t (suc n) rest run)
 
   pub roles_meet : (first : WorldRecord H P) (s : Stream) (log : List (Logged P)) → RolesMeet mac answers first s log
-  roles_meet first s log greater side before rest start last end u t v r check id fair split led m more =
-      let whole : List (Logged P) = before ++ (r.moment ∷ (r.behind ++ rest)) in
-      let fair_whole : IsFairWorld first greater whole = subst (λ (l : List (Logged P)). IsFairWorld first greater l) split fair in
-      let k0 : Comes first greater first whole = record {
+  roles_meet first s log greater side last t run part rest path fair split (over, k, back) =
+      let whole : List (Logged P) = entries part ++ entries rest in
+      let is : log ≡ whole = sym (entries_in first last s t 0 log run) ∙ (ap (λ (xs : List (Occurrence H P)). entries xs) split ∙ map-append (λ (x : Occurrence H P). x.entry) part rest) in
+      let fair_whole : IsFairWorld first greater whole = subst (λ (l : List (Logged P)). IsFairWorld first greater l) is fair in
+      let sound = sound_first new_sound first greater whole fair_whole in
+      let from : Comes first greater first whole = record {
         front = [];
         led = refl;
         fair = premises_seen first greater whole (map emitted_at whole) refl fair_whole;
-        sound = sound_first new_sound first greater whole fair_whole;
+        sound = sound;
       } in
-      let k = comes_run first greater mac answers paths roles before (r.moment ∷ (r.behind ++ rest)) first start s u 0 k0 led in
-      let k_mid = comes_on first greater mac answers paths roles start m.mid u m.u r.moment (r.behind ++ rest) k m.happens in
-      let k_last = comes_run first greater mac answers paths roles r.behind rest m.mid last m.u t (suc (length before)) k_mid m.run in
-      let role_greater = role_kept first greater start (r.moment ∷ (r.behind ++ rest)) k in
-      let alike : (z : Side) → (at z start).controlling ≡ (at greater first).controlling → (side ≡ z) → Apart last =
-      λ z same is. met first greater side rest r check id start last u t (length before) fair_whole.tie k m (subst (λ y. (at y start).controlling ≡ (at greater first).controlling) (sym is) same) in
-      let differs : Apart last = elim (one_or_other (at (other greater) start).controlling (at greater start).controlling) [
-        | inl same ↦ elim (sides side greater) [
-          | inl is ↦ alike greater role_greater is
-          | inr is ↦ alike (other greater) (same ∙ role_greater) is
-        ]
-        | inr apart ↦ (
-            let here : Apart start = apart_if greater start apart in
-            let there : Apart m.mid = apart_on first greater mac answers paths roles start m.mid u m.u r.moment (r.behind ++ rest) k m.happens here in
-            (apart_run first greater mac answers paths roles r.behind rest m.mid last m.u t (suc (length before)) k_mid m.run there).0)
-      ] in
-      let after : AllByRecursion AreOpposite rest =
-      (apart_run first greater mac answers paths roles rest [] last end t v (suc (length before) + length r.behind)
-      (subst (λ (l : List (Logged P)). Comes first greater last l) (sym (append-nil rest)) k_last) more differs).1 in
-      (differs, (search after))
+      let on = cut mac answers part rest first last (subst (λ xs. Follow mac answers first xs last) split (follows mac answers first last s t 0 log run)) in
+      let differ : Apart on.0 =
+      differs first greater mac answers paths roles resolves side path over part (entries rest) on.0 fair_whole.tie from on.1 k
+      (checked mac answers paths side path over part first on.0 k sound on.1) (λ error sends. back error sends) in
+      let behind : Comes first greater on.0 (entries rest) = comes_behind first greater mac answers paths roles part (entries rest) first on.0 from on.1 in
+      let after = apart_along first greater mac answers paths roles rest [] on.0 last (subst (λ (l : List (Logged P)). Comes first greater on.0 l) (sym (append-nil (entries rest))) behind) on.2 differ in
+      (after.0, λ x has. search (after.1 x has))

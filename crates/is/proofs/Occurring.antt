@@ -17,7 +17,7 @@ use Rattle.is_rules.specs.Exchange.{AreBetween, Course}
 use Rattle.is_rules.specs.Issuing.{via_out}
 use Rattle.is_rules.specs.Pending.{is_check_on, checks_on, KeepsAlong}
 use Rattle.is_rules.specs.Steps as agent
-use Rattle.is_rules.specs.Steps.{Answer, Entry, Refused, Done, quiet, Step}
+use Rattle.is_rules.specs.Steps.{Answer, Entry, Refused, Step}
 use Rattle.is.specs.declared.world.Side.{Side}
 use Rattle.is.specs.declared.world.Side.TheVariants.{A, B}
 use Rattle.is.specs.Deliveries.{MakesPolls, Hands}

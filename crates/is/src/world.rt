@@ -435,8 +435,9 @@ impl<H: Sha1HmacProvider + Drop, P: LocalPreference> TwoAgents<H, P> {
         // Once this other agent has met the role of the first (`Meets`), the roles are different.
         ensures differ { RolesDifferOnceMet H.mac P.answers (world_of self.old) (R.stream rng.old) (logged events.items result.entries.items) }
 
-        // Whatever roles they start with: if a check of either is delivered, and its 487 if it gets one, the roles are different
-        // from then on.
+        // Whatever roles they start with: if a check of either is delivered, at any time and through any NATs, and so is its 487 if
+        // it gets one, the roles are different from then on. Precondition: the 487 comes while the check is pending, and none of
+        // its sender's calls may have removed the pair.
         ensures meet { RolesMeet H.mac P.answers (world_of self.old) (R.stream rng.old) (logged events.items result.entries.items) }
 
         // If an agent is never lite, each path that it selected was answered by the other agent, and the response was received on

@@ -4,6 +4,7 @@ use Rattle.std.specs.Prelude.{MatchBool, MatchOption, IsSomeAnd}
 use Rattle.std.specs.List.{list_any}
 use Rattle.std.specs.Option.{option_map_or}
 use Rattle.std.proofs.lemmas.Bool.Decides.{leb_tells}
+use Rattle.rand_core.specs.Stream.{Stream}
 use Rattle.is_proto.specs.Packets.{Packet}
 use Rattle.is_candidate.specs.Candidates.{CandidateRecord}
 use Rattle.is_stun.specs.declared.header.Class.TheVariants as class
@@ -21,8 +22,9 @@ use Rattle.is_rules.specs.Accepting.{IsAcceptedAs, IsAcceptedOn}
 use Rattle.is_rules.specs.Agent.{AgentRecord}
 use Rattle.is_rules.specs.Answers.{is_role_conflict, keeps_check_on}
 use Rattle.is_rules.specs.Brought.{Brings, IsKept, IsRefusedBy, IsServing, IsServedPastTests, role_once}
-use Rattle.is_rules.specs.Conflicts.{AreSentUnder, ConflictsSettle, IsConflictSent, handing}
-use Rattle.is_rules.specs.Delivery.{KnowEachOther, Delivered, Issued, ChecksAreKept}
+use Rattle.is_rules.specs.Carried.{IsConflictCarried, CarriedSettle}
+use Rattle.is_rules.specs.Conflicts.{AreSentUnder, IsMet, ConflictsSettle, IsConflictSent, handing}
+use Rattle.is_rules.specs.Delivery.{KnowEachOther, IsReachedBy, Sends, Delivered, Issued, ChecksAreKept}
 use Rattle.is_rules.specs.Fitting.{USERNAME_LIMIT}
 use Rattle.is_rules.specs.Issuing.{Says, key_for, via_out}
 use Rattle.is_rules.specs.Places.{local_place}
@@ -30,11 +32,12 @@ use Rattle.is_rules.specs.Request.{RequestRecord, request_in, rival_in}
 use Rattle.is_rules.specs.Roles.{conflict_by, conflict_of}
 use Rattle.is_rules.specs.Serving.{names_another, Drops, SendsRoleConflict, ResolvesRoleConflictBy, ResolvesRoleConflict, ServesHere, Serves}
 use Rattle.is_rules.specs.Sound.{IsSound}
-use Rattle.is_rules.specs.Steps.{Entry, HandleTimeout}
+use Rattle.is_rules.specs.Steps.{Entry, HandleTimeout, Step}
 use Rattle.is_rules.specs.Emitted.{issued_as, reversed}
 use Rattle.is_rules.proofs.Delivered.{Comes, same_reading, took, check-comes, emitted_as, issued_packet, live_place, goes-back, brought-by}
 use Rattle.is_rules.proofs.EffectLaws.{path_law, trade_law}
 use Rattle.is_rules.proofs.Exchanged.{known-on, keys-moment, keys-between}
+use Rattle.is_rules.proofs.PendLaws.{still-kept}
 use Rattle.is_rules.proofs.Staying.{sound-course, checks-stay}
 
 -- a claim of the agent's own role
@@ -57,20 +60,21 @@ module _ {H P : Type 0} (mac : H → List ℕ → List ℕ → List ℕ) (answer
   module _ (read : (m : List ℕ → List ℕ → List ℕ) (key : List ℕ) (x : Message) → WrittenIsRead m key x)
       (fits : (key id : List ℕ) → FitsInto key LONGEST_REPLY (binding_role_conflict_reply id)) where
     -- it arrives at a sender that stores the check, and is accepted as a 487
-    refusal-comes : (a taken b served : AgentRecord H P) (refusal : Packet) (id : List ℕ) (at : ℕ) (e : Entry) → IsSound b → KnowEachOther mac a b
-        → Issued mac answers class.Failure id refusal b served → list_any (keeps_check_on a (via_out refusal) id) a.pairs ≡ true → Delivered mac answers refusal at a e taken
-        → (m : Message) × Brings {P = P} (handing refusal at) e at (via_out refusal) m × (m.class ≡ class.Failure) × (is_role_conflict m ≡ true) × (m.id ≡ id)
-    refusal-comes a taken b served refusal id at e sound_b know issued kept delivered =
+    refusal-comes : (a taken b served : AgentRecord H P) (refusal answer : Packet) (id : List ℕ) (at : ℕ) (e : Entry) → IsSound b → KnowEachOther mac a b
+        → Issued mac answers class.Failure id refusal b served → answer.contents ≡ refusal.contents → list_any (keeps_check_on a (via_out answer) id) a.pairs ≡ true
+        → Delivered mac answers answer at a e taken
+        → (m : Message) × Brings {P = P} (handing answer at) e at (via_out answer) m × (m.class ≡ class.Failure) × (is_role_conflict m ≡ true) × (m.id ≡ id)
+    refusal-comes a taken b served refusal answer id at e sound_b know issued unaltered kept delivered =
         let i = issued_packet mac answers b served class.Failure id refusal sound_b issued in
         let same = emitted_as (via_out refusal) (via_out refusal) class.Failure i.0.class id i.0.id (sym issued.sends.emitted ∙ i.2) in
         emitted i.0 (i.1 ∙ ap (λ c. written (mac b.provider) (Some (key_for c b.local_creds b.remote_creds)) i.0) (sym same.1)) (sym same.2)
         (subst (λ c. Says c b issued.call issued.entry refusal.contents i.0 (via_out refusal) served.controlling) (sym same.1) i.3) where
           path : Path
-          path = via_out refusal
+          path = via_out answer
 
           emitted : (m : Message) → refusal.contents ≡ written (mac b.provider) (Some b.local_creds.pass) m → m.id ≡ id
-              → Says class.Failure b issued.call issued.entry refusal.contents m path served.controlling
-              → (n : Message) × Brings {P = P} (handing refusal at) e at path n × (n.class ≡ class.Failure) × (is_role_conflict n ≡ true) × (n.id ≡ id)
+              → Says class.Failure b issued.call issued.entry refusal.contents m (via_out refusal) served.controlling
+              → (n : Message) × Brings {P = P} (handing answer at) e at path n × (n.class ≡ class.Failure) × (is_role_conflict n ≡ true) × (n.id ≡ id)
           emitted m contents id_is (q, serving, m_is, path_is, said, insists, stays) =
               let key : List ℕ = b.local_creds.pass in
               let x : Message = binding_role_conflict_reply q.id in
@@ -88,37 +92,58 @@ module _ {H P : Type 0} (mac : H → List ℕ → List ℕ → List ℕ) (answer
               let awaited : list_any (keeps_check_on a path n.id) a.pairs ≡ true = subst (λ k. list_any (keeps_check_on a path k) a.pairs ≡ true) (sym own) kept in
               let accepted : IsAcceptedOn mac a path n =
               (same.method, subst (λ k. IsAcceptedAs mac k (keeps_check_on a path n.id) a n) (sym same.class) (awaited, signed)) in
-              let reads : Reads refusal.contents n = subst (λ bs. Reads bs n) (sym bytes) back.reads in
-              let t = took mac answers refusal at a e taken n reads accepted delivered in
+              let reads : Reads answer.contents n = subst (λ bs. Reads bs n) (sym (unaltered ∙ bytes)) back.reads in
+              let t = took mac answers answer at a e taken n reads accepted delivered in
               let conflict : is_role_conflict n ≡ true = ap (λ (r : AttributesRecord). option_map_or (λ (k : ℕ × List ℕ). k.0 == ROLE_CONFLICT) r.error_code false) same.attributes in
               (n, (refl, refl, reads, t.0), same.class, conflict, own)
 
+    -- the sender accepts it, and takes the other role
+    gives-way : (role : Bool) (mid taken b served : AgentRecord H P) (refusal answer : Packet) (id : List ℕ) (at : ℕ) (e : Entry) → IsSound mid → IsSound b → KnowEachOther mac mid b
+        → Issued mac answers class.Failure id refusal b served → answer.contents ≡ refusal.contents → list_any (keeps_check_on mid (via_out answer) id) mid.pairs ≡ true
+        → Delivered mac answers answer at mid e taken
+        → IsRefusedBy mid (handing answer at) e taken × (AreSentUnder role mid id → taken.controlling ≡ not role)
+    gives-way role mid taken b served refusal answer id at e sound_mid sound_b know issued unaltered kept came =
+        let r = refusal-comes mid taken b served refusal answer id at e sound_b know issued unaltered kept came in
+        let by = (trade_law mac answers mid taken came.before came.behind (handing answer at) e sound_mid tt came.step).given_up at (via_out answer) r.0 r.1 r.2 r.3 in
+        (by, λ under. turned_role r.0 r.1.2 r.4 under by) where
+          turned_role : (n : Message) → Reads answer.contents n → n.id ≡ id → AreSentUnder role mid id → IsRefusedBy mid (handing answer at) e taken → taken.controlling ≡ not role
+          turned_role n reads own under (moment_of, by, path, m, c, brings, failure, says, kept, is) =
+              let m_is : m ≡ n = same_reading answer.contents n m reads brings.2 in
+              let under_id : IsKept mid path id c = subst (λ i. IsKept mid path i c) (ap (λ (y : Message). y.id) m_is ∙ own) kept in
+              is ∙ ap not (under path c under_id)
+
     -- ---- the check
+
+    -- the agent has its sender's role, keeps it, and sends a 487
+    record Insisted (a b served : AgentRecord H P) (came : Packet) (id : List ℕ) (handed : Entry) : Type 0 where
+      no_smaller : a.tie_breaker ≤ b.tie_breaker
+      stays : served.controlling ≡ b.controlling
+      refusal : Packet
+      via_back : via_out refusal ≡ reversed (via_out came)
+      sends : Sends b handed class.Failure id refusal served
 
     module _ (checks : (key id username : List ℕ) (controlling : Bool) (tie_breaker priority : ℕ) (nominates : Bool)
         → length username ≤ USERNAME_LIMIT → FitsInto key LONGEST_CHECK (binding_request username id controlling tie_breaker priority nominates)) where
-      pub conflicts-settle : ChecksAreKept mac answers → ConflictsSettle mac answers
-      conflicts-settle kept_law a sent near b served s t now at check id moment handed xs sound_a sound_b step sends fits_in gone know reached delivered =
+      -- it is served, and one of the two takes the other role
+      meets : (a sent b served : AgentRecord H P) (s t : Stream) (now at : ℕ) (check came : Packet) (id : List ℕ) (moment handed : Entry) → IsSound a → IsSound b
+          → Step mac answers a s (HandleTimeout now) moment sent t → Sends a moment class.Request id check sent → KnowEachOther mac a b → came.contents ≡ check.contents
+          → IsReachedBy b (via_out came) → Delivered mac answers came at b handed served
+          → IsMet b (handing came at) handed
+          × (b.controlling ≡ a.controlling → ((b.tie_breaker < a.tie_breaker) × (served.controlling ≡ not a.controlling)) ⊎ Insisted a b served came id handed)
+      meets a sent b served s t now at check came id moment handed sound_a sound_b step sends known unaltered reached delivered =
           ((q, serving, tests), λ alike. resolves alike (leb_tells a.tie_breaker b.tie_breaker)) where
-            sound_sent : IsSound sent
-            sound_sent = (path_law mac answers a sent s t (HandleTimeout now) moment sound_a tt step).1
-
-            known : KnowEachOther mac a b
-            known =
-                known-on mac near a b (sym (keys-between mac answers xs sent near sound_sent fits_in gone ∙ keys-moment mac answers now moment a sent s t sound_a step)) know
-
-            k : Comes mac a b check id at handed
-            k = check-comes mac answers read checks a sent b served check check id at handed sound_a known
-                (record { call = HandleTimeout now; entry = moment; before = s; behind = t; step = step; sends = sends }) refl delivered
+            k : Comes mac a b came id at handed
+            k = check-comes mac answers read checks a sent b served check came id at handed sound_a known
+                (record { call = HandleTimeout now; entry = moment; before = s; behind = t; step = step; sends = sends }) unaltered delivered
 
             q : RequestRecord
-            q = request_in at (via_out check) k.message
+            q = request_in at (via_out came) k.message
 
             place : (l : ℕ) × (local_place b.local q ≡ Some l)
             place = let p = live_place mac answers b q reached.there in (p.0, p.1)
 
-            serving : IsServing b (handing {P = P} check at) handed q
-            serving = (at, via_out check, k.message, (refl, refl, k.reads, k.accepted), k.request, ap (λ o. is_some o) know.its, refl)
+            serving : IsServing b (handing {P = P} came at) handed q
+            serving = (at, via_out came, k.message, (refl, refl, k.reads, k.accepted), k.request, ap (λ o. is_some o) known.its, refl)
 
             tests : IsServedPastTests b q
             tests = (k.named, place)
@@ -129,48 +154,80 @@ module _ {H P : Type 0} (mac : H → List ℕ → List ℕ → List ℕ) (answer
                 ∙ ap (λ x. if x then Insists else Yields) is
 
             role : served.controlling ≡ role_once (conflict_of b q) b.controlling
-            role = (trade_law mac answers b served delivered.before delivered.behind (handing check at) handed sound_b tt delivered.step).settled q serving tests
+            role = (trade_law mac answers b served delivered.before delivered.behind (handing came at) handed sound_b tt delivered.step).settled q serving tests
 
-            insists : a.tie_breaker ≤ b.tie_breaker → b.controlling ≡ a.controlling → conflict_of b q ≡ Insists → IsConflictSent mac answers a near b served check id handed
-            insists le alike is =
-                let out : handed.emitted.issued ≡ Some (issued_as (reversed (via_out check)) class.Failure id) =
-                conflict_sent q b k.mid handed.emitted place.0 k.named place.1 is k.serves ∙ ap (λ i. Some (issued_as (reversed (via_out check)) class.Failure i)) k.id_is in
-                let back = goes-back mac answers class.Failure b served check id at handed sound_b delivered
-                (λ packet m says. says.3 ∙ ap reversed (brought-by mac answers b check at handed says.0 says.1)) (reversed (via_out check)) out in
-                let refusal : Packet = back.0 in
-                let via_back : list_any (keeps_check_on sent (via_out refusal) id) sent.pairs ≡ true =
-                subst (λ w. list_any (keeps_check_on sent w id) sent.pairs ≡ true) (sym back.1) (kept_law a sent s t now check id moment sound_a step sends) in
-                let kept = checks-stay mac answers sent near xs (via_out refusal) id sound_sent fits_in gone via_back in
-                let sound_near = sound-course mac answers xs sent near sound_sent gone in record {
-                  no_smaller = omega (arith, le);
-                  stays = role ∙ ap (λ c. role_once c b.controlling) is;
-                  refusal = refusal;
-                  via_back = back.1;
-                  sends = back.2;
-                  returns = λ mid taken ys at_back returned fits_on on came. (
-                      let sound_mid = sound-course mac answers ys near mid sound_near on in
-                      let r = refusal-comes mid taken b served refusal id at_back returned sound_b
-                      (known-on mac near mid b (keys-between mac answers ys near mid sound_near fits_on on) know)
-                      (record {
-                        call = handing check at;
-                        entry = handed;
-                        before = delivered.before;
-                        behind = delivered.behind;
-                        step = delivered.step;
-                        sends = back.2;
-                      })
-                      (checks-stay mac answers near mid ys (via_out refusal) id sound_near fits_on on kept) came in
-                      let by = (trade_law mac answers mid taken came.before came.behind (handing refusal at_back) returned sound_mid tt came.step).given_up at_back (via_out refusal) r.0 r.1 r.2 r.3 in
-                      (by, λ under. turned_role mid taken returned refusal at_back r.0 r.1.2 r.4 alike under by));
-                } where
-                  turned_role : (mid taken : AgentRecord H P) (returned : Entry) (refusal : Packet) (at_back : ℕ) (n : Message) → Reads refusal.contents n → n.id ≡ id → b.controlling ≡ a.controlling
-                      → AreSentUnder a.controlling mid id → IsRefusedBy mid (handing refusal at_back) returned taken → taken.controlling ≡ not b.controlling
-                  turned_role mid taken returned refusal at_back n reads own same under (moment_of, by, path, m, c, brings, failure, says, kept, is) =
-                      let m_is : m ≡ n = same_reading refusal.contents n m reads brings.2 in
-                      let under_id : IsKept mid path id c = subst (λ i. IsKept mid path i c) (ap (λ (y : Message). y.id) m_is ∙ own) kept in
-                      is ∙ ap not (under path c under_id ∙ sym same)
+            insists : a.tie_breaker ≤ b.tie_breaker → conflict_of b q ≡ Insists → Insisted a b served came id handed
+            insists le is =
+                let out : handed.emitted.issued ≡ Some (issued_as (reversed (via_out came)) class.Failure id) =
+                conflict_sent q b k.mid handed.emitted place.0 k.named place.1 is k.serves ∙ ap (λ i. Some (issued_as (reversed (via_out came)) class.Failure i)) k.id_is in
+                let back = goes-back mac answers class.Failure b served came id at handed sound_b delivered
+                (λ packet m says. says.3 ∙ ap reversed (brought-by mac answers b came at handed says.0 says.1)) (reversed (via_out came)) out in
+                record { no_smaller = omega (arith, le); stays = role ∙ ap (λ c. role_once c b.controlling) is; refusal = back.0; via_back = back.1; sends = back.2 }
 
             resolves : b.controlling ≡ a.controlling → (((nat_le a.tie_breaker b.tie_breaker ≡ true) × (a.tie_breaker ≤ b.tie_breaker)) ⊎ ((nat_le a.tie_breaker b.tie_breaker ≡ false) × (b.tie_breaker < a.tie_breaker)))
-                → ((b.tie_breaker < a.tie_breaker) × (served.controlling ≡ not a.controlling)) ⊎ IsConflictSent mac answers a near b served check id handed
-            resolves alike (inl (is, le)) = inr (insists le alike (conflict true alike is))
+                → ((b.tie_breaker < a.tie_breaker) × (served.controlling ≡ not a.controlling)) ⊎ Insisted a b served came id handed
+            resolves alike (inl (is, le)) = inr (insists le (conflict true alike is))
             resolves alike (inr (is, lt)) = inl (omega (arith, lt), role ∙ ap (λ c. role_once c b.controlling) (conflict false alike is) ∙ ap not alike)
+
+      -- the delivered check issues the 487
+      issues : (b served : AgentRecord H P) (came refusal : Packet) (id : List ℕ) (at : ℕ) (handed : Entry) → Delivered mac answers came at b handed served
+          → Sends b handed class.Failure id refusal served → Issued mac answers class.Failure id refusal b served
+      issues b served came refusal id at handed delivered sends =
+          record { call = handing came at; entry = handed; before = delivered.before; behind = delivered.behind; step = delivered.step; sends = sends }
+
+      pub conflicts-settle : ChecksAreKept mac answers → ConflictsSettle mac answers
+      conflicts-settle kept_law a sent near b served s t now at check id moment handed xs sound_a sound_b step sends fits_in gone know reached delivered =
+          (there.0, λ alike. elim (there.1 alike) [ inl lesser ↦ inl lesser | inr i ↦ inr (insisted alike i) ]) where
+            sound_sent : IsSound sent
+            sound_sent = (path_law mac answers a sent s t (HandleTimeout now) moment sound_a tt step).1
+
+            known : KnowEachOther mac a b
+            known =
+                known-on mac near a b (sym (keys-between mac answers xs sent near sound_sent fits_in gone ∙ keys-moment mac answers now moment a sent s t sound_a step)) know
+
+            there : IsMet b (handing check at) handed × (b.controlling ≡ a.controlling
+                → ((b.tie_breaker < a.tie_breaker) × (served.controlling ≡ not a.controlling)) ⊎ Insisted a b served check id handed)
+            there = meets a sent b served s t now at check check id moment handed sound_a sound_b step sends known refl reached delivered
+
+            insisted : b.controlling ≡ a.controlling → Insisted a b served check id handed → IsConflictSent mac answers a near b served check id handed
+            insisted alike i =
+                let via_back : list_any (keeps_check_on sent (via_out i.refusal) id) sent.pairs ≡ true =
+                subst (λ w. list_any (keeps_check_on sent w id) sent.pairs ≡ true) (sym i.via_back) (kept_law a sent s t now check id moment sound_a step sends) in
+                let kept = checks-stay mac answers sent near xs (via_out i.refusal) id sound_sent fits_in gone via_back in
+                let sound_near = sound-course mac answers xs sent near sound_sent gone in record {
+                  no_smaller = (let le = i.no_smaller in omega (arith, le));
+                  stays = i.stays;
+                  refusal = i.refusal;
+                  via_back = i.via_back;
+                  sends = i.sends;
+                  returns = λ mid taken ys at_back returned fits_on on came. (
+                      let gives = gives-way a.controlling mid taken b served i.refusal i.refusal id at_back returned (sound-course mac answers ys near mid sound_near on) sound_b
+                      (known-on mac near mid b (keys-between mac answers ys near mid sound_near fits_on on) know) (issues b served check i.refusal id at handed delivered i.sends) refl
+                      (checks-stay mac answers near mid ys (via_out i.refusal) id sound_near fits_on on kept) came in
+                      (gives.0, λ under. gives.1 under ∙ ap not (sym alike)));
+                }
+
+      pub carried-settle : CarriedSettle mac answers
+      carried-settle a sent b served s t now at check came id moment handed sound_a sound_b step sends know unaltered reached delivered =
+          (there.0, λ alike. elim (there.1 alike) [ inl lesser ↦ inl lesser | inr i ↦ inr (insisted alike i) ]) where
+            there : IsMet b (handing came at) handed × (b.controlling ≡ a.controlling
+                → ((b.tie_breaker < a.tie_breaker) × (served.controlling ≡ not a.controlling)) ⊎ Insisted a b served came id handed)
+            there = meets a sent b served s t now at check came id moment handed sound_a sound_b step sends know unaltered reached delivered
+
+            insisted : b.controlling ≡ a.controlling → Insisted a b served came id handed → IsConflictCarried mac answers a sent b served check came id handed
+            insisted alike i = record {
+              no_smaller = (let le = i.no_smaller in omega (arith, le));
+              stays = i.stays;
+              refusal = i.refusal;
+              via_back = i.via_back;
+              sends = i.sends;
+              returns = λ mid taken answer xs back limit returned course keeps few known unaltered_back returns got.
+                  elim (still-kept mac answers a sent mid s t now limit check answer id moment xs sound_a step sends course keeps few returns) [
+                    | inl kept ↦
+                        (let sound_mid = sound-course mac answers xs sent mid (path_law mac answers a sent s t (HandleTimeout now) moment sound_a tt step).1 course in
+                        let gives = gives-way a.controlling mid taken b served i.refusal answer id back returned sound_mid sound_b known
+                        (issues b served came i.refusal id at handed delivered i.sends) unaltered_back kept got in
+                        inl (gives.0, λ under. gives.1 under ∙ ap not (sym alike)))
+                    | inr ends ↦ inr ends
+                  ];
+            }

@@ -14,7 +14,7 @@ ghost use Rattle.is_rules.specs.Courses.{CoursesAnnounce};
 ghost use Rattle.is_rules.specs.Asking.{ChecksAsk};
 ghost use Rattle.is_rules.specs.AskedCourses.{GrantedAreAnnounced};
 ghost use Rattle.is_rules.specs.Rounds.{AnsweredRoundsAnnounce, PartsAreRuns, TurnsAreOfUse};
-ghost use Rattle.is_rules.specs.Carried.{CarriedAreServed, CarriedAreAccepted, CarriedSucceedLater, CarriedAsk};
+ghost use Rattle.is_rules.specs.Carried.{CarriedAreServed, CarriedAreAccepted, CarriedSucceedLater, CarriedAsk, CarriedSettle};
 ghost use Rattle.is_rules.specs.Pending.{PairsKeepChecks, ChecksPend, ChecksPendAlong, ExchangesSucceedLater};
 ghost use Rattle.is_rules.specs.Staying.{PairsStay, PairsStayOn};
 ghost use Rattle.is_rules.specs.Asked.{AskedAreAnnounced};
@@ -218,10 +218,11 @@ pub fn exchanges_succeed<H: Sha1HmacProvider, P: LocalPreference>()
 }
 
 /// One check resolves a role conflict: it is delivered to the other agent, which has the sender's role. Either that agent has the
-/// smaller tie-breaker and takes the other role, or its 487, delivered before the sender's next `handle_timeout` call, makes the
-/// sender take it. Any packets and polls may come between.
+/// smaller tie-breaker and takes the other role, or its 487, delivered at any time while the transaction is pending, makes the sender
+/// take it.
 pub fn conflicts_settle<H: Sha1HmacProvider, P: LocalPreference>()
-    ensures { ConflictsSettle H.mac P.answers }
+    ensures same { ConflictsSettle H.mac P.answers }
+    ensures carried { CarriedSettle H.mac P.answers }
 {
     written_is_read();
     checks_fit();
