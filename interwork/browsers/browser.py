@@ -151,5 +151,5 @@ class Browser:
         raise NotImplementedError
 
     async def _evaluate(self, script: str) -> Any:
-        """Returns the value of an expression, or of its promise."""
+        """Returns the value of an expression, after it is settled."""
         raise NotImplementedError
