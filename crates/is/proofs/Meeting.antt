@@ -291,7 +291,7 @@ module _ {H P : Type 0} (mac : H → List ℕ → List ℕ → List ℕ) (answer
       let on = cut mac answers part rest first last (subst (λ xs. Follow mac answers first xs last) split (follows mac answers first last s t 0 log run)) in
       let differ : Apart on.0 =
       differs first greater mac answers paths roles resolves side path over part (entries rest) on.0 fair_whole.tie from on.1 k
-      (checked mac answers paths side path over part first on.0 k sound on.1) (λ error sends. back error sends) in
+      (checked mac answers paths side path over part first on.0 k sound on.1) (λ error sends. search (back error sends)) in
       let behind : Comes first greater on.0 (entries rest) = comes_behind first greater mac answers paths roles part (entries rest) first on.0 from on.1 in
       let after = apart_along first greater mac answers paths roles rest [] on.0 last (subst (λ (l : List (Logged P)). Comes first greater on.0 l) (sym (append-nil (entries rest))) behind) on.2 differ in
-      (after.0, λ x has. search (after.1 x has))
+      let stays : (x : Occurrence H P) → Has rest x → StayOpposite x = after.1 in (after.0, search stays)

@@ -222,7 +222,7 @@ module _ {H P : Type 0} (mac : H → List ℕ → List ℕ → List ℕ) (answer
               via_back = i.via_back;
               sends = i.sends;
               returns = λ mid taken answer xs back limit returned course keeps few known unaltered_back returns got.
-                  elim (still-kept mac answers a sent mid s t now limit check answer id moment xs sound_a step sends course keeps few returns) [
+                  elim (still-kept mac answers a sent mid s t now limit check answer id moment xs sound_a step sends course keeps few (search returns)) [
                     | inl kept ↦
                         (let sound_mid = sound-course mac answers xs sent mid (path_law mac answers a sent s t (HandleTimeout now) moment sound_a tt step).1 course in
                         let gives = gives-way a.controlling mid taken b served i.refusal answer id back returned sound_mid sound_b known
