@@ -156,7 +156,7 @@ class Errors(unittest.TestCase):
     def test_an_agent_of_several_threads(self) -> None:
         def use(number: int) -> None:
             for turn in range(100):
-                self.agent.handle_timeout(BEGINNING + (4 * turn + number) * MS)
+                self.agent.handle_timeout(BEGINNING + (4 * turn + number) * SECOND // 20)
                 self.agent.poll_event()
                 self.agent.poll_transmit()
 
