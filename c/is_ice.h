@@ -80,7 +80,7 @@ enum {
     IS_ICE_HAS_AGENT = -2,             /* the is_ice_agent holds one already */
     IS_ICE_NOT_UTF8 = -3,              /* a text is not UTF-8 */
     IS_ICE_BAD_ADDRESS = -4,           /* a family other than 4 and 6, or an unknown number of a protocol or a kind */
-    IS_ICE_UNPARSED = -5,              /* the bytes are not a STUN message */
+    IS_ICE_UNPARSED = -5,              /* not a STUN message, or one without what ICE requires of it */
     IS_ICE_BUFFER_TOO_SHORT = -6,      /* the buffer is unchanged, and the required length was returned */
     IS_ICE_OUT_OF_MEMORY = -7,         /* malloc or realloc failed */
     IS_ICE_BAD_CANDIDATE = -8,         /* an address that no candidate may have, or a text that is not a candidate */
@@ -417,7 +417,9 @@ IS_ICE_CALL int32_t is_ice_handle_timeout(
  * bytes from anybody.
  *
  * IS_ICE_OK: accepted. IS_ICE_NOTHING: a STUN message that is not for this agent. IS_ICE_UNPARSED: not a STUN message,
- * as media. IS_ICE_BAD_ADDRESS: an unknown family or protocol. IS_ICE_PAIR_IDS_EXHAUSTED. IS_ICE_OUT_OF_MEMORY. */
+ * as media, or a Binding request or success response without an attribute that ICE requires. The response of a STUN
+ * server is one: it has no MESSAGE-INTEGRITY. The first byte tells them apart (RFC 7983): it is below 4 for STUN.
+ * IS_ICE_BAD_ADDRESS: an unknown family or protocol. IS_ICE_PAIR_IDS_EXHAUSTED. IS_ICE_OUT_OF_MEMORY. */
 IS_ICE_CALL int32_t is_ice_handle_packet(
     is_ice_agent *agent, uint64_t now, uint8_t protocol, const is_ice_address *source,
     const is_ice_address *destination, const uint8_t *bytes, size_t length);
@@ -434,7 +436,7 @@ IS_ICE_CALL int32_t is_ice_accepts_packet(
 /* is_ice_accepts_message - returns whether the message is for this agent, from any source, and changes nothing. Does
  * not allocate.
  *
- * IS_ICE_OK: it is. IS_ICE_NOTHING: it is not. IS_ICE_UNPARSED: not a STUN message. */
+ * IS_ICE_OK: it is. IS_ICE_NOTHING: it is not. IS_ICE_UNPARSED: not a STUN message, or one without what ICE requires. */
 IS_ICE_CALL int32_t is_ice_accepts_message(is_ice_agent *agent, const uint8_t *bytes, size_t length);
 
 /* is_ice_poll_timeout - returns the time at which to call is_ice_handle_timeout next. A later call only adds its delay.

@@ -238,7 +238,8 @@ class IceAgent:
                       protocol: Protocol = Protocol.UDP) -> bool:
         """Passes a datagram to the agent that arrived at the local address `destination`.
 
-        Returns False if it is not for this agent, which is then unchanged. Unparsed: it is not a STUN message.
+        Returns False if it is not for this agent, which is then unchanged. Unparsed: it is not a STUN message, or one
+        without MESSAGE-INTEGRITY, as a STUN server's response.
         """
         return done(self._c.is_ice_handle_packet(
             self._at, in_range(now, 64, "a time"), protocol, address_of(source), address_of(destination), contents,

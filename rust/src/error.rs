@@ -20,7 +20,7 @@ impl fmt::Display for IceError {
 
 impl Error for IceError {}
 
-/// Bytes that are not a STUN message.
+/// Bytes that are not a STUN message, or are a Binding request or success response without an attribute that ICE requires.
 #[derive(Clone, Debug, PartialEq, Eq)]
 pub enum StunError {
     /// They cannot be parsed.

@@ -16,7 +16,8 @@ thread_local! {
 pub struct StunMessage<'a>(&'a [u8]);
 
 impl<'a> StunMessage<'a> {
-    /// Parses a datagram, which the message borrows. An error if it is not a STUN message, as media.
+    /// Parses a datagram, which the message borrows. An error if it is not a STUN message, as media, or lacks what ICE requires, as the
+    /// response of a STUN server, which has no MESSAGE-INTEGRITY.
     pub fn parse(bytes: &'a [u8]) -> Result<StunMessage<'a>, StunError> {
         match READER.with_borrow_mut(|reader| reader.accepts_message(bytes)) {
             ffi::UNPARSED => Err(StunError::Parse(ffi::text_of(ffi::UNPARSED).to_owned())),
