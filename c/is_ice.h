@@ -418,7 +418,7 @@ IS_ICE_CALL int32_t is_ice_handle_timeout(
  *
  * IS_ICE_OK: accepted. IS_ICE_NOTHING: a STUN message that is not for this agent. IS_ICE_UNPARSED: not a STUN message,
  * as media, or a Binding request or success response without an attribute that ICE requires. The response of a STUN
- * server is one: it has no MESSAGE-INTEGRITY. The first byte tells them apart (RFC 7983): it is below 4 for STUN.
+ * server is one: it has no MESSAGE-INTEGRITY. The first byte of STUN is below 4 (RFC 7983).
  * IS_ICE_BAD_ADDRESS: an unknown family or protocol. IS_ICE_PAIR_IDS_EXHAUSTED. IS_ICE_OUT_OF_MEMORY. */
 IS_ICE_CALL int32_t is_ice_handle_packet(
     is_ice_agent *agent, uint64_t now, uint8_t protocol, const is_ice_address *source,
@@ -436,7 +436,8 @@ IS_ICE_CALL int32_t is_ice_accepts_packet(
 /* is_ice_accepts_message - returns whether the message is for this agent, from any source, and changes nothing. Does
  * not allocate.
  *
- * IS_ICE_OK: it is. IS_ICE_NOTHING: it is not. IS_ICE_UNPARSED: not a STUN message, or one without what ICE requires. */
+ * IS_ICE_OK: it is. IS_ICE_NOTHING: it is not. IS_ICE_UNPARSED: not a STUN message, or one without what ICE requires.
+ */
 IS_ICE_CALL int32_t is_ice_accepts_message(is_ice_agent *agent, const uint8_t *bytes, size_t length);
 
 /* is_ice_poll_timeout - returns the time at which to call is_ice_handle_timeout next. A later call only adds its delay.
