@@ -1,6 +1,6 @@
 //! Messages: parsing and verifying them, and reading their attributes.
 
-ghost use Rattle.std.specs.Prelude.{◌≡◌, ◌≤◌, ◌<◌, ◌^◌, ◌+◌, ◌↔◌, IsTrue, None, length, Some, IfOk, IfErr, OnOk, MatchResult};
+ghost use Rattle.std.specs.Prelude.{◌≡◌, ◌≤◌, ◌<◌, ◌^◌, ◌+◌, ◌↔◌, IsTrue, None, length, Some, IfSome, IfNone, IfOk, IfErr, OnOk, MatchResult};
 ghost use Rattle.is_stun.specs.Tlv.{tlvs_of};
 ghost use Rattle.is_stun.specs.Header.{body_of};
 
@@ -45,44 +45,60 @@ fn trans_id_of(bytes: &[u8]) -> TransId
 impl<'a> StunMessage<'a> {
     ghost use Rattle.is_stun.specs.MessageView.{message_view};
     ghost use Rattle.is_stun.specs.Integrity.{IsSignedBy};
-    ghost use Rattle.is_stun.specs.Reading.{attributes_fault, message_of, demand_fault, Reads, FailsBy};
+    ghost use Rattle.is_stun.specs.Reading.{attributes_fault, message_of, demand_fault, Fault, Reads, FailsBy};
     ghost use Rattle.is_stun.specs.Spells.{Spells};
-    ghost use Rattle.is_stun.specs.Pass.{headed};
+    ghost use Rattle.is_stun.specs.Pass.{IsEmpty, headed};
 
     /// Parses a message. Fails with `StunError::Parse` and the first fault of the bytes: first the faults of the
     /// header, then those of the attributes in the order of their position, then an attribute that a Binding request or
     /// success response lacks (RFC 8489, section 6.3). FINGERPRINT is stored, but not verified; unknown
     /// comprehension-required attributes are skipped.
+    #[inline(always)]
     pub fn parse(buf: &'a [u8]) -> Result<StunMessage<'a>, StunError>
         ensures reads { MatchResult result (λ m. Reads buf.now (message_view m)) (λ e. FailsBy buf.now e) }
         ensures spells { IfOk result (λ m. Spells buf.now (message_view m)) }
     {
-        if let Some(fault) = header_fault(buf) {
-            return Err(StunError::Parse(fault));
-        }
-        let mut message = StunMessage::of_header(buf);
-        if let Err(fault) = message.read(buf) {
-            return Err(StunError::Parse(fault));
-        }
-        if let Some(fault) = message.demand_fault() {
+        let mut message = StunMessage::empty();
+        if let Some(fault) = message.fill(buf) {
             return Err(StunError::Parse(fault));
         }
         Ok(message)
     }
 
-    /// Returns the message of a header without fault, with no attributes yet.
-    fn of_header(buf: &[u8]) -> StunMessage<'a>
-        requires { 20 ≤ length buf.now }
-        ensures { message_view result ≡ headed buf.now }
+    /// Returns a message to parse into.
+    fn empty() -> StunMessage<'a>
+        ensures { IsEmpty (message_view result) }
     {
-        let typ = u16::from_be_bytes([buf[0], buf[1]]);
         StunMessage {
-            method: Method::from_typ(typ),
-            class: Class::from_typ(typ),
-            trans_id: trans_id_of(&buf[8..20]),
+            method: Method::Unknown,
+            class: Class::Unknown,
+            trans_id: TransId([0; 12]),
             attrs: Attributes::new(),
             integrity: None,
         }
+    }
+
+    /// Parses into an empty message, where the caller stores it: so it is not copied. Returns the first fault.
+    #[inline(never)]
+    fn fill(&mut self, buf: &'a [u8]) -> Option<ParseFault>
+        requires { IsEmpty (message_view self.old) }
+        ensures reads { IfNone result (Reads buf.now (message_view self.new)) }
+        ensures fault { IfSome result (λ f. Fault buf.now f) }
+    {
+        if let Some(fault) = header_fault(buf) {
+            return Some(fault);
+        }
+        let typ = u16::from_be_bytes([buf[0], buf[1]]);
+        self.method = Method::from_typ(typ);
+        self.class = Class::from_typ(typ);
+        self.trans_id = trans_id_of(&buf[8..20]);
+        if let Err(fault) = self.read(buf) {
+            return Some(fault);
+        }
+        if let Some(fault) = self.demand_fault() {
+            return Some(fault);
+        }
+        None
     }
 
     /// Reads the attributes after the header, in one pass.

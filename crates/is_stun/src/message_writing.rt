@@ -1,17 +1,19 @@
 //! Writing messages.
 
-ghost use Rattle.std.specs.Prelude.{◌≡◌, length, take, IfNone, IfOk, IfSome};
+ghost use Rattle.std.specs.Prelude.{◌≡◌, length, take, None, IfNone, IfOk, IfSome};
 ghost use Rattle.std.specs.Option.{option_copied, option_map};
 ghost use Rattle.is_stun.specs.Writing.{WritesOr, is_longer, is_bad_code, has_long_value, value_refusal, refusal, written};
 ghost use Rattle.is_stun.specs.Laws.{ReadsAgain};
 ghost use Rattle.is_stun.specs.MessageView.{attributes_view, message_view};
-ghost use Rattle.is_stun.specs.ErrorCodeView.{error_view, WritableError};
+ghost use Rattle.is_stun.specs.ErrorCode.{error_value};
+ghost use Rattle.is_stun.specs.ErrorCodeView.{error_bytes, error_view, WritableError};
 
 use crate::attributes::Attributes;
+use crate::error_code::ErrorValue;
 use crate::header::Method;
 use crate::message::StunMessage;
 use crate::numbers::{DATA_LIMIT, WRITTEN_TEXT_LIMIT, WRITTEN_USERNAME_LIMIT};
-use crate::rows::{Values, error_bytes, rows_of};
+use crate::rows::{Values, rows_of};
 use crate::values::{id_fits, values_fit};
 use crate::writing::{Draft, write_draft};
 use is_proto::{Sha1HmacProvider, StunError};
@@ -81,6 +83,34 @@ fn value_refusal(message: &StunMessage<'_>) -> Option<StunError>
     None
 }
 
+/// Writes a message that can be written, given the value of its ERROR-CODE.
+fn write_message<H: Sha1HmacProvider>(
+    message: &StunMessage<'_>,
+    error: Option<&ErrorValue>,
+    password: Option<&[u8]>,
+    buf: &mut [u8],
+    provider: &H,
+) -> Result<usize, StunError>
+    requires writable { value_refusal (message_view message.now) ≡ None }
+    requires error { option_map error_bytes (option_copied error) ≡ option_map error_value (error_view message.now.attrs.error_code) }
+    ensures written { WritesOr result buf.old buf.new (refusal (option_copied password.entry) (length buf.old)
+        (message_view message.now)) (written (H.mac provider.now) (option_copied password.entry) (message_view message.now)) }
+    ensures read_again { IfOk result (λ len. IfSome (option_copied password.entry)
+        (λ key. ReadsAgain (H.mac provider.now) key (take len buf.new) (message_view message.now))) }
+{
+    // the values are in the ranges of their types, so they parse unchanged
+    id_fits(message.trans_id);
+    values_fit(&message.attrs);
+    let values = Values::of(&message.attrs, &message.trans_id.0);
+    let rows = rows_of(&message.attrs, &values, error);
+    let draft = Draft {
+        typ: message.class.to_u16() + message.method.to_u16(),
+        id: &message.trans_id.0,
+        rows: &rows,
+    };
+    write_draft(&draft, password, buf, provider)
+}
+
 impl<'a> StunMessage<'a> {
     /// Writes the message to the front of the buffer and returns its length: its attributes, then MESSAGE-INTEGRITY if
     /// there is a password, then FINGERPRINT (RFC 8489, sections 5 and 14). It leaves out the MESSAGE-INTEGRITY and
@@ -108,20 +138,15 @@ impl<'a> StunMessage<'a> {
         ensures read_again { IfOk result (λ len. IfSome (option_copied password.entry)
             (λ key. ReadsAgain (H.mac provider.now) key (take len buf.new) (message_view self.entry))) }
     {
-        // the values are in the ranges of their types, so they parse unchanged
-        id_fits(self.trans_id);
-        values_fit(&self.attrs);
         if let Some(error) = value_refusal(&self) {
             return Err(error);
         }
-        let values = Values::of(&self.attrs, &self.trans_id.0);
-        let error = error_bytes(self.attrs.error_code);
-        let rows = rows_of(&self.attrs, &values, &error);
-        let draft = Draft {
-            typ: self.class.to_u16() + self.method.to_u16(),
-            id: &self.trans_id.0,
-            rows: &rows,
-        };
-        write_draft(&draft, password, buf, provider)
+        match self.attrs.error_code {
+            Some((code, reason)) => {
+                let error = ErrorValue::new(code, reason);
+                write_message(&self, Some(&error), password, buf, provider)
+            }
+            None => write_message(&self, None, password, buf, provider),
+        }
     }
 }

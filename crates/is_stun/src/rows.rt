@@ -4,8 +4,7 @@ ghost use Rattle.std.specs.Prelude.{◌≡◌, ◌∷◌, [], map};
 ghost use Rattle.std.specs.Option.{option_copied, option_map};
 ghost use Rattle.std.specs.Int.{w32, w64, to_be_bytes};
 ghost use Rattle.is_stun.specs.Writing.{row, if_set, channel_value, network_cost_value};
-ghost use Rattle.is_stun.specs.ErrorCode.{error_value};
-ghost use Rattle.is_stun.specs.ErrorCodeView.{error_bytes, error_view, WritableError};
+ghost use Rattle.is_stun.specs.ErrorCodeView.{error_bytes};
 ghost use Rattle.is_stun.specs.RowView.{row_view};
 ghost use Rattle.is_stun.specs.Address.{xor_address};
 ghost use Rattle.is_stun.specs.AddressView.{xor_bytes};
@@ -88,19 +87,6 @@ fn cost_bytes(network_cost: Option<(u16, u16)>) -> Option<[u8; 4]>
     }
 }
 
-/// Returns the value of ERROR-CODE. It is long and rare; it is separate from the other values, so that they are cheap
-/// to move.
-#[inline(never)]
-pub(crate) fn error_bytes(error: Option<(u16, &str)>) -> Option<ErrorValue>
-    requires { WritableError error }
-    ensures { option_map error_bytes result ≡ option_map error_value (error_view error.entry) }
-{
-    match error {
-        Some((code, reason)) => Some(ErrorValue::new(code, reason)),
-        None => None,
-    }
-}
-
 impl Values {
     #[inline(always)]
     pub(crate) fn of(attrs: &Attributes<'_>, id: &[u8; 12]) -> Values
@@ -170,8 +156,8 @@ fn address_row(code: u16, value: &Option<XorAddress>) -> Row<'_>
     }
 }
 
-fn error_row(value: &Option<ErrorValue>) -> Row<'_>
-    ensures { row_view result ≡ row ERROR_CODE (option_map error_bytes value.now) }
+fn error_row<'a>(value: Option<&'a ErrorValue>) -> Row<'a>
+    ensures { row_view result ≡ row ERROR_CODE (option_map error_bytes (option_copied value.entry)) }
 {
     Row {
         code: ERROR_CODE,
@@ -191,12 +177,13 @@ fn flag_row<'a>(code: u16, is_set: bool) -> Row<'a>
     }
 }
 
-/// Returns the attributes, in the order of writing.
+/// Returns the attributes, in the order of writing. The value of ERROR-CODE is long and rare; it is separate from the
+/// other values, so that they are cheap to move.
 #[inline(always)]
 pub(crate) fn rows_of<'a>(
     attrs: &Attributes<'a>,
     values: &'a Values,
-    error: &'a Option<ErrorValue>,
+    error: Option<&'a ErrorValue>,
 ) -> [Row<'a>; 16]
     ensures { map row_view result
         ≡ row USERNAME (option_copied attrs.now.username)
@@ -212,7 +199,7 @@ pub(crate) fn rows_of<'a>(
         ∷ row LIFETIME values.now.lifetime
         ∷ row REALM (option_copied attrs.now.realm)
         ∷ row NONCE (option_copied attrs.now.nonce)
-        ∷ row ERROR_CODE (option_map error_bytes error.now)
+        ∷ row ERROR_CODE (option_map error_bytes (option_copied error.entry))
         ∷ row SOFTWARE (option_copied attrs.now.software)
         ∷ row NETWORK_COST values.now.network_cost
         ∷ [] }

@@ -1,27 +1,8 @@
-use Rattle.std.proofs.Common.{refl, ◌+◌, map, length}
+use Rattle.std.proofs.Common.{refl, length}
 use Rattle.std.specs.Option.{option_copied}
-use Rattle.is_stun.specs.RowView.{row_view}
 use Rattle.is_stun.specs.MessageView.{message_view}
-use Rattle.is_stun.proofs.WrittenLemmas.{refusal_at_once, writes_message}
-use Rattle.is_stun.proofs.MessageTrip.{bytes_read_again}
+use Rattle.is_stun.proofs.WrittenLemmas.{refusal_at_once}
 use Rattle.is_stun.proofs.message.StunMessage.to_bytes.Goals as goal
 
 pub returns-in-Some-clause-written : goal.returns-in-Some-clause-written
 returns-in-Some-clause-written g c = (refusal_at_once (option_copied c.args.password) (length c.args.buf.now) (message_view c.args.self) c.in-Some.error c.in-Some.ensures.refusal, refl)
-
-pub returns-clause-written : goal.returns-clause-written
-returns-clause-written g c =
-    let v = c.of-values.ensures in
-    writes_message c.write_draft.result c.args.buf.now c.write_draft.new.buf (g.H.Sha1HmacProvider.mac c.args.provider.now) (option_copied c.args.password) (message_view c.args.self)
-    (c.to_u16.result + c.to_u16-2.result) (map row_view c.rows_of-rows.result) c.in_default.ensures.refusal
-    (rw (c.rows_of-rows.ensures, v.controlled, v.controlling, v.priority, v.mapped, v.relayed, v.peer, v.channel, v.lifetime, c.error_bytes-error.ensures, v.cost) refl)
-    (rw (c.to_u16.ensures, c.to_u16-2.ensures) refl) c.write_draft.ensures.written
-
-pub returns-clause-read_again : goal.returns-clause-read_again
-returns-clause-read_again g c =
-    let v = c.of-values.ensures in
-    let mac = g.H.Sha1HmacProvider.mac c.args.provider.now in
-    bytes_read_again c.write_draft.result c.args.buf.now c.write_draft.new.buf mac (option_copied c.args.password) (message_view c.args.self)
-    (c.to_u16.result + c.to_u16-2.result) (map row_view c.rows_of-rows.result) c.in_default.ensures.refusal
-    (rw (c.rows_of-rows.ensures, v.controlled, v.controlling, v.priority, v.mapped, v.relayed, v.peer, v.channel, v.lifetime, c.error_bytes-error.ensures, v.cost) refl)
-    (rw (c.to_u16.ensures, c.to_u16-2.ensures) refl) c.write_draft.ensures.written c.write_draft.ensures.mac c.id_fits.ensures c.values_fit.ensures
