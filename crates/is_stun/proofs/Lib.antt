@@ -3,6 +3,7 @@ pub mod TextLemmas
 pub mod WalkLemmas
 pub mod PassLemmas
 pub mod ReadsLemmas
+pub mod FormLemmas
 pub mod PutLemmas
 pub mod CrcLemmas
 pub mod CrcTable

@@ -10,6 +10,7 @@ pub mod ErrorCodeView
 pub mod Message
 pub mod Integrity
 pub mod Reading
+pub mod Form
 pub mod Spells
 pub mod Pass
 pub mod Gives

@@ -48,6 +48,7 @@ impl<'a> StunMessage<'a> {
     ghost use Rattle.is_stun.specs.Reading.{attributes_fault, message_of, demand_fault, Fault, Reads, FailsBy};
     ghost use Rattle.is_stun.specs.Spells.{Spells};
     ghost use Rattle.is_stun.specs.Pass.{IsEmpty, headed};
+    ghost use Rattle.is_stun.specs.Form.{ReadsAny, FailsAnyBy, form_fault};
 
     /// Parses a message. Fails with `StunError::Parse` and the first fault of the bytes: first the faults of the
     /// header, then those of the attributes in the order of their position, then an attribute that a Binding request or
@@ -60,6 +61,19 @@ impl<'a> StunMessage<'a> {
     {
         let mut message = StunMessage::empty();
         if let Some(fault) = message.fill(buf) {
+            return Err(StunError::Parse(fault));
+        }
+        Ok(message)
+    }
+
+    /// Parses a message as `parse` does, but requires no attributes: also the response of a STUN server to a request without
+    /// credentials, which has no MESSAGE-INTEGRITY (RFC 8489, section 6.3.3). Fails with `StunError::Parse` and the first
+    /// fault of the header, or else of the attributes.
+    pub fn parse_any(buf: &'a [u8]) -> Result<StunMessage<'a>, StunError>
+        ensures { MatchResult result (λ m. ReadsAny buf.now (message_view m)) (λ e. FailsAnyBy buf.now e) }
+    {
+        let mut message = StunMessage::empty();
+        if let Some(fault) = message.fill_any(buf) {
             return Err(StunError::Parse(fault));
         }
         Ok(message)
@@ -85,6 +99,22 @@ impl<'a> StunMessage<'a> {
         ensures reads { IfNone result (Reads buf.now (message_view self.new)) }
         ensures fault { IfSome result (λ f. Fault buf.now f) }
     {
+        if let Some(fault) = self.fill_any(buf) {
+            return Some(fault);
+        }
+        if let Some(fault) = self.demand_fault() {
+            return Some(fault);
+        }
+        None
+    }
+
+    /// Parses into an empty message, and requires no attributes. Returns the first fault.
+    #[inline(always)]
+    fn fill_any(&mut self, buf: &'a [u8]) -> Option<ParseFault>
+        requires { IsEmpty (message_view self.old) }
+        ensures reads { IfNone result (ReadsAny buf.now (message_view self.new)) }
+        ensures fault { IfSome result (λ f. form_fault buf.now ≡ Some f) }
+    {
         if let Some(fault) = header_fault(buf) {
             return Some(fault);
         }
@@ -92,13 +122,10 @@ impl<'a> StunMessage<'a> {
         self.method = Method::from_typ(typ);
         self.class = Class::from_typ(typ);
         self.trans_id = trans_id_of(&buf[8..20]);
-        if let Err(fault) = self.read(buf) {
-            return Some(fault);
+        match self.read(buf) {
+            Ok(()) => None,
+            Err(fault) => Some(fault),
         }
-        if let Some(fault) = self.demand_fault() {
-            return Some(fault);
-        }
-        None
     }
 
     /// Reads the attributes after the header, in one pass.
