@@ -506,6 +506,116 @@ IS_ICE_CALL int32_t is_ice_local_pass(is_ice_agent *agent, uint8_t *buffer, size
 IS_ICE_CALL int32_t is_ice_remote_ufrag(is_ice_agent *agent, uint8_t *buffer, size_t size, size_t *length);
 IS_ICE_CALL int32_t is_ice_remote_pass(is_ice_agent *agent, uint8_t *buffer, size_t size, size_t *length);
 
+/* ---- STUN messages (RFC 8489): without an agent. These calls do not allocate, and may be made on any thread.
+ *
+ * A server-reflexive candidate is found in three steps. Send the message of is_ice_stun_request from the socket of a
+ * host candidate to a STUN server. Pass what the server returns to is_ice_stun_response. Then add a candidate of kind
+ * IS_ICE_SERVER_REFLEXIVE: its address is the mapped address, its base that of the socket. Send the request again after
+ * 500 ms, then after twice as long each time, 7 times at most (section 6.2.1). Check that the response came from the
+ * server, to the socket that sent the request. A FINGERPRINT is read, but not verified. */
+
+/* A transaction ID: 12 bytes from a source that nobody can predict. The response has that of its request. */
+typedef struct is_ice_stun_transaction {
+    uint8_t bytes[12];
+} is_ice_stun_transaction;
+
+/* What a response to a Binding request says. */
+typedef struct is_ice_stun_result {
+    is_ice_address mapped; /* of a success response: the source address that the server saw */
+    uint16_t error_code;   /* of an error response: 300 to 699; of a success response: 0 */
+} is_ice_stun_result;
+
+/* is_ice_stun_request - writes a Binding request without credentials: the header and FINGERPRINT (RFC 8489, sections 5
+ * and 14.7), which are IS_ICE_STUN_REQUEST_LENGTH bytes.
+ *
+ * IS_ICE_OK: the request is at the start of the buffer. IS_ICE_BUFFER_TOO_SHORT: the buffer is unchanged. Both write
+ * the length of the request to *length. */
+enum { IS_ICE_STUN_REQUEST_LENGTH = 28 };
+IS_ICE_CALL int32_t is_ice_stun_request(
+    const is_ice_stun_transaction *id, uint8_t *buffer, size_t size, size_t *length);
+
+/* is_ice_stun_response - reads the response to the Binding request with this transaction ID.
+ *
+ * IS_ICE_OK: it is. A success response writes its XOR-MAPPED-ADDRESS to `mapped`, without flow information and scope,
+ * and 0 to `error_code` (sections 6.3.3 and 14.2). An error response writes its code to `error_code` and leaves
+ * `mapped` unchanged (sections 6.3.4 and 14.8); is_ice_stun_text returns its reason phrase. The response need not have
+ * MESSAGE-INTEGRITY, and none is verified: whoever sees the request can forge the response.
+ * IS_ICE_NOTHING: a message that is not this response, or that has neither that address nor a code. IS_ICE_UNPARSED:
+ * not a STUN message, or one with a malformed attribute. After both *result is unchanged. */
+IS_ICE_CALL int32_t is_ice_stun_response(
+    const is_ice_stun_transaction *id, const uint8_t *bytes, size_t length, is_ice_stun_result *result);
+
+/* The types of attributes that contain a text or data (RFC 8489, section 18.3; RFC 8656, section 18). */
+enum {
+    IS_ICE_STUN_USERNAME = 0x0006,
+    IS_ICE_STUN_ERROR_CODE = 0x0009, /* its reason phrase */
+    IS_ICE_STUN_DATA = 0x0013,       /* any bytes; the others are UTF-8 */
+    IS_ICE_STUN_REALM = 0x0014,
+    IS_ICE_STUN_NONCE = 0x0015,
+    IS_ICE_STUN_SOFTWARE = 0x0022    /* SOFTWARE with the type that libwebrtc gives it, not 0x8022 */
+};
+
+/* is_ice_stun_text - returns a text of a message: the value of the last attribute of this type before
+ * MESSAGE-INTEGRITY.
+ *
+ * IS_ICE_OK. IS_ICE_BUFFER_TOO_SHORT. IS_ICE_NOTHING: the message does not have it, or no text has this type.
+ * IS_ICE_UNPARSED. After these two the buffer and *length are unchanged. */
+IS_ICE_CALL int32_t is_ice_stun_text(
+    uint16_t attribute, const uint8_t *bytes, size_t bytes_length, uint8_t *buffer, size_t size, size_t *length);
+
+/* Classes of messages (RFC 8489, section 5). */
+enum { IS_ICE_STUN_REQUEST = 0, IS_ICE_STUN_INDICATION = 1, IS_ICE_STUN_SUCCESS = 2, IS_ICE_STUN_FAILURE = 3 };
+
+/* Methods of messages (RFC 8489, section 18.2; RFC 8656, section 17). */
+enum {
+    IS_ICE_STUN_OTHER = 0, /* any method that is not listed here */
+    IS_ICE_STUN_BINDING = 1,
+    IS_ICE_STUN_ALLOCATE = 3,
+    IS_ICE_STUN_REFRESH = 4,
+    IS_ICE_STUN_SEND = 6,
+    IS_ICE_STUN_DATA_INDICATION = 7,
+    IS_ICE_STUN_CREATE_PERMISSION = 8,
+    IS_ICE_STUN_CHANNEL_BIND = 9
+};
+
+/* A number that a message may have. */
+typedef struct is_ice_stun_number {
+    uint64_t value; /* 0 if it is not set */
+    bool is_set;
+} is_ice_stun_number;
+
+/* A message, except its texts, MESSAGE-INTEGRITY and FINGERPRINT. Each attribute is the last one of its type before
+ * MESSAGE-INTEGRITY. An address that the message does not have is of family 0. */
+typedef struct is_ice_stun_message {
+    is_ice_stun_number priority;       /* PRIORITY (RFC 8445, section 16.1) */
+    is_ice_stun_number controlled;     /* the tie-breaker of ICE-CONTROLLED */
+    is_ice_stun_number controlling;    /* the tie-breaker of ICE-CONTROLLING */
+    is_ice_stun_number error_code;     /* 300 to 699 (RFC 8489, section 14.8) */
+    is_ice_stun_number lifetime;       /* in seconds (RFC 8656, section 18.2) */
+    is_ice_stun_number channel_number; /* 0x4000 to 0x7FFF (RFC 8656, section 18.1) */
+    is_ice_stun_number network_id;     /* NETWORK-COST: the ID of the sender's network */
+    is_ice_stun_number network_cost;   /* and its cost */
+    is_ice_address mapped;             /* XOR-MAPPED-ADDRESS (RFC 8489, section 14.2) */
+    is_ice_address peer;               /* XOR-PEER-ADDRESS (RFC 8656, section 18.3) */
+    is_ice_address relayed;            /* XOR-RELAYED-ADDRESS (RFC 8656, section 18.5) */
+    is_ice_stun_transaction id;
+    uint16_t method;
+    uint8_t cls;                       /* the class */
+    bool use_candidate;                /* USE-CANDIDATE (RFC 8445, section 16.1) */
+} is_ice_stun_message;
+
+/* is_ice_stun_read - reads a message of any method and class. Nothing is verified, and no attribute is required.
+ *
+ * IS_ICE_OK. IS_ICE_UNPARSED: not a STUN message, or one with a malformed attribute; *message is unchanged. */
+IS_ICE_CALL int32_t is_ice_stun_read(const uint8_t *bytes, size_t length, is_ice_stun_message *message);
+
+/* is_ice_stun_verify - returns whether the message has a MESSAGE-INTEGRITY that is the HMAC-SHA1 of the message under
+ * this key (RFC 8489, section 14.5). For ICE the key of a request is the receiver's password, and that of its response
+ * the same one (RFC 8445, section 7.1.2).
+ *
+ * IS_ICE_OK: it is. IS_ICE_NOTHING: it is not. IS_ICE_UNPARSED. */
+IS_ICE_CALL int32_t is_ice_stun_verify(const uint8_t *bytes, size_t length, const uint8_t *key, size_t key_length);
+
 #ifdef __cplusplus
 }
 #endif
@@ -527,6 +637,10 @@ IS_ICE_SIZE(is_ice_agent_stats, 40);
 IS_ICE_SIZE(is_ice_nominated_pair, 32);
 IS_ICE_SIZE(is_ice_kind_preferences, 8);
 IS_ICE_SIZE(is_ice_preference_table, 16);
+IS_ICE_SIZE(is_ice_stun_transaction, 12);
+IS_ICE_SIZE(is_ice_stun_result, 32);
+IS_ICE_SIZE(is_ice_stun_number, 16);
+IS_ICE_SIZE(is_ice_stun_message, 232);
 #undef IS_ICE_SIZE
 #endif
 

@@ -73,7 +73,7 @@ const char *net_text(const is_ice_address *address, char text[NET_TEXT]);
 /* A transaction of one socket with the server of its IP version. */
 struct stun_transaction {
     bool is_open;
-    uint8_t id[12];
+    is_ice_stun_transaction id;
     unsigned sent;
     uint64_t due;
     is_ice_address server;

@@ -13,6 +13,7 @@ CREDENTIALS_RANDOM = 38
 TIMEOUT_RANDOM = 12
 UFRAG_LENGTH = 16
 PASS_LENGTH = 22
+STUN_REQUEST_LENGTH = 28
 
 
 class Agent(ctypes.Structure):
@@ -88,9 +89,49 @@ class PreferenceTable(ctypes.Structure):
     _fields_ = [("v4", KindPreferences), ("v6", KindPreferences)]
 
 
+class StunTransaction(ctypes.Structure):
+    """is_ice_stun_transaction."""
+
+    _fields_ = [("bytes", c_uint8 * 12)]
+
+
+class StunResult(ctypes.Structure):
+    """is_ice_stun_result."""
+
+    _fields_ = [("mapped", Address), ("error_code", c_uint16)]
+
+
+class StunNumber(ctypes.Structure):
+    """is_ice_stun_number."""
+
+    _fields_ = [("value", c_uint64), ("is_set", c_bool)]
+
+
+class StunMessage(ctypes.Structure):
+    """is_ice_stun_message."""
+
+    _fields_ = [
+        ("priority", StunNumber),
+        ("controlled", StunNumber),
+        ("controlling", StunNumber),
+        ("error_code", StunNumber),
+        ("lifetime", StunNumber),
+        ("channel_number", StunNumber),
+        ("network_id", StunNumber),
+        ("network_cost", StunNumber),
+        ("mapped", Address),
+        ("peer", Address),
+        ("relayed", Address),
+        ("id", StunTransaction),
+        ("method", c_uint16),
+        ("cls", c_uint8),
+        ("use_candidate", c_bool),
+    ]
+
+
 # The sizes of the structs that c/is_ice.h asserts.
 SIZES = {Agent: 16, Address: 28, Candidate: 60, Packet: 72, Event: 68, Status: 32, Stats: 40, Nominated: 32, KindPreferences: 8,
-         PreferenceTable: 16}
+         PreferenceTable: 16, StunTransaction: 12, StunResult: 32, StunNumber: 16, StunMessage: 232}
 
 _AGENT = POINTER(Agent)
 _BYTES = [c_char_p, c_size_t]
@@ -141,6 +182,11 @@ PROTOTYPES: dict[str, list[object]] = {
     "is_ice_local_pass": [_AGENT, *_TEXT],
     "is_ice_remote_ufrag": [_AGENT, *_TEXT],
     "is_ice_remote_pass": [_AGENT, *_TEXT],
+    "is_ice_stun_request": [POINTER(StunTransaction), *_TEXT],
+    "is_ice_stun_response": [POINTER(StunTransaction), *_BYTES, POINTER(StunResult)],
+    "is_ice_stun_text": [c_uint16, *_BYTES, *_TEXT],
+    "is_ice_stun_read": [*_BYTES, POINTER(StunMessage)],
+    "is_ice_stun_verify": [*_BYTES, *_BYTES],
 }
 
 

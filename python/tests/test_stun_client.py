@@ -1,4 +1,4 @@
-"""The STUN client: the samples of RFC 5769, malformed responses, and a server."""
+"""STUN: the samples of RFC 5769, malformed responses, the client, and a server."""
 
 from __future__ import annotations
 
@@ -7,10 +7,12 @@ import random
 import struct
 import time
 import unittest
+import zlib
 
-from is_ice import IceAgent, SocketAddress
+from is_ice import IceAgent, SocketAddress, Unparsed
 from is_ice.loop import IceLoop
-from is_ice.stun_client import StunClient, binding_request, mapped_address
+from is_ice.stun import BindingResponse, StunClass, StunMessage, StunMethod, StunText, binding_request, binding_response
+from is_ice.stun_client import StunClient
 
 SAMPLE_V4 = bytes.fromhex(
     "0101003c2112a442b7e7a701bc34d686fa87dfae8022000b7465737420766563746f7220002000080001a147e112a643"
@@ -18,33 +20,73 @@ SAMPLE_V4 = bytes.fromhex(
 SAMPLE_V6 = bytes.fromhex(
     "010100482112a442b7e7a701bc34d686fa87dfae8022000b7465737420766563746f7220002000140002a1470113a9faa5d3f179bc25f4b5bed2b9d9"
     "00080014a382954e4be67bf11784c97c8292c275bfe3ed4180280004c8fb0b4c")  # section 2.3
+SAMPLE_REQUEST = bytes.fromhex(
+    "000100582112a442b7e7a701bc34d686fa87dfae802200105354554e207465737420636c69656e74002400046e0001ff80290008932ff9b151263b36"
+    "000600096576746a3a68367659202020000800149aeaa70cbfd8cb56781ef2b5b2d3f249c1b571a280280004e57a3bcf")  # section 2.1
+ID, PASSWORD = SAMPLE_V4[8:20], b"VOkJxbRl1RmTxUk/WvJxBt"
 HERE, SERVER = SocketAddress("10.0.0.1", 1000), SocketAddress("192.0.2.1", 3478)
 SEEN = SocketAddress("203.0.113.5", 4000)
 
 
-def response_to(request: bytes, seen: SocketAddress = SEEN, kind: int = 0x0101) -> bytes:
-    """A response with MAPPED-ADDRESS, as that of an old server."""
-    value = struct.pack("!BBH4s", 0, 1, seen.port, bytes(int(part) for part in seen.ip.split(".")))
-    return struct.pack("!HH", kind, 12) + request[4:20] + struct.pack("!HH", 1, 8) + value
+def response_to(request: bytes, seen: SocketAddress = SEEN) -> bytes:
+    """A success response of a server, without MESSAGE-INTEGRITY."""
+    plain = struct.pack("!H4s", seen.port, bytes(int(part) for part in seen.ip.split(".")))
+    value = b"\0\1" + bytes(byte ^ mask for byte, mask in zip(plain, request[4:6] + request[4:8]))
+    return struct.pack("!HH", 0x0101, 12) + request[4:20] + struct.pack("!HH", 0x20, 8) + value
+
+
+def failure_to(request: bytes) -> bytes:
+    """An error response of a server: 401 "no"."""
+    return struct.pack("!HH", 0x0111, 12) + request[4:20] + struct.pack("!HHHBB", 9, 6, 0, 4, 1) + b"no\0\0"
 
 
 class Reading(unittest.TestCase):
     def test_the_samples_of_rfc_5769(self) -> None:
-        self.assertEqual(mapped_address(SAMPLE_V4), SocketAddress("192.0.2.1", 32853))
-        self.assertEqual(mapped_address(SAMPLE_V6), SocketAddress("2001:db8:1234:5678:11:2233:4455:6677", 32853))
+        self.assertEqual(binding_response(ID, SAMPLE_V4), BindingResponse(SocketAddress("192.0.2.1", 32853)))
+        self.assertEqual(binding_response(ID, SAMPLE_V6), BindingResponse(SocketAddress("2001:db8:1234:5678:11:2233:4455:6677", 32853)))
+        message = StunMessage(SAMPLE_V4)
+        self.assertEqual((message.method, message.class_, message.transaction), (StunMethod.BINDING, StunClass.SUCCESS, ID))
+        self.assertEqual(message.mapped_address, SocketAddress("192.0.2.1", 32853))
+        self.assertTrue(message.verify(PASSWORD))
+        self.assertFalse(message.verify(PASSWORD[:-1]))
 
-    def test_a_server_without_the_xored_attribute(self) -> None:
-        self.assertEqual(mapped_address(response_to(binding_request(bytes(12)))), SEEN)
+    def test_the_sample_request_of_rfc_5769(self) -> None:
+        message = StunMessage(SAMPLE_REQUEST)
+        self.assertEqual((message.method, message.class_, message.transaction), (StunMethod.BINDING, StunClass.REQUEST, ID))
+        self.assertEqual((message.username, message.priority, message.use_candidate), ("evtj:h6vY", 0x6E0001FF, False))
+        self.assertEqual((message.ice_controlled, message.ice_controlling), (0x932FF9B151263B36, None))
+        self.assertEqual((message.error_code, message.lifetime, message.channel_number, message.network_cost), (None,) * 4)
+        self.assertEqual((message.mapped_address, message.peer_address, message.relayed_address), (None,) * 3)
+        self.assertEqual((message.text(StunText.REALM), message.value_of_data), (None, None))
+        self.assertTrue(message.verify(PASSWORD))
+        self.assertFalse(StunMessage(SAMPLE_REQUEST.replace(b"evtj", b"evtk")).verify(PASSWORD))
+
+    def test_a_request_has_a_header_and_a_fingerprint(self) -> None:
+        request = binding_request(ID)
+        self.assertEqual(request[:20], struct.pack("!HHI12s", 1, 8, 0x2112A442, ID))
+        self.assertEqual(request[20:], struct.pack("!HHI", 0x8028, 4, zlib.crc32(request[:20]) ^ 0x5354554E))
+        with self.assertRaises(ValueError):
+            binding_request(ID[1:])
+
+    def test_only_the_response_of_the_transaction_says_anything(self) -> None:
+        request = binding_request(ID)
+        self.assertEqual(binding_response(ID, response_to(request)), BindingResponse(SEEN))
+        self.assertEqual(binding_response(ID, failure_to(request)), BindingResponse(error_code=401, reason="no"))
+        self.assertIsNone(binding_response(bytes(12), response_to(request)))
+        self.assertIsNone(binding_response(ID, request))
+        self.assertIsNone(binding_response(ID, struct.pack("!HHI12s", 0x0101, 0, 0x2112A442, ID)))
 
     def test_no_malformed_response_raises(self) -> None:
         for length in range(len(SAMPLE_V6)):
-            self.assertIsNone(mapped_address(SAMPLE_V6[:length]))
+            self.assertIsNone(binding_response(ID, SAMPLE_V6[:length]))
+            with self.assertRaises(Unparsed):
+                StunMessage(SAMPLE_V6[:length])
         random.seed(1)
         for _ in range(3000):
             changed = bytearray(SAMPLE_V4)
             for _ in range(3):
                 changed[random.randrange(len(changed))] = random.randrange(256)
-            mapped_address(bytes(changed))
+            binding_response(ID, bytes(changed))
 
 
 class Requests(unittest.IsolatedAsyncioTestCase):
@@ -64,7 +106,7 @@ class Requests(unittest.IsolatedAsyncioTestCase):
 
     async def test_an_error_response_ends_the_request(self) -> None:
         client = StunClient(lambda local, server, message: asyncio.get_running_loop().call_soon(
-            client.receive, SERVER, HERE, response_to(message, kind=0x0111)) and None)
+            client.receive, SERVER, HERE, failure_to(message)) and None)
         self.assertIsNone(await client.binding(HERE, SERVER))
 
     async def test_requests_are_repeated_until_the_time_is_over(self) -> None:

@@ -207,6 +207,12 @@ impl IceAgent {
         self.ask(|agent| agent.accepts_message(message.bytes())) == ffi::OK
     }
 
+    /// Whether `handle_packet` would accept the packet: it is for this agent, and a response came back on the path of its check.
+    pub fn accepts_packet(&self, packet: &StunPacket<'_>) -> bool {
+        let (source, destination) = (address_of(packet.source), address_of(packet.destination));
+        self.ask(|agent| agent.accepts_packet(packet.proto.number(), &source, &destination, packet.message.bytes())) == ffi::OK
+    }
+
     /// Passes a received packet to the agent. Returns whether it is for this agent; if not, the agent is unchanged.
     ///
     /// # Panics

@@ -53,7 +53,7 @@ pub(crate) struct Agent {
 unsafe impl Send for Agent {}
 
 #[repr(C)]
-#[derive(Clone, Copy, Default)]
+#[derive(Clone, Copy, Debug, Default, PartialEq, Eq)]
 pub(crate) struct Address {
     pub(crate) family: u8,
     pub(crate) bytes: [u8; 16],
@@ -136,6 +136,46 @@ pub(crate) struct PreferenceTable {
     pub(crate) v6: KindPreferences,
 }
 
+#[repr(C)]
+#[derive(Clone, Copy, Debug, Default, PartialEq, Eq)]
+pub(crate) struct StunTransaction {
+    pub(crate) bytes: [u8; 12],
+}
+
+#[repr(C)]
+#[derive(Clone, Copy, Default)]
+pub(crate) struct StunResult {
+    pub(crate) mapped: Address,
+    pub(crate) error_code: u16,
+}
+
+#[repr(C)]
+#[derive(Clone, Copy, Debug, Default, PartialEq, Eq)]
+pub(crate) struct StunNumber {
+    pub(crate) value: u64,
+    pub(crate) is_set: bool,
+}
+
+#[repr(C)]
+#[derive(Clone, Copy, Debug, Default, PartialEq, Eq)]
+pub(crate) struct StunMessage {
+    pub(crate) priority: StunNumber,
+    pub(crate) controlled: StunNumber,
+    pub(crate) controlling: StunNumber,
+    pub(crate) error_code: StunNumber,
+    pub(crate) lifetime: StunNumber,
+    pub(crate) channel_number: StunNumber,
+    pub(crate) network_id: StunNumber,
+    pub(crate) network_cost: StunNumber,
+    pub(crate) mapped: Address,
+    pub(crate) peer: Address,
+    pub(crate) relayed: Address,
+    pub(crate) id: StunTransaction,
+    pub(crate) method: u16,
+    pub(crate) cls: u8,
+    pub(crate) use_candidate: bool,
+}
+
 // The sizes that the header asserts, and some offsets.
 #[cfg(target_pointer_width = "64")]
 const _: () = {
@@ -143,6 +183,8 @@ const _: () = {
     assert!(size_of::<Packet>() == 72 && size_of::<Event>() == 68 && size_of::<Status>() == 32);
     assert!(size_of::<Stats>() == 40 && size_of::<Nominated>() == 32);
     assert!(size_of::<KindPreferences>() == 8 && size_of::<PreferenceTable>() == 16);
+    assert!(size_of::<StunTransaction>() == 12 && size_of::<StunResult>() == 32);
+    assert!(size_of::<StunNumber>() == 16 && size_of::<StunMessage>() == 232);
     assert!(std::mem::offset_of!(Agent, at) == 8 && std::mem::offset_of!(Address, flow) == 20);
     assert!(std::mem::offset_of!(Gathered, kind) == 56 && std::mem::offset_of!(Packet, length) == 56);
     assert!(std::mem::offset_of!(Event, state) == 60 && std::mem::offset_of!(Status, mtu) == 8);
@@ -219,8 +261,21 @@ unsafe extern "C" {
         bytes: *const u8,
         length: usize,
     ) -> i32;
+    fn is_ice_accepts_packet(
+        agent: &mut Agent,
+        protocol: u8,
+        source: &Address,
+        destination: &Address,
+        bytes: *const u8,
+        length: usize,
+    ) -> i32;
     fn is_ice_accepts_message(agent: &mut Agent, bytes: *const u8, length: usize) -> i32;
     fn is_ice_poll_transmit(agent: &mut Agent, buffer: *mut u8, size: usize, packet: &mut Packet) -> i32;
+    fn is_ice_stun_request(id: &StunTransaction, buffer: *mut u8, size: usize, length: &mut usize) -> i32;
+    fn is_ice_stun_response(id: &StunTransaction, bytes: *const u8, length: usize, result: &mut StunResult) -> i32;
+    fn is_ice_stun_text(attribute: u16, bytes: *const u8, bytes_length: usize, buffer: *mut u8, size: usize, length: &mut usize) -> i32;
+    fn is_ice_stun_read(bytes: *const u8, length: usize, message: &mut StunMessage) -> i32;
+    fn is_ice_stun_verify(bytes: *const u8, length: usize, key: *const u8, key_length: usize) -> i32;
 }
 
 // ---- calls with texts, datagrams and buffers
@@ -311,6 +366,14 @@ impl Agent {
         }
     }
 
+    pub(crate) fn accepts_packet(&mut self, protocol: u8, source: &Address, destination: &Address, bytes: &[u8]) -> i32 {
+        #[allow(unsafe_code)]
+        // SAFETY: the datagram is a slice that is read.
+        unsafe {
+            is_ice_accepts_packet(self, protocol, source, destination, bytes.as_ptr(), bytes.len())
+        }
+    }
+
     pub(crate) fn accepts_message(&mut self, bytes: &[u8]) -> i32 {
         #[allow(unsafe_code)]
         // SAFETY: the message is a slice that is read.
@@ -355,6 +418,46 @@ pub(crate) fn candidate_refusal(candidate: &Gathered, buffer: &mut [u8], length:
     // SAFETY: the buffer is a slice that is borrowed mutably.
     unsafe {
         is_ice_candidate_refusal(candidate, buffer.as_mut_ptr(), buffer.len(), length)
+    }
+}
+
+pub(crate) fn stun_request(id: &StunTransaction, buffer: &mut [u8], length: &mut usize) -> i32 {
+    #[allow(unsafe_code)]
+    // SAFETY: the buffer is a slice that is borrowed mutably.
+    unsafe {
+        is_ice_stun_request(id, buffer.as_mut_ptr(), buffer.len(), length)
+    }
+}
+
+pub(crate) fn stun_response(id: &StunTransaction, bytes: &[u8], result: &mut StunResult) -> i32 {
+    #[allow(unsafe_code)]
+    // SAFETY: the message is a slice that is read.
+    unsafe {
+        is_ice_stun_response(id, bytes.as_ptr(), bytes.len(), result)
+    }
+}
+
+pub(crate) fn stun_text(attribute: u16, bytes: &[u8], buffer: &mut [u8], length: &mut usize) -> i32 {
+    #[allow(unsafe_code)]
+    // SAFETY: the message is a slice that is read, the buffer one that is borrowed mutably.
+    unsafe {
+        is_ice_stun_text(attribute, bytes.as_ptr(), bytes.len(), buffer.as_mut_ptr(), buffer.len(), length)
+    }
+}
+
+pub(crate) fn stun_read(bytes: &[u8], message: &mut StunMessage) -> i32 {
+    #[allow(unsafe_code)]
+    // SAFETY: the message is a slice that is read.
+    unsafe {
+        is_ice_stun_read(bytes.as_ptr(), bytes.len(), message)
+    }
+}
+
+pub(crate) fn stun_verify(bytes: &[u8], key: &[u8]) -> i32 {
+    #[allow(unsafe_code)]
+    // SAFETY: both are slices that are read.
+    unsafe {
+        is_ice_stun_verify(bytes.as_ptr(), bytes.len(), key.as_ptr(), key.len())
     }
 }
 

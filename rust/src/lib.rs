@@ -17,8 +17,9 @@
 //! - An error that the original does not have, such as out of memory, is a panic that names it. Each method documents its panics.
 //! - A local preference is a number or a table, [`LocalPreference`], not a callback.
 //! - HMAC-SHA1 is the proved one: there is no `with_hmac`. Random bytes are read from `/dev/urandom`.
-//! - A [`stun::StunMessage`] has no accessors. Local candidates are created by three constructors: there are no
-//!   `Candidate::builder`, `from_parts` and `set_ufrag`, no serde, and no `find_pair_for_equivalent_remote_candidate`.
+//! - A [`stun::StunMessage`] is read and verified, and has no builder. [`stun::StunMessage::binding_query`] writes a Binding request.
+//! - Local candidates are created by three constructors: there are no `Candidate::builder`, `from_parts` and `set_ufrag`, no serde, and no
+//!   `find_pair_for_equivalent_remote_candidate`.
 
 mod agent;
 mod candidate;

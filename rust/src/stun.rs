@@ -1,8 +1,9 @@
-//! STUN messages that a caller passes to an agent.
+//! STUN messages (RFC 8489): those that a caller passes to an agent, and those of a client that gathers server-reflexive candidates.
 
+use crate::creds::Random;
 use crate::error::StunError;
 use crate::ffi;
-use crate::proto::Protocol;
+use crate::proto::{Protocol, socket_of};
 use std::cell::RefCell;
 use std::net::SocketAddr;
 
@@ -11,23 +12,326 @@ thread_local! {
     static READER: RefCell<Box<ffi::Agent>> = RefCell::new(ffi::Agent::new("-", "-", 0).unwrap_or_else(|code| panic!("a reader: {}", ffi::text_of(code))));
 }
 
-/// The bytes of a STUN message.
+// The types of the attributes that contain a text or data (RFC 8489, section 18.3; RFC 8656, section 18).
+const USERNAME: u16 = 0x0006;
+const ERROR_CODE: u16 = 0x0009;
+const DATA: u16 = 0x0013;
+const REALM: u16 = 0x0014;
+const NONCE: u16 = 0x0015;
+const SOFTWARE: u16 = 0x0022;
+
+/// The length of a Binding request without credentials: header and FINGERPRINT.
+pub const QUERY_LENGTH: usize = 28;
+
+/// A transaction ID: 12 bytes that the client chose at random (RFC 8489, section 5).
+#[derive(Clone, Copy, Debug, PartialEq, Eq, PartialOrd, Ord, Hash)]
+pub struct TransId(pub [u8; 12]);
+
+impl TransId {
+    /// Draws an ID from the system's random source.
+    ///
+    /// # Panics
+    ///
+    /// If the system has no random bytes.
+    #[allow(clippy::new_without_default)]
+    pub fn new() -> TransId {
+        TransId(Random::new().draw())
+    }
+
+    fn raw(self) -> ffi::StunTransaction {
+        ffi::StunTransaction { bytes: self.0 }
+    }
+}
+
+/// The class of a message (RFC 8489, section 5).
 #[derive(Clone, Copy, Debug, PartialEq, Eq)]
-pub struct StunMessage<'a>(&'a [u8]);
+pub enum Class {
+    /// A request.
+    Request,
+    /// An indication, which has no response.
+    Indication,
+    /// A success response.
+    Success,
+    /// An error response.
+    Failure,
+    /// A class that no message has that was parsed.
+    Unknown,
+}
+
+/// The method of a message (RFC 8489, section 18.2; RFC 8656, section 17).
+#[derive(Clone, Copy, Debug, PartialEq, Eq)]
+pub enum Method {
+    /// STUN: Binding.
+    Binding,
+    /// TURN: Allocate.
+    Allocate,
+    /// TURN: Refresh.
+    Refresh,
+    /// TURN: Send.
+    Send,
+    /// TURN: Data.
+    Data,
+    /// TURN: CreatePermission.
+    CreatePermission,
+    /// TURN: ChannelBind.
+    ChannelBind,
+    /// Any other method.
+    Unknown,
+}
+
+/// What a response to a Binding request says.
+#[derive(Clone, Debug, PartialEq, Eq)]
+pub enum BindingResponse {
+    /// The address at which the server saw the client: XOR-MAPPED-ADDRESS (RFC 8489, section 14.2).
+    Mapped(SocketAddr),
+    /// The code, 300 to 699, and the reason phrase of ERROR-CODE (RFC 8489, section 14.8).
+    Failed(u16, String),
+}
+
+impl BindingResponse {
+    /// Reads the response to the Binding request with this ID. `None` if the datagram is not that response, or has neither
+    /// XOR-MAPPED-ADDRESS nor ERROR-CODE. Nothing is verified: whoever sees the request can forge the response.
+    pub fn parse(id: TransId, bytes: &[u8]) -> Option<BindingResponse> {
+        let mut result = ffi::StunResult::default();
+        if ffi::stun_response(&id.raw(), bytes, &mut result) != ffi::OK {
+            return None;
+        }
+        if result.error_code == 0 {
+            return Some(BindingResponse::Mapped(socket_of(&result.mapped)));
+        }
+        let reason = StunMessage::parse_any(bytes).ok()?.error_code()?.1.to_owned();
+        Some(BindingResponse::Failed(result.error_code, reason))
+    }
+}
+
+/// A STUN message. It borrows the bytes that it was parsed from.
+#[derive(Clone, Copy, Debug, PartialEq, Eq)]
+pub struct StunMessage<'a> {
+    bytes: &'a [u8],
+    flat: ffi::StunMessage,
+}
 
 impl<'a> StunMessage<'a> {
     /// Parses a datagram, which the message borrows. An error if it is not a STUN message, as media, or lacks what ICE requires, as the
     /// response of a STUN server, which has no MESSAGE-INTEGRITY.
     pub fn parse(bytes: &'a [u8]) -> Result<StunMessage<'a>, StunError> {
         match READER.with_borrow_mut(|reader| reader.accepts_message(bytes)) {
-            ffi::UNPARSED => Err(StunError::Parse(ffi::text_of(ffi::UNPARSED).to_owned())),
-            _ => Ok(StunMessage(bytes)),
+            ffi::UNPARSED => Err(unparsed()),
+            _ => StunMessage::parse_any(bytes),
         }
     }
 
-    pub(crate) fn bytes(&self) -> &'a [u8] {
-        self.0
+    /// Parses a message that need not have the attributes that ICE requires, as the response of a STUN server. Nothing is verified.
+    pub fn parse_any(bytes: &'a [u8]) -> Result<StunMessage<'a>, StunError> {
+        let mut flat = ffi::StunMessage::default();
+        match ffi::stun_read(bytes, &mut flat) {
+            ffi::OK => Ok(StunMessage { bytes, flat }),
+            _ => Err(unparsed()),
+        }
     }
+
+    /// Returns a Binding request without credentials, which a client sends to a STUN server. `BindingResponse::parse` reads the response.
+    pub fn binding_query(id: TransId) -> [u8; QUERY_LENGTH] {
+        let (mut bytes, mut length) = ([0; QUERY_LENGTH], 0);
+        let code = ffi::stun_request(&id.raw(), &mut bytes, &mut length);
+        assert_eq!((code, length), (ffi::OK, QUERY_LENGTH), "a Binding request");
+        bytes
+    }
+
+    pub(crate) fn bytes(&self) -> &'a [u8] {
+        self.bytes
+    }
+
+    /// The method.
+    pub fn method(&self) -> Method {
+        match self.flat.method {
+            1 => Method::Binding,
+            3 => Method::Allocate,
+            4 => Method::Refresh,
+            6 => Method::Send,
+            7 => Method::Data,
+            8 => Method::CreatePermission,
+            9 => Method::ChannelBind,
+            _ => Method::Unknown,
+        }
+    }
+
+    /// The class.
+    pub fn class(&self) -> Class {
+        match self.flat.cls {
+            0 => Class::Request,
+            1 => Class::Indication,
+            2 => Class::Success,
+            3 => Class::Failure,
+            _ => Class::Unknown,
+        }
+    }
+
+    fn is(&self, method: Method, class: Class) -> bool {
+        self.method() == method && self.class() == class
+    }
+
+    /// Whether this is a Binding request.
+    pub fn is_binding_request(&self) -> bool {
+        self.is(Method::Binding, Class::Request)
+    }
+
+    /// Whether this is a success response to a Binding request.
+    pub fn is_successful_binding_response(&self) -> bool {
+        self.is(Method::Binding, Class::Success)
+    }
+
+    /// Whether this is an error response to a Binding request.
+    pub fn is_failed_binding_response(&self) -> bool {
+        self.is(Method::Binding, Class::Failure)
+    }
+
+    /// Whether a TURN client requests a relayed address (RFC 8656, section 7).
+    pub fn is_allocate_request(&self) -> bool {
+        self.is(Method::Allocate, Class::Request)
+    }
+
+    /// Whether a TURN client permits peers (RFC 8656, section 10).
+    pub fn is_create_permission_request(&self) -> bool {
+        self.is(Method::CreatePermission, Class::Request)
+    }
+
+    /// Whether a TURN client binds a channel to a peer (RFC 8656, section 12).
+    pub fn is_channel_bind_request(&self) -> bool {
+        self.is(Method::ChannelBind, Class::Request)
+    }
+
+    /// Whether a TURN client refreshes its allocation (RFC 8656, section 8).
+    pub fn is_refresh_request(&self) -> bool {
+        self.is(Method::Refresh, Class::Request)
+    }
+
+    /// Whether a TURN client sends data to a peer (RFC 8656, section 11).
+    pub fn is_send_indication(&self) -> bool {
+        self.is(Method::Send, Class::Indication)
+    }
+
+    /// The transaction ID. A response has that of its request.
+    pub fn trans_id(&self) -> TransId {
+        TransId(self.flat.id.bytes)
+    }
+
+    /// USERNAME (RFC 8489, section 14.3).
+    pub fn username(&self) -> Option<&'a str> {
+        self.text(USERNAME)
+    }
+
+    /// The parts of USERNAME before and after its first colon, if something follows it (RFC 8445, section 7.2.2).
+    pub fn split_username(&self) -> Option<(&'a str, &'a str)> {
+        self.username()?.split_once(':').filter(|parts| !parts.1.is_empty())
+    }
+
+    /// XOR-MAPPED-ADDRESS (RFC 8489, section 14.2).
+    pub fn mapped_address(&self) -> Option<SocketAddr> {
+        address(&self.flat.mapped)
+    }
+
+    /// PRIORITY (RFC 8445, section 16.1).
+    pub fn prio(&self) -> Option<u32> {
+        number(self.flat.priority)
+    }
+
+    /// Whether the message has USE-CANDIDATE (RFC 8445, section 16.1).
+    pub fn use_candidate(&self) -> bool {
+        self.flat.use_candidate
+    }
+
+    /// ERROR-CODE (RFC 8489, section 14.8): the code, 300 to 699, and the reason phrase.
+    pub fn error_code(&self) -> Option<(u16, &'a str)> {
+        Some((number(self.flat.error_code)?, self.text(ERROR_CODE)?))
+    }
+
+    /// CHANNEL-NUMBER (RFC 8656, section 18.1).
+    pub fn channel_number(&self) -> Option<u16> {
+        number(self.flat.channel_number)
+    }
+
+    /// LIFETIME, in seconds (RFC 8656, section 18.2).
+    pub fn lifetime(&self) -> Option<u32> {
+        number(self.flat.lifetime)
+    }
+
+    /// XOR-PEER-ADDRESS (RFC 8656, section 18.3).
+    pub fn xor_peer_address(&self) -> Option<SocketAddr> {
+        address(&self.flat.peer)
+    }
+
+    /// DATA (RFC 8656, section 18.4).
+    pub fn data(&self) -> Option<&'a [u8]> {
+        self.value(DATA)
+    }
+
+    /// REALM (RFC 8489, section 14.9).
+    pub fn realm(&self) -> Option<&'a str> {
+        self.text(REALM)
+    }
+
+    /// NONCE (RFC 8489, section 14.10).
+    pub fn nonce(&self) -> Option<&'a str> {
+        self.text(NONCE)
+    }
+
+    /// XOR-RELAYED-ADDRESS (RFC 8656, section 18.5).
+    pub fn xor_relayed_address(&self) -> Option<SocketAddr> {
+        address(&self.flat.relayed)
+    }
+
+    /// SOFTWARE, as attribute type 0x0022.
+    pub fn software(&self) -> Option<&'a str> {
+        self.text(SOFTWARE)
+    }
+
+    /// The tie-breaker of ICE-CONTROLLED (RFC 8445, section 16.1).
+    pub fn ice_controlled(&self) -> Option<u64> {
+        number(self.flat.controlled)
+    }
+
+    /// The tie-breaker of ICE-CONTROLLING (RFC 8445, section 16.1).
+    pub fn ice_controlling(&self) -> Option<u64> {
+        number(self.flat.controlling)
+    }
+
+    /// NETWORK-COST: the ID of the sender's network, and its cost.
+    pub fn network_cost(&self) -> Option<(u16, u16)> {
+        Some((number(self.flat.network_id)?, number(self.flat.network_cost)?))
+    }
+
+    /// Whether the message has the MESSAGE-INTEGRITY of this password (RFC 8489, section 14.5).
+    pub fn verify(&self, password: &[u8]) -> bool {
+        ffi::stun_verify(self.bytes, password) == ffi::OK
+    }
+
+    fn text(&self, attribute: u16) -> Option<&'a str> {
+        Some(std::str::from_utf8(self.value(attribute)?).expect("texts of the library are UTF-8"))
+    }
+
+    /// The value of an attribute. The library copies it, so this returns the bytes of the message that are the same.
+    fn value(&self, attribute: u16) -> Option<&'a [u8]> {
+        let (mut buffer, mut length) = (vec![0; self.bytes.len()], 0);
+        if ffi::stun_text(attribute, self.bytes, &mut buffer, &mut length) != ffi::OK {
+            return None;
+        }
+        let value = &buffer[..length];
+        let at = (0..=self.bytes.len() - length).find(|at| self.bytes[*at..].starts_with(value))?;
+        Some(&self.bytes[at..at + length])
+    }
+}
+
+fn unparsed() -> StunError {
+    StunError::Parse(ffi::text_of(ffi::UNPARSED).to_owned())
+}
+
+fn address(address: &ffi::Address) -> Option<SocketAddr> {
+    (address.family != 0).then(|| socket_of(address))
+}
+
+fn number<N: TryFrom<u64>>(number: ffi::StunNumber) -> Option<N> {
+    if number.is_set { N::try_from(number.value).ok() } else { None }
 }
 
 /// A received message.

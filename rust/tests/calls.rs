@@ -47,7 +47,7 @@ fn paired() -> IceAgent {
 #[test]
 fn a_browsers_request_is_answered() {
     let (mut agent, bytes) = (addressed(), unhex(REQUEST));
-    assert!(agent.accepts_message(&StunMessage::parse(&bytes).unwrap()));
+    assert!(agent.accepts_message(&StunMessage::parse(&bytes).unwrap()) && agent.accepts_packet(&from_peer(&bytes)));
     assert!(agent.handle_packet(Instant::now(), from_peer(&bytes)));
     let reply = agent.poll_transmit().expect("a reply");
     assert_eq!((reply.source, reply.destination), (at("10.0.0.1:1000"), at("10.0.0.2:2000")));
@@ -63,7 +63,7 @@ fn a_browsers_request_is_answered() {
 fn a_forged_request_changes_nothing() {
     let (mut agent, mut bytes) = (addressed(), unhex(REQUEST));
     bytes[67] ^= 1;
-    assert!(!agent.accepts_message(&StunMessage::parse(&bytes).unwrap()));
+    assert!(!agent.accepts_message(&StunMessage::parse(&bytes).unwrap()) && !agent.accepts_packet(&from_peer(&bytes)));
     assert!(!agent.handle_packet(Instant::now(), from_peer(&bytes)));
     assert_eq!((agent.poll_transmit(), agent.poll_event()), (None, None));
     assert_eq!(agent.stats(), Default::default());

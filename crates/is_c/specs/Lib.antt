@@ -15,3 +15,6 @@ pub mod Packets
 pub mod Accepting
 pub mod Events
 pub mod Questions
+pub mod StunRead
+pub mod StunClient
+pub mod StunMessage

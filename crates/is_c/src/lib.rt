@@ -23,6 +23,9 @@ mod refusals;
 mod session;
 mod settings;
 mod slot;
+mod stun_client;
+mod stun_message;
+mod stun_read;
 mod text;
 
 pub use address::Address;
@@ -34,6 +37,8 @@ pub use packets::Packet;
 pub use preference::{KindPreferences, Preference, PreferenceTable};
 pub use questions::{Nominated, Stats, Status};
 pub use slot::Slot;
+pub use stun_client::{Response, Transaction};
+pub use stun_message::{Message, Number};
 
 #[cfg(test)]
 mod tests;

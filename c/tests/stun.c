@@ -1,0 +1,147 @@
+/* Tests the STUN calls: the samples of RFC 5769, a request, responses of servers, and malformed messages. */
+#include "is_ice.h"
+#include <stdio.h>
+#include <stdlib.h>
+#include <string.h>
+
+#define HOLD(fact) hold(__LINE__, #fact, fact)
+#define AT(type, field, offset) HOLD(sizeof(void *) != 8 || offsetof(type, field) == (offset))
+
+/* RFC 5769, sections 2.1 to 2.3. Their SOFTWARE has type 0x8022, which is skipped. */
+static const char password[] = "VOkJxbRl1RmTxUk/WvJxBt";
+static const char request_hex[] =
+    "000100582112a442b7e7a701bc34d686fa87dfae802200105354554e207465737420636c69656e74002400046e0001ff80290008932ff9b151263b36"
+    "000600096576746a3a68367659202020000800149aeaa70cbfd8cb56781ef2b5b2d3f249c1b571a280280004e57a3bcf";
+static const char v4_hex[] =
+    "0101003c2112a442b7e7a701bc34d686fa87dfae8022000b7465737420766563746f7220002000080001a147e112a643"
+    "000800142b91f599fd9e90c38c7489f92af9ba53f06be7d780280004c07d4c96";
+static const char v6_hex[] =
+    "010100482112a442b7e7a701bc34d686fa87dfae8022000b7465737420766563746f7220002000140002a1470113a9faa5d3f179bc25f4b5bed2b9d9"
+    "00080014a382954e4be67bf11784c97c8292c275bfe3ed4180280004c8fb0b4c";
+static const is_ice_stun_transaction id = {{0xb7, 0xe7, 0xa7, 0x01, 0xbc, 0x34, 0xd6, 0x86, 0xfa, 0x87, 0xdf, 0xae}};
+
+/* Responses of a server to a request without credentials: mapped to 192.0.2.1:32853, and 401 "no". */
+static const char plain_hex[] = "0101000c2112a442b7e7a701bc34d686fa87dfae002000080001a147e112a643";
+static const char failed_hex[] = "0111000c2112a442b7e7a701bc34d686fa87dfae00090006000004016e6f0000";
+
+static void hold(int line, const char *fact, bool holds)
+{
+    if (holds) return;
+    printf("line %d: %s\n", line, fact);
+    exit(1);
+}
+
+static size_t unhex(const char *hex, uint8_t *bytes)
+{
+    size_t length = strlen(hex) / 2;
+    for (size_t i = 0; i < length; i++) {
+        unsigned byte = 0;
+        HOLD(sscanf(hex + 2 * i, "%2x", &byte) == 1);
+        bytes[i] = (uint8_t)byte;
+    }
+    return length;
+}
+
+static void offsets(void)
+{
+    AT(is_ice_stun_result, mapped, 0), AT(is_ice_stun_result, error_code, 28);
+    AT(is_ice_stun_number, value, 0), AT(is_ice_stun_number, is_set, 8);
+    AT(is_ice_stun_message, priority, 0), AT(is_ice_stun_message, controlled, 16), AT(is_ice_stun_message, controlling, 32);
+    AT(is_ice_stun_message, error_code, 48), AT(is_ice_stun_message, lifetime, 64), AT(is_ice_stun_message, channel_number, 80);
+    AT(is_ice_stun_message, network_id, 96), AT(is_ice_stun_message, network_cost, 112), AT(is_ice_stun_message, mapped, 128);
+    AT(is_ice_stun_message, peer, 156), AT(is_ice_stun_message, relayed, 184), AT(is_ice_stun_message, id, 212);
+    AT(is_ice_stun_message, method, 224), AT(is_ice_stun_message, cls, 226), AT(is_ice_stun_message, use_candidate, 227);
+}
+
+/* The CRC-32 of FINGERPRINT, bit by bit (RFC 8489, section 14.7). */
+static uint32_t crc32(const uint8_t *bytes, size_t length)
+{
+    uint32_t crc = 0xffffffff;
+    for (size_t i = 0; i < length; i++) {
+        crc ^= bytes[i];
+        for (int bit = 0; bit < 8; bit++) crc = crc & 1 ? crc >> 1 ^ 0xedb88320 : crc >> 1;
+    }
+    return ~crc;
+}
+
+static void writes_a_request(void)
+{
+    static const uint8_t header[8] = {0, 1, 0, 8, 0x21, 0x12, 0xa4, 0x42}, fingerprint[4] = {0x80, 0x28, 0, 4};
+    uint8_t buffer[32], wanted[4];
+    size_t length = 0;
+    memset(buffer, 0xaa, sizeof buffer);
+    HOLD(is_ice_stun_request(&id, buffer, 27, &length) == IS_ICE_BUFFER_TOO_SHORT && length == 28 && buffer[0] == 0xaa);
+    length = 0;
+    HOLD(is_ice_stun_request(&id, buffer, sizeof buffer, &length) == IS_ICE_OK && length == IS_ICE_STUN_REQUEST_LENGTH);
+    HOLD(memcmp(buffer, header, 8) == 0 && memcmp(buffer + 8, id.bytes, 12) == 0 && memcmp(buffer + 20, fingerprint, 4) == 0);
+    uint32_t crc = crc32(buffer, 20) ^ 0x5354554e;
+    for (int i = 0; i < 4; i++) wanted[i] = (uint8_t)(crc >> (24 - 8 * i));
+    HOLD(memcmp(buffer + 24, wanted, 4) == 0 && buffer[28] == 0xaa);
+}
+
+static void reads_responses(void)
+{
+    static const uint8_t v4[4] = {192, 0, 2, 1};
+    static const uint8_t v6[16] = {0x20, 1, 0xd, 0xb8, 0x12, 0x34, 0x56, 0x78, 0, 0x11, 0x22, 0x33, 0x44, 0x55, 0x66, 0x77};
+    is_ice_stun_transaction other = id;
+    is_ice_stun_result result;
+    uint8_t bytes[128], text[8];
+    size_t length;
+    const char *samples[2] = {v4_hex, plain_hex};
+    for (int i = 0; i < 2; i++) {
+        memset(&result, 0xaa, sizeof result);
+        HOLD(is_ice_stun_response(&id, bytes, unhex(samples[i], bytes), &result) == IS_ICE_OK && result.error_code == 0);
+        HOLD(result.mapped.family == 4 && result.mapped.port == 32853 && memcmp(result.mapped.bytes, v4, 4) == 0);
+    }
+    HOLD(is_ice_stun_response(&id, bytes, unhex(v6_hex, bytes), &result) == IS_ICE_OK && result.error_code == 0);
+    HOLD(result.mapped.family == 6 && result.mapped.port == 32853 && memcmp(result.mapped.bytes, v6, 16) == 0);
+    HOLD(result.mapped.flow == 0 && result.mapped.scope == 0);
+    size_t size = unhex(failed_hex, bytes);
+    HOLD(is_ice_stun_response(&id, bytes, size, &result) == IS_ICE_OK && result.error_code == 401 && result.mapped.family == 6);
+    HOLD(is_ice_stun_text(IS_ICE_STUN_ERROR_CODE, bytes, size, text, sizeof text, &length) == IS_ICE_OK);
+    HOLD(length == 2 && memcmp(text, "no", 2) == 0);
+    HOLD(is_ice_stun_text(IS_ICE_STUN_ERROR_CODE, bytes, size, text, 1, &length) == IS_ICE_BUFFER_TOO_SHORT && length == 2);
+    other.bytes[11] ^= 1;
+    result.error_code = 7;
+    HOLD(is_ice_stun_response(&other, bytes, size, &result) == IS_ICE_NOTHING && result.error_code == 7);
+    HOLD(is_ice_stun_response(&id, bytes, unhex(request_hex, bytes), &result) == IS_ICE_NOTHING && result.error_code == 7);
+    size = unhex(plain_hex, bytes);
+    for (size_t i = 0; i < size; i++) HOLD(is_ice_stun_response(&id, bytes, i, &result) == IS_ICE_UNPARSED);
+    bytes[25] = 3; /* an unknown family */
+    HOLD(is_ice_stun_response(&id, bytes, size, &result) == IS_ICE_UNPARSED && result.error_code == 7);
+}
+
+static void reads_any_message(void)
+{
+    uint8_t bytes[128], text[32];
+    is_ice_stun_message m;
+    size_t length = 99, size = unhex(request_hex, bytes);
+    memset(&m, 0xaa, sizeof m);
+    HOLD(is_ice_stun_read(bytes, size, &m) == IS_ICE_OK);
+    HOLD(m.method == IS_ICE_STUN_BINDING && m.cls == IS_ICE_STUN_REQUEST && memcmp(m.id.bytes, id.bytes, 12) == 0);
+    HOLD(m.priority.is_set && m.priority.value == 0x6e0001ff && !m.use_candidate);
+    HOLD(m.controlled.is_set && m.controlled.value == UINT64_C(0x932ff9b151263b36) && !m.controlling.is_set);
+    HOLD(!m.error_code.is_set && !m.lifetime.is_set && !m.channel_number.is_set && !m.network_id.is_set && !m.network_cost.is_set);
+    HOLD(m.mapped.family == 0 && m.peer.family == 0 && m.relayed.family == 0);
+    HOLD(is_ice_stun_text(IS_ICE_STUN_USERNAME, bytes, size, text, sizeof text, &length) == IS_ICE_OK);
+    HOLD(length == 9 && memcmp(text, "evtj:h6vY", 9) == 0);
+    HOLD(is_ice_stun_text(IS_ICE_STUN_REALM, bytes, size, text, sizeof text, &length) == IS_ICE_NOTHING && length == 9);
+    HOLD(is_ice_stun_text(0x0024, bytes, size, text, sizeof text, &length) == IS_ICE_NOTHING && length == 9);
+    HOLD(is_ice_stun_verify(bytes, size, (const uint8_t *)password, sizeof password - 1) == IS_ICE_OK);
+    HOLD(is_ice_stun_verify(bytes, size, (const uint8_t *)password, sizeof password - 2) == IS_ICE_NOTHING);
+    bytes[60] ^= 1; /* in the tie-breaker */
+    HOLD(is_ice_stun_verify(bytes, size, (const uint8_t *)password, sizeof password - 1) == IS_ICE_NOTHING);
+    HOLD(is_ice_stun_read(bytes, size - 1, &m) == IS_ICE_UNPARSED && m.priority.value == 0x6e0001ff);
+    HOLD(is_ice_stun_read(bytes, unhex(failed_hex, bytes), &m) == IS_ICE_OK && m.cls == IS_ICE_STUN_FAILURE);
+    HOLD(m.error_code.is_set && m.error_code.value == 401);
+    HOLD(is_ice_stun_verify(bytes, unhex(plain_hex, bytes), (const uint8_t *)password, 0) == IS_ICE_NOTHING);
+}
+
+int main(void)
+{
+    offsets();
+    writes_a_request();
+    reads_responses();
+    reads_any_message();
+    return 0;
+}

@@ -1,0 +1,29 @@
+-- STUN messages as C reads them.
+use Rattle.std.specs.Prelude.{◌≡◌, ◌⊎◌, ◌==◌, ℕ, List, Option, Some, None, option_map, if◌then◌else◌, ℤ}
+use Rattle.is_proto.specs.declared.error.StunError.{StunError}
+use Rattle.is_stun.specs.Form.{ReadsAny, FailsAnyBy}
+use Rattle.is_stun.specs.Message.{AttributesRecord, Message}
+use Rattle.is_stun.specs.Numbers.{USERNAME, ERROR_CODE, DATA, REALM, NONCE, SOFTWARE}
+use Rattle.is_c.specs.Codes.{NOTHING, UNPARSED}
+use Rattle.is_c.specs.Texts.{Puts}
+
+-- P holds of the message that the bytes encode; if they encode none, the code says so and all is as it was
+abbrev pub TellsMessage : List ℕ → (Message → ℤ → Type 0) → Type 0 → ℤ → Type 0
+TellsMessage bytes P Same code =
+    ((e : StunError) × FailsAnyBy bytes e × (code ≡ UNPARSED) × Same)
+    ⊎ ((m : Message) × ReadsAny bytes m × P m code)
+
+-- the text of the attribute of this type
+abbrev pub text_of : ℕ → AttributesRecord → Option (List ℕ)
+text_of attribute a =
+    if attribute == USERNAME then a.username
+    else (if attribute == ERROR_CODE then option_map (λ e. e.1) a.error_code
+    else (if attribute == DATA then a.«data»
+    else (if attribute == REALM then a.realm
+    else (if attribute == NONCE then a.nonce
+    else (if attribute == SOFTWARE then a.software else None)))))
+
+-- a text in the caller's buffer, if there is one
+abbrev pub PutsText : Option (List ℕ) → List ℕ → ℕ → ℤ → List ℕ → ℕ → Type 0
+PutsText None before count code after new_count = (code ≡ NOTHING) × (after ≡ before) × (new_count ≡ count)
+PutsText (Some text) before count code after new_count = Puts text before code after new_count

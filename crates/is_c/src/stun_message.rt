@@ -1,0 +1,195 @@
+//! A STUN message as a flat struct for C, and its MESSAGE-INTEGRITY.
+
+ghost use Rattle.std.specs.Prelude.{◌≡◌};
+ghost use Rattle.std.specs.Option.{option_map};
+ghost use Rattle.is_proto.specs.Hmac.{hmac_sha1};
+ghost use Rattle.is_stun.specs.Header.{method_bits};
+ghost use Rattle.is_stun.specs.MessageView.{message_view};
+ghost use Rattle.is_c.specs.Addresses.{socket_of};
+ghost use Rattle.is_c.specs.StunMessage.{class_number, number_in, IsFlat, IsFlatOf, AnswersSigned};
+ghost use Rattle.is_c.specs.StunRead.{TellsMessage};
+
+use crate::address::{Address, address_of};
+use crate::codes;
+use crate::stun_client::Transaction;
+use is_proto::DefaultSha1HmacProvider;
+use is_stun::stun::{Class, Method, StunMessage};
+use std::net::SocketAddr;
+
+/// A number that a message may have.
+#[repr(C)]
+#[derive(Clone, Copy)]
+pub struct Number {
+    pub value: u64,
+    pub is_set: bool,
+}
+
+/// A message, except its texts, MESSAGE-INTEGRITY and FINGERPRINT. An address that it does not have is of family 0.
+#[repr(C)]
+#[derive(Clone, Copy)]
+pub struct Message {
+    pub priority: Number,
+    /// The tie-breakers of ICE-CONTROLLED and ICE-CONTROLLING.
+    pub controlled: Number,
+    pub controlling: Number,
+    pub error_code: Number,
+    /// In seconds.
+    pub lifetime: Number,
+    pub channel_number: Number,
+    /// NETWORK-COST: the ID of the network, and its cost.
+    pub network_id: Number,
+    pub network_cost: Number,
+    pub mapped: Address,
+    pub peer: Address,
+    pub relayed: Address,
+    pub id: Transaction,
+    /// The number of the method; 0 for any except seven.
+    pub method: u16,
+    /// 0 request, 1 indication, 2 success response, 3 error response.
+    pub class: u8,
+    pub use_candidate: bool,
+}
+
+fn number_of(value: Option<u64>) -> Number
+    ensures { number_in result ≡ value }
+{
+    match value {
+        Some(value) => Number {
+            value,
+            is_set: true,
+        },
+        None => Number {
+            value: 0,
+            is_set: false,
+        },
+    }
+}
+
+fn number32_of(value: Option<u32>) -> Number
+    ensures { number_in result ≡ value }
+{
+    match value {
+        Some(value) => number_of(Some(u64::from(value))),
+        None => number_of(None),
+    }
+}
+
+fn number16_of(value: Option<u16>) -> Number
+    ensures { number_in result ≡ value }
+{
+    match value {
+        Some(value) => number_of(Some(u64::from(value))),
+        None => number_of(None),
+    }
+}
+
+/// The address, or one of family 0.
+fn address_if(address: Option<SocketAddr>) -> Address
+    ensures { socket_of result ≡ address }
+{
+    match address {
+        Some(address) => address_of(address),
+        None => Address {
+            family: 0,
+            bytes: [0; 16],
+            port: 0,
+            flow: 0,
+            scope: 0,
+        },
+    }
+}
+
+fn method_number(method: Method) -> u16
+    ensures { result ≡ method_bits method }
+{
+    match method {
+        Method::Binding => 1,
+        Method::Allocate => 3,
+        Method::Refresh => 4,
+        Method::Send => 6,
+        Method::Data => 7,
+        Method::CreatePermission => 8,
+        Method::ChannelBind => 9,
+        Method::Unknown => 0,
+    }
+}
+
+fn class_number(class: Class) -> u8
+    ensures { result ≡ class_number class }
+{
+    match class {
+        Class::Request => 0,
+        Class::Indication => 1,
+        Class::Success => 2,
+        Class::Failure => 3,
+        Class::Unknown => 4,
+    }
+}
+
+fn error_code_of(message: &StunMessage<'_>) -> Option<u16>
+    ensures { result ≡ option_map (λ e. e.0) (message_view message.now).attributes.error_code }
+{
+    Some(message.error_code()?.0)
+}
+
+fn network_of(message: &StunMessage<'_>) -> (Option<u16>, Option<u16>)
+    ensures { result ≡ (
+      option_map (λ c. c.0) (message_view message.now).attributes.network_cost,
+      option_map (λ c. c.1) (message_view message.now).attributes.network_cost,
+    ) }
+{
+    match message.network_cost() {
+        Some((id, cost)) => (Some(id), Some(cost)),
+        None => (None, None),
+    }
+}
+
+fn flat(message: &StunMessage<'_>) -> Message
+    ensures { IsFlat (message_view message.now) result }
+{
+    let (network, cost) = network_of(message);
+    let id = message.trans_id();
+    let bytes = id.0;
+    Message {
+        priority: number32_of(message.prio()),
+        controlled: number_of(message.ice_controlled()),
+        controlling: number_of(message.ice_controlling()),
+        error_code: number16_of(error_code_of(message)),
+        lifetime: number32_of(message.lifetime()),
+        channel_number: number16_of(message.channel_number()),
+        network_id: number16_of(network),
+        network_cost: number16_of(cost),
+        mapped: address_if(message.mapped_address()),
+        peer: address_if(message.xor_peer_address()),
+        relayed: address_if(message.xor_relayed_address()),
+        id: Transaction { bytes },
+        method: method_number(message.method()),
+        class: class_number(message.class()),
+        use_candidate: message.use_candidate(),
+    }
+}
+
+/// Reads a message of any method and class; its texts are read by `is_ice_stun_text`.
+#[unsafe(no_mangle)]
+pub extern "C" fn is_ice_stun_read(bytes: &[u8], message: &mut Message) -> i32
+    ensures { TellsMessage bytes.now (λ m code. IsFlatOf m code message.new) (message.new ≡ message.old) result }
+{
+    match StunMessage::parse_any(bytes) {
+        Ok(found) => {
+            *message = flat(&found);
+            codes::OK
+        }
+        Err(_) => codes::UNPARSED,
+    }
+}
+
+/// Whether a message has the MESSAGE-INTEGRITY of this key (RFC 8489, section 14.5).
+#[unsafe(no_mangle)]
+pub extern "C" fn is_ice_stun_verify(bytes: &[u8], key: &[u8]) -> i32
+    ensures { TellsMessage bytes.now (λ m code. AnswersSigned m key.now code) (Unit {0}) result }
+{
+    match StunMessage::parse_any(bytes) {
+        Ok(message) => codes::found_code(message.verify(key, &DefaultSha1HmacProvider)),
+        Err(_) => codes::UNPARSED,
+    }
+}

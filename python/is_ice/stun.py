@@ -1,0 +1,199 @@
+"""STUN messages (RFC 8489): a client's request and its response, and any message by its attributes. The library reads and writes them."""
+
+from __future__ import annotations
+
+import enum
+from ctypes import byref, c_size_t, create_string_buffer, string_at
+from dataclasses import dataclass
+
+from . import _abi
+from .address import SocketAddress, socket_of
+from .agent import _library
+from .errors import BUFFER_TOO_SHORT, UNPARSED, done
+
+TRANSACTION_LENGTH = 12
+
+
+class StunMethod(enum.IntEnum):
+    """The method of a message (RFC 8489, section 18.2; RFC 8656, section 17). `OTHER`: any method that is not listed here."""
+
+    OTHER = 0
+    BINDING = 1
+    ALLOCATE = 3
+    REFRESH = 4
+    SEND = 6
+    DATA = 7
+    CREATE_PERMISSION = 8
+    CHANNEL_BIND = 9
+
+
+class StunClass(enum.IntEnum):
+    """The class of a message (RFC 8489, section 5)."""
+
+    REQUEST = 0
+    INDICATION = 1
+    SUCCESS = 2
+    FAILURE = 3
+
+
+class StunText(enum.IntEnum):
+    """The attributes that contain a text or data, by their type. `ERROR_CODE` stands for its reason phrase."""
+
+    USERNAME = 0x0006
+    ERROR_CODE = 0x0009
+    DATA = 0x0013
+    REALM = 0x0014
+    NONCE = 0x0015
+    SOFTWARE = 0x0022
+
+
+def _id_of(transaction: bytes) -> _abi.StunTransaction:
+    if len(transaction) != TRANSACTION_LENGTH:
+        raise ValueError(f"a transaction ID has {TRANSACTION_LENGTH} bytes, not {len(transaction)}")
+    return _abi.StunTransaction.from_buffer_copy(transaction)
+
+
+def binding_request(transaction: bytes) -> bytes:
+    """Returns a Binding request without credentials: header and FINGERPRINT. The transaction ID is 12 random bytes."""
+    buffer, length = create_string_buffer(_abi.STUN_REQUEST_LENGTH), c_size_t()
+    done(_library.calls.is_ice_stun_request(byref(_id_of(transaction)), buffer, len(buffer), byref(length)))
+    return buffer.raw[:length.value]
+
+
+@dataclass(frozen=True)
+class BindingResponse:
+    """What a response says: the address at which the server saw the client; or an error's code, 300 to 699, and its reason."""
+
+    mapped: SocketAddress | None = None
+    error_code: int | None = None
+    reason: str = ""
+
+
+def binding_response(transaction: bytes, data: bytes) -> BindingResponse | None:
+    """Reads the response to the Binding request with this transaction ID, or returns None if the datagram is not that response.
+
+    A success response without XOR-MAPPED-ADDRESS is None too, as is a failure without ERROR-CODE. Nothing is verified.
+    """
+    result = _abi.StunResult()
+    code = _library.calls.is_ice_stun_response(byref(_id_of(transaction)), data, len(data), byref(result))
+    if code == UNPARSED or not done(code):
+        return None
+    if result.error_code == 0:
+        return BindingResponse(mapped=socket_of(result.mapped))
+    return BindingResponse(error_code=result.error_code, reason=(_value(StunText.ERROR_CODE, data) or b"").decode())
+
+
+def _value(attribute: StunText, data: bytes) -> bytes | None:
+    """The value of an attribute. No value is longer than its message."""
+    buffer, length = create_string_buffer(max(len(data), 1)), c_size_t()
+    code = _library.calls.is_ice_stun_text(int(attribute), data, len(data), buffer, len(buffer), byref(length))
+    assert code != BUFFER_TOO_SHORT
+    return string_at(buffer, length.value) if done(code) else None
+
+
+def _number(number: _abi.StunNumber) -> int | None:
+    return number.value if number.is_set else None
+
+
+def _address(address: _abi.Address) -> SocketAddress | None:
+    return socket_of(address) if address.family else None
+
+
+class StunMessage:
+    """A STUN message of any method and class. An attribute that it does not have is None."""
+
+    def __init__(self, data: bytes) -> None:
+        """Reads a datagram. Unparsed if it is not a STUN message or has a malformed attribute. Nothing is verified."""
+        self._flat = _abi.StunMessage()
+        self.data = bytes(data)
+        done(_library.calls.is_ice_stun_read(self.data, len(self.data), byref(self._flat)))
+
+    @property
+    def method(self) -> StunMethod:
+        """The method."""
+        return StunMethod(self._flat.method)
+
+    @property
+    def class_(self) -> StunClass:
+        """The class."""
+        return StunClass(self._flat.cls)
+
+    @property
+    def transaction(self) -> bytes:
+        """The transaction ID. A response has that of its request."""
+        return bytes(self._flat.id)
+
+    @property
+    def priority(self) -> int | None:
+        """PRIORITY (RFC 8445, section 16.1)."""
+        return _number(self._flat.priority)
+
+    @property
+    def use_candidate(self) -> bool:
+        """Whether the message has USE-CANDIDATE (RFC 8445, section 16.1)."""
+        return bool(self._flat.use_candidate)
+
+    @property
+    def ice_controlled(self) -> int | None:
+        """The tie-breaker of ICE-CONTROLLED (RFC 8445, section 16.1)."""
+        return _number(self._flat.controlled)
+
+    @property
+    def ice_controlling(self) -> int | None:
+        """The tie-breaker of ICE-CONTROLLING (RFC 8445, section 16.1)."""
+        return _number(self._flat.controlling)
+
+    @property
+    def mapped_address(self) -> SocketAddress | None:
+        """XOR-MAPPED-ADDRESS (RFC 8489, section 14.2)."""
+        return _address(self._flat.mapped)
+
+    @property
+    def peer_address(self) -> SocketAddress | None:
+        """XOR-PEER-ADDRESS (RFC 8656, section 18.3)."""
+        return _address(self._flat.peer)
+
+    @property
+    def relayed_address(self) -> SocketAddress | None:
+        """XOR-RELAYED-ADDRESS (RFC 8656, section 18.5)."""
+        return _address(self._flat.relayed)
+
+    @property
+    def error_code(self) -> int | None:
+        """The code of ERROR-CODE, 300 to 699 (RFC 8489, section 14.8). `text(StunText.ERROR_CODE)` is its reason phrase."""
+        return _number(self._flat.error_code)
+
+    @property
+    def lifetime(self) -> int | None:
+        """LIFETIME, in seconds (RFC 8656, section 18.2)."""
+        return _number(self._flat.lifetime)
+
+    @property
+    def channel_number(self) -> int | None:
+        """CHANNEL-NUMBER (RFC 8656, section 18.1)."""
+        return _number(self._flat.channel_number)
+
+    @property
+    def network_cost(self) -> tuple[int, int] | None:
+        """NETWORK-COST: the ID of the sender's network, and its cost."""
+        network, cost = _number(self._flat.network_id), _number(self._flat.network_cost)
+        return None if network is None or cost is None else (network, cost)
+
+    @property
+    def username(self) -> str | None:
+        """USERNAME (RFC 8489, section 14.3)."""
+        return self.text(StunText.USERNAME)
+
+    @property
+    def value_of_data(self) -> bytes | None:
+        """DATA (RFC 8656, section 18.4)."""
+        return _value(StunText.DATA, self.data)
+
+    def text(self, attribute: StunText) -> str | None:
+        """Returns the text of an attribute. DATA, which need not be text, is `value_of_data`."""
+        value = _value(attribute, self.data)
+        return None if value is None else value.decode()
+
+    def verify(self, key: bytes) -> bool:
+        """Returns whether the message has the MESSAGE-INTEGRITY of this key (RFC 8489, section 14.5). In ICE the key is a password."""
+        return done(_library.calls.is_ice_stun_verify(self.data, len(self.data), key, len(key)))
