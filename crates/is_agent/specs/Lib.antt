@@ -1,5 +1,6 @@
 pub mod View
 pub mod Lends
+pub mod Added
 pub mod Listed
 pub mod Ready
 pub mod Room

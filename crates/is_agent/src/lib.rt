@@ -5,6 +5,7 @@
 #![tactic(auto)]
 
 pub mod accepting;
+pub mod added;
 pub mod agent;
 pub mod answers;
 pub mod checking;
@@ -25,6 +26,7 @@ pub mod states;
 pub mod timeout;
 mod timeout_start;
 
+pub use added::Addition;
 pub use agent::{Agent, IceAgent};
 pub use is_rules::credentials::IceCreds;
 pub use is_rules::event::{IceAgentEvent, IceAgentStats, IceConnectionState};

@@ -35,7 +35,7 @@ impl<H: Sha1HmacProvider + Drop, P: LocalPreference> Agent<H, P> {
         self.pairs.any(&Equivalent { remote, candidate })
     }
 
-    fn is_ignored(&self, candidate: &Candidate) -> bool
+    pub(crate) fn is_ignored(&self, candidate: &Candidate) -> bool
         ensures { result ≡ is_ignored (record_of self.now) candidate.now }
     {
         component(candidate) != 1 || self.has_other_ufrag(candidate) || self.is_paired(candidate)

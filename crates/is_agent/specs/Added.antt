@@ -1,0 +1,51 @@
+-- Where an added candidate is listed: its index among the candidates that are not discarded.
+use Rattle.std.specs.Prelude.{◌≡◌, ℕ, ◌&&◌, Bool, List, take, count_by, position, Option, Some, None, option_map, Result, Ok, Err, if◌then◌else◌}
+use Rattle.is_proto.specs.declared.error.IceError.{IceError}
+use Rattle.is_candidate.specs.Candidates.{CandidateRecord}
+use Rattle.is_candidate.specs.Equality.{is_same_place, is_equivalent}
+use Rattle.is_agent.specs.declared.added.Addition.{Addition}
+use Rattle.is_agent.specs.declared.added.Addition.TheVariants.{Added, Known, Ignored}
+use Rattle.is_rules.specs.Agent.{AgentRecord}
+use Rattle.is_rules.specs.Forming.{is_alive}
+use Rattle.is_rules.specs.Local.{AddsLocal}
+use Rattle.is_rules.specs.Remote.{AddsRemote, is_ignored, is_placeholder, place_or_end}
+
+-- how many listed candidates come before the one at this place
+abbrev pub listed_index : List CandidateRecord → ℕ → ℕ
+listed_index cs place = count_by is_alive (take place cs)
+
+-- the index of the first listed candidate that passes
+abbrev pub first_listed : (CandidateRecord → Bool) → List CandidateRecord → Option ℕ
+first_listed test cs = option_map (listed_index cs) (position (λ c. is_alive c && test c) cs)
+
+-- a candidate that is not added, by the index of the one that equals it
+abbrev pub not_added : Option ℕ → Addition
+not_added None = Ignored
+not_added (Some index) = Known index
+
+abbrev pub told : {A : Type 0} → (A → Addition) → Result A IceError → Result Addition IceError
+told tell (Ok x) = Ok (tell x)
+told tell (Err e) = Err e
+
+-- by the place that a local candidate got, if it was added
+abbrev pub local_addition : CandidateRecord → List CandidateRecord → List CandidateRecord → Option ℕ → Addition
+local_addition c before after None = not_added (first_listed (is_same_place c) before)
+local_addition c before after (Some place) = Added (listed_index after place)
+
+module _ {H P : Type 0} where
+  -- `add_local_listed`
+  abbrev pub AddsLocalListed : (P → CandidateRecord → ℕ → ℕ → Type 0) → AgentRecord H P → CandidateRecord → Result Addition IceError
+      → AgentRecord H P → Type 0
+  AddsLocalListed answers old c result new =
+      (place : Result (Option ℕ) IceError) × AddsLocal answers old c place new × (result ≡ told (local_addition c old.local new.local) place)
+
+  -- A remote candidate takes the place of the one that a request from its address added, else the last one.
+  abbrev pub remote_addition : AgentRecord H P → CandidateRecord → Addition
+  remote_addition old c =
+      if is_ignored old c then not_added (first_listed (is_equivalent c) old.remote)
+      else Added (listed_index old.remote (place_or_end (position (is_placeholder c) old.remote) old.remote))
+
+  -- `add_remote_listed`
+  abbrev pub AddsRemoteListed : AgentRecord H P → CandidateRecord → Result Addition IceError → AgentRecord H P → Type 0
+  AddsRemoteListed old c result new =
+      (done : Result (Unit {0}) IceError) × AddsRemote old c done new × (result ≡ told (λ _. remote_addition old c) done)

@@ -1,0 +1,149 @@
+//! Adding candidates for callers that list them: each call returns the index at which the candidate is listed.
+
+ghost use Rattle.std.specs.Prelude.{◌≡◌, ◌&&◌, position, take};
+ghost use Rattle.is_candidate.specs.Equality.{is_same_place, is_equivalent};
+ghost use Rattle.is_rules.specs.Forming.{is_alive};
+ghost use Rattle.is_agent.specs.Added.{listed_index, first_listed, not_added, remote_addition, AddsLocalListed, AddsRemoteListed};
+ghost use Rattle.is_agent.specs.View.{record_of};
+
+use crate::agent::Agent;
+use is_candidate::candidate::equality::{is_equivalent, is_same_place};
+use is_candidate::candidate::internals::is_discarded;
+use is_candidate::{Candidate, LocalPreference};
+use is_proto::{IceError, Sha1HmacProvider};
+use is_rules::remote::{place_of_placeholder, place_or_end};
+
+/// What became of a candidate. Its index counts the candidates that `local_candidates` or `remote_candidates` returns, from 0.
+#[derive(Clone, Copy, Debug, PartialEq, Eq)]
+pub enum Addition {
+    /// It was added, or enabled again, and has this index.
+    Added(usize),
+    /// It was not added, and the one with this index equals it.
+    Known(usize),
+    /// It was not added, and none equals it.
+    Ignored,
+}
+
+fn not_added(equal: Option<usize>) -> Addition
+    ensures { result ≡ not_added equal }
+{
+    match equal {
+        Some(index) => Addition::Known(index),
+        None => Addition::Ignored,
+    }
+}
+
+// ---- indices among the candidates that are listed
+
+fn is_listed(candidate: &Candidate) -> bool
+    ensures { result ≡ is_alive candidate.now }
+{
+    !is_discarded(candidate)
+}
+
+fn before(candidates: &[Candidate], place: usize) -> &[Candidate]
+    ensures { result.now ≡ take place candidates.now }
+{
+    &candidates[..place.min(candidates.len())]
+}
+
+/// How many listed candidates come before the one at this place.
+fn listed_index(candidates: &[Candidate], place: usize) -> usize
+    ensures { result ≡ listed_index candidates.now place }
+{
+    before(candidates, place)
+        .iter()
+        .filter(|other| is_listed(other))
+        .count()
+}
+
+fn is_listed_there(candidate: &Candidate, other: &Candidate) -> bool
+    ensures { result ≡ is_alive other.now && is_same_place candidate.now other.now }
+{
+    is_listed(other) && is_same_place(candidate, other)
+}
+
+fn place_of_listed(candidates: &[Candidate], candidate: &Candidate) -> Option<usize>
+    ensures { result ≡ position (λ c. is_alive c && is_same_place candidate.now c) candidates.now }
+{
+    candidates
+        .iter()
+        .position(|other| is_listed_there(candidate, other))
+}
+
+/// The index of the first listed candidate with the same address, base and protocol.
+fn first_same(candidates: &[Candidate], candidate: &Candidate) -> Option<usize>
+    ensures { result ≡ first_listed (is_same_place candidate.now) candidates.now }
+{
+    match place_of_listed(candidates, candidate) {
+        Some(place) => Some(listed_index(candidates, place)),
+        None => None,
+    }
+}
+
+fn is_listed_equal(candidate: &Candidate, other: &Candidate) -> bool
+    ensures { result ≡ is_alive other.now && is_equivalent candidate.now other.now }
+{
+    is_listed(other) && is_equivalent(candidate, other)
+}
+
+fn place_of_equal(candidates: &[Candidate], candidate: &Candidate) -> Option<usize>
+    ensures { result ≡ position (λ c. is_alive c && is_equivalent candidate.now c) candidates.now }
+{
+    candidates
+        .iter()
+        .position(|other| is_listed_equal(candidate, other))
+}
+
+/// The index of the first listed candidate that is equal in address, base, protocol, kind and related address.
+fn first_equal(candidates: &[Candidate], candidate: &Candidate) -> Option<usize>
+    ensures { result ≡ first_listed (is_equivalent candidate.now) candidates.now }
+{
+    match place_of_equal(candidates, candidate) {
+        Some(place) => Some(listed_index(candidates, place)),
+        None => None,
+    }
+}
+
+// ---- the calls
+
+impl<H: Sha1HmacProvider + Drop, P: LocalPreference> Agent<H, P> {
+    /// What adding the remote candidate does, if it does not fail.
+    fn remote_addition(&self, candidate: &Candidate) -> Addition
+        ensures { result ≡ remote_addition (record_of self.now) candidate.now }
+    {
+        if self.is_ignored(candidate) {
+            return not_added(first_equal(&self.remote, candidate));
+        }
+        let place = place_of_placeholder(&self.remote, candidate);
+        Addition::Added(listed_index(&self.remote, place_or_end(place, &self.remote)))
+    }
+}
+
+/// Adds a local candidate like `add_local_candidate`, and returns the index at which it is listed. A candidate that is not added
+/// equals one with the same address, base and protocol (RFC 8445, section 5.1.3).
+pub fn add_local_listed<H: Sha1HmacProvider + Drop, P: LocalPreference>(
+    agent: &mut Agent<H, P>,
+    candidate: Candidate,
+) -> Result<Addition, IceError>
+    ensures { AddsLocalListed P.answers (record_of agent.old) candidate result (record_of agent.new) }
+{
+    let known = first_same(&agent.local, &candidate);
+    match agent.add_local(candidate)? {
+        Some(place) => Ok(Addition::Added(listed_index(&agent.local, place))),
+        None => Ok(not_added(known)),
+    }
+}
+
+/// Adds a remote candidate like `add_remote_candidate`, and returns the index at which it is listed. A candidate that is not
+/// added equals one with the same address, base, protocol, kind and related address.
+pub fn add_remote_listed<H: Sha1HmacProvider + Drop, P: LocalPreference>(
+    agent: &mut Agent<H, P>,
+    candidate: Candidate,
+) -> Result<Addition, IceError>
+    ensures { AddsRemoteListed (record_of agent.old) candidate result (record_of agent.new) }
+{
+    let addition = agent.remote_addition(&candidate);
+    agent.add_remote_candidate(candidate)?;
+    Ok(addition)
+}
