@@ -118,7 +118,7 @@ static inline const char *is_ice_code_text(int32_t code)
 
 /* is_ice_version - returns the version of the library's interface. It equals IS_ICE_VERSION if this header belongs to
  * the library. It increases with each change of a name, an argument, a struct or a code. Does not allocate. */
-#define IS_ICE_VERSION 1
+#define IS_ICE_VERSION 2
 uint32_t is_ice_version(void);
 
 /* ---- types */
@@ -335,13 +335,18 @@ IS_ICE_CALL int32_t is_ice_set_remote_credentials(
 
 /* ---- candidates: at any time, also while media is sent */
 
+/* The index of no candidate: see is_ice_add_local and is_ice_add_remote. */
+#define IS_ICE_NO_INDEX ((size_t)-1)
+
 /* is_ice_add_local - adds a candidate that the caller gathered, and forms its pairs.
  *
- * IS_ICE_OK: added; is_ice_local_candidate returns its text. IS_ICE_NOTHING: it is redundant, or the agent is lite and
- * it is not a host candidate. IS_ICE_BAD_ADDRESS: an unknown family, kind or protocol. IS_ICE_BAD_CANDIDATE: an address
- * that no candidate may have, or address and base of two IP versions (is_ice_candidate_refusal says which).
- * IS_ICE_PRIORITY_TOO_HIGH. IS_ICE_PAIR_IDS_EXHAUSTED. IS_ICE_OUT_OF_MEMORY. */
-IS_ICE_CALL int32_t is_ice_add_local(is_ice_agent *agent, const is_ice_candidate *candidate);
+ * IS_ICE_OK: added; *index is its index, at which is_ice_local_candidate returns its text. IS_ICE_NOTHING: it is
+ * redundant, or the agent is lite and it is not a host candidate; *index is the index of the first local candidate that
+ * has its address, base and protocol, or IS_ICE_NO_INDEX. After an error *index is unchanged. IS_ICE_BAD_ADDRESS: an
+ * unknown family, kind or protocol. IS_ICE_BAD_CANDIDATE: an address that no candidate may have, or address and base of
+ * two IP versions (is_ice_candidate_refusal says which). IS_ICE_PRIORITY_TOO_HIGH. IS_ICE_PAIR_IDS_EXHAUSTED.
+ * IS_ICE_OUT_OF_MEMORY. */
+IS_ICE_CALL int32_t is_ice_add_local(is_ice_agent *agent, const is_ice_candidate *candidate, size_t *index);
 
 /* is_ice_add_remote - adds a candidate of the other agent, by its text, and forms its pairs.
  *
@@ -353,9 +358,11 @@ IS_ICE_CALL int32_t is_ice_add_local(is_ice_agent *agent, const is_ice_candidate
  * IS_ICE_BAD_CANDIDATE. Resolve the name by mDNS and put the address in its place, or leave the candidate out: the
  * agent discovers the address as a peer-reflexive candidate, if a check of the other agent arrives.
  *
- * IS_ICE_OK: added or ignored. IS_ICE_NOT_UTF8. IS_ICE_BAD_CANDIDATE: it is not a candidate (is_ice_line_refusal says
- * why). IS_ICE_PAIR_IDS_EXHAUSTED. IS_ICE_OUT_OF_MEMORY. */
-IS_ICE_CALL int32_t is_ice_add_remote(is_ice_agent *agent, const uint8_t *line, size_t length);
+ * IS_ICE_OK: added; *index is its index, at which is_ice_remote_candidate returns its text. IS_ICE_NOTHING: ignored;
+ * *index is the index of the first remote candidate that equals it in address, base, protocol, kind and related address,
+ * or IS_ICE_NO_INDEX. After an error *index is unchanged. IS_ICE_NOT_UTF8. IS_ICE_BAD_CANDIDATE: it is not a candidate
+ * (is_ice_line_refusal says why). IS_ICE_PAIR_IDS_EXHAUSTED. IS_ICE_OUT_OF_MEMORY. */
+IS_ICE_CALL int32_t is_ice_add_remote(is_ice_agent *agent, const uint8_t *line, size_t length, size_t *index);
 
 /* is_ice_invalidate_local - removes a candidate and its pairs, as when an interface is gone: the local candidate that
  * equals this one, else the remote one.

@@ -148,13 +148,14 @@ static void hear(struct session *s, const is_ice_address *from, uint8_t *bytes, 
 /* Adds the address at which the STUN server saw the socket: a candidate that is found after the signal was printed. */
 static void gathered(struct session *s, size_t index, const is_ice_address *mapped)
 {
+    size_t added;
     is_ice_candidate candidate = {0};
     candidate.kind = IS_ICE_SERVER_REFLEXIVE;
     candidate.protocol = IS_ICE_UDP;
     candidate.address = *mapped;
     candidate.base = s->net.addresses[index];
-    if (warn("server-reflexive candidate", is_ice_add_local(&s->agent, &candidate)) == IS_ICE_OK)
-        warn("candidate", signal_print_last(&s->agent));
+    if (warn("server-reflexive candidate", is_ice_add_local(&s->agent, &candidate, &added)) == IS_ICE_OK)
+        warn("candidate", signal_print_candidate(&s->agent, added));
 }
 
 static void receive(struct session *s, size_t index)
@@ -330,11 +331,12 @@ static void begin_agent(struct session *s, const struct options *o)
     if (code == IS_ICE_OK) code = is_ice_set_controlling(&s->agent, o->controlling);
     if (code == IS_ICE_OK) code = is_ice_set_lite(&s->agent, o->lite);
     for (size_t i = 0; i < s->net.count && code >= 0; i++) {
+        size_t added;
         is_ice_candidate host = {0};
         host.kind = IS_ICE_HOST;
         host.protocol = IS_ICE_UDP;
         host.address = s->net.addresses[i];
-        code = is_ice_add_local(&s->agent, &host);
+        code = is_ice_add_local(&s->agent, &host, &added);
     }
     if (code >= 0) code = signal_print(&s->agent);
     if (code < 0) stop("agent", is_ice_code_text(code));

@@ -101,8 +101,8 @@ bool stun_take(struct stun *stun, size_t index, const is_ice_address *from, cons
 /* Prints "signal UFRAG PASSWORD CANDIDATE,CANDIDATE,..": the local credentials and candidates. */
 int32_t signal_print(is_ice_agent *agent);
 
-/* Prints the candidate that was added last, for one that is found after the signal was printed. */
-int32_t signal_print_last(is_ice_agent *agent);
+/* Prints the local candidate of this index, for one that is found after the signal was printed. */
+int32_t signal_print_candidate(is_ice_agent *agent, size_t index);
 
 /* Draws new credentials, and creates an agent with them, or makes an ICE restart. */
 int32_t signal_begin(is_ice_agent *agent);

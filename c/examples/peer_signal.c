@@ -53,16 +53,12 @@ int32_t signal_print(is_ice_agent *agent)
     return code;
 }
 
-int32_t signal_print_last(is_ice_agent *agent)
+int32_t signal_print_candidate(is_ice_agent *agent, size_t index)
 {
-    uint8_t line[LINE], next[LINE];
-    size_t length = 0, next_length;
-    int32_t code;
-    for (size_t i = 0; (code = is_ice_local_candidate(agent, i, next, sizeof next, &next_length)) == IS_ICE_OK; i++) {
-        length = next_length;
-        memcpy(line, next, length);
-    }
-    if (length > 0) printf("%.*s\n", (int)length, (const char *)line);
+    uint8_t line[LINE];
+    size_t length;
+    int32_t code = is_ice_local_candidate(agent, index, line, sizeof line, &length);
+    if (code == IS_ICE_OK) printf("%.*s\n", (int)length, (const char *)line);
     fflush(stdout);
     return code;
 }
@@ -99,9 +95,9 @@ int32_t signal_take_candidate(is_ice_agent *agent, const char *line)
         return IS_ICE_NOTHING;
     }
     uint8_t why[LINE];
-    size_t length;
+    size_t length, added;
     const uint8_t *text = (const uint8_t *)line;
-    int32_t code = is_ice_add_remote(agent, text, strlen(line));
+    int32_t code = is_ice_add_remote(agent, text, strlen(line), &added);
     if (code == IS_ICE_BAD_CANDIDATE && is_ice_line_refusal(text, strlen(line), why, sizeof why, &length) == IS_ICE_OK)
         fprintf(stderr, "peer: %.*s\n", (int)length, (const char *)why);
     else if (code == IS_ICE_BAD_CANDIDATE || code == IS_ICE_NOT_UTF8)

@@ -61,16 +61,19 @@ static void make(is_ice_agent *agent)
 static void add(is_ice_agent *agent)
 {
     uint8_t why[128];
-    size_t length = 0;
+    size_t length = 0, index = 7;
     is_ice_candidate host = {own, own, IS_ICE_HOST, IS_ICE_UDP}, wrong = {own, own, IS_ICE_HOST, 9};
     is_ice_candidate zero = {{4, {0}, 1, 0, 0}, own, IS_ICE_HOST, IS_ICE_UDP};
-    want("protocol 9", is_ice_add_local(agent, &wrong), IS_ICE_BAD_ADDRESS);
-    want("host", is_ice_add_local(agent, &host), IS_ICE_OK);
-    want("host again", is_ice_add_local(agent, &host), IS_ICE_NOTHING);
-    want("host 0.0.0.0", is_ice_add_local(agent, &zero), IS_ICE_BAD_CANDIDATE);
+    want("protocol 9", is_ice_add_local(agent, &wrong, &index), IS_ICE_BAD_ADDRESS);
+    hold("the index is unchanged", index == 7);
+    want("host", is_ice_add_local(agent, &host, &index), IS_ICE_OK);
+    hold("it is the first one", index == 0);
+    want("host again", is_ice_add_local(agent, &host, &index), IS_ICE_NOTHING);
+    hold("it equals the first one", index == 0);
+    want("host 0.0.0.0", is_ice_add_local(agent, &zero, &index), IS_ICE_BAD_CANDIDATE);
     want("why", is_ice_candidate_refusal(&zero, why, sizeof why, &length), IS_ICE_OK);
     hold("there is an explanation", length > 0 && length <= sizeof why);
-    want("half a candidate", is_ice_add_remote(agent, text("candidate:1 1"), 13), IS_ICE_BAD_CANDIDATE);
+    want("half a candidate", is_ice_add_remote(agent, text("candidate:1 1"), 13, &index), IS_ICE_BAD_CANDIDATE);
     want("why, into a short buffer", is_ice_line_refusal(text("candidate:1 1"), 13, why, 1, &length), IS_ICE_BUFFER_TOO_SHORT);
     want("why", is_ice_line_refusal(text("candidate:1 1"), 13, why, sizeof why, &length), IS_ICE_OK);
     hold("the explanation begins with the text", length > 13 && memcmp(why, "candidate:1 1", 13) == 0);

@@ -25,7 +25,7 @@ int main(void)
     uint8_t ufrag[2][IS_ICE_UFRAG_LENGTH], pass[2][IS_ICE_PASS_LENGTH], random[IS_ICE_CREDENTIALS_RANDOM];
     uint8_t line[256], buffer[1500];
     uint64_t tie_breaker;
-    size_t length;
+    size_t length, index;
     is_ice_packet packet;
     is_ice_event event;
     bool found[2] = {false, false};
@@ -41,9 +41,9 @@ int main(void)
         must(is_ice_set_remote_credentials(&agents[i], ufrag[!i], sizeof ufrag[!i], pass[!i], sizeof pass[!i]));
     for (int i = 0; i < 2; i++) { /* signaling: then each candidate */
         is_ice_candidate host = {.address = {4, {10, 0, 0, (uint8_t)(i + 1)}, 5000, 0, 0}, .kind = IS_ICE_HOST};
-        must(is_ice_add_local(&agents[i], &host));
-        must(is_ice_local_candidate(&agents[i], 0, line, sizeof line, &length));
-        must(is_ice_add_remote(&agents[!i], line, length));
+        must(is_ice_add_local(&agents[i], &host, &index));
+        must(is_ice_local_candidate(&agents[i], index, line, sizeof line, &length));
+        must(is_ice_add_remote(&agents[!i], line, length, &index));
     }
     for (uint64_t now = 60000 * MS; !found[0] || !found[1]; now += 50 * MS) /* start the clock at 60 s or later */
         for (int i = 0; i < 2; i++) {

@@ -109,13 +109,14 @@ static int32_t make(struct bench *b)
 {
     static const uint8_t ufrag[] = "p9KA", pass[] = "xJcE9AQAR7kczUDVOXRUCl", remote[] = "SQAt", secret[] = "x";
     const is_ice_candidate host = {own, own, IS_ICE_HOST, IS_ICE_UDP};
+    size_t index;
     for (size_t i = 0; i < sizeof b->bytes; i++) {
         const char byte[3] = {request[2 * i], request[2 * i + 1], '\0'};
         b->bytes[i] = (uint8_t)strtoul(byte, NULL, 16);
     }
     int32_t code = is_ice_agent_new(&b->agent, ufrag, 4, pass, 22, 1);
     if (code == IS_ICE_OK) code = is_ice_set_remote_credentials(&b->agent, remote, 4, secret, 1);
-    return code == IS_ICE_OK ? is_ice_add_local(&b->agent, &host) : code;
+    return code == IS_ICE_OK ? is_ice_add_local(&b->agent, &host, &index) : code;
 }
 
 int main(void)

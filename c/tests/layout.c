@@ -72,8 +72,8 @@ static void settings(void)
 static void has_line(is_ice_agent *agent, size_t index, const is_ice_candidate *candidate, const char *rest)
 {
     uint8_t line[256];
-    size_t length = 0;
-    HOLD(is_ice_add_local(agent, candidate) == IS_ICE_OK);
+    size_t length = 0, added = SIZE_MAX;
+    HOLD(is_ice_add_local(agent, candidate, &added) == IS_ICE_OK && added == index);
     HOLD(is_ice_local_candidate(agent, index, line, sizeof line - 1, &length) == IS_ICE_OK);
     line[length] = '\0';
     const char *blank = strchr((const char *)line, ' ');
@@ -110,12 +110,13 @@ static is_ice_agent side(const char *near, const char *far, bool controlling, co
 {
     is_ice_agent agent = {false, NULL};
     char line[128];
+    size_t index = SIZE_MAX;
     const is_ice_candidate host = {*own, *own, IS_ICE_HOST, IS_ICE_UDP};
     int length = snprintf(line, sizeof line, "candidate:1 1 udp 7 2001:db8::%u %u typ host", other->bytes[15], other->port);
     HOLD(is_ice_agent_new(&agent, (const uint8_t *)near, 4, (const uint8_t *)near, 4, controlling) == IS_ICE_OK);
     HOLD(is_ice_set_remote_credentials(&agent, (const uint8_t *)far, 4, (const uint8_t *)far, 4) == IS_ICE_OK);
-    HOLD(is_ice_set_controlling(&agent, controlling) == IS_ICE_OK && is_ice_add_local(&agent, &host) == IS_ICE_OK);
-    HOLD(is_ice_add_remote(&agent, (const uint8_t *)line, (size_t)length) == IS_ICE_OK);
+    HOLD(is_ice_set_controlling(&agent, controlling) == IS_ICE_OK && is_ice_add_local(&agent, &host, &index) == IS_ICE_OK);
+    HOLD(is_ice_add_remote(&agent, (const uint8_t *)line, (size_t)length, &index) == IS_ICE_OK && index == 0);
     return agent;
 }
 

@@ -108,19 +108,19 @@ static void introduce(struct story *s)
 {
     static const is_ice_preference_table table = {{65000, 40000, 30000, 10}, {65001, 40001, 30001, 11}};
     uint8_t line[256];
-    size_t length;
+    size_t length, index = 0;
     QUIET(IS_ICE_OK, is_ice_set_preference_table(&s->b, &table));
-    CALL(s, IS_ICE_OK, is_ice_add_local(&s->a, &host_a));
-    CALL(s, IS_ICE_OK, is_ice_add_local(&s->b, &host_b));
-    CALL(s, IS_ICE_OK, is_ice_local_candidate(&s->b, 0, line, sizeof line, &length));
+    CALL(s, IS_ICE_OK, is_ice_add_local(&s->a, &host_a, &index));
+    CALL(s, IS_ICE_OK, is_ice_add_local(&s->b, &host_b, &index));
+    CALL(s, IS_ICE_OK, is_ice_local_candidate(&s->b, index, line, sizeof line, &length));
     add(s, line, length);
-    CALL(s, IS_ICE_OK, is_ice_add_remote(&s->a, line, length));
-    CALL(s, IS_ICE_BAD_CANDIDATE, is_ice_add_remote(&s->a, TEXT("candidate:1 1 udp")));
+    CALL(s, IS_ICE_OK, is_ice_add_remote(&s->a, line, length, &index));
+    CALL(s, IS_ICE_BAD_CANDIDATE, is_ice_add_remote(&s->a, TEXT("candidate:1 1 udp"), &index));
     CALL(s, IS_ICE_OK, is_ice_line_refusal(TEXT("candidate:1 1 udp"), line, sizeof line, &length));
     add(s, line, length);
     CALL(s, IS_ICE_NOTHING, is_ice_candidate_refusal(&host_a, line, sizeof line, &length));
     CALL(s, IS_ICE_OK, is_ice_local_candidate(&s->a, 0, line, sizeof line, &length));
-    CALL(s, IS_ICE_OK, is_ice_add_remote(&s->b, line, length));
+    CALL(s, IS_ICE_OK, is_ice_add_remote(&s->b, line, length, &index));
 }
 
 static void deliver(struct story *s, is_ice_agent *from, is_ice_agent *to, uint64_t now)

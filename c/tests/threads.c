@@ -57,12 +57,12 @@ static void must(int32_t code)
 static void signal_candidate(pair *p, int side)
 {
     uint8_t line[128];
-    size_t length = 0;
+    size_t length = 0, index = 0;
     is_ice_address own = address_of((uint8_t)(side + 1));
     is_ice_candidate host = {own, own, IS_ICE_HOST, IS_ICE_UDP};
-    must(is_ice_add_local(&p->agents[side], &host));
-    must(is_ice_local_candidate(&p->agents[side], 0, line, sizeof line, &length));
-    must(is_ice_add_remote(&p->agents[!side], line, length));
+    must(is_ice_add_local(&p->agents[side], &host, &index));
+    must(is_ice_local_candidate(&p->agents[side], index, line, sizeof line, &length));
+    must(is_ice_add_remote(&p->agents[!side], line, length, &index));
 }
 
 static void *create(void *unused)

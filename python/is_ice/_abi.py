@@ -7,7 +7,7 @@ import os
 from ctypes import POINTER, c_bool, c_char_p, c_int32, c_size_t, c_uint8, c_uint16, c_uint32, c_uint64, c_void_p
 from pathlib import Path
 
-VERSION = 1
+VERSION = 2
 NAME = "libis_ice.so"
 CREDENTIALS_RANDOM = 38
 TIMEOUT_RANDOM = 12
@@ -159,8 +159,8 @@ PROTOTYPES: dict[str, list[object]] = {
     "is_ice_reset_local_preference": [_AGENT],
     "is_ice_set_local_credentials": [_AGENT, *_BYTES, *_BYTES],
     "is_ice_set_remote_credentials": [_AGENT, *_BYTES, *_BYTES],
-    "is_ice_add_local": [_AGENT, POINTER(Candidate)],
-    "is_ice_add_remote": [_AGENT, *_BYTES],
+    "is_ice_add_local": [_AGENT, POINTER(Candidate), POINTER(c_size_t)],
+    "is_ice_add_remote": [_AGENT, *_BYTES, POINTER(c_size_t)],
     "is_ice_invalidate_local": [_AGENT, POINTER(Candidate)],
     "is_ice_invalidate": [_AGENT, *_BYTES],
     "is_ice_local_candidate": [_AGENT, c_size_t, *_TEXT],

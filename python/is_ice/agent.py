@@ -181,15 +181,13 @@ class IceAgent:
 
     def add_local_candidate(self, candidate: Candidate) -> str | None:
         """Adds a candidate that was gathered, and returns its text for signaling, or None if it is redundant."""
-        before = self.local_candidates()
-        struct = struct_of(candidate)
-        code = self._c.is_ice_add_local(self._at, byref(struct))
+        struct, index = struct_of(candidate), c_size_t()
+        code = self._c.is_ice_add_local(self._at, byref(struct), byref(index))
         if code == BadCandidate.code:
             raise error_of(code, _text(lambda *into: self._c.is_ice_candidate_refusal(byref(struct), *into)) or "")
         if not done(code):
             return None
-        after = self.local_candidates()
-        return next((line for line in after if line not in before), after[-1])
+        return _text(lambda *into: self._c.is_ice_local_candidate(self._at, index, *into))
 
     def add_remote_candidate(self, line: str) -> AddResult:
         """Adds a candidate of the peer, by its text ("candidate:.."), and returns whether it was added, known, or why it was ignored.
@@ -197,13 +195,11 @@ class IceAgent:
         BadCandidate says what is wrong with it. A candidate with an mDNS name is a BadCandidate too; `has_mdns_name` says what to do
         with it.
         """
-        before = self.remote_candidates()
         text = line.encode()
-        code = self._c.is_ice_add_remote(self._at, text, len(text))
+        code = self._c.is_ice_add_remote(self._at, text, len(text), byref(c_size_t()))
         if code == BadCandidate.code:
             raise error_of(code, line_refusal(line) or "")
-        done(code)
-        if self.remote_candidates() != before:
+        if done(code):
             return AddResult.ADDED
         if line.split()[1] != "1":
             return AddResult.OTHER_COMPONENT

@@ -127,14 +127,14 @@ impl IceAgent {
     /// If out of memory.
     pub fn add_local_candidate(&mut self, c: Candidate) -> Option<&Candidate> {
         let gathered = c.gathered()?;
-        let before: Vec<_> = self.local_candidates().collect();
-        if !self.tell("candidate", |agent| ffi::is_ice_add_local(agent, &gathered.raw())) {
+        let mut index = 0;
+        if !self.tell("candidate", |agent| ffi::is_ice_add_local(agent, &gathered.raw(), &mut index)) {
             return None;
         }
-        // the new one; a candidate that is added again changes nothing
-        let added = self.local_candidates().find(|candidate| !before.contains(candidate))?;
-        self.gathered.push((unnamed(&added.to_sdp_string()).to_owned(), gathered));
-        self.added = Some(Candidate::listed(added.to_sdp_string(), Some(gathered)));
+        let text = ffi::text(|buffer, length| self.ask(|agent| agent.local_candidate(index, buffer, length)));
+        let line = text.unwrap_or_else(|code| panic!("a line: {}", ffi::text_of(code)));
+        self.gathered.push((unnamed(&line).to_owned(), gathered));
+        self.added = Some(Candidate::listed(line, Some(gathered)));
         self.added.as_ref()
     }
 
@@ -144,7 +144,7 @@ impl IceAgent {
     ///
     /// If out of memory.
     pub fn add_remote_candidate(&mut self, c: Candidate) {
-        self.tell("candidate", |agent| agent.add_remote(&c.to_sdp_string()));
+        self.tell("candidate", |agent| agent.add_remote(&c.to_sdp_string(), &mut 0));
     }
 
     /// Removes a candidate and its pairs: a local one, else a remote one. Returns whether there was one.

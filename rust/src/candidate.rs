@@ -120,9 +120,10 @@ impl Candidate {
 /// The text of a gathered candidate, without a username fragment: a temporary agent prints it.
 fn printed(raw: &ffi::Gathered) -> String {
     let mut agent = ffi::Agent::new("-", "-", 0).unwrap_or_else(|code| panic!("an agent: {}", ffi::text_of(code)));
-    let code = ffi::is_ice_add_local(&mut agent, raw);
+    let mut index = 0;
+    let code = ffi::is_ice_add_local(&mut agent, raw, &mut index);
     assert_eq!(code, ffi::OK, "a candidate: {}", ffi::text_of(code));
-    let line = ffi::text(|buffer, length| agent.local_candidate(0, buffer, length));
+    let line = ffi::text(|buffer, length| agent.local_candidate(index, buffer, length));
     unnamed(&line.expect("the candidate was added")).to_owned()
 }
 

@@ -209,7 +209,7 @@ unsafe extern "C" {
     pub(crate) safe fn is_ice_set_local_preference(agent: &mut Agent, preference: u16) -> i32;
     pub(crate) safe fn is_ice_set_preference_table(agent: &mut Agent, table: &PreferenceTable) -> i32;
     pub(crate) safe fn is_ice_reset_local_preference(agent: &mut Agent) -> i32;
-    pub(crate) safe fn is_ice_add_local(agent: &mut Agent, candidate: &Gathered) -> i32;
+    pub(crate) safe fn is_ice_add_local(agent: &mut Agent, candidate: &Gathered, index: &mut usize) -> i32;
     pub(crate) safe fn is_ice_invalidate_local(agent: &mut Agent, candidate: &Gathered) -> i32;
     pub(crate) safe fn is_ice_poll_timeout(agent: &mut Agent, at: &mut u64) -> i32;
     pub(crate) safe fn is_ice_poll_event(agent: &mut Agent, event: &mut Event) -> i32;
@@ -245,7 +245,7 @@ unsafe extern "C" {
         pass_length: usize,
         keep_local_candidates: bool,
     ) -> i32;
-    fn is_ice_add_remote(agent: &mut Agent, line: *const u8, length: usize) -> i32;
+    fn is_ice_add_remote(agent: &mut Agent, line: *const u8, length: usize, index: &mut usize) -> i32;
     fn is_ice_invalidate(agent: &mut Agent, line: *const u8, length: usize) -> i32;
     fn is_ice_local_candidate(agent: &mut Agent, index: usize, buffer: *mut u8, size: usize, length: &mut usize) -> i32;
     fn is_ice_remote_candidate(agent: &mut Agent, index: usize, buffer: *mut u8, size: usize, length: &mut usize) -> i32;
@@ -286,7 +286,7 @@ unsafe extern "C" {
 impl Agent {
     /// Creates an agent with these credentials.
     pub(crate) fn new(ufrag: &str, pass: &str, tie_breaker: u64) -> Result<Box<Agent>, i32> {
-        assert_eq!(is_ice_version(), 1, "is_ice.h belongs to another library");
+        assert_eq!(is_ice_version(), 2, "is_ice.h belongs to another library");
         let mut agent = Box::new(Agent { is_held: false, at: ptr::null_mut() });
         #[allow(unsafe_code)]
         // SAFETY: both texts are slices that are read. The agent is zeroed, and stays in its box.
@@ -318,11 +318,11 @@ impl Agent {
         }
     }
 
-    pub(crate) fn add_remote(&mut self, line: &str) -> i32 {
+    pub(crate) fn add_remote(&mut self, line: &str, index: &mut usize) -> i32 {
         #[allow(unsafe_code)]
         // SAFETY: the line is a slice that is read.
         unsafe {
-            is_ice_add_remote(self, line.as_ptr(), line.len())
+            is_ice_add_remote(self, line.as_ptr(), line.len(), index)
         }
     }
 

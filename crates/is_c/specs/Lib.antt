@@ -8,6 +8,7 @@ pub mod Preferences
 pub mod Candidates
 pub mod Held
 pub mod Given
+pub mod Adding
 pub mod Refusals
 pub mod Credentials
 pub mod Making

@@ -72,17 +72,6 @@ pub(crate) fn flag_code(outcome: Result<bool, IceError>) -> i32
     }
 }
 
-/// The code of a candidate that is added, or not.
-pub(crate) fn added_code(outcome: Result<Option<usize>, IceError>) -> i32
-    ensures { result ≡ code.added_code outcome }
-{
-    match outcome {
-        Ok(Some(_)) => OK,
-        Ok(None) => NOTHING,
-        Err(error) => code_of(&error),
-    }
-}
-
 /// The code of a query, or of a candidate that is looked up.
 pub(crate) fn found_code(found: bool) -> i32
     ensures { result ≡ code.found_code found }

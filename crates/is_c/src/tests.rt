@@ -3,7 +3,7 @@
 use crate::accepting::{is_ice_accepts_message, is_ice_accepts_packet};
 use crate::address::Address;
 use crate::candidate::LocalCandidate;
-use crate::candidates::{is_ice_add_local, is_ice_add_remote, is_ice_invalidate};
+use crate::candidates::{NO_INDEX, is_ice_add_local, is_ice_add_remote, is_ice_invalidate};
 use crate::codes;
 use crate::credentials::{
     is_ice_local_pass, is_ice_local_ufrag, is_ice_make_credentials, is_ice_set_remote_credentials,
@@ -86,6 +86,7 @@ fn a_request_is_replied_to(rt: HostRuntime) {
     let mut packet = no_packet();
     let mut event = no_event();
     let mut at = 7;
+    let mut index = 9;
     let mut buffer = [0; 64];
     let made = is_ice_agent_new(alloc, &mut slot, b"p9KA", b"xJcE9AQAR7kczUDVOXRUCl", 1);
     assert!(rt; made == codes::OK);
@@ -93,10 +94,11 @@ fn a_request_is_replied_to(rt: HostRuntime) {
     assert!(rt; again == codes::HAS_AGENT);
     let told = is_ice_set_remote_credentials(alloc, &mut slot, b"SQAt", b"x");
     assert!(rt; told == codes::OK);
-    let added = is_ice_add_local(alloc, &mut slot, &host(own));
+    let added = is_ice_add_local(alloc, &mut slot, &host(own), &mut index);
     assert!(rt; added == codes::OK);
-    let known = is_ice_add_local(alloc, &mut slot, &host(own));
+    let known = is_ice_add_local(alloc, &mut slot, &host(own), &mut index);
     assert!(rt; known == codes::NOTHING);
+    assert!(rt; index == 0);
     let cut = is_ice_handle_packet(alloc, &mut slot, 0, 0, &peer, &own, &REQUEST[..99]);
     assert!(rt; cut == codes::UNPARSED);
     let mine = is_ice_accepts_packet(alloc, &mut slot, 0, &peer, &own, &REQUEST);
@@ -132,16 +134,17 @@ fn a_check_has_the_random_bytes_as_its_id(rt: HostRuntime) {
     let mut packet = no_packet();
     let mut buffer = [0; 200];
     let id = *b"twelve bytes";
+    let mut index = 9;
     let made = is_ice_agent_new(alloc, &mut slot, b"AAAA", b"PPPP", 10);
     assert!(rt; made == codes::OK);
     let leads = is_ice_set_controlling(alloc, &mut slot, true);
     assert!(rt; leads == codes::OK);
     let told = is_ice_set_remote_credentials(alloc, &mut slot, b"BBBB", b"QQQQ");
     assert!(rt; told == codes::OK);
-    let added = is_ice_add_local(alloc, &mut slot, &host(address(1, 1000)));
+    let added = is_ice_add_local(alloc, &mut slot, &host(address(1, 1000)), &mut index);
     assert!(rt; added == codes::OK);
     let line = b"candidate:1 1 udp 2130706175 10.0.0.2 2000 typ host";
-    let known = is_ice_add_remote(alloc, &mut slot, line);
+    let known = is_ice_add_remote(alloc, &mut slot, line, &mut index);
     assert!(rt; known == codes::OK);
     let few = is_ice_handle_timeout(alloc, &mut slot, 60_000_000_000, &id[..11]);
     assert!(rt; few == codes::TOO_FEW_RANDOM_BYTES);
@@ -196,6 +199,7 @@ fn settings_and_lines_are_told(rt: HostRuntime) {
     let mut slot = Slot::empty(alloc);
     let mut line = [0; 100];
     let mut length = 0;
+    let mut index = 9;
     let mut status = Status {
         state: 9,
         controlling: true,
@@ -214,7 +218,7 @@ fn settings_and_lines_are_told(rt: HostRuntime) {
     assert!(rt; asked == codes::OK);
     assert!(rt; status.state == 0);
     assert!(rt; status.mtu == 1150);
-    let added = is_ice_add_local(alloc, &mut slot, &host(address(1, 1000)));
+    let added = is_ice_add_local(alloc, &mut slot, &host(address(1, 1000)), &mut index);
     assert!(rt; added == codes::OK);
     let told = is_ice_local_candidate(alloc, &mut slot, 0, &mut line, &mut length);
     assert!(rt; told == codes::OK);
@@ -258,6 +262,7 @@ fn a_table_gives_the_preference(rt: HostRuntime) {
     let mut slot = Slot::empty(alloc);
     let mut line = [0; 100];
     let mut length = 0;
+    let mut index = 9;
     let kinds = KindPreferences {
         host: 256,
         peer_reflexive: 0,
@@ -272,15 +277,54 @@ fn a_table_gives_the_preference(rt: HostRuntime) {
     assert!(rt; made == codes::OK);
     let set = is_ice_set_preference_table(alloc, &mut slot, &table);
     assert!(rt; set == codes::OK);
-    let first = is_ice_add_local(alloc, &mut slot, &host(address(1, 1000)));
+    let first = is_ice_add_local(alloc, &mut slot, &host(address(1, 1000)), &mut index);
     assert!(rt; first == codes::OK);
     let told = is_ice_local_candidate(alloc, &mut slot, 0, &mut line, &mut length);
     assert!(rt; told == codes::OK);
     assert!(rt; line[41..51] == b"2113995007"[..]);
-    let second = is_ice_add_local(alloc, &mut slot, &host(address(3, 1000)));
+    let second = is_ice_add_local(alloc, &mut slot, &host(address(3, 1000)), &mut index);
     assert!(rt; second == codes::OK);
-    let told = is_ice_local_candidate(alloc, &mut slot, 1, &mut line, &mut length);
+    assert!(rt; index == 1);
+    let told = is_ice_local_candidate(alloc, &mut slot, index, &mut line, &mut length);
     assert!(rt; told == codes::OK);
     assert!(rt; line[41..51] == b"2113994751"[..]);
+    is_ice_agent_free(alloc, &mut slot);
+}
+
+#[test]
+fn an_added_candidate_has_its_index(rt: HostRuntime) {
+    let alloc = rt.alloc();
+    let mut slot = Slot::empty(alloc);
+    let mut index = 9;
+    let first = b"candidate:1 1 udp 2130706175 10.0.0.2 2000 typ host";
+    let second = b"candidate:2 1 udp 2130706174 10.0.0.3 2000 typ host";
+    let none = is_ice_add_remote(alloc, &mut slot, first, &mut index);
+    assert!(rt; none == codes::NO_AGENT);
+    assert!(rt; index == 9);
+    let made = is_ice_agent_new(alloc, &mut slot, b"AAAA", b"PPPP", 1);
+    assert!(rt; made == codes::OK);
+    let added = is_ice_add_local(alloc, &mut slot, &host(address(1, 1000)), &mut index);
+    assert!(rt; added == codes::OK);
+    let added = is_ice_add_remote(alloc, &mut slot, first, &mut index);
+    assert!(rt; added == codes::OK);
+    assert!(rt; index == 0);
+    let added = is_ice_add_remote(alloc, &mut slot, second, &mut index);
+    assert!(rt; added == codes::OK);
+    assert!(rt; index == 1);
+    let known = is_ice_add_remote(alloc, &mut slot, first, &mut index);
+    assert!(rt; known == codes::NOTHING);
+    assert!(rt; index == 0);
+    let gone = is_ice_invalidate(alloc, &mut slot, first);
+    assert!(rt; gone == codes::OK);
+    let known = is_ice_add_remote(alloc, &mut slot, second, &mut index);
+    assert!(rt; known == codes::NOTHING);
+    assert!(rt; index == 0);
+    let other = b"candidate:1 2 udp 2130706175 10.0.0.4 2000 typ host";
+    let ignored = is_ice_add_remote(alloc, &mut slot, other, &mut index);
+    assert!(rt; ignored == codes::NOTHING);
+    assert!(rt; index == NO_INDEX);
+    let cut = is_ice_add_remote(alloc, &mut slot, &second[..9], &mut index);
+    assert!(rt; cut == codes::BAD_CANDIDATE);
+    assert!(rt; index == NO_INDEX);
     is_ice_agent_free(alloc, &mut slot);
 }
