@@ -213,6 +213,31 @@ typedef struct is_ice_nominated_pair {
     bool has_rtt;
 } is_ice_nominated_pair;
 
+/* States of a pair's checks (RFC 8445, section 6.1.2.6). No pair is frozen, and one that fails is removed. */
+enum {
+    IS_ICE_PAIR_WAITING = 0,     /* no check was sent */
+    IS_ICE_PAIR_IN_PROGRESS = 1, /* a check was sent, and none had a response */
+    IS_ICE_PAIR_SUCCEEDED = 2    /* the pair is valid */
+};
+
+/* A candidate pair, with its figures since it was formed. */
+typedef struct is_ice_pair {
+    size_t local;           /* the index of its local candidate: see is_ice_local_candidate */
+    size_t remote;          /* the index of its remote candidate: see is_ice_remote_candidate */
+    uint64_t priority;      /* RFC 8445, section 6.1.2.3 */
+    uint64_t responses;     /* the number of responses to its checks */
+    uint64_t total_rtt;     /* the sum of the round-trip times of its checks */
+    uint64_t rtt;           /* the last round-trip time, if has_rtt */
+    uint64_t last_request;  /* when the last check of the other agent on it arrived, if has_request */
+    uint64_t due;           /* when its next check is due, if has_due: once the session has started */
+    int32_t state;
+    bool nominated;
+    bool selected;          /* it is the pair of the last IS_ICE_NOMINATED_SEND */
+    bool has_rtt;
+    bool has_request;
+    bool has_due;
+} is_ice_pair;
+
 /* Local preferences by kind, for one IP version. */
 typedef struct is_ice_kind_preferences {
     uint16_t host;
@@ -498,6 +523,15 @@ IS_ICE_CALL int32_t is_ice_stats(is_ice_agent *agent, is_ice_agent_stats *stats)
  * IS_ICE_OK. IS_ICE_NOTHING: no pair was selected, or it was removed; *nominated is unchanged. */
 IS_ICE_CALL int32_t is_ice_nominated(is_ice_agent *agent, is_ice_nominated_pair *nominated);
 
+/* is_ice_pair_count - returns the number of candidate pairs. IS_ICE_OK. */
+IS_ICE_CALL int32_t is_ice_pair_count(is_ice_agent *agent, size_t *count);
+
+/* is_ice_pair_at - returns a candidate pair. The index counts from 0, in the order in which the pairs were formed, so it
+ * may mean another pair after a change.
+ *
+ * IS_ICE_OK. IS_ICE_NOTHING: the index is past the last one; *pair is unchanged. */
+IS_ICE_CALL int32_t is_ice_pair_at(is_ice_agent *agent, size_t index, is_ice_pair *pair);
+
 /* is_ice_has_viable_remote - returns whether there is a valid pair whose remote candidate has this address. A pair
  * becomes valid when one of its checks succeeds; under lite, when a check of the other agent arrives on it.
  *
@@ -642,6 +676,7 @@ IS_ICE_SIZE(is_ice_event, 68);
 IS_ICE_SIZE(is_ice_agent_status, 32);
 IS_ICE_SIZE(is_ice_agent_stats, 40);
 IS_ICE_SIZE(is_ice_nominated_pair, 32);
+IS_ICE_SIZE(is_ice_pair, 80);
 IS_ICE_SIZE(is_ice_kind_preferences, 8);
 IS_ICE_SIZE(is_ice_preference_table, 16);
 IS_ICE_SIZE(is_ice_stun_transaction, 12);

@@ -7,7 +7,7 @@ standard error. From standard input it reads:
 
     signal UFRAG PASSWORD CANDIDATE,CANDIDATE,..   the other peer's signal
     candidate:..                                   a later candidate of the other peer
-    /restart, /stats, /quit
+    /restart, /stats, /pairs, /quit
 
 It sends any other line to the other peer as chat, once there is a path. A line that begins as one of the above but is malformed
 is an error, and is not sent. The lines are those of c/examples/peer.c, so either end may be the C program. Chat is sent as plain
@@ -83,10 +83,13 @@ class Peer:
             say(self.signal())
         elif word == "/stats":
             tell(f"{self.agent.stats} {self.agent.nominated_pair}")
+        elif word == "/pairs":
+            for pair in self.agent.pairs:
+                tell(f"{pair}")
         elif word == "/quit":
             self.ended.set()
         elif word.startswith("/"):
-            tell(f"peer: {word}: unknown command; there are /restart, /stats and /quit")
+            tell(f"peer: {word}: unknown command; there are /restart, /stats, /pairs and /quit")
         elif self.path:
             self.loop.send(self.path.source, self.path.destination, line.encode())
         elif line:

@@ -7,7 +7,7 @@
  *
  *     signal UFRAG PASSWORD CANDIDATE,CANDIDATE,..   the other peer's signal
  *     candidate:..                                   a later candidate of the other peer
- *     /restart, /stats, /quit
+ *     /restart, /stats, /pairs, /quit
  *
  * It sends any other line to the other peer as chat, once there is a path. A line that begins as one of the above but is
  * malformed is an error, and is not sent.
@@ -196,13 +196,42 @@ static void print_stats(struct session *s)
     fprintf(stderr, "\n");
 }
 
+/* Prints the transport address of a candidate: the fifth and sixth words of its text. */
+static void print_address(const char *what, int32_t code, const uint8_t *line, size_t length)
+{
+    char text[512], address[64], port[8];
+    snprintf(text, sizeof text, "%.*s", (int)length, (const char *)line);
+    if (code == IS_ICE_OK && sscanf(text, "%*s %*s %*s %*s %63s %7s", address, port) == 2) fprintf(stderr, " %s %s %s", what, address, port);
+}
+
+/* Prints each pair with its candidates. */
+static void print_pairs(struct session *s)
+{
+    static const char *const states[] = {"waiting", "in progress", "succeeded"};
+    is_ice_pair pair;
+    for (size_t i = 0; is_ice_pair_at(&s->agent, i, &pair) == IS_ICE_OK; i++) {
+        uint8_t line[512];
+        size_t length = 0;
+        int32_t code = is_ice_local_candidate(&s->agent, pair.local, line, sizeof line, &length);
+        fprintf(stderr, "pair %llu", (unsigned long long)i);
+        print_address("from", code, line, length);
+        code = is_ice_remote_candidate(&s->agent, pair.remote, line, sizeof line, &length);
+        print_address("to", code, line, length);
+        fprintf(stderr, " %s%s%s answered %llu", states[pair.state], pair.nominated ? " nominated" : "",
+                pair.selected ? " selected" : "", (unsigned long long)pair.responses);
+        if (pair.has_rtt) fprintf(stderr, " last round trip %llu us", (unsigned long long)(pair.rtt / 1000));
+        fprintf(stderr, "\n");
+    }
+}
+
 static void take_command(struct session *s, const char *line)
 {
     if (strcmp(line, "/quit") == 0) s->is_over = true;
     else if (strcmp(line, "/stats") == 0) print_stats(s);
+    else if (strcmp(line, "/pairs") == 0) print_pairs(s);
     else if (strcmp(line, "/restart") == 0) {
         if (warn("restart", signal_restart(&s->agent)) == IS_ICE_OK) warn("signal", signal_print(&s->agent));
-    } else fprintf(stderr, "peer: %s: unknown command; there are /restart, /stats and /quit\n", line);
+    } else fprintf(stderr, "peer: %s: unknown command; there are /restart, /stats, /pairs and /quit\n", line);
 }
 
 /* Whether the line's first word, which ends with a blank or the line, is this one. */
@@ -366,7 +395,7 @@ static const char help[] =
     "\n"
     "  signal UFRAG PASSWORD CANDIDATE,CANDIDATE,..    the other peer's signal\n"
     "  candidate:..                                    a later candidate of the other peer\n"
-    "  /restart, /stats, /quit\n"
+    "  /restart, /stats, /pairs, /quit\n"
     "  any other line                                  chat, sent as plain text\n"
     "\n"
     "Status: 0 done, 1 out of time, 2 not started.\n";

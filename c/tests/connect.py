@@ -300,6 +300,9 @@ def errors():
     for side in (a, b):
         side.hears("/stats")
         side.says("stats sent ")
+        side.hears("/pairs")
+        if " nominated selected answered " not in side.says("pair 0 from 127.0.0.1 "):
+            raise Failed(f"{side.told}")
     a.hears("good morning")
     if b.says("heard ") != "good morning":
         raise Failed(f"{b.told}")

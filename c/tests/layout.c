@@ -37,6 +37,10 @@ static void offsets(void)
     AT(is_ice_agent_stats, nomination_send_count, 32);
     AT(is_ice_nominated_pair, total_rtt, 0), AT(is_ice_nominated_pair, responses, 8);
     AT(is_ice_nominated_pair, rtt, 16), AT(is_ice_nominated_pair, has_rtt, 24);
+    AT(is_ice_pair, local, 0), AT(is_ice_pair, remote, 8), AT(is_ice_pair, priority, 16), AT(is_ice_pair, responses, 24);
+    AT(is_ice_pair, total_rtt, 32), AT(is_ice_pair, rtt, 40), AT(is_ice_pair, last_request, 48), AT(is_ice_pair, due, 56);
+    AT(is_ice_pair, state, 64), AT(is_ice_pair, nominated, 68), AT(is_ice_pair, selected, 69), AT(is_ice_pair, has_rtt, 70);
+    AT(is_ice_pair, has_request, 71), AT(is_ice_pair, has_due, 72);
     AT(is_ice_kind_preferences, host, 0), AT(is_ice_kind_preferences, peer_reflexive, 2);
     AT(is_ice_kind_preferences, server_reflexive, 4), AT(is_ice_kind_preferences, relayed, 6);
     AT(is_ice_preference_table, v4, 0), AT(is_ice_preference_table, v6, 8);
@@ -146,6 +150,8 @@ static void session(void)
     is_ice_event e;
     is_ice_agent_stats stats;
     is_ice_nominated_pair path;
+    is_ice_pair pair;
+    size_t count = 0;
     memset(&e, 0xaa, sizeof e);
     HOLD(is_ice_nominated(&a, &path) == IS_ICE_NOTHING && is_ice_has_viable_remote(&a, &at_b) == IS_ICE_NOTHING);
     HOLD(is_ice_handle_timeout(&a, UINT64_C(60000000000), TEXT("twelve bytes")) == IS_ICE_OK);
@@ -164,6 +170,13 @@ static void session(void)
     memset(&path, 0xaa, sizeof path);
     HOLD(is_ice_nominated(&a, &path) == IS_ICE_OK && path.responses == 1);
     HOLD(path.total_rtt == 30000000 && path.rtt == 30000000 && path.has_rtt);
+    memset(&pair, 0xaa, sizeof pair);
+    HOLD(is_ice_pair_count(&a, &count) == IS_ICE_OK && count == 1 && is_ice_pair_at(&a, 1, &pair) == IS_ICE_NOTHING);
+    HOLD(is_ice_pair_at(&a, 0, &pair) == IS_ICE_OK && pair.local == 0 && pair.remote == 0 && pair.state == IS_ICE_PAIR_SUCCEEDED);
+    HOLD(pair.nominated && pair.selected && pair.responses == 1 && pair.total_rtt == 30000000 && pair.rtt == 30000000);
+    HOLD(pair.has_rtt && !pair.has_request && pair.has_due);
+    HOLD(is_ice_pair_at(&b, 0, &pair) == IS_ICE_OK && pair.state == IS_ICE_PAIR_WAITING && pair.has_request);
+    HOLD(pair.last_request == UINT64_C(60010000000) && !pair.selected && pair.responses == 0 && !pair.has_rtt && !pair.has_due);
     is_ice_agent_free(&a);
     is_ice_agent_free(&b);
 }

@@ -25,6 +25,8 @@ from .errors import (
     Unparsed,
 )
 from .events import (
+    CandidatePair,
+    CheckState,
     DiscoveredRecv,
     IceAgentEvent,
     IceAgentStats,
@@ -38,8 +40,8 @@ from .events import (
 )
 
 __all__ = [
-    "AddResult", "BadAddress", "BadCandidate", "BadLimit", "Candidate", "CandidateKind", "CredentialsTooLong",
-    "DiscoveredRecv", "HasAgent", "IceAgent", "IceAgentEvent", "IceAgentStats", "IceConnectionState", "IceConnectionStateChange",
+    "AddResult", "BadAddress", "BadCandidate", "BadLimit", "Candidate", "CandidateKind", "CandidatePair",
+    "CheckState", "CredentialsTooLong", "DiscoveredRecv", "HasAgent", "IceAgent", "IceAgentEvent", "IceAgentStats", "IceConnectionState", "IceConnectionStateChange",
     "IceCreds", "IceError", "IceRestart", "KindPreferences", "MtuTooSmall", "NoAgent", "NominatedPair", "NominatedSend",
     "NotUtf8", "OutOfMemory", "PairIdsExhausted", "PriorityTooHigh", "Protocol", "SocketAddress", "TooFewRandomBytes",
     "Transmit", "Unparsed", "has_mdns_name", "line_refusal", "new_creds",

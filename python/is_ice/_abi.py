@@ -77,6 +77,27 @@ class Nominated(ctypes.Structure):
     _fields_ = [("total_rtt", c_uint64), ("responses", c_uint64), ("rtt", c_uint64), ("has_rtt", c_bool)]
 
 
+class Pair(ctypes.Structure):
+    """is_ice_pair."""
+
+    _fields_ = [
+        ("local", c_size_t),
+        ("remote", c_size_t),
+        ("priority", c_uint64),
+        ("responses", c_uint64),
+        ("total_rtt", c_uint64),
+        ("rtt", c_uint64),
+        ("last_request", c_uint64),
+        ("due", c_uint64),
+        ("state", c_int32),
+        ("nominated", c_bool),
+        ("selected", c_bool),
+        ("has_rtt", c_bool),
+        ("has_request", c_bool),
+        ("has_due", c_bool),
+    ]
+
+
 class KindPreferences(ctypes.Structure):
     """is_ice_kind_preferences."""
 
@@ -130,8 +151,8 @@ class StunMessage(ctypes.Structure):
 
 
 # The sizes of the structs that c/is_ice.h asserts.
-SIZES = {Agent: 16, Address: 28, Candidate: 60, Packet: 72, Event: 68, Status: 32, Stats: 40, Nominated: 32, KindPreferences: 8,
-         PreferenceTable: 16, StunTransaction: 12, StunResult: 32, StunNumber: 16, StunMessage: 232}
+SIZES = {Agent: 16, Address: 28, Candidate: 60, Packet: 72, Event: 68, Status: 32, Stats: 40, Nominated: 32, Pair: 80,
+         KindPreferences: 8, PreferenceTable: 16, StunTransaction: 12, StunResult: 32, StunNumber: 16, StunMessage: 232}
 
 _AGENT = POINTER(Agent)
 _BYTES = [c_char_p, c_size_t]
@@ -177,6 +198,8 @@ PROTOTYPES: dict[str, list[object]] = {
     "is_ice_status": [_AGENT, POINTER(Status)],
     "is_ice_stats": [_AGENT, POINTER(Stats)],
     "is_ice_nominated": [_AGENT, POINTER(Nominated)],
+    "is_ice_pair_count": [_AGENT, POINTER(c_size_t)],
+    "is_ice_pair_at": [_AGENT, c_size_t, POINTER(Pair)],
     "is_ice_has_viable_remote": [_AGENT, POINTER(Address)],
     "is_ice_local_ufrag": [_AGENT, *_TEXT],
     "is_ice_local_pass": [_AGENT, *_TEXT],

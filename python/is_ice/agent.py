@@ -17,6 +17,8 @@ from .address import Protocol, SocketAddress, address_of, in_range, socket_of
 from .candidate import AddResult, Candidate, KindPreferences, struct_of, table_of, ufrag_of
 from .errors import BUFFER_TOO_SHORT, BadCandidate, NoAgent, done, error_of
 from .events import (
+    CandidatePair,
+    CheckState,
     DiscoveredRecv,
     IceAgentEvent,
     IceAgentStats,
@@ -352,6 +354,17 @@ class IceAgent:
             return None
         return NominatedPair(pair.total_rtt, pair.responses, pair.rtt if pair.has_rtt else None, self._selected.source,
                              self._selected.destination)
+
+    @property
+    def pairs(self) -> list[CandidatePair]:
+        """The candidate pairs, in the order in which they were formed."""
+        pair, pairs = _abi.Pair(), list[CandidatePair]()
+        while done(self._c.is_ice_pair_at(self._at, len(pairs), byref(pair))):
+            pairs.append(CandidatePair(
+                pair.local, pair.remote, pair.priority, CheckState(pair.state), pair.nominated, pair.selected, pair.responses,
+                pair.total_rtt, pair.rtt if pair.has_rtt else None, pair.last_request if pair.has_request else None,
+                pair.due if pair.has_due else None))
+        return pairs
 
     def has_viable_remote_candidate(self, address: SocketAddress) -> bool:
         """Returns whether there is a valid pair whose remote candidate has this address."""

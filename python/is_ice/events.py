@@ -101,6 +101,36 @@ class IceAgentStats:
     nomination_send_count: int
 
 
+class CheckState(enum.IntEnum):
+    """States of a pair's checks (RFC 8445, section 6.1.2.6). WAITING: none was sent. IN_PROGRESS: none had a response. SUCCEEDED: valid."""
+
+    WAITING = 0
+    IN_PROGRESS = 1
+    SUCCEEDED = 2
+
+
+@dataclass(frozen=True)
+class CandidatePair:
+    """A candidate pair. Times are nanoseconds.
+
+    `local` and `remote` are the indices of its candidates in `local_candidates` and `remote_candidates`. `selected`: it is the pair
+    of the last NominatedSend. `responses` and `total_rtt` are those of its checks. None if there is none: `rtt`, the last round-trip
+    time; `last_request`, when the peer's last check arrived; `due`, when its next check is due.
+    """
+
+    local: int
+    remote: int
+    priority: int
+    state: CheckState
+    nominated: bool
+    selected: bool
+    responses: int
+    total_rtt: int
+    rtt: int | None
+    last_request: int | None
+    due: int | None
+
+
 @dataclass(frozen=True)
 class NominatedPair:
     """The selected pair. Times are nanoseconds. `rtt` is the last round-trip time, or None if there is none.

@@ -19,6 +19,7 @@ from is_ice import (
     BadCandidate,
     BadLimit,
     Candidate,
+    CheckState,
     CredentialsTooLong,
     DiscoveredRecv,
     IceAgent,
@@ -236,6 +237,18 @@ class Values(unittest.TestCase):
         high = agent.add_local_candidate(Candidate.host(SocketAddress("10.0.0.3", 1000)))
         assert low is not None and high is not None
         self.assertLess(int(low.split()[3]), int(high.split()[3]))
+
+    def test_pairs(self) -> None:
+        a, b = two_agents()
+        self.assertEqual([(pair.state, pair.due, pair.rtt) for pair in a.pairs], [(CheckState.WAITING, None, None)])
+        play((a, b))
+        (pair,) = a.pairs
+        self.assertTrue(pair.nominated and pair.selected)
+        self.assertEqual((pair.local, pair.remote, pair.state, pair.rtt), (0, 0, CheckState.SUCCEEDED, 0))
+        self.assertEqual(pair.responses, a.stats.bind_success_recv)
+        assert pair.due is not None and pair.last_request is not None
+        self.assertGreater(pair.due, pair.last_request)
+        self.assertEqual(a.pairs, a.pairs)
 
     def test_preferences_by_kind(self) -> None:
         agent = IceAgent()

@@ -4,6 +4,7 @@ use crate::candidate::{Candidate, Gathered, unnamed};
 use crate::creds::{IceCreds, Random};
 use crate::event::{IceAgentEvent, IceAgentStats, IceConnectionState, Transmit};
 use crate::ffi;
+use crate::pair::CandidatePair;
 use crate::proto::{Protocol, address_of, socket_of};
 use crate::stun::{StunMessage, StunPacket};
 use std::cell::RefCell;
@@ -303,6 +304,17 @@ impl IceAgent {
         let mut stats = ffi::Stats::default();
         yes("stats", self.ask(|agent| ffi::is_ice_stats(agent, &mut stats)));
         IceAgentStats::of(stats)
+    }
+
+    /// The candidate pairs, in the order in which they were formed.
+    pub fn pairs(&self) -> impl Iterator<Item = CandidatePair> + '_ {
+        let mut count = 0;
+        yes("pairs", self.ask(|agent| ffi::is_ice_pair_count(agent, &mut count)));
+        (0..count).map_while(|index| {
+            let mut pair = ffi::Pair::default();
+            let is_some = yes("a pair", self.ask(|agent| ffi::is_ice_pair_at(agent, index, &mut pair)));
+            is_some.then(|| CandidatePair::of(&pair, |at| self.instant(at)))
+        })
     }
 
     fn nominated(&self) -> Option<ffi::Nominated> {

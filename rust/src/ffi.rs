@@ -122,6 +122,25 @@ pub(crate) struct Nominated {
 
 #[repr(C)]
 #[derive(Clone, Copy, Default)]
+pub(crate) struct Pair {
+    pub(crate) local: usize,
+    pub(crate) remote: usize,
+    pub(crate) priority: u64,
+    pub(crate) responses: u64,
+    pub(crate) total_rtt: u64,
+    pub(crate) rtt: u64,
+    pub(crate) last_request: u64,
+    pub(crate) due: u64,
+    pub(crate) state: i32,
+    pub(crate) nominated: bool,
+    pub(crate) selected: bool,
+    pub(crate) has_rtt: bool,
+    pub(crate) has_request: bool,
+    pub(crate) has_due: bool,
+}
+
+#[repr(C)]
+#[derive(Clone, Copy, Default)]
 pub(crate) struct KindPreferences {
     pub(crate) host: u16,
     pub(crate) peer_reflexive: u16,
@@ -181,7 +200,7 @@ pub(crate) struct StunMessage {
 const _: () = {
     assert!(size_of::<Agent>() == 16 && size_of::<Address>() == 28 && size_of::<Gathered>() == 60);
     assert!(size_of::<Packet>() == 72 && size_of::<Event>() == 68 && size_of::<Status>() == 32);
-    assert!(size_of::<Stats>() == 40 && size_of::<Nominated>() == 32);
+    assert!(size_of::<Stats>() == 40 && size_of::<Nominated>() == 32 && size_of::<Pair>() == 80);
     assert!(size_of::<KindPreferences>() == 8 && size_of::<PreferenceTable>() == 16);
     assert!(size_of::<StunTransaction>() == 12 && size_of::<StunResult>() == 32);
     assert!(size_of::<StunNumber>() == 16 && size_of::<StunMessage>() == 232);
@@ -217,6 +236,8 @@ unsafe extern "C" {
     pub(crate) safe fn is_ice_status(agent: &mut Agent, status: &mut Status) -> i32;
     pub(crate) safe fn is_ice_stats(agent: &mut Agent, stats: &mut Stats) -> i32;
     pub(crate) safe fn is_ice_nominated(agent: &mut Agent, nominated: &mut Nominated) -> i32;
+    pub(crate) safe fn is_ice_pair_count(agent: &mut Agent, count: &mut usize) -> i32;
+    pub(crate) safe fn is_ice_pair_at(agent: &mut Agent, index: usize, pair: &mut Pair) -> i32;
     pub(crate) safe fn is_ice_has_viable_remote(agent: &mut Agent, address: &Address) -> i32;
 
     fn is_ice_make_credentials(

@@ -3,7 +3,7 @@
 mod world;
 
 use is::stun::{StunMessage, StunPacket};
-use is::{Candidate, CandidateKind, IceAgent, IceAgentEvent, IceConnectionState, IceCreds, IceError};
+use is::{Candidate, CandidateKind, CheckState, IceAgent, IceAgentEvent, IceConnectionState, IceCreds, IceError};
 use is::{KindPreferences, LocalPreference, PreferenceTable, Protocol, StunError, TcpType};
 use std::time::{Duration, Instant};
 use world::{at, creds, host, ms};
@@ -256,6 +256,23 @@ fn preferences_are_set() {
 }
 
 // ---- others
+
+#[test]
+fn pairs_are_listed() {
+    let mut agent = paired();
+    let pair = agent.pairs().next().expect("a pair");
+    assert_eq!((pair.local, pair.remote, pair.state, pair.selected), (0, 0, CheckState::Waiting, false));
+    assert_eq!((pair.responses, pair.rtt, pair.due), (0, None, None));
+    let now = Instant::now();
+    agent.handle_timeout(now);
+    let pair = agent.pairs().next().expect("a pair");
+    assert_eq!(pair.state, CheckState::InProgress);
+    assert_eq!(pair.due, Some(now + Duration::from_millis(250)));
+    agent.add_remote_candidate(Candidate::from_sdp_string("candidate:1 1 udp 2130706431 10.0.0.3 3000 typ host").unwrap());
+    let pairs: Vec<_> = agent.pairs().collect();
+    assert_eq!(pairs.iter().map(|pair| pair.remote).collect::<Vec<_>>(), [0, 1]);
+    assert!(pairs[0].priority < pairs[1].priority);
+}
 
 #[test]
 fn pairs_may_be_few() {

@@ -1,6 +1,7 @@
 pub mod View
 pub mod Lends
 pub mod Added
+pub mod Pairs
 pub mod Listed
 pub mod Ready
 pub mod Room

@@ -48,7 +48,7 @@ fn before(candidates: &[Candidate], place: usize) -> &[Candidate]
 }
 
 /// How many listed candidates come before the one at this place.
-fn listed_index(candidates: &[Candidate], place: usize) -> usize
+pub(crate) fn listed_index(candidates: &[Candidate], place: usize) -> usize
     ensures { result ≡ listed_index candidates.now place }
 {
     before(candidates, place)

@@ -14,6 +14,7 @@ pub mod discarding;
 pub mod emitted;
 pub mod local;
 pub mod nomination;
+pub mod pairs;
 mod polls;
 pub mod questions;
 mod queue;

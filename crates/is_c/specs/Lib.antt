@@ -19,3 +19,4 @@ pub mod Questions
 pub mod StunRead
 pub mod StunClient
 pub mod StunMessage
+pub mod Pairs

@@ -1,0 +1,45 @@
+-- Candidate pairs, as C gets them.
+use Rattle.std.specs.Prelude.{◌≡◌, ℕ, Bool, true, false, length, Option, Some, None, slice_get, ℤ, pos}
+use Rattle.is_pair.specs.declared.pair.states.CheckState.{CheckState}
+use Rattle.is_pair.specs.declared.pair.states.CheckState.TheVariants.{Waiting, InProgress, Succeeded}
+use Rattle.is_pair.specs.Checks.{last_round_trip}
+use Rattle.is_pair.specs.Pairs.{PairRecord, is_nominated}
+use Rattle.is_agent.specs.Added.{listed_index}
+use Rattle.is_agent.specs.Pairs.{is_selected, next_due}
+use Rattle.is_c.specs.declared.pairs.Pair.{Pair}
+use Rattle.is_c.specs.Codes.{OK, NOTHING}
+use Rattle.is_c.specs.Held.{Held, HomeRecord}
+
+abbrev pub check_number : CheckState → ℤ
+check_number Waiting = pos 0
+check_number InProgress = pos 1
+check_number Succeeded = pos 2
+
+-- a time or duration that may be missing
+abbrev pub IsTime : Option ℕ → Bool → ℕ → Type 0
+IsTime None has time = has ≡ false
+IsTime (Some t) has time = (has ≡ true) × (time ≡ t)
+
+-- what C gets of a pair: its candidates by the indices at which they are listed
+abbrev pub IsPair : Held → PairRecord → Pair → Type 0
+IsPair a p s =
+    (s.local ≡ listed_index a.local p.local) × (s.remote ≡ listed_index a.remote p.remote)
+    × (s.priority ≡ p.priority) × (s.state ≡ check_number p.state)
+    × (s.nominated ≡ is_nominated p) × (s.selected ≡ is_selected a p)
+    × (s.responses ≡ p.answers) × (s.total_rtt ≡ p.total_round_trip)
+    × IsTime (last_round_trip p.checks) s.has_rtt s.rtt
+    × IsTime p.last_request s.has_request s.last_request
+    × IsTime (next_due a p) s.has_due s.due
+
+abbrev pub TellsOfPair : Held → Option PairRecord → Pair → Pair → ℤ → Type 0
+TellsOfPair a None before after code = (code ≡ NOTHING) × (after ≡ before)
+TellsOfPair a (Some p) before after code = (code ≡ OK) × IsPair a p after
+
+-- `is_ice_pair_at`: pairs are counted from 0 in the order in which they were formed
+abbrev pub TellsPair : ℕ → Pair → Pair → HomeRecord → ℤ → HomeRecord → Type 0
+TellsPair index before after old code new =
+    TellsOfPair old.agent (slice_get old.agent.pairs index) before after code × (new ≡ old)
+
+-- `is_ice_pair_count`
+abbrev pub TellsCount : ℕ → HomeRecord → ℤ → HomeRecord → Type 0
+TellsCount count old code new = (code ≡ OK) × (count ≡ length old.agent.pairs) × (new ≡ old)

@@ -1,0 +1,127 @@
+//! Candidate pairs, listed.
+
+ghost use Rattle.std.specs.Prelude.{◌≡◌, slice_get};
+ghost use Rattle.is_agent.specs.View.{record_of};
+ghost use Rattle.is_c.specs.Held.{held_by, At};
+ghost use Rattle.is_c.specs.Pairs.{check_number, IsPair, TellsOfPair, TellsPair, TellsCount};
+
+use crate::codes;
+use crate::home::Home;
+use crate::slot::Slot;
+use is_pair::pair::{CandidatePair, CheckState};
+use std::alloc::Global;
+
+/// A candidate pair. Times and durations are in nanoseconds.
+#[repr(C)]
+#[derive(Clone, Copy)]
+pub struct Pair {
+    /// The index of the local candidate, as `is_ice_local_candidate` has it.
+    pub local: usize,
+    pub remote: usize,
+    pub priority: u64,
+    /// The number of responses to its checks.
+    pub responses: u64,
+    /// The sum of the round-trip times of its checks.
+    pub total_rtt: u64,
+    /// The last round-trip time.
+    pub rtt: u64,
+    /// When the last check of the other agent arrived.
+    pub last_request: u64,
+    /// When its next check is due.
+    pub due: u64,
+    /// 0 Waiting, 1 InProgress, 2 Succeeded.
+    pub state: i32,
+    pub nominated: bool,
+    /// It is the pair of the last `NominatedSend`.
+    pub selected: bool,
+    pub has_rtt: bool,
+    pub has_request: bool,
+    pub has_due: bool,
+}
+
+fn check_number(state: CheckState) -> i32
+    ensures { result ≡ check_number state }
+{
+    match state {
+        CheckState::Waiting => 0,
+        CheckState::InProgress => 1,
+        CheckState::Succeeded => 2,
+    }
+}
+
+fn told_pair(home: &Home, pair: &CandidatePair) -> Pair
+    ensures { IsPair (record_of home.now.agent) pair.now result }
+{
+    let agent = &home.agent;
+    let rtt = pair.last_successful_rtt();
+    let request = pair.remote_binding_request_time();
+    let due = agent.next_check_due(pair);
+    Pair {
+        local: agent.local_candidate_index(pair),
+        remote: agent.remote_candidate_index(pair),
+        priority: pair.prio(),
+        responses: pair.responses_received(),
+        total_rtt: pair.total_round_trip_time().0,
+        rtt: match rtt {
+            Some(time) => time.0,
+            None => 0,
+        },
+        last_request: match request {
+            Some(at) => at.0,
+            None => 0,
+        },
+        due: match due {
+            Some(at) => at.0,
+            None => 0,
+        },
+        state: check_number(pair.state()),
+        nominated: pair.is_nominated(),
+        selected: agent.is_selected_pair(pair),
+        has_rtt: rtt.is_some(),
+        has_request: request.is_some(),
+        has_due: due.is_some(),
+    }
+}
+
+fn tell_pair(home: &Home, index: usize, pair: &mut Pair) -> i32
+    ensures { TellsOfPair (record_of home.now.agent) (slice_get (record_of home.now.agent).pairs index) pair.old pair.new result }
+{
+    match home.agent.candidate_pair(index) {
+        Some(found) => {
+            *pair = told_pair(home, found);
+            codes::OK
+        }
+        None => codes::NOTHING,
+    }
+}
+
+/// Writes the pair with this index. Pairs are counted from 0, in the order in which they were formed.
+#[unsafe(no_mangle)]
+pub extern "C" fn is_ice_pair_at(
+    alloc: Global,
+    slot: &mut Slot,
+    index: usize,
+    pair: &mut Pair,
+) -> i32
+    ensures { At (TellsPair index pair.old pair.new) (held_by slot.old) result (held_by slot.new) }
+{
+    let Some(home) = slot.take(alloc) else {
+        return codes::NO_AGENT;
+    };
+    let code = tell_pair(&home, index, pair);
+    *slot = Slot::of(home);
+    code
+}
+
+/// Writes how many pairs there are.
+#[unsafe(no_mangle)]
+pub extern "C" fn is_ice_pair_count(alloc: Global, slot: &mut Slot, count: &mut usize) -> i32
+    ensures { At (TellsCount count.new) (held_by slot.old) result (held_by slot.new) }
+{
+    let Some(home) = slot.take(alloc) else {
+        return codes::NO_AGENT;
+    };
+    *count = home.agent.candidate_pair_count();
+    *slot = Slot::of(home);
+    codes::OK
+}

@@ -1,0 +1,64 @@
+//! Candidate pairs, as an agent lists them.
+
+use crate::ffi;
+use std::time::{Duration, Instant};
+
+/// The state of a pair's checks (RFC 8445, section 6.1.2.6). No pair is frozen, and one that fails is removed.
+#[derive(Clone, Copy, Debug, PartialEq, Eq)]
+pub enum CheckState {
+    /// No check was sent.
+    Waiting,
+    /// A check was sent, and none had a response.
+    InProgress,
+    /// The pair is valid.
+    Succeeded,
+}
+
+/// A candidate pair, with its figures since it was formed.
+#[derive(Clone, Copy, Debug, PartialEq, Eq)]
+pub struct CandidatePair {
+    /// The index of its local candidate in [`crate::IceAgent::local_candidates`].
+    pub local: usize,
+    /// The index of its remote candidate in [`crate::IceAgent::remote_candidates`].
+    pub remote: usize,
+    /// Its priority (RFC 8445, section 6.1.2.3).
+    pub priority: u64,
+    /// The state of its checks.
+    pub state: CheckState,
+    /// Whether it is nominated.
+    pub nominated: bool,
+    /// Whether it is the pair of the last [`crate::IceAgentEvent::NominatedSend`].
+    pub selected: bool,
+    /// The number of responses to its checks.
+    pub responses: u64,
+    /// The sum of the round-trip times of its checks.
+    pub total_rtt: Duration,
+    /// The last round-trip time.
+    pub rtt: Option<Duration>,
+    /// When the last check of the peer arrived on it.
+    pub last_request: Option<Instant>,
+    /// When its next check is due, once the session has started.
+    pub due: Option<Instant>,
+}
+
+impl CandidatePair {
+    pub(crate) fn of(pair: &ffi::Pair, instant: impl Fn(u64) -> Option<Instant>) -> CandidatePair {
+        CandidatePair {
+            local: pair.local,
+            remote: pair.remote,
+            priority: pair.priority,
+            state: match pair.state {
+                0 => CheckState::Waiting,
+                1 => CheckState::InProgress,
+                _ => CheckState::Succeeded,
+            },
+            nominated: pair.nominated,
+            selected: pair.selected,
+            responses: pair.responses,
+            total_rtt: Duration::from_nanos(pair.total_rtt),
+            rtt: pair.has_rtt.then(|| Duration::from_nanos(pair.rtt)),
+            last_request: pair.has_request.then(|| instant(pair.last_request)).flatten(),
+            due: pair.has_due.then(|| instant(pair.due)).flatten(),
+        }
+    }
+}
