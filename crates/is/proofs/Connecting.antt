@@ -19,8 +19,9 @@ use Rattle.is_rules.specs.Sound.{FreshIsSound}
 use Rattle.is_rules.specs.Steps as agent
 use Rattle.is_rules.specs.Steps.{Answer, Entry, Done, Refused, quiet, Step}
 use Rattle.is.specs.declared.world.Side.{Side}
-use Rattle.is.specs.Connections.{Round, all_of, IsKept, HasRounds, Checks, Succeeds, BothConnect}
+use Rattle.is.specs.Connections.{HasRounds, Succeeds, BothConnect}
 use Rattle.is.specs.Grantings.{Occurrence, IsAskedOver}
+use Rattle.is.specs.Selections.{Round, all_of, IsKept, Checks}
 use Rattle.is.specs.World as world
 use Rattle.is.specs.World.{WorldRecord, InFlightRecord, Event, Logged, Happens, at, other, in_world}
 use Rattle.is.specs.WorldRoles.{IsNewAgent}
@@ -32,21 +33,21 @@ use Rattle.is.proofs.Granted.{apart_at, answered, announced_where}
 module _ {H P : Type 0} (mac : H → List ℕ → List ℕ → List ℕ) (answers : P → CandidateRecord → ℕ → ℕ → Type 0) where
   -- ---- what a side does in its rounds
 
-  abbrev round_of : Side → Round H P → CourseRound P
+  abbrev pub round_of : Side → Round H P → CourseRound P
   round_of side r = record { now = r.now; moment = r.moment.entry.outcome.entry; behind = own mac answers side r.behind }
 
-  abbrev rounds_of : Side → List (Round H P) → List (CourseRound P)
+  abbrev pub rounds_of : Side → List (Round H P) → List (CourseRound P)
   rounds_of side [] = []
   rounds_of side (r ∷ later) = round_of side r ∷ rounds_of side later
 
-  as_many : (side : Side) (rounds : List (Round H P)) → length (rounds_of side rounds) ≡ length rounds
+  pub as_many : (side : Side) (rounds : List (Round H P)) → length (rounds_of side rounds) ≡ length rounds
   as_many side [] = refl
   as_many side (r ∷ later) = ap suc (as_many side later)
 
-  abbrev Moves : Side → Round H P → Type 0
+  abbrev pub Moves : Side → Round H P → Type 0
   Moves side r = r.moment.entry.event ≡ world.Call side (agent.HandleTimeout r.now)
 
-  moved : (side : Side) (r : Round H P) (s t : Stream) → Moves side r → Happens mac answers r.moment.before s r.moment.entry.event r.moment.entry.outcome r.moment.behind t
+  pub moved : (side : Side) (r : Round H P) (s t : Stream) → Moves side r → Happens mac answers r.moment.before s r.moment.entry.event r.moment.entry.outcome r.moment.behind t
       → Step mac answers (at side r.moment.before) s (agent.HandleTimeout r.now) r.moment.entry.outcome.entry (at side r.moment.behind) t
   moved side r s t comes happens =
       turn_step mac answers r.moment.before r.moment.behind s t side (agent.HandleTimeout r.now) r.moment.entry.outcome
@@ -75,20 +76,20 @@ module _ {H P : Type 0} (mac : H → List ℕ → List ℕ → List ℕ) (answer
     between = own_between mac answers side r.behind (λ x has. search (kept.polls x has));
   }
 
-  are_passed : (side : Side) (by : ℕ) (rounds : List (Round H P)) → ((r : Round H P) → Has rounds r → IsKept side by r) → (c : CourseRound P) → Has (rounds_of side rounds) c → IsPassed by c
+  pub are_passed : (side : Side) (by : ℕ) (rounds : List (Round H P)) → ((r : Round H P) → Has rounds r → IsKept side by r) → (c : CourseRound P) → Has (rounds_of side rounds) c → IsPassed by c
   are_passed side by [] kept c has = absurd has
   are_passed side by (r ∷ later) kept c (inl is) = subst (λ (z : CourseRound P). IsPassed by z) is (is_passed side by r (kept r (inl refl)))
   are_passed side by (r ∷ later) kept c (inr has) = are_passed side by later (λ y there. kept y (inr there)) c has
 
   -- a round of the per-agent execution is one of the two-agent network model
-  back : (side : Side) (rounds : List (Round H P)) (c : CourseRound P) → Has (rounds_of side rounds) c → (r : Round H P) × Has rounds r × (round_of side r ≡ c)
+  pub back : (side : Side) (rounds : List (Round H P)) (c : CourseRound P) → Has (rounds_of side rounds) c → (r : Round H P) × Has rounds r × (round_of side r ≡ c)
   back side [] c has = absurd has
   back side (r ∷ later) c (inl is) = (r, inl refl, is)
   back side (r ∷ later) c (inr has) = let k = back side later c has in (k.0, inr k.1, k.2)
 
   -- ---- a check is sent in one of them, or the path is answered in one
 
-  abbrev SomeChecks : Path → List (Round H P) → Type 0
+  abbrev pub SomeChecks : Path → List (Round H P) → Type 0
   SomeChecks path rounds = (r : Round H P) × Has rounds r × Checks path r
 
   abbrev Answers : Side → Path → List (Round H P) → Type 0

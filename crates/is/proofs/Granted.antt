@@ -38,7 +38,7 @@ use Rattle.is.proofs.Connected.{rewritten, handed_has, delivered}
 use Rattle.is.proofs.Occurring.{middle, Follow, follows, cut, meet, sound_along, acts_at, own, own_course, own_has, handed_is, Checked, checked, sent_in, behind_in, Found, Owned, act_owned, owned, awaited, Awaited, awaits, removed, awaited_in}
 
 module _ {H P : Type 0} (mac : H → List ℕ → List ℕ → List ℕ) (answers : P → CandidateRecord → ℕ → ℕ → Type 0) where
-  own_emitted : (side : Side) (xs : List (Occurrence H P)) (w last : WorldRecord H P) → Follow mac answers w xs last → (y : agent.Call P × Entry) → Has (own mac answers side xs) y
+  pub own_emitted : (side : Side) (xs : List (Occurrence H P)) (w last : WorldRecord H P) → Follow mac answers w xs last → (y : agent.Call P × Entry) → Has (own mac answers side xs) y
       → is_some (last_of y.1.emitted.announced) ≡ true → (x : Occurrence H P) × Has xs x × Announces side x.entry
   own_emitted side [] w last is y has emitted = absurd has
   own_emitted side (x ∷ rest) w last (from, s, t, happens, more) y has emitted = elim (either_has (acts_at mac answers side x) (own mac answers side rest) y has) [

@@ -16,6 +16,7 @@ mod Connected
 mod Occurring
 mod Granted
 mod Connecting
+mod Selected
 mod Meeting
 mod Mirrored
 mod MarkLemmas

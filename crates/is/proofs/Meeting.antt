@@ -1,6 +1,6 @@
 -- One delivered check, and its 487 if there is one, make roles opposite. The preconditions that refused/laws changes
 -- are read by tactics where they are used: if one of them is weaker, that goal stays unproved.
-use Rattle.std.proofs.Common.{◌≡◌, ◌⊎◌, ℕ, suc, ◌<◌, Bool, true, false, not, List, [], ◌∷◌, ◌++◌, map, inl, inr, refl, ap, sym, ◌∙◌, subst, arith, ◌+◌, append_assoc, append-nil}
+use Rattle.std.proofs.Common.{◌≡◌, ◌⊎◌, ℕ, suc, ◌<◌, Bool, true, false, not, List, [], ◌∷◌, ◌++◌, map, inl, inr, refl, ap, sym, ◌∙◌, subst, arith, append_assoc, append-nil}
 use Rattle.std.specs.Prelude.{◌≢◌}
 use Rattle.rand_core.specs.Stream.{Stream}
 use Rattle.is_proto.specs.Lists.{Has}
@@ -21,8 +21,8 @@ use Rattle.is_rules.specs.Steps as agent
 use Rattle.is.specs.declared.world.Side.{Side}
 use Rattle.is.specs.declared.world.Side.TheVariants.{A, B}
 use Rattle.is.specs.Deliveries.{Hands}
-use Rattle.is.specs.Grantings.{Occurrence, HandedCheck, IsReturned, occurrences_in}
-use Rattle.is.specs.Meetings.{AreOpposite, StayOpposite, IsErrorReturned, RolesMeet}
+use Rattle.is.specs.Grantings.{Occurrence, HandedCheck, IsReturned, IsReturnedInTime, occurrences_in}
+use Rattle.is.specs.Meetings.{AreOpposite, StayOpposite, RolesMeet}
 use Rattle.is.specs.World.{WorldRecord, Event, Logged, Happens, Run, at, other}
 use Rattle.is.specs.WorldRoles.{IsFairWorld, Makes, Meets, role_in}
 use Rattle.is.proofs.Connected.{rewritten, delivered}
@@ -177,7 +177,7 @@ module _ {H P : Type 0} where
         -- the 487 comes back to the agent with the lesser tie-breaker
         refused : side ≡ other greater
             → (i : IsConflictCarried mac answers (at side k.sent.before) (at side k.sent.behind) (at (other side) handed.before) (at (other side) handed.behind) k.check came k.id handed.entry.outcome.entry)
-            → IsErrorReturned mac side path over part k i.refusal → Apart last
+            → IsReturnedInTime mac side path over part k i.refusal → Apart last
         refused lesser i e = by (i.returns (at side again.before) (at side again.behind) (rewritten r.via i.refusal) (own mac answers side between) r.comes.hands.now r.pending.limit
             again.entry.outcome.entry z.course.0 z.course.2 z.few z.know refl z.goes z.comes) where
               r : IsReturned mac side path over part k i.refusal
@@ -212,7 +212,7 @@ module _ {H P : Type 0} where
 
         -- equal roles when the check is sent
         alike : (at side k.sent.before).controlling ≡ (at greater first).controlling
-            → ((error : Packet) → Sends (at (other side) handed.before) handed.entry.outcome.entry Failure k.id error (at (other side) handed.behind) → IsErrorReturned mac side path over part k error)
+            → ((error : Packet) → Sends (at (other side) handed.before) handed.entry.outcome.entry Failure k.id error (at (other side) handed.behind) → IsReturnedInTime mac side path over part k error)
             → Apart last
         alike role back = by (sides side greater) where
           k_sent : Comes k.sent.before (k.sent.entry ∷ (entries k.behind ++ left))
@@ -252,7 +252,7 @@ module _ {H P : Type 0} where
               ]
 
         -- in any roles
-        differs : ((error : Packet) → Sends (at (other side) handed.before) handed.entry.outcome.entry Failure k.id error (at (other side) handed.behind) → IsErrorReturned mac side path over part k error)
+        differs : ((error : Packet) → Sends (at (other side) handed.before) handed.entry.outcome.entry Failure k.id error (at (other side) handed.behind) → IsReturnedInTime mac side path over part k error)
             → Apart last
         differs back = by (one_or_other (at (other greater) start).controlling (at greater start).controlling) where
           start : WorldRecord H P

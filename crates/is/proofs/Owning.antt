@@ -1,5 +1,5 @@
 -- What one agent of a two-agent network model does is a per-agent execution.
-use Rattle.std.proofs.Common.{◌≡◌, ℕ, suc, Bool, true, false, List, [], ◌∷◌, ◌++◌, Option, Some, None, is_some, inl, inr, ◌⊎◌, refl, ap, sym, ◌∙◌, subst, if◌then◌else◌}
+use Rattle.std.proofs.Common.{◌≡◌, ℕ, Bool, true, false, List, [], ◌∷◌, ◌++◌, Option, Some, None, is_some, inl, inr, ◌⊎◌, refl, ap, sym, ◌∙◌, subst, if◌then◌else◌}
 use Rattle.std.specs.Prelude.{MatchBool, slice_get}
 use Rattle.rand_core.specs.Stream.{Stream}
 use Rattle.is_proto.specs.Lists.{Has}
@@ -121,7 +121,7 @@ module _ {H P : Type 0} where
     abbrev pub Steered : List (agent.Call P × Entry) → AgentRecord H P → AgentRecord H P → Type 0
     Steered xs a b = (course : Course mac answers xs a b) × ControlsAlong mac answers xs a b course
 
-    steered_on : (xs ys : List (agent.Call P × Entry)) (a b c : AgentRecord H P) → Steered xs a b → Steered ys b c → Steered (xs ++ ys) a c
+    pub steered_on : (xs ys : List (agent.Call P × Entry)) (a b c : AgentRecord H P) → Steered xs a b → Steered ys b c → Steered (xs ++ ys) a c
     steered_on [] ys a b c (is, along) more = subst (λ (z : AgentRecord H P). Steered ys z c) is more
     steered_on (x ∷ xs) ys a b c ((mid, s, t, based, step, on), (role, along)) more =
         let k = steered_on xs ys mid b c (on, along) more in ((mid, s, t, based, step, k.0), (role, k.1))
@@ -243,51 +243,10 @@ module _ {H P : Type 0} where
     pub sound_on : PathLaw {H = H} {P = P} mac answers → (w w' : WorldRecord H P) (s t : Stream) (x : Logged P) → AreSound w → Happens mac answers w s x.event x.outcome w' t → AreSound w'
     sound_on paths w w' s t x sound h z = sound_course paths (acts z w x.event x.outcome.entry) (at z w) (at z w') (sound z) (act w w' s t z x.event x.outcome h).0
 
-    abbrev pub own : Side → (w : WorldRecord H P) (s : Stream) (n : ℕ) (log : List (Logged P)) (last : WorldRecord H P) (t : Stream) → Run mac answers w s n log last t
-        → List (agent.Call P × Entry)
-    own side w s n [] last t run = []
-    own side w s n (x ∷ rest) last t run = acts side w x.event x.outcome.entry ++ own side run.0 run.1 (suc n) rest last t run.4
-
     pub acts_course : (w w' : WorldRecord H P) (s t : Stream) (side : Side) (x : Logged P) → Happens mac answers w s x.event x.outcome w' t
         → Course mac answers (acts side w x.event x.outcome.entry) (at side w) (at side w')
     acts_course w w' s t side x h = (act w w' s t side x.event x.outcome h).0
 
-    pub owns : (side : Side) (w last : WorldRecord H P) (s t : Stream) (n : ℕ) (log : List (Logged P)) → (run : Run mac answers w s n log last t)
-        → Course mac answers (own side w s n log last t run) (at side w) (at side last)
-    owns side w last s t n [] run = ap (λ (v : WorldRecord H P). at side v) run.0
-    owns side w last s t n (x ∷ rest) (mid, u, number, happens, run) =
-        course_on (acts side w x.event x.outcome.entry) (own side mid u (suc n) rest last t run) (at side w) (at side mid) (at side last)
-        (acts_course w mid s u side x happens) (owns side mid last u t (suc n) rest run)
-
-    pub steers : (side : Side) (w last : WorldRecord H P) (s t : Stream) (n : ℕ) (log : List (Logged P)) → (run : Run mac answers w s n log last t)
-        → ((x : Logged P) → Has log x → role_in side x ≡ true) → Steered (own side w s n log last t run) (at side w) (at side last)
-    steers side w last s t n [] run roles = (ap (λ (v : WorldRecord H P). at side v) run.0, tt)
-    steers side w last s t n (x ∷ rest) (mid, u, number, happens, run) roles =
-        let a = act w mid s u side x.event x.outcome happens in
-        steered_on (acts side w x.event x.outcome.entry) (own side mid u (suc n) rest last t run) (at side w) (at side mid) (at side last)
-        (a.0, a.1 (role_behind w mid s u side x true happens (roles x (inl refl)))) (steers side mid last u t (suc n) rest run (λ y has. roles y (inr has)))
-
-    pub own_between : (side : Side) (w last : WorldRecord H P) (s t : Stream) (n : ℕ) (log : List (Logged P)) → (run : Run mac answers w s n log last t)
-        → ((x : Logged P) → Has log x → MakesPolls side x.event) → AreBetween (own side w s n log last t run)
-    own_between side w last s t n [] run polls y has = absurd has
-    own_between side w last s t n (x ∷ rest) (mid, u, number, happens, run) polls y has =
-        between_both (acts side w x.event x.outcome.entry) (own side mid u (suc n) rest last t run)
-        (acts_between side w x.event x.outcome.entry (polls x (inl refl))) (own_between side mid last u t (suc n) rest run (λ z there. polls z (inr there))) y has
-
-    pub own_emitted : (side : Side) (w last : WorldRecord H P) (s t : Stream) (n : ℕ) (log : List (Logged P)) → (run : Run mac answers w s n log last t) → (y : agent.Call P × Entry)
-        → Has (own side w s n log last t run) y → is_some (last_of y.1.emitted.announced) ≡ true → (x : Logged P) × Has log x × Announces side x
-    own_emitted side w last s t n [] run y has emitted = absurd has
-    own_emitted side w last s t n (x ∷ rest) (mid, u, number, happens, run) y has emitted =
-        elim (either_has (acts side w x.event x.outcome.entry) (own side mid u (suc n) rest last t run) y has) [
-          | inl k ↦ (x, inl refl, acts_emitted w mid s u side x y x.event happens k emitted)
-          | inr k ↦ (let m = own_emitted side mid last u t (suc n) rest run y k emitted in (m.0, inr m.1, m.2))
-        ]
-
-    pub sound_run : PathLaw {H = H} {P = P} mac answers → (w last : WorldRecord H P) (s t : Stream) (n : ℕ) (log : List (Logged P)) → Run mac answers w s n log last t → AreSound w → AreSound last
-    sound_run paths w last s t n log run sound z = sound_course paths (own z w s n log last t run) (at z w) (at z last) (sound z) (owns z w last s t n log run)
-
-    pub role_run : (side : Side) (role : Bool) (w last : WorldRecord H P) (s t : Stream) (n : ℕ) (log : List (Logged P)) → Run mac answers w s n log last t
-        → ((x : Logged P) → Has log x → role_in side x ≡ role) → (at side w).controlling ≡ role → (at side last).controlling ≡ role
-    role_run side role w last s t n [] run roles is = ap (λ (v : WorldRecord H P). (at side v).controlling) run.0 ∙ is
-    role_run side role w last s t n (x ∷ rest) (mid, u, number, happens, run) roles is =
-        role_run side role mid last u t (suc n) rest run (λ y has. roles y (inr has)) (role_behind w mid s u side x role happens (roles x (inl refl)))
+    pub acts_steered : (w w' : WorldRecord H P) (s t : Stream) (side : Side) (x : Logged P) → Happens mac answers w s x.event x.outcome w' t → (at side w').controlling ≡ true
+        → Steered (acts side w x.event x.outcome.entry) (at side w) (at side w')
+    acts_steered w w' s t side x h role = let a = act w w' s t side x.event x.outcome h in (a.0, a.1 role)

@@ -1,12 +1,10 @@
 -- How both of two agents select a path, if each has rounds in which the network delivers (RFC 8445, sections 6.1.4.2, 7.2.5.3 and
 -- 7.3.1.5).
-use Rattle.std.specs.Prelude.{◌≡◌, ℕ, ◌+◌, ◌*◌, ◌<◌, ◌≤◌, List, [], ◌∷◌, ◌++◌, length, Some, None, ◌⊎◌, slice_get}
+use Rattle.std.specs.Prelude.{◌≡◌, ℕ, ◌+◌, ◌*◌, ◌≤◌, List, [], ◌∷◌, ◌++◌, length, Some, None, ◌⊎◌, slice_get}
 use Rattle.rand_core.specs.Stream.{Stream}
 use Rattle.is_proto.specs.Lists.{Has}
-use Rattle.is_proto.specs.Moments.{MAX}
 use Rattle.is_candidate.specs.Candidates.{CandidateRecord}
 use Rattle.is_pair.specs.Pairs.{PairRecord}
-use Rattle.is_stun.specs.declared.header.Class.TheVariants.{Request}
 use Rattle.is_rules.specs.declared.emitted.Path.{Path}
 use Rattle.is_rules.specs.Asked.{IsAlone}
 use Rattle.is_rules.specs.AskedCourses.{AcceptsSuccessOn}
@@ -15,33 +13,14 @@ use Rattle.is_rules.specs.Queue.{request_at}
 use Rattle.is_rules.specs.Reached.{IsInLine}
 use Rattle.is_rules.specs.Sending.{path_of}
 use Rattle.is_rules.specs.Steps as agent
-use Rattle.is_rules.specs.Emitted.{issued_as}
 use Rattle.is.specs.declared.world.Side.{Side}
-use Rattle.is.specs.Deliveries.{MakesPolls, Announces}
+use Rattle.is.specs.Deliveries.{Announces}
 use Rattle.is.specs.Grantings.{Occurrence, IsControlled, IsAskedOver, IsExchangedOver, MayEndAt, occurrences_in}
+use Rattle.is.specs.Selections.{Round, all_of, IsKept, Checks}
 use Rattle.is.specs.World.{WorldRecord, InFlightRecord, Call, Deliver, Logged, Run, at, other}
 use Rattle.is.specs.WorldRoles.{IsNewAgent}
 
--- a `handle_timeout` call of a side, and what happens after it, oldest first
-pub record Round (H P : Type 0) : Type 0 where
-  pub now : ℕ
-  pub moment : Occurrence H P
-  pub behind : List (Occurrence H P)
-
-abbrev pub all_of : {H P : Type 0} → List (Round H P) → List (Occurrence H P)
-all_of [] = []
-all_of (r ∷ later) = r.moment ∷ (r.behind ++ all_of later)
-
 module _ {H P : Type 0} where
-  -- The `handle_timeout` call is later than `by` and returns Ok. After it the side makes only polls, whatever it receives and
-  -- whatever the other side does.
-  pub record IsKept (side : Side) (by : ℕ) (r : Round H P) : Type 0 where
-    pub comes : r.moment.entry.event ≡ Call side (agent.HandleTimeout r.now)
-    pub done : r.moment.entry.outcome.entry.answer ≡ agent.Done
-    pub late : by < r.now
-    pub early : r.now < MAX
-    pub polls : (x : Occurrence H P) → Has r.behind x → MakesPolls side x.entry.event
-
   -- The side has rounds in the segment that suffice for a pair on the path, which is due by the time `by` when they begin: the
   -- rounds are later than `by`. If the side has n pairs, there are at least 2n - 1 rounds, and one more for each pair that it
   -- adds in them.
@@ -57,10 +36,6 @@ module _ {H P : Type 0} where
     pub kept : (r : Round H P) → Has (first ∷ later) r → IsKept side by r
     pub enough : 2 * length (at side first.moment.before).pairs + (at side last).next_number
         ≤ length (first ∷ later) + 1 + (at side first.moment.before).next_number
-
-  -- The `handle_timeout` call sends a check on the path.
-  abbrev pub Checks : Path → Round H P → Type 0
-  Checks path r = (id : List ℕ) × (r.moment.entry.outcome.entry.emitted.issued ≡ Some (issued_as path Request id))
 
   -- A success response that is received on the reverse path is accepted.
   pub record Succeeds (side : Side) (path : Path) (x : Occurrence H P) : Type 0 where

@@ -95,16 +95,21 @@ module _ {H P : Type 0} where
     pub know : KnowEachOther mac (at side comes.handed.before) (at (other side) k.comes.handed.before)
     pub pending : StaysPending side path (k.comes.between ++ k.comes.handed ∷ comes.between)
 
+  -- A call of the side may remove a pair of the path.
+  abbrev pub MayEndAt : Side → Path → Occurrence H P → Type 0
+  MayEndAt side path x = (c : agent.Call P) × (x.entry.event ≡ Call side c) × Ends (at side x.before) c x.entry.outcome.entry path
+
+  -- Until the response is delivered back, no call of the side may remove a pair of the path.
+  pub record IsReturnedInTime (mac : H → List ℕ → List ℕ → List ℕ) (side : Side) (path over : Path) (all : List (Occurrence H P)) (k : HandedCheck mac side path over all) (reply : Packet) : Type 0 where
+    pub returned : IsReturned mac side path over all k reply
+    pub stays : (x : Occurrence H P) → Has (k.comes.between ++ k.comes.handed ∷ returned.comes.between) x → MayEndAt side path x → ⊥
+
   -- The side checks the path, and receives the success response while the check is pending.
   abbrev pub IsExchangedOver : (H → List ℕ → List ℕ → List ℕ) → Side → Path → List (Occurrence H P) → Type 0
   IsExchangedOver mac side path all =
       (over : Path) × (k : HandedCheck mac side path over all)
       × ((reply : Packet) → Sends (at (other side) k.comes.handed.before) k.comes.handed.entry.outcome.entry Success k.id reply (at (other side) k.comes.handed.behind)
       → IsReturned mac side path over all k reply)
-
-  -- A call of the side may remove a pair of the path.
-  abbrev pub MayEndAt : Side → Path → Occurrence H P → Type 0
-  MayEndAt side path x = (c : agent.Call P) × (x.entry.event ≡ Call side c) × Ends (at side x.before) c x.entry.outcome.entry path
 
   module _ (mac : H → List ℕ → List ℕ → List ℕ) (answers : P → CandidateRecord → ℕ → ℕ → Type 0) where
     -- the entries of an execution, with the states before and after each

@@ -10,6 +10,7 @@ pub mod Traces
 pub mod Marks
 pub mod Deliveries
 pub mod Grantings
+pub mod Selections
 pub mod Connections
 pub mod Meetings
 pub mod Mirrors

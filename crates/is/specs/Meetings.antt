@@ -1,6 +1,6 @@
 -- How two agents come to have different roles: by one check that the network delivers, and its 487 if it gets one (RFC 8445,
 -- section 7.3.1.1).
-use Rattle.std.specs.Prelude.{◌≡◌, ◌≢◌, ℕ, List, ◌∷◌, ◌++◌}
+use Rattle.std.specs.Prelude.{◌≡◌, ◌≢◌, ℕ, List, ◌++◌}
 use Rattle.rand_core.specs.Stream.{Stream}
 use Rattle.is_proto.specs.Lists.{Has}
 use Rattle.is_proto.specs.Packets.{Packet}
@@ -10,7 +10,7 @@ use Rattle.is_rules.specs.declared.emitted.Path.{Path}
 use Rattle.is_rules.specs.Delivery.{Sends}
 use Rattle.is.specs.declared.world.Side.{Side}
 use Rattle.is.specs.declared.world.Side.TheVariants.{A, B}
-use Rattle.is.specs.Grantings.{Occurrence, HandedCheck, IsReturned, MayEndAt, occurrences_in}
+use Rattle.is.specs.Grantings.{Occurrence, HandedCheck, IsReturnedInTime, occurrences_in}
 use Rattle.is.specs.World.{WorldRecord, Logged, Run, at, other}
 use Rattle.is.specs.WorldRoles.{IsFairWorld, role_in}
 
@@ -23,19 +23,13 @@ module _ {H P : Type 0} where
   abbrev pub StayOpposite : Occurrence H P → Type 0
   StayOpposite x = (x.before.a.controlling ≢ x.before.b.controlling) × AreOpposite x.entry
 
-  -- The error response to the check is delivered back while the check is pending. Until then no call of the side may remove a pair
-  -- of the path.
-  pub record IsErrorReturned (mac : H → List ℕ → List ℕ → List ℕ) (side : Side) (path over : Path) (all : List (Occurrence H P)) (k : HandedCheck mac side path over all) (error : Packet) : Type 0 where
-    pub returned : IsReturned mac side path over all k error
-    pub stays : (x : Occurrence H P) → Has (k.comes.between ++ k.comes.handed ∷ returned.comes.between) x → MayEndAt side path x → ⊥
-
   -- The side sends a check on the path, which is delivered to the other side at any time (`HandedCheck`). If the check gets a 487,
-  -- that is delivered back.
+  -- that is delivered back while the check is pending.
   abbrev pub IsMeeting : (H → List ℕ → List ℕ → List ℕ) → Side → Path → List (Occurrence H P) → Type 0
   IsMeeting mac side path all =
       (over : Path) × (k : HandedCheck mac side path over all)
       × ((error : Packet) → Sends (at (other side) k.comes.handed.before) k.comes.handed.entry.outcome.entry Failure k.id error (at (other side) k.comes.handed.behind)
-      → IsErrorReturned mac side path over all k error)
+      → IsReturnedInTime mac side path over all k error)
 
   -- Two agents are newly created, with different tie-breakers, in any roles. In a segment of the log a check of either agent is
   -- delivered to the other one, and its 487 if it gets one, at any time, also through NATs. Then their roles are different after

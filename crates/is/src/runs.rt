@@ -97,8 +97,8 @@ pub fn run<H: Sha1HmacProvider + Drop, P: LocalPreference, R: Rng>(
     ensures parts { PartsStand H.mac P.answers (record_of agent.old) (R.stream rng.old) (log_of calls.items result) }
 
     // Progress: a `handle_timeout` call at the time that `poll_timeout` returned, or later, makes progress: a check is sent, a
-    // pair is removed, or there are fewer early requests. Precondition: no packet was queued when `poll_timeout` was called, and
-    // the agent is not lite, knows the peer and has a pair.
+    // pair is removed, or there are fewer early requests. Precondition: no packet was queued when `poll_timeout` was called, only
+    // polls came after it, and the agent is not lite, knows the peer and has a pair.
     ensures of_use { IsFresh (record_of agent.old)
         → MomentsAreOfUse H.mac P.answers (record_of agent.old) (R.stream rng.old) (log_of calls.items result) }
 

@@ -15,7 +15,7 @@ ghost use Rattle.is.specs.World.{PolledInto, MakesMember, MakesWorld, made_world
 ghost use Rattle.is_agent.specs.View.{made};
 ghost use Rattle.is.specs.WorldRoles.{GreaterKeeps, LesserYieldsOnce, RolesDifferOnceMet};
 ghost use Rattle.is.specs.Traces.{AnnouncedAreTraced};
-ghost use Rattle.is.specs.Deliveries.{DeliveredRoundsAnnounce};
+ghost use Rattle.is.specs.Selections.{DeliveredRoundsAnnounce};
 ghost use Rattle.is.specs.Connections.{BothConnect};
 ghost use Rattle.is.specs.Grantings.{GrantedPathsAnnounce};
 ghost use Rattle.is.specs.Meetings.{RolesMeet};
@@ -444,10 +444,10 @@ impl<H: Sha1HmacProvider + Drop, P: LocalPreference> TwoAgents<H, P> {
         // its reverse path.
         ensures traced { AnnouncedAreTraced (world_of self.old) (logged events.items result.entries.items) result.entries.items }
 
-        // Progress of the controlling agent: n of its pairs are due by an earlier time at a `handle_timeout` call. In each of the
-        // n rounds from this call on in which a check is sent on the path of one of these pairs, the network delivers it and its
-        // success response. Both agents know each other, their roles differ, and the path reaches the other agent. Then the
-        // controlling agent selects a path in one of the rounds, whatever else happens.
+        // Progress of the controlling agent: n of its pairs are due by an earlier time at a `handle_timeout` call. If it sends a
+        // check on the path of one of these pairs in the n rounds from this call on, the network delivers such a check, and its
+        // success response at any time while the check is pending, also through NATs. Both agents know each other, their roles
+        // differ, and the check reaches the other agent. Then the controlling agent selects a path by then, whatever else happens.
         ensures rounds { DeliveredRoundsAnnounce H.mac P.answers (world_of self.old) (R.stream rng.old) (logged events.items result.entries.items) }
 
         // Progress of the controlled agent: the controlling agent checks a path whose pairs it nominated, and the check arrives on

@@ -5,9 +5,8 @@ ghost use Rattle.is.specs.WorldLaws.{KeepsLaw, YieldsLaw, DiffersLaw, TracedLaw,
 use is_candidate::LocalPreference;
 use is_proto::Sha1HmacProvider;
 use is_rules::laws::{
-    checks_ask, conflicts_settle, courses_announce, courses_reach, exchanges_succeed,
-    exchanges_succeed_later, fresh_is_sound, granted_are_announced, path_effect, role_effect,
-    trade_effect,
+    checks_ask, conflicts_settle, courses_check, courses_reach, exchanges_succeed_later,
+    fresh_is_sound, granted_are_announced, path_effect, role_effect, successes_select,
 };
 
 /// Of two agents over any network, the one with the greater tie-breaker keeps its role.
@@ -46,16 +45,16 @@ pub(crate) fn announced_are_traced<H: Sha1HmacProvider, P: LocalPreference>()
     fresh_is_sound::<H, P>();
 }
 
-/// If the network delivers what is sent on a path, and the responses to it, a controlling agent selects a path within as many
-/// rounds as there are pairs that are due no later than the one of the path.
+/// A controlling agent sends a check on the path of one of its pairs, or selects a path, within as many rounds as there are pairs that
+/// are due no later. If the check is answered while it is pending, the agent selects a path.
 pub(crate) fn delivered_rounds_announce<H: Sha1HmacProvider, P: LocalPreference>()
     ensures { DeliveriesLaw H.mac P.answers }
 {
     path_effect::<H, P>();
-    trade_effect::<H, P>();
     fresh_is_sound::<H, P>();
-    exchanges_succeed::<H, P>();
-    courses_announce::<H, P>();
+    exchanges_succeed_later::<H, P>();
+    courses_check::<H, P>();
+    successes_select::<H, P>();
 }
 
 /// If the peer nominates a path to the controlled agent, and the agent's own check on it is answered, a path is selected by its

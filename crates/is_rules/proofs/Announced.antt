@@ -45,6 +45,12 @@ named-at (Some n) priority pairs h = by (pair_numbered n pairs) refl h where
   by (Some p) is k = let f = found-in (is_numbered n) pairs p is in (p, f.0, ap Some (sym (eqb-true p.number n f.1)))
 
 module _ {H P : Type 0} where
+  -- if a pair is eligible, `selected_pair` names one
+  pub one-named : (a : AgentRecord H P) (q : PairRecord) → Has a.pairs q → is_eligible a.controlling q ≡ true → IsTopAnnounced a
+      → (p : PairRecord) × Has a.pairs p × (a.selected_pair ≡ Some p.number)
+  one-named a q has able (None, none, stands) = absurd (none_pass (is_eligible a.controlling) a.pairs q none has able)
+  one-named a q has able (Some best, greatest, stands) = named-at a.selected_pair best.priority a.pairs stands
+
   module _ (mac : H → List ℕ → List ℕ → List ℕ) (answers : P → CandidateRecord → ℕ → ℕ → Type 0) where
     module _ (first : AgentRecord H P) (s : Stream) (log : List (Logged P)) (fresh : IsFresh first) where
       -- ---- an accepted success response selects
@@ -87,12 +93,6 @@ module _ {H P : Type 0} where
                 let le : mid.next_number ≤ p.number = n.0 in
                 absurd (let no : ⊥ = omega (arith, lt, le) in no))
           ]
-
-      -- if a pair is eligible, `selected_pair` names one
-      one-named : (a : AgentRecord H P) (q : PairRecord) → Has a.pairs q → is_eligible a.controlling q ≡ true → IsTopAnnounced a
-          → (p : PairRecord) × Has a.pairs p × (a.selected_pair ≡ Some p.number)
-      one-named a q has able (None, none, stands) = absurd (none_pass (is_eligible a.controlling) a.pairs q none has able)
-      one-named a q has able (Some best, greatest, stands) = named-at a.selected_pair best.priority a.pairs stands
 
       pub announces-at : (before part : List (Logged P)) (mid after : AgentRecord H P) (x : Logged P) → Point mac answers first s log before mid x after
           → NoneValid mid.pairs → after.controlling ≡ true → BringsSuccess x → Has part x → AnnouncesIn mac answers first s log part

@@ -44,7 +44,7 @@ module _ {H P : Type 0} where
   Marked path test a = (p : PairRecord) × Has a.pairs p × (test p ≡ true) × Joins a path p
 
   module _ (mac : H → List ℕ → List ℕ → List ℕ) (answers : P → CandidateRecord → ℕ → ℕ → Type 0) where
-    course_on : (xs ys : List (Call P × Entry)) (a b c : AgentRecord H P) → Course mac answers xs a b → Course mac answers ys b c → Course mac answers (xs ++ ys) a c
+    pub course_on : (xs ys : List (Call P × Entry)) (a b c : AgentRecord H P) → Course mac answers xs a b → Course mac answers ys b c → Course mac answers (xs ++ ys) a c
     course_on [] ys a b c is more = subst (λ (z : AgentRecord H P). Course mac answers ys z c) is more
     course_on (x ∷ xs) ys a b c (mid, s, t, based, step, on) more = (mid, s, t, based, step, course_on xs ys mid b c on more)
 

@@ -56,6 +56,7 @@ pub mod Settling
 pub mod Coursing
 pub mod Asking
 pub mod AskedCourses
+pub mod Selecting
 pub mod Stays
 pub mod Pends
 pub mod PendLaws

@@ -1,13 +1,20 @@
--- Segments of a log: their final states, the packets polled before them, and their polling cycles.
-use Rattle.std.proofs.Common.{◌≡◌, ℕ, true, false, List, [], ◌∷◌, ◌++◌, length, Option, Some, None, Result, Ok, Err, inl, inr, refl, ap, sym, ◌∙◌, subst, arith, append_assoc}
+-- Segments of a log: their final states, the packets polled before them, and their polling cycles. Polls between `poll_timeout` and
+-- `handle_timeout` change only the events.
+use Rattle.std.proofs.Common.{◌≡◌, ℕ, ◌⊎◌, Bool, true, false, List, [], ◌∷◌, ◌++◌, length, map, Option, Some, None, Result, Ok, Err, inl, inr, refl, ap, sym, ◌∙◌, subst, arith, append_assoc}
+use Rattle.std.specs.Prelude.{MatchBool}
 use Rattle.rand_core.specs.Stream.{Stream}
+use Rattle.is_proto.specs.Lists.{Has}
 use Rattle.is_proto.specs.Packets.{Packet}
 use Rattle.is_proto.specs.declared.error.IceError.{IceError}
 use Rattle.is_candidate.specs.Candidates.{CandidateRecord}
 use Rattle.is_pair.specs.Due.{asked}
+use Rattle.is_pair.specs.Pairs.{PairRecord}
+use Rattle.is_stun.specs.declared.timing.StunTiming.{StunTiming}
+use Rattle.is_rules.specs.declared.event.IceAgentEvent.{IceAgentEvent}
 use Rattle.is_rules.specs.declared.emitted.Emitted.{Emitted}
 use Rattle.is_rules.specs.Agent.{AgentRecord}
 use Rattle.is_rules.specs.Polls.{IsPolled, PollsTimeout, WakesFrom, is_waiting, is_idle}
+use Rattle.is_rules.specs.Sound.{IsSound}
 use Rattle.is_rules.specs.Timeouts.{TimesOut}
 use Rattle.is_rules.specs.Steps.{Call, Entry, HandleTimeout, PollTransmit, PollTimeout, PollEvent, Done, Polled, Wake, answer_by, done, Step}
 use Rattle.is_rules.specs.Logs.{Logged}
@@ -17,6 +24,7 @@ use Rattle.is_rules.specs.Rounds.{is_poll, AreTaken, RunsOn, IsControllingIn, Pa
 use Rattle.is_rules.proofs.Frames.{either}
 use Rattle.is_rules.proofs.EffectLaws.{path_law}
 use Rattle.is_rules.proofs.LogLaws.{runs_sound}
+use Rattle.is_rules.proofs.Passing.{polled-sound}
 use Rattle.is_rules.proofs.Starving.{wakes-are-of-use}
 
 pub no-case : {A : Type 0} → false ≡ true → A
@@ -41,6 +49,14 @@ none-still : (given : Option Packet) (old new : List Packet) → IsPolled old gi
 none-still None old new h is = h.1
 none-still (Some packet) old new h is = let no : packet ∷ new ≡ [] = sym h ∙ is in absurd (cc)
 
+in-both : {A B C D : Type 0} (b : Bool) → MatchBool b A B → (A → C) → (B → D) → MatchBool b C D
+in-both true k f g = f k
+in-both false k f g = g k
+
+asked-twice : (at : ℕ) (t : StunTiming) (ps : List PairRecord) → map (asked at t) (map (asked at t) ps) ≡ map (asked at t) ps
+asked-twice at t [] = refl
+asked-twice at t (p ∷ ps) = ap (λ qs. asked at t p ∷ qs) (asked-twice at t ps)
+
 module _ {H P : Type 0} where
   wakes-keep : (o wake : Option ℕ) (old new : AgentRecord H P) → WakesFrom o old wake new → new.packets ≡ old.packets
   wakes-keep None wake old new h = ap (λ (a : AgentRecord H P). a.packets) h.1
@@ -50,6 +66,56 @@ module _ {H P : Type 0} where
       (λ _ k. either (is_idle old) k
       (λ _ l. ap (λ (a : AgentRecord H P). a.packets) l.1)
       (λ _ l. ap (λ (a : AgentRecord H P). a.packets) l.1))
+
+  -- ---- `poll_timeout`
+
+  abbrev with_events : List IceAgentEvent → AgentRecord H P → AgentRecord H P
+  with_events es a = record a { events = es }
+
+  -- the due times of all pairs are fixed
+  abbrev all_fixed : ℕ → AgentRecord H P → AgentRecord H P
+  all_fixed at a = record a { pairs = map (asked at a.timing) a.pairs }
+
+  -- it reads no events
+  wakes-other : (start old : AgentRecord H P) (es fs : List IceAgentEvent) (wake : ℕ) → PollsTimeout (with_events es start) (Some wake) old
+      → PollsTimeout (with_events fs start) (Some wake) (with_events fs old)
+  wakes-other start old es fs wake h = by start.last_moment h where
+    by : (o : Option ℕ) → WakesFrom o (with_events es start) (Some wake) old → WakesFrom o (with_events fs start) (Some wake) (with_events fs old)
+    by None (nothing, is) = (nothing, ap (λ (a : AgentRecord H P). with_events fs a) is)
+    by (Some last) k =
+        in-both (is_waiting start) k (λ w. (w.0, ap (λ (a : AgentRecord H P). with_events fs a) w.1))
+        (λ i. in-both (is_idle start) i (λ l. (l.0, ap (λ (a : AgentRecord H P). with_events fs a) l.1)) (λ l. (l.0, ap (λ (a : AgentRecord H P). with_events fs a) l.1)))
+
+  -- it leaves the agent unchanged, or fixes the due times
+  abbrev Fixes : ℕ → AgentRecord H P → AgentRecord H P → Type 0
+  Fixes at old new =
+      ((new ≡ old) × ((is_waiting old ≡ true) ⊎ (is_idle old ≡ true)))
+      ⊎ ((is_waiting old ≡ false) × (is_idle old ≡ false) × (new ≡ all_fixed at old))
+
+  fixes : (at : ℕ) (old new : AgentRecord H P) (wake : Option ℕ) → WakesFrom (Some at) old wake new → Fixes at old new
+  fixes at old new None k = absurd k
+  fixes at old new (Some wake) k =
+      either (is_waiting old) k (λ waits l. inl (l.1, inl waits))
+      (λ busy i. either (is_idle old) i (λ idle l. inl (l.1, inr idle)) (λ some l. inr (busy, some, l.1)))
+
+  -- called again, it changes nothing
+  wakes-twice : (start old new : AgentRecord H P) (wake : ℕ) (again : Option ℕ) → PollsTimeout start (Some wake) old → PollsTimeout old again new → new ≡ old
+  wakes-twice start old new wake again h k = by start.last_moment refl h where
+    on : (at : ℕ) → start.last_moment ≡ Some at → old.last_moment ≡ start.last_moment → Fixes at start old → new ≡ old
+    on at is kept one = elim (fixes at old new again (subst (λ o. WakesFrom o old again new) (kept ∙ is) k)) [
+      | inl same ↦ same.0
+      | inr (busy, some, made) ↦ elim one [
+        | inl (same, inl waits) ↦ (let wrong : true ≡ false = sym waits ∙ (ap (λ (a : AgentRecord H P). is_waiting a) (sym same) ∙ busy) in absurd (cc))
+        | inl (same, inr idle) ↦ (let wrong : true ≡ false = sym idle ∙ (ap (λ (a : AgentRecord H P). is_idle a) (sym same) ∙ some) in absurd (cc))
+        | inr fixed ↦
+            made ∙ (ap (λ (a : AgentRecord H P). all_fixed at a) fixed.2
+            ∙ (ap (λ ps. record start { pairs = ps }) (asked-twice at start.timing start.pairs) ∙ sym fixed.2))
+      ]
+    ]
+
+    by : (o : Option ℕ) → start.last_moment ≡ o → WakesFrom o start (Some wake) old → new ≡ old
+    by None is (nothing, same) = absurd (cc)
+    by (Some at) is w = let f = fixes at start old (Some wake) w in on at is (elim f [ inl l ↦ ap (λ (a : AgentRecord H P). a.last_moment) l.0 | inr l ↦ ap (λ (a : AgentRecord H P). a.last_moment) l.2 ]) f
 
   module _ (mac : H → List ℕ → List ℕ → List ℕ) (answers : P → CandidateRecord → ℕ → ℕ → Type 0) where
     -- ---- segments of a log
@@ -85,6 +151,12 @@ module _ {H P : Type 0} where
     starts-controlling before start last u t (x ∷ part) (mid, v, run, number, based, step) role = starts-controlling before start mid u v part run role.1
 
     -- a segment of two segments
+    apart : (before : List (Logged P)) (start last : AgentRecord H P) (u t : Stream) (xs older : List (Logged P)) → RunsOn mac answers before start u (xs ++ older) last t
+        → (mid : AgentRecord H P) × (v : Stream) × RunsOn mac answers before start u older mid v × RunsOn mac answers (older ++ before) mid v xs last t
+    apart before start last u t [] older run = (last, t, run, (refl, refl))
+    apart before start last u t (x ∷ xs) older (m, v, run, number, based, step) =
+        let k = apart before start m u v xs older run in (k.0, k.1, k.2, (m, v, k.3, number ∙ ap length (append_assoc xs older before), based, step))
+
     abbrev pub Halves : List (Logged P) → AgentRecord H P → Stream → List (Logged P) → List (Logged P) → AgentRecord H P → Stream → Type 0
     Halves before start u xs older last t =
         (mid : AgentRecord H P) × (v : Stream)
@@ -128,16 +200,49 @@ module _ {H P : Type 0} where
         subst (λ (x : Emitted). TimesOut mac now old s (Ok tt) x new t) (sym (ap (λ (x : Entry). x.emitted) is))
         (subst (λ (o : Result (Unit {0}) IceError). TimesOut mac now old s o emitted new t) good times)
 
+    -- `poll_timeout` returned `wake` in a state that differs at most in its events
+    abbrev Woke : AgentRecord H P → ℕ → AgentRecord H P → Type 0
+    Woke start wake a = (es : List IceAgentEvent) × PollsTimeout (with_events es start) (Some wake) a
+
+    -- polls change only the events, once no packet is queued and `poll_timeout` was called
+    poll-on : (start old new : AgentRecord H P) (wake : ℕ) (call : Call P) (e : Entry) (s t : Stream) → is_poll call ≡ true → start.packets ≡ [] → Woke start wake old
+        → Step mac answers old s call e new t → Woke start wake new
+    poll-on start old new wake PollTransmit e s t is none (es, woke) (given, emitted, (polled, made), drawn) =
+        let was : old.packets ≡ [] = wakes-keep start.last_moment (Some wake) (with_events es start) old woke ∙ none in
+        let same : new ≡ old = made ∙ ap (λ ps. record old { packets = ps }) (none-still given old.packets new.packets polled was ∙ sym was) in
+        (es, subst (λ (a : AgentRecord H P). PollsTimeout (with_events es start) (Some wake) a) (sym same) woke)
+    poll-on start old new wake PollEvent e s t is none (es, woke) (given, emitted, (polled, made), drawn) =
+        (new.events, subst (λ (a : AgentRecord H P). PollsTimeout (with_events new.events start) (Some wake) a) (sym made) (wakes-other start old es new.events wake woke))
+    poll-on start old new wake PollTimeout e s t is none (es, woke) (again, emitted, polls, drawn) =
+        (es, subst (λ (a : AgentRecord H P). PollsTimeout (with_events es start) (Some wake) a) (sym (wakes-twice (with_events es start) old new wake again woke polls)) woke)
+    poll-on start old new wake _ e s t is none woke step = no-case is
+
+    polls-on : (start old new : AgentRecord H P) (wake : ℕ) (before polls : List (Logged P)) (u t : Stream) → ((x : Logged P) → Has polls x → is_poll x.call ≡ true) → start.packets ≡ []
+        → Woke start wake old → RunsOn mac answers before old u polls new t → Woke start wake new
+    polls-on start old new wake before [] u t are none woke (is, same) = subst (λ (a : AgentRecord H P). Woke start wake a) (sym is) woke
+    polls-on start old new wake before (x ∷ polls) u t are none woke (mid, v, run, number, based, step) =
+        poll-on start mid new wake x.call x.entry v t (are x (inl refl)) none (polls-on start old mid wake before polls u v (λ y has. are y (inr has)) none woke run) step
+
     pub turns-are-of-use : TurnsAreOfUse {H = H} {P = P} mac answers
-    turns-are-of-use first s log fresh before start last asked moment wake now part turn checking some early =
+    turns-are-of-use first s log fresh before polls start last asked moment wake now part empty turn checking some early =
         of_use part.run where
-          of_use : RunsOn mac answers before start part.at (moment ∷ asked ∷ []) last part.behind → IsOfUse start moment.entry.emitted last
-          of_use (mid, u, (old, v, (same, drawn), number_asked, based_asked, step_asked), number, based, step) =
-              let asking : Step mac answers old v PollTimeout asked.entry mid u = subst (λ (c : Call P). Step mac answers old v c asked.entry mid u) turn.asks step_asked in
-              let polls : PollsTimeout old (Some wake) mid = asked-for old mid v u asked.entry wake turn.woken asking in
-              let moves : Step mac answers mid u (HandleTimeout now) moment.entry last part.behind = subst (λ (c : Call P). Step mac answers mid u c moment.entry last part.behind) turn.comes step in
-              wakes-are-of-use mac start mid last u part.behind wake now moment.entry.emitted
-              (runs_sound mac answers (path_law mac answers) first start s part.at before fresh part.led) checking
-              (all-taken first start s part.at before part.led turn.taken) some early
-              (subst (λ (a : AgentRecord H P). PollsTimeout a (Some wake) mid) same polls) (let kept = turn.kept in omega (arith, kept))
-              (passed mid last u part.behind now moment.entry turn.done moves)
+          sound : IsSound start
+          sound = runs_sound mac answers (path_law mac answers) first start s part.at before fresh part.led
+
+          none : start.packets ≡ []
+          none = elim empty [ inl taken ↦ all-taken first start s part.at before part.led taken | inr is ↦ search is ]
+
+          woken : (old mid : AgentRecord H P) (v u : Stream) → RunsOn mac answers before start part.at [] old v → Step mac answers old v asked.call asked.entry mid u → Woke start wake mid
+          woken old mid v u (same, drawn) step =
+              let polled = asked-for old mid v u asked.entry wake turn.woken (subst (λ (c : Call P). Step mac answers old v c asked.entry mid u) turn.asks step) in
+              (start.events, subst (λ (a : AgentRecord H P). PollsTimeout a (Some wake) mid) same polled)
+
+          of_use : RunsOn mac answers before start part.at (moment ∷ (polls ++ asked ∷ [])) last part.behind → IsOfUse start moment.entry.emitted last
+          of_use (near, u, run, number, based, step) =
+              let k = apart before start near part.at u polls (asked ∷ []) run in
+              let one = k.2 in
+              let w = polls-on start k.0 near wake ((asked ∷ []) ++ before) polls k.1 u (λ x has. search (turn.polled x has)) none (woken one.0 k.0 one.1 k.1 one.2 one.5) k.3 in
+              let moves : Step mac answers near u (HandleTimeout now) moment.entry last part.behind = subst (λ (c : Call P). Step mac answers near u c moment.entry last part.behind) turn.comes step in
+              wakes-are-of-use mac (with_events w.0 start) near last u part.behind wake now moment.entry.emitted (polled-sound start start.packets w.0 sound)
+              (record { full = checking.full; peer = checking.peer }) none some early w.1 (let kept = turn.kept in omega (arith, kept))
+              (passed near last u part.behind now moment.entry turn.done moves)

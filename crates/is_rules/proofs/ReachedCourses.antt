@@ -1,21 +1,51 @@
--- A pair that waits in a per-agent execution is checked, or answered, as soon as one that waits in a log.
-use Rattle.std.proofs.Common.{ℕ, List, [], ◌∷◌, ◌++◌, length, inl, inr, ◌⊎◌, refl, ap, sym, ◌∙◌, subst, arith, append_assoc}
+-- A pair that waits in a per-agent execution is checked, or answered, as soon as one that waits in a log. If a controlling agent has
+-- no valid pair, a check is sent on the path, or a path is selected: else each check on the path is answered, as there is none.
+use Rattle.std.proofs.Common.{◌≡◌, ℕ, ◌&&◌, Bool, true, false, List, [], ◌∷◌, ◌++◌, length, Option, Some, None, inl, inr, ◌⊎◌, refl, ap, sym, ◌∙◌, subst, arith, append_assoc}
 use Rattle.rand_core.specs.Stream.{Stream}
 use Rattle.is_proto.specs.Lists.{Has}
+use Rattle.is_candidate.specs.Addresses.{same_address, same_protocol}
 use Rattle.is_candidate.specs.Candidates.{CandidateRecord}
+use Rattle.is_stun.specs.declared.header.Class.{Class}
+use Rattle.is_stun.specs.declared.header.Class.TheVariants as class
+use Rattle.is_rules.specs.declared.emitted.Issued.{Issued}
 use Rattle.is_rules.specs.declared.emitted.Path.{Path}
 use Rattle.is_rules.specs.Agent.{AgentRecord}
 use Rattle.is_rules.specs.Asked.{IsAnsweredOn, IsAnsweredIn}
 use Rattle.is_rules.specs.Courses.{CourseRound}
+use Rattle.is_rules.specs.Emitted.{issued_as}
 use Rattle.is_rules.specs.Exchange.{Course}
 use Rattle.is_rules.specs.Logs.{Logged}
+use Rattle.is_rules.specs.Pending.{is_request, is_same_path, is_check_on}
 use Rattle.is_rules.specs.Reached.{IsPassing, ChecksIn}
-use Rattle.is_rules.specs.ReachedCourses.{IsPassed, ChecksAmong, IsAnsweredAmong, PassRounds, CoursesReach}
+use Rattle.is_rules.specs.ReachedCourses.{IsPassed, ChecksAmong, IsAnsweredAmong, PassRounds, CoursesReach, CoursesCheck}
 use Rattle.is_rules.specs.Rounds.{LoggedRound, entries_of, RunsOn}
 use Rattle.is_rules.specs.Sending.{path_of}
 use Rattle.is_rules.specs.Steps.{Call, Entry, HandleTimeout}
-use Rattle.is_rules.proofs.Coursing.{entry_of, part_of, pushed, part_is, round_of, rounds_of, begun, as_many, either_has, anew, leads_on}
+use Rattle.is_rules.proofs.Addresses.{both, same_address-sound, same_protocol-sound}
+use Rattle.is_rules.proofs.Coursing.{entry_of, part_of, pushed, part_is, round_of, rounds_of, begun, as_many, either_has, anew, leads_on, courses-announce}
+use Rattle.is_rules.proofs.LogParts.{no-case}
+use Rattle.is_rules.proofs.PendLaws.{is-on}
 use Rattle.is_rules.proofs.ReachLaws.{pairs-are-reached}
+
+-- ---- a check that is reported was sent on the path
+
+request-is : (c : Class) → is_request c ≡ true → c ≡ class.Request
+request-is class.Request h = refl
+request-is _ h = no-case h
+
+path-is : (a b : Path) → is_same_path a b ≡ true → a ≡ b
+path-is a b h =
+    let k = both (same_protocol a.proto b.proto) (same_address a.source b.source && same_address a.destination b.destination) h in
+    let l = both (same_address a.source b.source) (same_address a.destination b.destination) k.1 in
+    ap (λ p. let x : Path = record { proto = p; source = a.source; destination = a.destination } in x) (same_protocol-sound a.proto b.proto k.0)
+    ∙ (ap (λ s. let x : Path = record { proto = b.proto; source = s; destination = a.destination } in x) (same_address-sound a.source b.source l.0)
+    ∙ ap (λ d. let x : Path = record { proto = b.proto; source = b.source; destination = d } in x) (same_address-sound a.destination b.destination l.1))
+
+is-sent : (path : Path) (issued : Issued) → is_check_on path (Some issued) ≡ true → issued ≡ issued_as path class.Request issued.id.0
+is-sent path issued h =
+    let k = both (is_request issued.class) (is_same_path issued.path path) h in
+    ap (λ c. let x : Issued = record { path = issued.path; class = c; id = issued.id } in x) (request-is issued.class k.0)
+    ∙ ap (λ w. let x : Issued = record { path = w; class = class.Request; id = issued.id } in x) (path-is issued.path path k.1)
 
 module _ {P : Type 0} where
   -- ---- rounds of a per-agent execution, as those of a log
@@ -138,4 +168,38 @@ module _ {H P : Type 0} (mac : H → List ℕ → List ℕ → List ℕ) (answer
           | inl k ↦ inr k
           | inr none ↦ absurd none.1
         ]
+      ]
+
+  -- ---- a smaller bound for a controlling agent
+
+  -- a check is sent on the path, or it is not
+  checks-or-not : (path : Path) (issued : Option Issued) → ((id : List ℕ) × (issued ≡ Some (issued_as path class.Request id))) ⊎ ((id : List ℕ) → issued ≡ Some (issued_as path class.Request id) → ⊥)
+  checks-or-not path None = inr (λ id out. cc)
+  checks-or-not path (Some issued) = by (is_check_on path (Some issued)) refl where
+    by : (b : Bool) → is_check_on path (Some issued) ≡ b → ((id : List ℕ) × (Some issued ≡ Some (issued_as path class.Request id))) ⊎ ((id : List ℕ) → Some issued ≡ Some (issued_as path class.Request id) → ⊥)
+    by true is = inl (issued.id.0, ap Some (is-sent path issued is))
+    by false isnt = inr (λ id out. (let no : false ≡ true = sym isnt ∙ is-on path (Some issued) id out in cc))
+
+  some-check : (path : Path) (rounds : List (CourseRound P)) → ChecksAmong rounds path
+      ⊎ ((x : CourseRound P) (id : List ℕ) → Has rounds x → x.moment.emitted.issued ≡ Some (issued_as path class.Request id) → ⊥)
+  some-check path [] = inr (λ x id has out. absurd has)
+  some-check path (r ∷ later) = elim (checks-or-not path r.moment.emitted.issued) [
+    | inl (id, out) ↦ inl (r, id, inl refl, out)
+    | inr none ↦ elim (some-check path later) [
+      | inl k ↦ inl (checks_later r later path k)
+      | inr others ↦ inr (λ x id has out. elim has [
+        | inl is ↦ none id (ap (λ (y : CourseRound P). y.moment.emitted.issued) is ∙ out)
+        | inr there ↦ others x id there out
+      ])
+    ]
+  ]
+
+  pub courses-check : CoursesCheck mac answers
+  courses-check first start last xs r rounds p by fresh course role waits unanswered chain are enough =
+      elim (some-check (path_of start p) (r ∷ rounds)) [
+        | inl checks ↦ inl checks
+        | inr none ↦
+            inr (courses-announce mac answers first start last xs r rounds p by fresh course role waits unanswered chain
+            (λ x has. (let passed = are x has in
+            record { done = passed.done; late = (let late = passed.late in omega (arith, late)); early = passed.early; between = passed.between; met = λ id out. absurd (none x id has out) })) (omega (arith, enough)))
       ]

@@ -1,10 +1,11 @@
--- A controlled agent in an execution: if it accepted the peer's nomination of a path, and a success response was received on the
--- path, a path is selected by the end of the next `handle_timeout` call.
+-- When an agent selects a path in an execution. A controlled agent: if it accepted the peer's nomination of a path, and a success
+-- response was received on the path, by the end of the next `handle_timeout` call. A controlling agent: by its first accepted
+-- success response.
 use Rattle.std.specs.Prelude.{◌≡◌, ℕ, ◌⊎◌, true, false, List, [], ◌∷◌, ◌++◌, None, is_some}
 use Rattle.rand_core.specs.Stream.{Stream}
 use Rattle.is_proto.specs.Lists.{Has}
 use Rattle.is_candidate.specs.Candidates.{CandidateRecord}
-use Rattle.is_pair.specs.Pairs.{PairRecord}
+use Rattle.is_pair.specs.Pairs.{PairRecord, is_valid}
 use Rattle.is_stun.specs.declared.header.Class.TheVariants as class
 use Rattle.is_stun.specs.Message.{Message}
 use Rattle.is_rules.specs.declared.emitted.Path.{Path}
@@ -19,7 +20,7 @@ use Rattle.is_rules.specs.Progress.{HasAnnounced}
 use Rattle.is_rules.specs.Queue.{request_at}
 use Rattle.is_rules.specs.Runs.{IsFresh}
 use Rattle.is_rules.specs.Staying.{MayEnd}
-use Rattle.is_rules.specs.Steps.{Call, Entry, HandleTimeout, Done, Step}
+use Rattle.is_rules.specs.Steps.{Call, Entry, ReceivePacket, HandleTimeout, Done, Step}
 
 -- An accepted success response was received on the reverse path.
 abbrev pub AcceptsSuccessOn : {P : Type 0} → Call P → Entry → Path → Type 0
@@ -58,3 +59,14 @@ module _ {H P : Type 0} where
         → Step mac answers near s (HandleTimeout now) moment last t → moment.answer ≡ Done → request_at now near ≡ None
         → GrantsAlong xs start near course path → IsAnsweredAlong xs path → IsAlone last path
         → (AnnouncesAlong (before ++ (xs ++ (HandleTimeout now, moment) ∷ [])) × HasAnnounced last) ⊎ (EndsAlong xs start near course path ⊎ Ends near (HandleTimeout now) moment path)
+
+    -- A controlling agent: no pair is valid when a segment of an execution begins. An accepted success response ends the segment,
+    -- and the agent is controlling afterwards. Then a path was selected in the segment, and an eligible pair exists afterwards,
+    -- of which the selected pair is one of the greatest.
+    abbrev pub SuccessesSelect : Type 0
+    SuccessesSelect =
+        (first start near last : AgentRecord H P) (before xs : List (Call P × Entry)) (s t : Stream) (now : ℕ) (via : Path) (bytes : List ℕ) (e : Entry) (m : Message)
+        → IsFresh first → Course mac answers before first start → ((p : PairRecord) → Has start.pairs p → is_valid p ≡ false)
+        → Course mac answers xs start near → Step mac answers near s (ReceivePacket now via bytes) e last t
+        → Brings {P = P} (ReceivePacket now via bytes) e now via m → m.class ≡ class.Success → last.controlling ≡ true
+        → AnnouncesAlong (xs ++ (ReceivePacket now via bytes, e) ∷ []) × HasAnnounced last

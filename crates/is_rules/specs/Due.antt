@@ -1,6 +1,6 @@
 -- A check before it is sent, and the pair of a response: the definitions of the agent's internal functions. No contract of a
 -- public function names any of them.
-use Rattle.std.specs.Prelude.{◌≡◌, ℕ, ◌&&◌, ◌||◌, Bool, true, not, List, Option, Some, is_some}
+use Rattle.std.specs.Prelude.{◌≡◌, ℕ, ◌&&◌, ◌||◌, Bool, true, not, List, Some, is_some}
 use Rattle.std.specs.List.{list_any}
 use Rattle.is_proto.specs.Lists.{Has, same}
 use Rattle.is_proto.specs.Moments.{counted}

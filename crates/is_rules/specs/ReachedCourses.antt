@@ -1,16 +1,19 @@
--- How soon a pair that is due is checked, for an agent that may share its random source: in an execution, as in a log.
-use Rattle.std.specs.Prelude.{◌≡◌, ℕ, ◌+◌, ◌*◌, ◌<◌, ◌≤◌, ◌⊎◌, List, [], ◌∷◌, length, Some}
+-- How soon a pair that is due is checked, for an agent that may share its random source: in an execution, as in a log. For a
+-- controlling agent without a valid pair the bound is smaller.
+use Rattle.std.specs.Prelude.{◌≡◌, ℕ, true, ◌+◌, ◌*◌, ◌<◌, ◌≤◌, ◌⊎◌, List, [], ◌∷◌, length, Some}
 use Rattle.rand_core.specs.Stream.{Stream}
 use Rattle.is_proto.specs.Lists.{Has}
 use Rattle.is_proto.specs.Moments.{MAX}
 use Rattle.is_candidate.specs.Candidates.{CandidateRecord}
 use Rattle.is_pair.specs.Pairs.{PairRecord}
+use Rattle.is_pair.specs.Turns.{due_by}
 use Rattle.is_stun.specs.declared.header.Class.TheVariants as class
 use Rattle.is_rules.specs.declared.emitted.Path.{Path}
 use Rattle.is_rules.specs.Agent.{AgentRecord}
 use Rattle.is_rules.specs.AskedCourses.{IsAnsweredAlong}
-use Rattle.is_rules.specs.Courses.{CourseRound}
+use Rattle.is_rules.specs.Courses.{CourseRound, AnnouncesAmong, CourseRounds}
 use Rattle.is_rules.specs.Exchange.{AreBetween, Course}
+use Rattle.is_rules.specs.Progress.{Awaits, IsUnanswered}
 use Rattle.is_rules.specs.Reached.{IsInLine}
 use Rattle.is_rules.specs.Runs.{IsFresh}
 use Rattle.is_rules.specs.Sending.{path_of}
@@ -51,3 +54,14 @@ module _ {H P : Type 0} (mac : H → List ℕ → List ℕ → List ℕ) (answer
       → ((x : CourseRound P) → Has (r ∷ rounds) x → IsPassed by x)
       → 2 * length start.pairs + last.next_number ≤ length (r ∷ rounds) + 1 + start.next_number
       → ChecksAmong (r ∷ rounds) (path_of start p) ⊎ IsAnsweredAmong (r ∷ rounds) (path_of start p)
+
+  -- An execution starts with a newly created agent. At the start of the rounds no pair is valid, and n pairs are due by an
+  -- earlier time `by`, with due times computed at the time of the first round. At least n rounds follow, in which the agent is
+  -- controlling. Then a check is sent on the path of each of these pairs in one of the rounds, unless a path is selected in one.
+  abbrev pub CoursesCheck : Type 0
+  CoursesCheck =
+      (first start last : AgentRecord H P) (xs : List (Call P × Entry)) (r : CourseRound P) (rounds : List (CourseRound P)) (p : PairRecord) (by : ℕ)
+      → IsFresh first → Course mac answers xs first start → start.controlling ≡ true → Awaits r.now by start p → IsUnanswered start p
+      → CourseRounds mac answers (r ∷ rounds) start last → ((x : CourseRound P) → Has (r ∷ rounds) x → IsPassed by x)
+      → length (due_by by r.now start.timing start.pairs) ≤ length (r ∷ rounds)
+      → ChecksAmong (r ∷ rounds) (path_of start p) ⊎ AnnouncesAmong (r ∷ rounds)

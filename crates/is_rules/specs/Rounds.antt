@@ -62,12 +62,11 @@ AreTaken (x ∷ before) =
 abbrev pub BringsSuccess : {P : Type 0} → Logged P → Type 0
 BringsSuccess x = (at : ℕ) × (by : Path) × (m : Message) × Brings x.call x.entry at by m × (m.class ≡ class.Success)
 
--- A polling cycle after this log: all packets are polled, `poll_timeout` returns a time, and `handle_timeout` is called then or
--- later.
-pub record IsTurn {P : Type 0} (before : List (Logged P)) (asked moment : Logged P) (wake now : ℕ) : Type 0 where
-  pub taken : AreTaken before
+-- A polling cycle: `poll_timeout` returns a time, any polls follow, and `handle_timeout` is called then or later.
+pub record IsTurn {P : Type 0} (asked : Logged P) (polls : List (Logged P)) (moment : Logged P) (wake now : ℕ) : Type 0 where
   pub asks : asked.call ≡ PollTimeout
   pub woken : asked.entry.answer ≡ Wake (Some wake)
+  pub polled : (x : Logged P) → Has polls x → is_poll x.call ≡ true
   pub comes : moment.call ≡ HandleTimeout now
   pub done : moment.entry.answer ≡ Done
   pub kept : wake ≤ now
@@ -125,11 +124,12 @@ module _ {H P : Type 0} (mac : H → List ℕ → List ℕ → List ℕ) (answer
       (rest part before : List (Logged P)) → log ≡ rest ++ (part ++ before)
       → (start last : AgentRecord H P) × Part first s log before start part last
 
-  -- For each polling cycle in the log of an agent that has a pair to check, the `handle_timeout` call makes progress.
+  -- For each polling cycle in the log of an agent that has a pair to check, the `handle_timeout` call makes progress, if no
+  -- packet is queued when `poll_timeout` is called: all were polled, or nothing queued one since.
   abbrev pub MomentsAreOfUse : AgentRecord H P → Stream → List (Logged P) → Type 0
   MomentsAreOfUse first s log =
-      (before : List (Logged P)) (start last : AgentRecord H P) (asked moment : Logged P) (wake now : ℕ)
-      → Part first s log before start (moment ∷ asked ∷ []) last → IsTurn before asked moment wake now
+      (before polls : List (Logged P)) (start last : AgentRecord H P) (asked moment : Logged P) (wake now : ℕ)
+      → Part first s log before start (moment ∷ (polls ++ asked ∷ [])) last → AreTaken before ⊎ (start.packets ≡ []) → IsTurn asked polls moment wake now
       → IsChecking start → is_empty start.pairs ≡ false → wake < MAX
       → IsOfUse start moment.entry.emitted last
 

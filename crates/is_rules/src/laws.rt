@@ -12,14 +12,14 @@ ghost use Rattle.is_rules.specs.Exchange.{ChecksStay, ExchangesSucceed};
 ghost use Rattle.is_rules.specs.Conflicts.{ConflictsSettle};
 ghost use Rattle.is_rules.specs.Courses.{CoursesAnnounce};
 ghost use Rattle.is_rules.specs.Asking.{ChecksAsk};
-ghost use Rattle.is_rules.specs.AskedCourses.{GrantedAreAnnounced};
+ghost use Rattle.is_rules.specs.AskedCourses.{GrantedAreAnnounced, SuccessesSelect};
 ghost use Rattle.is_rules.specs.Rounds.{AnsweredRoundsAnnounce, PartsAreRuns, TurnsAreOfUse};
 ghost use Rattle.is_rules.specs.Carried.{CarriedAreServed, CarriedAreAccepted, CarriedSucceedLater, CarriedAsk, CarriedSettle};
 ghost use Rattle.is_rules.specs.Pending.{PairsKeepChecks, ChecksPend, ChecksPendAlong, ExchangesSucceedLater};
 ghost use Rattle.is_rules.specs.Staying.{PairsStay, PairsStayOn};
 ghost use Rattle.is_rules.specs.Asked.{AskedAreAnnounced};
 ghost use Rattle.is_rules.specs.Reached.{PairsAreReached, AskedRoundsAnnounce};
-ghost use Rattle.is_rules.specs.ReachedCourses.{CoursesReach};
+ghost use Rattle.is_rules.specs.ReachedCourses.{CoursesCheck, CoursesReach};
 ghost use Rattle.is_rules.specs.SamePath.{TopPathsMatch, DisputesSplit, RanksSettle, AnnouncedPairsMatch, AnnouncedPathsMatch, AnnouncedPathsAreReversed};
 
 use is_candidate::LocalPreference;
@@ -164,7 +164,8 @@ pub fn answered_rounds_announce<H: Sha1HmacProvider, P: LocalPreference>()
 {}
 
 /// From a newly created agent: if `poll_timeout` is called while no packet is queued, a `handle_timeout` call at the time that it
-/// returns, or later, makes progress: a check is sent, a pair is removed, or there are fewer early requests.
+/// returns, or later, makes progress: a check is sent, a pair is removed, or there are fewer early requests. Any polls may come
+/// between.
 pub fn turns_are_of_use<H: Sha1HmacProvider, P: LocalPreference>()
     ensures { TurnsAreOfUse H.mac P.answers }
 {}
@@ -263,6 +264,17 @@ pub fn pairs_are_reached<H: Sha1HmacProvider, P: LocalPreference>()
 /// The same of an agent that shares its random source.
 pub fn courses_reach<H: Sha1HmacProvider, P: LocalPreference>()
     ensures { CoursesReach H.mac P.answers }
+{}
+
+/// A controlling agent, which may share its random source, has no valid pair, and n pairs are due. Then a check is sent on the path
+/// of each of them in one of n rounds, unless a path is selected in one of them.
+pub fn courses_check<H: Sha1HmacProvider, P: LocalPreference>()
+    ensures { CoursesCheck H.mac P.answers }
+{}
+
+/// A controlling agent, which may share its random source, selects a path by its first accepted success response.
+pub fn successes_select<H: Sha1HmacProvider, P: LocalPreference>()
+    ensures { SuccessesSelect H.mac P.answers }
 {}
 
 /// In such rounds the checks on the pair's path are answered, and the peer nominates the path to a controlled agent. Then a path

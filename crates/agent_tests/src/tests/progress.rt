@@ -19,6 +19,7 @@ impl Subject for Progress {
         a_lite_agent_checks_nothing(player)?;
         without_the_credentials_of_the_peer_nothing_is_checked(player)?;
         a_role_that_turns_twice_within_a_round_puts_a_pair_ahead(player)?;
+        a_pair_of_a_packet_goes_before_one_that_is_due_at_the_first_timeout(player)?;
         a_pair_of_one_check_is_given_up_before_a_late_answer(player)
     }
 }
@@ -222,6 +223,36 @@ fn a_role_that_turns_twice_within_a_round_puts_a_pair_ahead(player: &mut Player)
         set_up_one_checked(player),
         turn_role(player, 60_010, true) && turn_role(player, 60_020, false),
         // the pair that was nominated in between is checked once more
+        same(announced(player, peer(2), 9), Some((2, 60_100)), player),
+    ])
+}
+
+/// A request comes from an unknown address, with a greater priority than those of the known candidates, and gets its response.
+fn stranger_asks(player: &mut Player, ms: u64) -> bool {
+    let request = StunMessage::binding_request(
+        "near:farr",
+        TransId([7; 12]),
+        false,
+        10,
+        1853824767,
+        false,
+    );
+    player.expects(request, "nearpass")
+        && player.takes(ms, at(9, 9000), at(1, 1000))
+        && player.sends()
+        && player.has_sent(Class::Success, 64)
+}
+
+fn a_pair_of_a_packet_goes_before_one_that_is_due_at_the_first_timeout(
+    player: &mut Player,
+) -> Told {
+    Story("a_pair_of_a_packet_goes_before_one_that_is_due_at_the_first_timeout").holds(&[
+        // both pairs are due at the first timeout; it checks one, and the second timeout the other
+        set_up_one_checked(player),
+        same(announced(player, peer(2), 9), Some((1, 60_050)), player),
+        set_up_one_checked(player),
+        stranger_asks(player, 60_010),
+        // `poll_timeout` queries the new pair's due time as of the first timeout, so it comes before the other
         same(announced(player, peer(2), 9), Some((2, 60_100)), player),
     ])
 }

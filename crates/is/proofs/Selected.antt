@@ -1,0 +1,200 @@
+-- In rounds that suffice for one of its pairs, a controlling side sends a check on the pair's path, or selects a path. If a check is
+-- answered while it is pending, it selects one. The preconditions that refused/laws changes are read by tactics where they are used:
+-- if one of them is weaker, that goal stays unproved.
+use Rattle.std.proofs.Common.{◌≡◌, ℕ, ◌≤◌, ◌⊎◌, Bool, true, false, not, List, [], ◌∷◌, ◌++◌, length, is_some, inl, inr, refl, ap, sym, ◌∙◌, subst, arith, append_assoc}
+use Rattle.rand_core.specs.Stream.{Stream}
+use Rattle.is_proto.specs.Lists.{Has}
+use Rattle.is_proto.specs.Packets.{Packet}
+use Rattle.is_candidate.specs.Candidates.{CandidateRecord}
+use Rattle.is_pair.specs.Pairs.{PairRecord, is_valid}
+use Rattle.is_pair.specs.Turns.{due_by}
+use Rattle.is_stun.specs.declared.header.Class.TheVariants.{Success}
+use Rattle.is_rules.specs.declared.emitted.Path.{Path}
+use Rattle.is_rules.specs.Agent.{fresh}
+use Rattle.is_rules.specs.AskedCourses.{EndsAlong, SuccessesSelect}
+use Rattle.is_rules.specs.Carried.{CarriedSucceedLater}
+use Rattle.is_rules.specs.Courses.{CourseRound, AnnouncesAmong, CourseRounds}
+use Rattle.is_rules.specs.Delivery.{IsTaken}
+use Rattle.is_rules.specs.Effects.{PathLaw, last_of}
+use Rattle.is_rules.specs.Issuing.{via_out}
+use Rattle.is_rules.specs.Pending.{IsValidBy}
+use Rattle.is_rules.specs.Progress.{Awaits, IsUnanswered}
+use Rattle.is_rules.specs.ReachedCourses.{CoursesCheck}
+use Rattle.is_rules.specs.Sending.{path_of}
+use Rattle.is_rules.specs.Sound.{FreshIsSound}
+use Rattle.is_rules.specs.Steps as agent
+use Rattle.is_rules.specs.Steps.{Entry, Done, quiet}
+use Rattle.is.specs.declared.world.Side.{Side}
+use Rattle.is.specs.Deliveries.{Announces}
+use Rattle.is.specs.Grantings.{Occurrence, HandedCheck, IsReturned, IsReturnedInTime, MayEndAt}
+use Rattle.is.specs.Selections.{Round, all_of, IsKept, IsControlling, IsAnsweredInTime, DeliveredRoundsAnnounce}
+use Rattle.is.specs.World.{WorldRecord, Logged, Turns, at, other}
+use Rattle.is.specs.WorldRoles.{IsNewAgent}
+use Rattle.is.proofs.Following.{Has-front, Has-rear, AreSound}
+use Rattle.is.proofs.Settled.{sound_new}
+use Rattle.is.proofs.Owning.{either_has, turn_step, Steered, steered_on, acts_steered}
+use Rattle.is.proofs.Connected.{rewritten, handed, delivered}
+use Rattle.is.proofs.Occurring.{middle, Follow, follows, cut, meet, sound_along, acts_at, own, own_course, checked, sent_in, after_in, Awaited, awaits, removed}
+use Rattle.is.proofs.Granted.{own_emitted}
+use Rattle.is.proofs.Connecting.{round_of, rounds_of, as_many, Moves, moved, are_passed, back, SomeChecks}
+
+module _ {H P : Type 0} (mac : H → List ℕ → List ℕ → List ℕ) (answers : P → CandidateRecord → ℕ → ℕ → Type 0) where
+  module _ (side : Side) where
+    -- ---- roles
+
+    -- the side is controlling, and the other side is controlled
+    abbrev Leads : WorldRecord H P → Type 0
+    Leads w = ((at side w).controlling ≡ true) × ((at (other side) w).controlling ≡ false)
+
+    leads_at : (all : List (Occurrence H P)) (x : Occurrence H P) → IsControlling side all → Has all x → Leads x.behind
+    leads_at all x roles has = search (roles x has)
+
+    -- a role after each entry, and so at the end
+    role_along : (z : Side) (role : Bool) (xs : List (Occurrence H P)) (w last : WorldRecord H P) → Follow mac answers w xs last → ((x : Occurrence H P) → Has xs x → (at z x.behind).controlling ≡ role)
+        → (at z w).controlling ≡ role → (at z last).controlling ≡ role
+    role_along z role [] w last is roles begin = ap (λ (v : WorldRecord H P). (at z v).controlling) is ∙ begin
+    role_along z role (x ∷ rest) w last (from, s, t, happens, more) roles begin = role_along z role rest x.behind last more (λ y has. roles y (inr has)) (roles x (inl refl))
+
+    -- ---- rounds of a controlling side
+
+    steered : (xs : List (Occurrence H P)) (w last : WorldRecord H P) → Follow mac answers w xs last → ((x : Occurrence H P) → Has xs x → (at side x.behind).controlling ≡ true)
+        → Steered mac answers (own mac answers side xs) (at side w) (at side last)
+    steered [] w last is roles = (ap (λ (v : WorldRecord H P). at side v) is, tt)
+    steered (x ∷ rest) w last (from, s, t, happens, more) roles =
+        subst (λ (v : WorldRecord H P). Steered mac answers (own mac answers side (x ∷ rest)) (at side v) (at side last)) from
+        (steered_on mac answers (acts_at mac answers side x) (own mac answers side rest) (at side x.before) (at side x.behind) (at side last)
+        (acts_steered mac answers x.before x.behind s t side x.entry happens (roles x (inl refl))) (steered rest x.behind last more (λ y has. roles y (inr has))))
+
+    courses : (rounds : List (Round H P)) (w last : WorldRecord H P) → Follow mac answers w (all_of rounds) last → ((r : Round H P) → Has rounds r → Moves mac answers side r)
+        → ((x : Occurrence H P) → Has (all_of rounds) x → (at side x.behind).controlling ≡ true) → CourseRounds mac answers (rounds_of mac answers side rounds) (at side w) (at side last)
+    courses [] w last is comes roles = ap (λ (v : WorldRecord H P). at side v) is
+    courses (r ∷ later) w last (from, s, t, happens, more) comes roles =
+        let c = cut mac answers r.behind (all_of later) r.moment.behind last more in
+        let k = steered r.behind r.moment.behind c.0 c.1 (λ x has. roles x (inr (Has-front r.behind (all_of later) x has))) in
+        subst (λ (v : WorldRecord H P). CourseRounds mac answers (rounds_of mac answers side (r ∷ later)) (at side v) (at side last)) from (
+          at side r.moment.behind,
+          at side c.0,
+          s,
+          t,
+          moved mac answers side r s t (comes r (inl refl)) happens,
+          roles r.moment (inl refl),
+          k.0,
+          k.1,
+          courses later c.0 last c.2 (λ y has. comes y (inr has)) (λ x has. roles x (inr (Has-rear r.behind (all_of later) x has))),
+        )
+
+    -- what a round of the per-agent execution selects, one of the network model selects
+    announced_in : (rounds : List (Round H P)) (w last : WorldRecord H P) → Follow mac answers w (all_of rounds) last → AnnouncesAmong (rounds_of mac answers side rounds)
+        → (x : Occurrence H P) × Has (all_of rounds) x × Announces side x.entry
+    announced_in [] w last is (c, has, rest) = absurd has
+    announced_in (r ∷ later) w last (from, s, t, happens, more) (c, inl is, (y, there, success, emitted)) =
+        let k = cut mac answers r.behind (all_of later) r.moment.behind last more in
+        let m = own_emitted mac answers side r.behind r.moment.behind k.0 k.1 y (subst (λ (z : CourseRound P). Has z.behind y) (sym is) there) emitted in
+        (m.0, inr (Has-front r.behind (all_of later) m.0 m.1), m.2)
+    announced_in (r ∷ later) w last (from, s, t, happens, more) (c, inr has, rest) =
+        let k = cut mac answers r.behind (all_of later) r.moment.behind last more in
+        let m = announced_in later k.0 last k.2 (c, has, rest) in
+        (m.0, inr (Has-rear r.behind (all_of later) m.0 m.1), m.2)
+
+    -- ---- a check that is answered
+
+    module _ (paths : PathLaw {H = H} {P = P} mac answers) (succeeds : CarriedSucceedLater {H = H} {P = P} mac answers) (selects : SuccessesSelect {H = H} {P = P} mac answers) where
+      module _ (first start last : WorldRecord H P) (s : Stream) (before part : List (Occurrence H P)) (new : IsNewAgent (at side first)) (sound : AreSound start)
+          (led : Follow mac answers first before start) (follow : Follow mac answers start part last) (role : (at side start).controlling ≡ true)
+          (roles : (x : Occurrence H P) → Has part x → Leads x.behind) (invalid : (p : PairRecord) → Has (at side start).pairs p → is_valid p ≡ false) where
+        -- what the success response selects
+        selected : (ahead rest : List (Occurrence H P)) (again : Occurrence H P) (reply : Packet) (via : Path) (now : ℕ) (u v : Stream) → part ≡ ahead ++ again ∷ rest → Follow mac answers start ahead again.before
+            → Turns mac answers again.before u side (agent.ReceivePacket now via reply.contents) again.entry.outcome again.behind v
+            → IsTaken mac answers (rewritten via reply) now again.entry.outcome.entry Success → (x : Occurrence H P) × Has part x × Announces side x.entry
+        selected ahead rest again reply via now u v split on turn (m, brings, success) =
+            let call : agent.Call P = agent.ReceivePacket now via reply.contents in
+            let n = new in
+            let said = selects (fresh (at side first).provider n.0 n.1) (at side start) (at side again.before) (at side again.behind)
+            ((agent.SetControlling n.2, quiet Done) ∷ own mac answers side before) (own mac answers side ahead) u v now via reply.contents again.entry.outcome.entry m (n.0, n.1, refl)
+            (at side first, s, s, tt, (refl, n.3, refl), own_course mac answers side before first start led) invalid (own_course mac answers side ahead start again.before on)
+            (turn_step mac answers again.before again.behind u v side call again.entry.outcome turn) brings success (roles again (subst (λ xs. Has xs again) (sym split) (middle ahead rest again))).0 in
+            let y = said.0 in
+            elim (either_has (own mac answers side ahead) ((call, again.entry.outcome.entry) ∷ []) y.0 y.1) [
+              | inl h ↦
+                  (let x = own_emitted mac answers side ahead start again.before on y.0 h y.2 in
+                  (x.0, subst (λ xs. Has xs x.0) (sym split) (Has-front ahead (again ∷ rest) x.0 x.1), x.2))
+              | inr (inl is) ↦
+                  (again, subst (λ xs. Has xs again) (sym split) (middle ahead rest again), (turn.side_is, ap (λ (z : agent.Call P × Entry). is_some (last_of z.1.emitted.announced)) is ∙ y.2))
+              | inr (inr none) ↦ absurd none
+            ]
+
+        answered : (path : Path) → IsAnsweredInTime mac side path part → (x : Occurrence H P) × Has part x × Announces side x.entry
+        answered path (over, k, returns) =
+            let c = checked mac answers paths side path over part start last k sound follow in
+            let handing = k.comes.handed in
+            let one = meet mac answers k.before k.behind k.sent start last (subst (λ xs. Follow mac answers start xs last) k.split follow) in
+            let two = meet mac answers k.comes.between k.comes.rest handing k.sent.behind last (subst (λ xs. Follow mac answers k.sent.behind xs last) k.comes.split c.onward) in
+            let steers = role_along side true k.before start k.sent.before one.led
+            (λ x has. (roles x (subst (λ xs. Has xs x) (sym k.split) (Has-front k.before (k.sent ∷ k.behind) x has))).0) role in
+            let controlled = role_along (other side) false k.comes.between k.sent.behind handing.before two.led
+            (λ x has. (roles x (after_in mac answers side path over part k x (subst (λ xs. Has xs x) (sym k.comes.split) (Has-front k.comes.between (handing ∷ k.comes.rest) x has)))).1)
+            (roles k.sent (sent_in mac answers side path over part k)).1 in
+            let there = succeeds (at side k.sent.before) (at side k.sent.behind) (at (other side) handing.before) (at (other side) handing.behind) c.s c.t k.now k.comes.hands.now
+            k.check (rewritten over k.check) k.id k.sent.entry.outcome.entry handing.entry.outcome.entry (c.sound_sent side) (c.sound (other side)) c.step k.sends c.know
+            (controlled ∙ sym (ap not steers)) refl c.reached (delivered mac answers (other side) over k.check handing.before handing.behind c.u c.v handing.entry k.comes.hands c.happens) in
+            let reply : Packet = there.1.0 in
+            let in_time : IsReturnedInTime mac side path over part k reply = search (returns reply there.1.2) in
+            let r = in_time.returned in
+            let again = r.comes.handed in
+            let between : List (Occurrence H P) = k.comes.between ++ handing ∷ r.comes.between in
+            let z = awaits mac answers side path between over part last k reply r c.onward (λ x has. has) in
+            by k reply r (λ x has ends. search (in_time.stays x has ends)) z
+            (there.1.3 (at side again.before) (at side again.behind) (rewritten r.via reply) (own mac answers side between) r.comes.hands.now r.pending.limit
+            again.entry.outcome.entry z.course.0 z.course.2 z.few z.know refl z.goes z.comes) where
+              by : (k : HandedCheck mac side path over part) (reply : Packet) (r : IsReturned mac side path over part k reply)
+                  → ((x : Occurrence H P) → Has (k.comes.between ++ k.comes.handed ∷ r.comes.between) x → MayEndAt side path x → ⊥)
+                  → (z : Awaited mac answers side path (k.comes.between ++ k.comes.handed ∷ r.comes.between) over part last k reply r)
+                  → (IsTaken mac answers (rewritten r.via reply) r.comes.hands.now r.comes.handed.entry.outcome.entry Success × IsValidBy mac answers (at side r.comes.handed.behind) r.via)
+                  ⊎ EndsAlong mac answers (own mac answers side (k.comes.between ++ k.comes.handed ∷ r.comes.between)) (at side k.sent.behind) (at side r.comes.handed.before) z.course.0 (via_out k.check)
+                  → (x : Occurrence H P) × Has part x × Announces side x.entry
+              by k reply r stays z (inr ends) =
+                  let f = removed mac answers side path (k.comes.between ++ k.comes.handed ∷ r.comes.between) over part last k reply r z ends in absurd (stays f.0 f.1 f.2)
+              by k reply r stays z (inl (taken, valid)) =
+                  let again = r.comes.handed in
+                  let between : List (Occurrence H P) = k.comes.between ++ k.comes.handed ∷ r.comes.between in
+                  let split : part ≡ (k.before ++ k.sent ∷ between) ++ again ∷ r.comes.rest =
+                  k.split ∙ (ap (λ xs. k.before ++ k.sent ∷ xs) (k.comes.split ∙ (ap (λ xs. k.comes.between ++ k.comes.handed ∷ xs) r.comes.split
+                  ∙ sym (append_assoc k.comes.between (k.comes.handed ∷ r.comes.between) (again ∷ r.comes.rest)))) ∙ sym (append_assoc k.before (k.sent ∷ between) (again ∷ r.comes.rest))) in
+                  let m = meet mac answers (k.before ++ k.sent ∷ between) r.comes.rest again start last (subst (λ xs. Follow mac answers start xs last) split follow) in
+                  selected (k.before ++ k.sent ∷ between) r.comes.rest again reply r.via r.comes.hands.now m.s m.t split m.led
+                  (handed mac answers side r.via reply again.before again.behind m.s m.t again.entry r.comes.hands m.happens) taken
+
+    -- ---- a check is sent in one of the rounds, or a path is selected
+
+    reached : CoursesCheck {H = H} {P = P} mac answers → (first start last : WorldRecord H P) (s : Stream) (before : List (Occurrence H P)) (r : Round H P) (rounds : List (Round H P)) (p : PairRecord) (by : ℕ)
+        → IsNewAgent (at side first) → Follow mac answers first before start → Follow mac answers start (all_of (r ∷ rounds)) last → (at side start).controlling ≡ true
+        → ((x : Occurrence H P) → Has (all_of (r ∷ rounds)) x → (at side x.behind).controlling ≡ true) → Awaits r.now by (at side start) p → IsUnanswered (at side start) p
+        → ((x : Round H P) → Has (r ∷ rounds) x → IsKept side by x) → length (due_by by r.now (at side start).timing (at side start).pairs) ≤ length (r ∷ rounds)
+        → SomeChecks mac answers (path_of (at side start) p) (r ∷ rounds) ⊎ ((x : Occurrence H P) × Has (all_of (r ∷ rounds)) x × Announces side x.entry)
+    reached checks first start last s before r rounds p by n led follow role roles waits unanswered kept enough =
+        let many = as_many mac answers side rounds in
+        elim (checks (fresh (at side first).provider n.0 n.1) (at side start) (at side last) ((agent.SetControlling n.2, quiet Done) ∷ own mac answers side before)
+        (round_of mac answers side r) (rounds_of mac answers side rounds) p by (n.0, n.1, refl) (at side first, s, s, tt, (refl, n.3, refl), own_course mac answers side before first start led)
+        role waits unanswered (courses (r ∷ rounds) start last follow (λ x has. (kept x has).comes) roles) (are_passed mac answers side by (r ∷ rounds) kept) (omega (arith, many, enough))) [
+          | inl (c, id, has, out) ↦
+              (let x = back mac answers side (r ∷ rounds) c has in inl (x.0, x.1, (id, ap (λ (z : CourseRound P). z.moment.emitted.issued) x.2 ∙ out)))
+          | inr among ↦ inr (announced_in (r ∷ rounds) start last follow among)
+        ]
+
+  pub rounds_announce : PathLaw {H = H} {P = P} mac answers → FreshIsSound H P → CarriedSucceedLater {H = H} {P = P} mac answers → CoursesCheck {H = H} {P = P} mac answers
+      → SuccessesSelect {H = H} {P = P} mac answers → (first : WorldRecord H P) (s : Stream) (log : List (Logged P)) → DeliveredRoundsAnnounce mac answers first s log
+  rounds_announce paths new_sound succeeds checks selects first s log last t run before more rest side r rounds p by new split role roles waits unanswered kept enough answers_so =
+      let part : List (Occurrence H P) = all_of (r ∷ rounds) ++ more in
+      let led = cut mac answers before (part ++ rest) first last (subst (λ xs. Follow mac answers first xs last) split (follows mac answers first last s t 0 log run)) in
+      let start : WorldRecord H P = r.moment.before in
+      let to : Follow mac answers first before start = subst (λ (w : WorldRecord H P). Follow mac answers first before w) (sym led.2.0) led.1 in
+      let on = cut mac answers part rest start last (subst (λ (w : WorldRecord H P). Follow mac answers w (part ++ rest) last) (sym led.2.0) led.2) in
+      let begun = cut mac answers (all_of (r ∷ rounds)) more start on.0 on.1 in
+      let sound : AreSound start = sound_along mac answers paths before first start to (λ z. sound_new new_sound (at z first) (new z)) in
+      let steady = λ (x : Occurrence H P) (has : Has part x). leads_at side part x roles has in
+      elim (reached side checks first start begun.0 s before r rounds p by (new side) to begun.1 role
+      (λ x has. (steady x (Has-front (all_of (r ∷ rounds)) more x has)).0) waits unanswered kept enough) [
+        | inl (x, has, sent) ↦
+            answered side paths succeeds selects first start on.0 s before part (new side) sound to on.1 role steady unanswered.invalid (path_of (at side start) p) (search (answers_so x has sent))
+        | inr (x, has, announced) ↦ (x, Has-front (all_of (r ∷ rounds)) more x has, announced)
+      ]
