@@ -5,7 +5,7 @@ use Rattle.is_stun.specs.declared.header.Class.{Class}
 use Rattle.is_stun.specs.declared.header.Class.TheVariants as classes
 use Rattle.is_stun.specs.Header.{method_bits}
 use Rattle.is_stun.specs.Integrity.{IsSignedBy}
-use Rattle.is_stun.specs.Message.{AttributesRecord, Message}
+use Rattle.is_stun.specs.Message.{Message}
 use Rattle.is_c.specs.declared.stun_message.Message.{Message as Flat}
 use Rattle.is_c.specs.declared.stun_message.Number.{Number}
 use Rattle.is_c.specs.Addresses.{socket_of}
