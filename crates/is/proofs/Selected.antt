@@ -193,7 +193,7 @@ module _ {H P : Type 0} (mac : H → List ℕ → List ℕ → List ℕ) (answer
       let sound : AreSound start = sound_along mac answers paths before first start to (λ z. sound_new new_sound (at z first) (new z)) in
       let steady = λ (x : Occurrence H P) (has : Has part x). leads_at side part x roles has in
       elim (reached side checks first start begun.0 s before r rounds p by (new side) to begun.1 role
-      (λ x has. (steady x (Has-front (all_of (r ∷ rounds)) more x has)).0) waits unanswered kept enough) [
+      (λ x has. (steady x (Has-front (all_of (r ∷ rounds)) more x has)).0) waits unanswered kept (omega (arith, enough))) [
         | inl (x, has, sent) ↦
             answered side paths succeeds selects first start on.0 s before part (new side) sound to on.1 role steady unanswered.invalid (path_of (at side start) p) (search (answers_so x has sent))
         | inr (x, has, announced) ↦ (x, Has-front (all_of (r ∷ rounds)) more x has, announced)
