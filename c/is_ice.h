@@ -320,6 +320,8 @@ IS_ICE_QUIET_CALL int32_t is_ice_set_max_rto(is_ice_agent *agent, uint64_t nanos
 
 /* is_ice_set_max_retransmits - sets after how many checks in a row without a response a pair is removed. It is not
  * removed while the last of them may still be answered in time, nor within 15 s of a check of the other agent on it.
+ * With the default values that is at most 24.5 s after its last answered check. A browser gives it up after 30 s
+ * (RFC 7675), and does not nominate it again: against browsers set 11, and 2.9 s by is_ice_set_max_rto, for 29.6 s.
  * IS_ICE_OK. IS_ICE_BAD_LIMIT: the limit is 0. Value: 9. */
 IS_ICE_CALL int32_t is_ice_set_max_retransmits(is_ice_agent *agent, size_t limit);
 

@@ -36,14 +36,14 @@ class InterfaceSettings:
 
 @dataclass(frozen=True)
 class AgentSettings:
-    """The settings of an agent. None: the agent's default."""
+    """The settings of an agent. None: the agent's default. The longest RTO and the number of checks are the original's."""
 
     controlling: bool = False
     lite: bool = False
     initial_rto_ms: float | None = None
-    max_rto_ms: float | None = None
+    max_rto_ms: float = 3000.0
     advance_ms: float | None = None
-    retransmits: int | None = None
+    retransmits: int = 9
     max_pairs: int | None = None
     stun: bool = True  # gathers server-reflexive candidates
     relay: bool = False  # gathers relayed candidates

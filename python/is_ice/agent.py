@@ -32,6 +32,12 @@ from .events import (
 )
 
 
+# A path that stops responding is removed 29.6 s after the last check that got a response: within the 30 s of RFC 7675, section 5.1, which
+# is when a browser gives it up too. The 3 s and 9 checks of the original end it after 24.5 s.
+_MAX_RTO = 2_900_000_000
+_MAX_RETRANSMITS = 11
+
+
 class _Library:
     """The shared library, loaded by the first call that needs it."""
 
@@ -92,6 +98,8 @@ class IceAgent:
         tie = int.from_bytes(os.urandom(8), "little") if tie_breaker is None else in_range(tie_breaker, 64, "a tie-breaker")
         ufrag, pass_ = creds.ufrag.encode(), creds.pass_.encode()
         done(self._c.is_ice_agent_new(self._at, ufrag, len(ufrag), pass_, len(pass_), tie))
+        self.set_max_stun_rto(_MAX_RTO)
+        self.set_max_stun_retransmits(_MAX_RETRANSMITS)
 
     def close(self) -> None:
         """Frees the agent. Every later call raises NoAgent, except for another `close`."""
@@ -139,11 +147,11 @@ class IceAgent:
         done(self._c.is_ice_set_initial_rto(self._at, in_range(nanoseconds, 64, "a time")))
 
     def set_max_stun_rto(self, nanoseconds: int) -> None:
-        """Sets the longest time from one check of a pair until the next one is due. Default: 3 s."""
+        """Sets the longest time from one check of a pair until the next one is due. Default: 2.9 s."""
         done(self._c.is_ice_set_max_rto(self._at, in_range(nanoseconds, 64, "a time")))
 
     def set_max_stun_retransmits(self, limit: int) -> None:
-        """Sets after how many checks in a row without a response a pair is removed. BadLimit for 0. Default: 9.
+        """Sets after how many checks in a row without a response a pair is removed. BadLimit for 0. Default: 11.
 
         A pair is not removed while the last check may still be answered in time, nor within 15 s of a check of the peer on it.
         """

@@ -36,8 +36,6 @@ from .stun_client import StunClient
 
 _log = logging.getLogger(__name__)
 
-# With 10 checks a path is lost after 24.5 s without a response, and at most 3 s more: within the 30 s of RFC 7675.
-_CONSENT_CHECKS = 10
 _PATIENCE = 30.0  # seconds until `connect` fails
 _CLOSING = 1.0  # seconds for a TURN server to free an allocation
 _QUEUE_LIMIT = 4096  # datagrams that wait for `recv`; later ones are lost, as in a full socket
@@ -95,7 +93,6 @@ class Connection:
         self._use_ipv4, self._use_ipv6, self._addresses = use_ipv4, use_ipv6, addresses
         self.agent = IceAgent()
         self.agent.set_controlling(ice_controlling)
-        self.agent.set_max_stun_retransmits(_CONSENT_CHECKS)
         self._controlling, self._creds = ice_controlling, self.agent.local_credentials
         self.on_event: EventHandler | None = None  # called with each event of the agent
         self._loop = IceLoop(self.agent, self._on_event, self._on_media, self._on_stun)

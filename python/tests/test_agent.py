@@ -7,6 +7,7 @@ import re
 import tempfile
 import threading
 import unittest
+from collections.abc import Callable
 from concurrent.futures import ThreadPoolExecutor
 from pathlib import Path
 from unittest import mock
@@ -59,24 +60,43 @@ def two_agents() -> tuple[IceAgent, IceAgent]:
     return a, b
 
 
+def turn(agents: tuple[IceAgent, IceAgent], now: int, random: Callable[[IceAgent], bytes] = lambda _: os.urandom(12)) -> None:
+    """Calls `handle_timeout` of both, and delivers what they send at once."""
+    for agent in agents:
+        agent.handle_timeout(now, random(agent))
+    moved = True
+    while moved:
+        moved = False
+        for agent, other in (agents, agents[::-1]):
+            while packet := agent.poll_transmit():
+                other.handle_packet(now, packet.source, packet.destination, packet.contents)
+                moved = True
+
+
 def play(agents: tuple[IceAgent, IceAgent], rounds: int = 10) -> tuple[list[object], list[object]]:
-    """Calls `handle_timeout` of both in rounds 50 ms apart, and delivers what they send at once."""
+    """Plays rounds 50 ms apart, and returns the events of both."""
     events: tuple[list[object], list[object]] = ([], [])
     for count in range(rounds):
-        now = BEGINNING + count * SECOND // 20
-        for agent in agents:
-            agent.handle_timeout(now, bytes([count, agents.index(agent)]) * 6)
-        moved = True
-        while moved:
-            moved = False
-            for agent, other in (agents, agents[::-1]):
-                while packet := agent.poll_transmit():
-                    other.handle_packet(now, packet.source, packet.destination, packet.contents)
-                    moved = True
+        turn(agents, BEGINNING + count * SECOND // 20, lambda agent: bytes([count, agents.index(agent)]) * 6)
     for agent, polled in zip(agents, events):
         while event := agent.poll_event():
             polled.append(event)
     return events
+
+
+def seconds_of_a_cut(agents: tuple[IceAgent, IceAgent]) -> float:
+    """Delivers nothing after a check of the first agent was answered. Returns how long that agent then is connected."""
+    agent, now, answered = agents[0], BEGINNING, 0
+    while now < BEGINNING + 30 * SECOND or agent.stats.bind_success_recv == answered:
+        answered, now = agent.stats.bind_success_recv, now + SECOND // 20
+        turn(agents, now)
+    begun = now
+    while agent.state.is_connected():
+        now = agent.poll_timeout() or now
+        agent.handle_timeout(now)
+        while agent.poll_transmit():
+            pass
+    return (now - begun) / SECOND
 
 
 class Sessions(unittest.TestCase):
@@ -113,6 +133,14 @@ class Sessions(unittest.TestCase):
             events.append(event)
         self.assertEqual(events[0], IceRestart(a.local_credentials))
         self.assertIn(THERE, [event.destination for event in events if isinstance(event, NominatedSend)])
+
+    def test_a_path_that_is_cut_is_kept_for_almost_30_s(self) -> None:
+        self.assertAlmostEqual(seconds_of_a_cut(two_agents()), 29.6, delta=0.1)
+        agents = two_agents()
+        for agent in agents:  # as in the original
+            agent.set_max_stun_rto(3 * SECOND)
+            agent.set_max_stun_retransmits(9)
+        self.assertAlmostEqual(seconds_of_a_cut(agents), 24.5, delta=0.1)
 
     def test_a_restart(self) -> None:
         a, b = two_agents()

@@ -12,6 +12,13 @@ use std::fmt;
 use std::net::SocketAddr;
 use std::time::{Duration, Instant};
 
+/// A path that stops responding is removed 29.6 s after the last check that got a response: within the 30 s of RFC 7675, section 5.1,
+/// which is when a browser gives it up too. The original's 3 s and 9 checks end it after 24.5 s.
+const MAX_RTO: Duration = Duration::from_millis(2900);
+
+/// See [`MAX_RTO`].
+const MAX_RETRANSMITS: usize = 11;
+
 /// The first instant on the agent's clock: late enough for what the agent subtracts.
 const BEGINNING: Duration = Duration::from_secs(60);
 
@@ -62,6 +69,9 @@ pub(crate) fn nanoseconds(duration: Duration) -> u64 {
 impl IceAgent {
     /// Creates a controlled agent with a random tie-breaker.
     ///
+    /// A path that stops responding is removed 29.6 s after the last check that got a response, within the 30 s of RFC 7675. In the
+    /// original that is after 24.5 s: `set_max_stun_rto(Duration::from_secs(3))` and `set_max_stun_retransmits(9)` bring it back.
+    ///
     /// # Panics
     ///
     /// If its username fragment is longer than 507 bytes, if out of memory, or if the system has no random bytes.
@@ -69,7 +79,7 @@ impl IceAgent {
         let mut random = Random::new();
         let tie_breaker = u64::from_ne_bytes(random.draw());
         let agent = ffi::Agent::new(&local_credentials.ufrag, &local_credentials.pass, tie_breaker);
-        IceAgent {
+        let mut agent = IceAgent {
             held: RefCell::new(agent.unwrap_or_else(|code| panic!("an agent: {}", ffi::text_of(code)))),
             random,
             first: None,
@@ -78,7 +88,10 @@ impl IceAgent {
             gathered: Vec::new(),
             added: None,
             buffer: vec![0; 1500],
-        }
+        };
+        agent.set_max_stun_rto(MAX_RTO);
+        agent.set_max_stun_retransmits(MAX_RETRANSMITS);
+        agent
     }
 
     fn ask<R>(&self, call: impl FnOnce(&mut ffi::Agent) -> R) -> R {

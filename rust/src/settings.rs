@@ -60,13 +60,13 @@ impl IceAgent {
         self.tell("initial RTO", |agent| ffi::is_ice_set_initial_rto(agent, nanoseconds(timeout)));
     }
 
-    /// Sets the longest time from one check of a pair until the next one is due. Default: 3 s.
+    /// Sets the longest time from one check of a pair until the next one is due. Default: 2.9 s; in the original 3 s.
     pub fn set_max_stun_rto(&mut self, timeout: Duration) {
         self.tell("maximal RTO", |agent| ffi::is_ice_set_max_rto(agent, nanoseconds(timeout)));
     }
 
     /// Sets after how many checks in a row without a response a pair is removed. It is not removed while the last check may still
-    /// be answered in time, nor within 15 s of a check of the peer on it. Default: 9.
+    /// be answered in time, nor within 15 s of a check of the peer on it. Default: 11; in the original 9.
     ///
     /// # Panics
     ///

@@ -131,8 +131,16 @@ fn settings_begin_as_documented() {
     let agent = IceAgent::new(creds("near"));
     assert_eq!((agent.mtu(), agent.mtu_warn()), (1150, 1280));
     assert!(!agent.controlling() && !agent.ice_lite());
-    assert_eq!(agent.ice_timeout(), ms(21500));
+    assert_eq!(agent.ice_timeout(), ms(26700));
     assert_eq!((agent.local_credentials(), agent.remote_credentials()), (&creds("near"), None));
+}
+
+#[test]
+fn the_originals_delays_are_set() {
+    let mut agent = IceAgent::new(creds("near"));
+    agent.set_max_stun_rto(ms(3000));
+    agent.set_max_stun_retransmits(9);
+    assert_eq!(agent.ice_timeout(), ms(21500));
 }
 
 #[test]

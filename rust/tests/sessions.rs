@@ -143,17 +143,31 @@ fn an_interface_that_goes_takes_its_path() {
 }
 
 #[test]
+fn a_cut_wire_ends_the_session_just_before_consent_expires() {
+    let mut world = hosts();
+    world.connect();
+    world.pass(Duration::from_secs(30));
+    let answered = world.left().stats().bind_success_recv;
+    world.pass_until("a response", |world| world.left().stats().bind_success_recv > answered);
+    let cut = world.now;
+    world.lost = Box::new(|_, _| true);
+    world.pass(Duration::from_secs(35));
+    let ended = world.sides[0].when(IceConnectionState::Disconnected).unwrap() - cut;
+    assert!(ms(29_400) < ended && ended < ms(30_000), "{ended:?}");
+}
+
+#[test]
 fn nobody_answers() {
     let mut world = hosts();
     world.lost = Box::new(|_, _| true);
     let timeout = world.left().ice_timeout();
-    assert_eq!(timeout, ms(21500));
+    assert_eq!(timeout, ms(26700));
     world.pass(timeout * 2);
     for side in &world.sides {
         assert!(side.agent.state().is_disconnected());
         let given_up = side.when(IceConnectionState::Disconnected).unwrap();
         assert!(given_up < timeout + Duration::from_secs(1), "{given_up:?}");
-        assert_eq!(side.agent.stats().bind_request_sent, 9);
+        assert_eq!(side.agent.stats().bind_request_sent, 11);
         assert_eq!(side.agent.nominated_pair_rtt(), None);
     }
 }
