@@ -144,7 +144,9 @@ typedef struct is_ice_address {
 /* Kinds of candidates that a caller gathers (RFC 8445, section 5.1.1). */
 enum { IS_ICE_HOST = 0, IS_ICE_SERVER_REFLEXIVE = 1, IS_ICE_RELAYED = 2 };
 
-/* A candidate that the caller gathered. */
+/* A candidate that the caller gathered. Packets of a relayed candidate come out with its address as source: the caller
+ * sends them through the TURN server. What the server relays goes to is_ice_handle_packet, with its address as
+ * destination. docs/GUIDE.md says what to write. */
 typedef struct is_ice_candidate {
     is_ice_address address; /* its transport address */
     is_ice_address base;    /* server-reflexive: of the local socket; relayed: the local address; host: not read */
@@ -154,7 +156,7 @@ typedef struct is_ice_candidate {
 
 /* A packet to send: one STUN message, whose bytes are in the caller's buffer. */
 typedef struct is_ice_packet {
-    is_ice_address source;      /* the local address to send from: the base of a local candidate */
+    is_ice_address source;      /* the local address to send from: the base of a local candidate, or a relayed address */
     is_ice_address destination; /* where to send it */
     size_t length;
     uint8_t protocol;

@@ -6,7 +6,9 @@ Also resolves mDNS names by aioice. aioice is optional: without it there are no 
 from __future__ import annotations
 
 import asyncio
+import ipaddress
 import socket
+import struct
 from dataclasses import dataclass
 from typing import Any
 
@@ -57,6 +59,26 @@ async def server_reflexive_candidates(client: StunClient, bases: list[SocketAddr
     return [Candidate.server_reflexive(address, base) for address, base in zip(seen, reachable) if address]
 
 
+_DATA_INDICATION, _XOR_PEER_ADDRESS, _DATA = 0x0017, 0x0012, 0x0013
+
+
+def data_of(message: bytes) -> tuple[bytes, tuple[str, int]] | None:
+    """Returns the datagram of a Data indication and the peer that sent it (RFC 8656, section 11.4), or None for any other message."""
+    if len(message) < 20 or struct.unpack_from("!HH", message) != (_DATA_INDICATION, len(message) - 20):
+        return None
+    found: dict[int, bytes] = {}
+    at = 20
+    while at + 4 <= len(message):
+        kind, length = struct.unpack_from("!HH", message, at)
+        found.setdefault(kind, message[at + 4 : at + 4 + length])
+        at += 4 + length + -length % 4
+    peer, data = found.get(_XOR_PEER_ADDRESS, b""), found.get(_DATA)
+    if data is None or at != len(message) or (len(peer), peer[1:2]) not in ((8, b"\1"), (20, b"\2")):
+        return None
+    plain = bytes(byte ^ mask for byte, mask in zip(peer[2:], message[4:6] + message[4:20]))
+    return data, (str(ipaddress.ip_address(plain[2:])), int.from_bytes(plain[:2], "big"))
+
+
 class Allocation(asyncio.DatagramProtocol):
     """A TURN allocation: the socket of a relayed candidate."""
 
@@ -69,7 +91,21 @@ class Allocation(asyncio.DatagramProtocol):
         """Adds the allocation to the loop."""
         self.local = SocketAddress(*transport.get_extra_info("sockname")[:2])
         self.base = SocketAddress(*transport.get_extra_info("related_address")[:2])
+        self._take_data_indications(transport)
         self._loop.add_socket(self.local, lambda destination, data: transport.sendto(data, destination[:2]), transport.close)
+
+    def _take_data_indications(self, transport: Any) -> None:
+        """Takes what comes from addresses without a channel, as behind a symmetric NAT. aioice's client ignores these messages."""
+        client = transport._TurnTransport__inner_protocol
+        receive = client.datagram_received
+
+        def received(message: bytes, addr: tuple[str, int]) -> None:
+            if told := data_of(message):
+                self.datagram_received(*told)
+            else:
+                receive(message, addr)
+
+        client.datagram_received = received
 
     def datagram_received(self, data: bytes, addr: tuple[str, int]) -> None:
         """Passes on what a peer sent to the relayed address."""

@@ -134,6 +134,17 @@ class Sessions(unittest.TestCase):
         self.assertEqual(events[0], IceRestart(a.local_credentials))
         self.assertIn(THERE, [event.destination for event in events if isinstance(event, NominatedSend)])
 
+    def test_packets_of_a_relayed_candidate_come_from_the_relayed_address(self) -> None:
+        relayed = SocketAddress("203.0.113.1", 5000)
+        agent = IceAgent()
+        agent.set_remote_credentials(IceCreds("BBBB", "Q" * 22))
+        agent.add_local_candidate(Candidate.relayed(relayed, HERE))
+        agent.add_remote_candidate(LINE_OF_THERE)
+        agent.handle_timeout(BEGINNING)
+        packet = agent.poll_transmit()
+        assert packet is not None
+        self.assertEqual((packet.source, packet.destination), (relayed, THERE))
+
     def test_a_path_that_is_cut_is_kept_for_almost_30_s(self) -> None:
         self.assertAlmostEqual(seconds_of_a_cut(two_agents()), 29.6, delta=0.1)
         agents = two_agents()

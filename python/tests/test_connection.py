@@ -11,7 +11,7 @@ import is_ice.connection
 from is_ice import IceConnectionState, IceConnectionStateChange, NominatedSend, Protocol, SocketAddress
 from is_ice.attribute import CandidateAttribute
 from is_ice.connection import Connection, ConnectionClosed, TransportPolicy
-from is_ice.gather import MdnsResolver
+from is_ice.gather import MdnsResolver, data_of
 from is_ice.interfaces import host_addresses
 
 from pairs import add_candidates, agent, aioice, check_soon, close, gather, join, talk
@@ -266,6 +266,31 @@ class Gathering(unittest.IsolatedAsyncioTestCase):
         self.assertEqual(c.agent.local_candidates(), [])
         await c.close()
         server.close()
+
+    @unittest.skipIf(aioice is None, "aioice is not installed (Debian's python3-aioice)")
+    async def test_a_peer_behind_a_symmetric_nat_reaches_a_relayed_candidate(self) -> None:
+        from turn_server import TurnServer
+        server = TurnServer()
+        a = agent(True, turn_server=await server.start(), transport_policy=TransportPolicy.RELAY)
+        b = agent(False)
+        await gather(a, b)
+        port = b.local_candidates[0].port
+        await a.add_remote_candidate(f"candidate:1 1 udp 2130706175 127.0.0.1 {port ^ 1} typ host")  # not the port that b sends from
+        await b.add_remote_candidate(a.local_candidates[0])
+        for one in (a, b):
+            await one.add_remote_candidate(None)
+        await asyncio.wait_for(asyncio.gather(a.connect(), b.connect()), 5)
+        await talk(a, b)
+        await close(a, b)
+        self.assertGreater(server.indications, 0)
+        server.close()
+
+    def test_data_indications(self) -> None:
+        peer, data = bytes.fromhex("00120008 00012112 e112a443"), bytes.fromhex("00130005") + b"hello\0\0\0"
+        message = bytes.fromhex("00170018 2112a442") + bytes(12) + peer + data
+        self.assertEqual(data_of(message), (b"hello", ("192.0.0.1", 0)))
+        for other in (b"", message[:20], message[:-1], b"\1" + message[1:], message[:3] + b"\x0c" + message[4:32]):
+            self.assertIsNone(data_of(other))
 
     async def test_a_turn_server_without_aioice(self) -> None:
         with mock.patch("is_ice.gather._aioice_part", return_value=None):

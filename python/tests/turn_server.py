@@ -1,12 +1,23 @@
-"""A TURN server on loopback for tests, without authentication: allocations and channels. It reads and writes STUN by aioice."""
+"""A TURN server on loopback for tests, without authentication: allocations, channels, Data indications.
+
+It reads and writes STUN by aioice."""
 
 from __future__ import annotations
 
 import asyncio
+import os
 import struct
 from typing import Any
 
 from aioice import stun
+
+
+def data_indication(data: bytes, peer: tuple[str, int]) -> bytes:
+    """Returns a Data indication: XOR-PEER-ADDRESS and DATA, of which aioice knows only the first."""
+    transaction = os.urandom(12)
+    address = stun.pack_xor_address(peer, transaction_id=transaction)
+    attributes = struct.pack("!HH", 0x12, len(address)) + address + struct.pack("!HH", 0x13, len(data)) + data + bytes(-len(data) % 4)
+    return struct.pack("!HHI", 0x17, len(attributes), 0x2112A442) + transaction + attributes
 
 
 class _Relay(asyncio.DatagramProtocol):
@@ -20,17 +31,22 @@ class _Relay(asyncio.DatagramProtocol):
         self.transport = transport
 
     def datagram_received(self, data: bytes, addr: tuple[str, int]) -> None:
+        """Passes on what a peer sent: on its channel, else as a Data indication if its IP address has a permission."""
         for number, peer in self.channels.items():
             if peer == addr:
                 self.server.transport.sendto(struct.pack("!HH", number, len(data)) + data, self.client)
+                return
+        if addr[0] in [host for host, _ in self.channels.values()]:
+            self.server.indications += 1
+            self.server.transport.sendto(data_indication(data, addr), self.client)
 
 
 class TurnServer(asyncio.DatagramProtocol):
-    """The server. `relays` has the relay of each client."""
+    """The server. `relays` has the relay of each client, `indications` counts Data indications, `freed` allocations that were freed."""
 
     def __init__(self) -> None:
         self.relays: dict[tuple[str, int], _Relay] = {}
-        self.freed = 0
+        self.freed = self.indications = 0
 
     async def start(self) -> tuple[str, int]:
         """Binds a socket, and returns its address."""

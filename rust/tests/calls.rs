@@ -88,7 +88,7 @@ fn no_timeout_was_handled_yet() {
 fn checks_go_out_by_the_schedule() {
     let (mut agent, began) = (paired(), Instant::now());
     let mut when = began;
-    for after in [250, 750, 1750, 3750, 6750, 9750, 12750, 15750, 18750] {
+    for after in [250, 750, 1750, 3750, 6650, 9550, 12450, 15350, 18250, 21150, 24050] {
         agent.handle_timeout(when);
         let check = agent.poll_transmit().expect("a check");
         assert_eq!((check.destination, check.contents.len()), (at("10.0.0.2:2000"), 88));
