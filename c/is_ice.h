@@ -489,8 +489,8 @@ IS_ICE_CALL int32_t is_ice_poll_timeout(is_ice_agent *agent, uint64_t *at);
  * the buffer, whose rest is unchanged; *packet has their length, the addresses and the protocol. Does not allocate.
  *
  * IS_ICE_OK: a packet. IS_ICE_NOTHING: there is none; buffer and *packet are unchanged. IS_ICE_BUFFER_TOO_SHORT: the
- * packet stays the next one, the buffer is unchanged, and packet->length is the required length. 1500 bytes are enough
- * for an MTU of up to 1500. */
+ * packet stays the next one, the buffer is unchanged, and packet->length is the required length. No packet is longer
+ * than 588 bytes. */
 IS_ICE_CALL int32_t is_ice_poll_transmit(is_ice_agent *agent, uint8_t *buffer, size_t size, is_ice_packet *packet);
 
 /* is_ice_poll_event - returns the next event and removes it from the agent. Does not allocate.

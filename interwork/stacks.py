@@ -12,7 +12,7 @@ from pathlib import Path
 here = Path(__file__).resolve().parent
 top = here.parent
 out = here / "out"
-PEER_SOURCES = [top / "c" / "examples" / f"{name}.c" for name in ("peer", "peer_net", "peer_signal", "peer_stun")]
+PEER_SOURCES = sorted((top / "c" / "examples").glob("peer*.c"))
 
 
 class Missing(Exception):

@@ -109,6 +109,17 @@ static void introduce(struct story *s)
     static const is_ice_preference_table table = {{65000, 40000, 30000, 10}, {65001, 40001, 30001, 11}};
     uint8_t line[256];
     size_t length, index = 0;
+    QUIET(IS_ICE_OK, is_ice_set_lite(&s->b, false));
+    QUIET(IS_ICE_OK, is_ice_set_tie_breaker(&s->b, 5));
+    QUIET(IS_ICE_OK, is_ice_set_max_pairs(&s->b, 100));
+    QUIET(IS_ICE_OK, is_ice_set_timing_advance(&s->b, 50000000));
+    QUIET(IS_ICE_OK, is_ice_set_initial_rto(&s->b, 250000000));
+    QUIET(IS_ICE_OK, is_ice_set_max_rto(&s->b, UINT64_C(3000000000)));
+    QUIET(IS_ICE_OK, is_ice_set_max_retransmits(&s->b, 9));
+    QUIET(IS_ICE_OK, is_ice_set_mtu(&s->b, 1150, 1280));
+    QUIET(IS_ICE_OK, is_ice_skip_pair_ids(&s->b, 0));
+    QUIET(IS_ICE_OK, is_ice_set_local_preference(&s->b, 1));
+    QUIET(IS_ICE_OK, is_ice_reset_local_preference(&s->b));
     QUIET(IS_ICE_OK, is_ice_set_preference_table(&s->b, &table));
     CALL(s, IS_ICE_OK, is_ice_add_local(&s->a, &host_a, &index));
     CALL(s, IS_ICE_OK, is_ice_add_local(&s->b, &host_b, &index));
@@ -123,13 +134,24 @@ static void introduce(struct story *s)
     CALL(s, IS_ICE_OK, is_ice_add_remote(&s->b, line, length, &index));
 }
 
+static int32_t next_packet(is_ice_agent *from, uint8_t *bytes, size_t size, is_ice_packet *packet)
+{
+    const long before = asked;
+    const int32_t code = is_ice_poll_transmit(from, bytes, size, packet);
+    if (asked != before) fail(__LINE__, "allocations", asked - before);
+    return code;
+}
+
 static void deliver(struct story *s, is_ice_agent *from, is_ice_agent *to, uint64_t now)
 {
     uint8_t bytes[1500];
     is_ice_packet packet;
     int32_t code;
-    while ((code = is_ice_poll_transmit(from, bytes, sizeof bytes, &packet)) == IS_ICE_OK) {
+    while ((code = next_packet(from, bytes, sizeof bytes, &packet)) == IS_ICE_OK) {
         add(s, bytes, packet.length);
+        bytes[packet.length - 9] ^= 1; /* the last byte of the MAC, before FINGERPRINT */
+        QUIET(IS_ICE_NOTHING, is_ice_handle_packet(to, now, packet.protocol, &packet.source, &packet.destination, bytes, packet.length));
+        bytes[packet.length - 9] ^= 1;
         QUIET(IS_ICE_OK, is_ice_accepts_packet(to, packet.protocol, &packet.source, &packet.destination, bytes, packet.length));
         QUIET(IS_ICE_OK, is_ice_accepts_message(to, bytes, packet.length));
         QUIET(IS_ICE_UNPARSED,
@@ -143,12 +165,14 @@ static void note(struct story *s, is_ice_agent *agent)
 {
     int32_t code;
     is_ice_event event;
+    const long before = asked;
     memset(&event, 0, sizeof event);
     while ((code = is_ice_poll_event(agent, &event)) == IS_ICE_OK) {
         add(s, &event.kind, sizeof event.kind);
         add(s, &event.state, sizeof event.state);
         add(s, &event.source.port, sizeof event.source.port);
     }
+    if (asked != before) fail(__LINE__, "allocations", asked - before);
     if (code != IS_ICE_NOTHING) fail(__LINE__, "code", code);
 }
 
@@ -175,6 +199,15 @@ static void end(struct story *s)
 {
     is_ice_agent_stats stats;
     is_ice_nominated_pair nominated;
+    is_ice_agent_status status;
+    uint8_t text[64];
+    size_t length;
+    QUIET(IS_ICE_OK, is_ice_status(&s->a, &status));
+    QUIET(IS_ICE_OK, is_ice_local_ufrag(&s->a, text, sizeof text, &length));
+    QUIET(IS_ICE_OK, is_ice_local_pass(&s->a, text, sizeof text, &length));
+    QUIET(IS_ICE_OK, is_ice_remote_ufrag(&s->a, text, sizeof text, &length));
+    QUIET(IS_ICE_OK, is_ice_remote_pass(&s->a, text, sizeof text, &length));
+    QUIET(IS_ICE_VERSION, (int32_t)is_ice_version());
     QUIET(IS_ICE_OK, is_ice_stats(&s->a, &stats));
     QUIET(IS_ICE_OK, is_ice_nominated(&s->a, &nominated));
     QUIET(IS_ICE_OK, is_ice_has_viable_remote(&s->a, &host_b.address));
