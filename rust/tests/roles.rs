@@ -69,6 +69,15 @@ fn a_lite_agent_sends_no_checks() {
 }
 
 #[test]
+fn a_lite_agent_that_stays_controlling_finds_no_path() {
+    let mut world = claim([true, false]);
+    world.sides[0].agent.set_ice_lite(true);
+    world.pass(Duration::from_secs(60));
+    assert!(world.left().controlling() && world.right().stats().bind_success_recv > 0);
+    assert_eq!((world.sides[0].path(), world.sides[1].path()), (None, None));
+}
+
+#[test]
 fn a_lite_agent_takes_hosts_alone() {
     let mut world = beside_lite();
     let reflexive = is::Candidate::server_reflexive(at("192.0.2.1:1"), at("10.0.0.2:2000"), "udp").unwrap();
