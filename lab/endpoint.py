@@ -3,11 +3,12 @@
 from __future__ import annotations
 
 from random import Random
-from typing import Protocol as Interface_
+from typing import Protocol as Interface_, cast
 
 from is_ice import Candidate, IceAgent, IceAgentEvent, IceCreds, SocketAddress, new_creds
 
 from .clock import Clock, nanoseconds
+from .log import Beginning, Log, LoggedAgent
 from .network import Datagram, Interface, Packet
 from .scenario import AgentSettings
 from .servers import SMALL, WRAPPED, BindingRequest, AllocateRequest, CreatePermission, Relayed, SuccessResponse
@@ -38,11 +39,15 @@ class Endpoint:
     """One side of a session."""
 
     def __init__(self, side: str, settings: AgentSettings, interfaces: list[Interface], servers: list[SocketAddress],
-                 clock: Clock, channel: Channel, random: Random, watch: Watch) -> None:
+                 clock: Clock, channel: Channel, random: Random, watch: Watch, log: Log | None = None) -> None:
         self.side, self.settings, self.interfaces = side, settings, interfaces
         self._servers, self._clock, self._channel, self._random, self._watch = servers, clock, channel, random, watch
         self.tie_breaker = random.getrandbits(64)
-        self.agent = IceAgent(self._creds(), self.tie_breaker)
+        creds = self._creds()
+        self.agent = IceAgent(creds, self.tie_breaker)
+        if log is not None:
+            log.sides[side] = Beginning(creds, self.tie_breaker, settings.controlling)
+            self.agent = cast(IceAgent, LoggedAgent(self.agent, side, clock, log))
         self.sockets: dict[SocketAddress, Interface] = {}
         self.relays: dict[SocketAddress, tuple[SocketAddress, SocketAddress]] = {}  # relayed address to socket and server
         self.generation = 0

@@ -83,8 +83,12 @@ def row(f: Figures) -> list[str]:
 
 def table(figures: Iterable[Figures]) -> str:
     """Returns a Markdown table."""
-    rows = [list(COLUMNS), *(row(f) for f in figures)]
-    widths = [max(len(r[i]) for r in rows) for i in range(len(COLUMNS))]
+    return aligned([list(COLUMNS), *(row(f) for f in figures)])
+
+
+def aligned(rows: Sequence[Sequence[str]]) -> str:
+    """Returns a Markdown table of rows, the first of which is the head."""
+    widths = [max(len(r[i]) for r in rows) for i in range(len(rows[0]))]
     lines = ["| " + " | ".join(cell.ljust(width) for cell, width in zip(r, widths)) + " |" for r in rows]
     lines.insert(1, "|" + "|".join("-" * (width + 2) for width in widths) + "|")
     return "\n".join(lines)

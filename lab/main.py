@@ -8,7 +8,7 @@ import time
 from contextlib import ExitStack
 from pathlib import Path
 
-from . import bars, compare, figures, pool, scenario
+from . import bars, compare, coverage, figures, pool, scenario
 from .guarantees import Broken
 from .scenario import BadScenario, Scenario
 
@@ -27,7 +27,13 @@ def _arguments() -> argparse.Namespace:
     comparing.add_argument("question", choices=sorted(compare.QUESTIONS))
     comparing.add_argument("-n", "--sessions", type=int, default=1000, help="sessions of each setting (1000)")
     comparing.add_argument("--plot", type=Path, metavar="FILE", required=True)
-    for command in (measure, comparing):
+    covering = words.add_parser("coverage", help="shows how many sessions each clause of progress covers, and its bound")
+    covering.add_argument("scenario", nargs="*", help="as for measure")
+    covering.add_argument("-n", "--sessions", type=int, default=200, help="sessions of each scenario (200)")
+    covering.add_argument("--set", action="append", default=[], metavar="KEY=VALUE", help="as for measure")
+    covering.add_argument("--settle", type=float, default=12.0, metavar="S", help="go on this long after the last selection (12 s)")
+    covering.add_argument("--without", action="append", default=[], choices=sorted(coverage.WITHOUT), help="leaves a precondition out")
+    for command in (measure, comparing, covering):
         command.add_argument("--seed", type=int, default=0, help="the first seed (0)")
         command.add_argument("-j", "--processes", type=int, default=1, help="number of processes (1)")
         command.add_argument("-q", "--quiet", action="store_true", help="no progress bar")
@@ -51,6 +57,14 @@ def _measure(options: argparse.Namespace) -> None:
         _plot(options, scenarios, told)
 
 
+def _cover(options: argparse.Namespace) -> None:
+    scenarios = [scenario.load(name, tuple(options.set)) for name in options.scenario or scenario.names()]
+    player = coverage.Play(tuple(options.without), options.settle)
+    found = pool.run_by(player, scenarios, options.sessions, options.seed, options.processes, options.quiet)
+    told = coverage.gather(found)
+    print(coverage.tables([told[s.name] for s in scenarios]))
+
+
 def _plot(options: argparse.Namespace, scenarios: list[Scenario], told: dict[str, figures.Figures]) -> None:
     rows = [bars.Bar(s.title, bars.quantiles(told[s.name].first)) for s in scenarios]
     bars.write(options.plot, "When both sides have a path", "seconds from the first signaling message, logarithmic", bars.by_median(rows), options.own_svg)
@@ -65,6 +79,8 @@ def main() -> int:
                 print(f"{name:22} {scenario.load(name).title}")
         elif options.word == "measure":
             _measure(options)
+        elif options.word == "coverage":
+            _cover(options)
         else:
             compare.run(options.question, options.sessions, options.seed, options.processes, options.quiet, options.plot, options.own_svg)
         return 0

@@ -5,8 +5,9 @@ from __future__ import annotations
 import multiprocessing
 import sys
 import time
-from collections.abc import Iterable, Iterator
+from collections.abc import Callable, Iterable, Iterator
 from dataclasses import dataclass
+from typing import TypeVar
 
 from .guarantees import Broken
 from .scenario import Scenario
@@ -26,6 +27,8 @@ class Fault:
 
 
 Portion = tuple[Scenario, range]
+# What is found of a session.
+F = TypeVar("F")
 
 
 def play(portion: Portion) -> list[Outcome] | Fault:
@@ -48,9 +51,15 @@ def portions(scenarios: Iterable[Scenario], count: int, seed: int) -> list[Porti
 
 def run(scenarios: list[Scenario], count: int, seed: int = 0, processes: int = 1, quiet: bool = False) -> Iterator[Outcome]:
     """Returns the outcomes in any order. Raises Broken, with scenario and seed, at the first broken guarantee."""
+    return run_by(play, scenarios, count, seed, processes, quiet)
+
+
+def run_by(player: Callable[[Portion], list[F] | Fault], scenarios: list[Scenario], count: int, seed: int = 0, processes: int = 1,
+           quiet: bool = False) -> Iterator[F]:
+    """Returns what a player finds in each session, as `run`."""
     work = portions(scenarios, count, seed)
     bar = Bar(count * len(scenarios), quiet)
-    for result in _results(work, processes):
+    for result in _results(player, work, processes):
         if isinstance(result, Fault):
             bar.end()
             raise Broken(f"{result.scenario}, seed {result.seed}: {result.text}")
@@ -59,12 +68,12 @@ def run(scenarios: list[Scenario], count: int, seed: int = 0, processes: int = 1
     bar.end()
 
 
-def _results(work: list[Portion], processes: int) -> Iterator[list[Outcome] | Fault]:
+def _results(player: Callable[[Portion], list[F] | Fault], work: list[Portion], processes: int) -> Iterator[list[F] | Fault]:
     if processes <= 1:
-        yield from map(play, work)
+        yield from map(player, work)
         return
     with multiprocessing.get_context("spawn").Pool(processes) as pool:
-        yield from pool.imap(play, work)
+        yield from pool.imap(player, work)
 
 
 class Bar:

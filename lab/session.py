@@ -9,6 +9,7 @@ from is_ice import IceAgentEvent, IceConnectionState, IceConnectionStateChange, 
 
 from .endpoint import Endpoint
 from .clock import BEGINNING, SECOND, Clock, nanoseconds
+from .log import Log
 from .network import Datagram, Gateway, Interface, Network
 from .guarantees import Broken, SideGuarantees, judge_roles
 from .scenario import SIDES, ScenarioEvent, Scenario
@@ -74,8 +75,8 @@ class Trace:
 class Session:
     """Runs a scenario with a seed."""
 
-    def __init__(self, scenario: Scenario, seed: int, trace: Trace | None = None) -> None:
-        self.scenario, self.seed, self.trace = scenario, seed, trace
+    def __init__(self, scenario: Scenario, seed: int, trace: Trace | None = None, log: Log | None = None) -> None:
+        self.scenario, self.seed, self.trace, self.log = scenario, seed, trace, log
         self.clock = Clock()
         self._random = Random(f"{scenario.name} {seed}")
         self._networks: dict[str, Network] = {}
@@ -113,7 +114,7 @@ class Session:
     def _endpoint(self, side: str) -> Endpoint:
         own = [interface for (of, _), interface in self._interfaces.items() if of == side]
         return Endpoint(side, self.scenario.side(side), own, self._servers, self.clock, self._channels[side],
-                      Random(self._random.getrandbits(64)), self)
+                      Random(self._random.getrandbits(64)), self, self.log)
 
     def _guarantee(self, side: str) -> SideGuarantees:
         settings, endpoint = self.scenario.side(side), self.endpoints[side]

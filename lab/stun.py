@@ -1,4 +1,4 @@
-"""What pictures and guarantees need of a STUN message, which the library reads. Nothing is verified."""
+"""What pictures, guarantees and the model of pairs need of a STUN message, which the library reads. Nothing is verified."""
 
 from __future__ import annotations
 

@@ -1,0 +1,156 @@
+"""How many sessions each clause of progress covers, and how its bound compares with what happened."""
+
+from __future__ import annotations
+
+from collections import Counter
+from collections.abc import Iterable, Sequence
+from dataclasses import dataclass, field, replace
+
+from .clauses import Session as Checked
+from .clauses import Verdict, granted, meet
+from .clock import BEGINNING, MILLISECOND
+from .figures import aligned, quantile
+from .guarantees import Broken
+from .log import Log
+from .pool import Fault, Portion
+from .replay import replay
+from .rounds import connect, rounds
+from .session import Session
+
+CLAUSES = {"meet": meet, "rounds": rounds, "granted": granted, "connect": connect}
+# Preconditions that can be left out, to see what each of them costs.
+WITHOUT = {"late": "a pair may be due at the first timeout of the rounds", "calls": "an agent may make any calls in its rounds"}
+
+
+@dataclass(frozen=True)
+class Covered:
+    """One session: whether both sides selected a path, and what the checkers found. `differences`: what the model did not foresee."""
+
+    scenario: str
+    seed: int
+    connected: bool
+    verdicts: dict[str, Verdict]
+    differences: tuple[str, ...] = ()
+
+
+def verdicts_of(log: Log, without: Iterable[str] = ()) -> tuple[dict[str, Verdict], tuple[str, ...]]:
+    """Applies the checkers to a log."""
+    session = replay(log)
+    checked = Checked(session, without)
+    return {name: clause(checked) for name, clause in CLAUSES.items()}, tuple(session.differences)
+
+
+@dataclass(frozen=True)
+class Play:
+    """Runs a portion of sessions, and applies the checkers to each. `settle_s`: the sessions go on this long after the last selection."""
+
+    without: tuple[str, ...] = ()
+    settle_s: float = 0.0
+
+    def __call__(self, portion: Portion) -> list[Covered] | Fault:
+        """Returns what was found, up to the first broken guarantee."""
+        scenario, seeds = portion
+        longer = replace(scenario, settle_s=max(scenario.settle_s, self.settle_s), seconds=max(scenario.seconds, self.settle_s * 2))
+        found = []
+        for seed in seeds:
+            log = Log()
+            try:
+                outcome = Session(longer, seed, None, log).run()
+            except Broken as broken:
+                return Fault(scenario.name, seed, str(broken))
+            found.append(Covered(scenario.name, seed, outcome.first is not None, *verdicts_of(log, self.without)))
+        return found
+
+
+@dataclass
+class Share:
+    """What one clause covers of a scenario's connected sessions. Times are milliseconds from the first signaling message."""
+
+    covered: int = 0
+    since: list[float] = field(default_factory=list)
+    bound: list[float] = field(default_factory=list)
+    fact: list[float] = field(default_factory=list)
+    ratio: list[float] = field(default_factory=list)
+    rounds: list[float] = field(default_factory=list)
+    failed: Counter[str] = field(default_factory=Counter)
+
+    def add(self, verdict: Verdict) -> None:
+        """Adds a session."""
+        if not verdict.held:
+            self.failed[verdict.failed] += 1
+            return
+        self.covered += 1
+        assert verdict.since is not None and verdict.bound is not None
+        since, bound = ((time - BEGINNING) / MILLISECOND for time in (verdict.since, verdict.bound))
+        self.since.append(since)
+        self.bound.append(bound)
+        self.rounds.append(verdict.rounds)
+        if verdict.fact is not None:
+            fact = (verdict.fact - BEGINNING) / MILLISECOND
+            self.fact.append(fact)
+            if fact > 0:
+                self.ratio.append(bound / fact)
+
+
+@dataclass
+class Coverage:
+    """What the clauses cover of a scenario."""
+
+    scenario: str
+    sessions: int = 0
+    connected: int = 0
+    differing: int = 0
+    shares: dict[str, Share] = field(default_factory=lambda: {name: Share() for name in CLAUSES})
+
+    def add(self, session: Covered) -> None:
+        """Adds a session."""
+        self.sessions += 1
+        self.differing += bool(session.differences)
+        if session.connected:
+            self.connected += 1
+            for name, verdict in session.verdicts.items():
+                self.shares[name].add(verdict)
+
+
+def gather(found: Iterable[Covered]) -> dict[str, Coverage]:
+    """Collects what was found, by scenario."""
+    told: dict[str, Coverage] = {}
+    for session in found:
+        told.setdefault(session.scenario, Coverage(session.scenario)).add(session)
+    return told
+
+
+def tables(told: Sequence[Coverage]) -> str:
+    """Returns three Markdown tables: shares, times, and the preconditions that failed first."""
+    return "\n\n".join((aligned([_SHARES, *map(_share_row, told)]), aligned([_TIMES, *(r for c in told for r in _time_rows(c))]),
+                        aligned([_FAILED, *_failed_rows(told)])))
+
+
+_SHARES = ["scenario", "sessions", "connected", *(f"{name} %" for name in CLAUSES), "model differs"]
+_TIMES = ["scenario", "clause", "covered", "since ms", "rounds", "bound ms", "happened ms", "bound / happened"]
+_FAILED = ["clause", "precondition that failed first", "sessions", "of these scenarios"]
+
+
+def _share_row(c: Coverage) -> list[str]:
+    shares = [f"{100 * c.shares[name].covered / c.connected:.1f}" if c.connected else "-" for name in CLAUSES]
+    return [c.scenario, str(c.sessions), str(c.connected), *shares, str(c.differing)]
+
+
+def _time_rows(c: Coverage) -> list[list[str]]:
+    def median(values: Sequence[float], digits: int = 0) -> str:
+        value = quantile(values, 0.5)
+        return "-" if value is None else f"{value:.{digits}f}"
+
+    return [[c.scenario, name, str(s.covered), median(s.since), median(s.rounds) if any(s.rounds) else "-", median(s.bound), median(s.fact),
+             median(s.ratio, 2)] for name, s in c.shares.items() if s.covered]
+
+
+def _failed_rows(told: Sequence[Coverage]) -> list[list[str]]:
+    counts: dict[tuple[str, str], Counter[str]] = {}
+    for c in told:
+        for name, share in c.shares.items():
+            for failed, count in share.failed.items():
+                counts.setdefault((name, failed), Counter())[c.scenario] += count
+    order = sorted(counts, key=lambda k: (list(CLAUSES).index(k[0]), -sum(counts[k].values())))
+    return [[name, failed, str(sum(counts[name, failed].values())), ", ".join(f"{s} {n}" for s, n in counts[name, failed].most_common())]
+            for name, failed in order]

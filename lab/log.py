@@ -1,0 +1,66 @@
+"""The log of a session: the calls on both agents, with times, arguments and results, in order."""
+
+from __future__ import annotations
+
+from collections.abc import Callable
+from dataclasses import dataclass, field
+from typing import Any
+
+from is_ice import IceAgent
+
+from .clock import Clock
+
+# The calls that the log has. Queries are left out: they change nothing. So is `set_controlling`, which belongs to the beginning.
+CALLS = ("set_ice_lite", "set_initial_stun_rto", "set_max_stun_rto", "set_max_stun_retransmits", "set_timing_advance",
+         "set_max_candidate_pairs", "set_remote_credentials", "add_local_candidate", "add_remote_candidate", "invalidate_candidate",
+         "ice_restart", "handle_packet", "handle_timeout", "poll_timeout", "poll_transmit", "poll_event")
+# Those of them that the clauses on rounds allow between two `handle_timeout` calls, beside `handle_packet`.
+POLLS = ("poll_timeout", "poll_transmit", "poll_event")
+
+
+@dataclass(frozen=True)
+class Entry:
+    """A call of a side. A packet is sent by the `poll_transmit` that returns it, and lost if no `handle_packet` has its bytes."""
+
+    time: int
+    side: str
+    call: str
+    given: tuple[Any, ...] = ()
+    returned: Any = None
+
+
+@dataclass(frozen=True)
+class Beginning:
+    """How an agent was created, and its role."""
+
+    creds: Any
+    tie_breaker: int
+    controlling: bool = False
+
+
+@dataclass
+class Log:
+    """The entries of a session, oldest first."""
+
+    sides: dict[str, Beginning] = field(default_factory=dict)
+    entries: list[Entry] = field(default_factory=list)
+
+
+class LoggedAgent:
+    """An agent whose calls are logged. A poll that returns nothing is left out, except for `poll_timeout`, which fixes due times."""
+
+    def __init__(self, agent: IceAgent, side: str, clock: Clock, log: Log) -> None:
+        self._agent, self._side, self._clock, self._log = agent, side, clock, log
+
+    def __getattr__(self, name: str) -> Any:
+        found = getattr(self._agent, name)
+        return self._logged(name, found) if name in CALLS else found
+
+    def _logged(self, name: str, call: Callable[..., Any]) -> Callable[..., Any]:
+        def made(*given: Any) -> Any:
+            returned = call(*given)
+            if returned is not None or name not in ("poll_transmit", "poll_event"):
+                self._log.entries.append(Entry(self._clock.now, self._side, name, given, returned))
+            return returned
+
+        return made

@@ -1,0 +1,318 @@
+"""A small model of one agent: its candidates and pairs after each call. It reads no integrity: the log says what was accepted.
+
+Each step takes an agent and returns the next one, with the packet that it issues and the paths that it selects."""
+
+from __future__ import annotations
+
+from collections.abc import Callable, Iterable
+from dataclasses import dataclass, replace
+
+from is_ice import Candidate, CandidateKind, IceCreds, SocketAddress
+from is_ice.stun import StunMessage
+
+from .clock import MILLISECOND, SECOND
+from .pairs import Pair, Path, Place, Timing, pair_priority
+from .stun import message_of
+
+KINDS = {CandidateKind.HOST: "host", CandidateKind.SERVER_REFLEXIVE: "srflx", CandidateKind.RELAYED: "relay"}
+# How many early requests an agent stores.
+QUEUE_LIMIT = 100
+
+
+@dataclass(frozen=True)
+class Request:
+    """A Binding request that was received. `controlling` and `controlled`: the tie-breaker in each role attribute."""
+
+    time: int
+    source: SocketAddress
+    local: SocketAddress
+    id: bytes
+    priority: int
+    use_candidate: bool
+    ufrag: str
+    controlling: int | None
+    controlled: int | None
+
+
+@dataclass(frozen=True)
+class Issued:
+    """A packet that a call issues: a request, a success or a failure."""
+
+    kind: str
+    path: Path
+    id: bytes
+
+
+Result = tuple["Agent", "Issued | None", tuple[Path, ...]]
+
+
+@dataclass(frozen=True)
+class Agent:
+    """An agent. Candidates keep their index."""
+
+    creds: IceCreds
+    tie_breaker: int
+    controlling: bool = False
+    lite: bool = False
+    peer: IceCreds | None = None
+    timing: Timing = Timing()
+    advance: int = 50 * MILLISECOND
+    max_pairs: int = 100
+    local: tuple[Place, ...] = ()
+    remote: tuple[Place, ...] = ()
+    pairs: tuple[Pair, ...] = ()
+    next_number: int = 0
+    selected: int | None = None
+    queue: tuple[Request, ...] = ()
+    last: int | None = None
+
+    # ---- questions
+
+    def path(self, pair: Pair) -> Path:
+        """Returns the path of a pair: from its base to the remote address."""
+        return self.local[pair.local].base, self.remote[pair.remote].address
+
+    def on(self, path: Path) -> list[Pair]:
+        """Returns the pairs on a path."""
+        return [p for p in self.pairs if self.path(p) == path]
+
+    def is_eligible(self, pair: Pair) -> bool:
+        """Whether it may be selected."""
+        return pair.is_valid and (self.controlling or pair.is_nominated)
+
+    def request_at(self, now: int) -> Request | None:
+        """Returns the early request that a `handle_timeout` serves."""
+        return next(iter(self._current(now)), None) if self.peer is not None else None
+
+    def _current(self, now: int) -> tuple[Request, ...]:
+        queue = self.queue
+        while queue and now - queue[0].time >= self.timing.timeout():
+            queue = queue[1:]
+        return queue
+
+    def place_to_discard(self, candidate: Place, places: tuple[Place, ...]) -> int | None:
+        """Returns the index of the first equal candidate, if that one is live."""
+        at = next((i for i, c in enumerate(places) if c.is_same_place(candidate) and c.is_same_origin(candidate)), None)
+        return None if at is None or places[at].is_discarded else at
+
+    # ---- forming pairs
+
+    def _priority(self, local: int, remote: int) -> int:
+        own, other = self.local[local].priority, self.remote[remote].priority
+        return pair_priority(own, other) if self.controlling else pair_priority(other, own)
+
+    def _formed(self, combinations: Iterable[tuple[int, int]]) -> Agent:
+        new = self
+        for local, remote in combinations:
+            new = new._tried(local, remote)
+        pairs = list(new.pairs)
+        while len(pairs) > new.max_pairs:
+            pairs.remove(min(pairs, key=lambda p: p.priority))
+        return replace(new, pairs=tuple(pairs))
+
+    def _tried(self, local: int, remote: int) -> Agent:
+        path = self.local[local].base, self.remote[remote].address
+        pair = Pair(self.next_number, local, remote, self._priority(local, remote))
+        found = max(self.on(path), key=lambda p: p.priority, default=None)
+        if found is None:
+            return replace(self, pairs=(*self.pairs, pair), next_number=self.next_number + 1)
+        if found.priority >= pair.priority:
+            return self
+        kept = tuple(p for p in self.pairs if p.number != found.number)
+        return replace(self, pairs=(*kept, pair.taking_over(found, self.lite)), next_number=self.next_number + 1)
+
+    def _partners(self, candidate: Place, places: tuple[Place, ...]) -> list[int]:
+        return [i for i, c in enumerate(places) if not c.is_discarded and c.address.version == candidate.address.version]
+
+    # ---- candidates
+
+    def add_local(self, candidate: Candidate, line: str | None) -> Agent:
+        """Adds a local candidate. `line` is what the agent returned, with the priority; None: it was redundant."""
+        if line is None:
+            return self
+        base = candidate.address if candidate.kind is CandidateKind.RELAYED else candidate.base
+        new = Place(KINDS[candidate.kind], candidate.address, base, int(line.split()[3]))
+        at = next((i for i, c in enumerate(self.local) if c.is_same_place(new)), None)
+        if at is not None and self.local[at].is_discarded and self.local[at].is_same_origin(new):
+            kept = _put(self.local, at, replace(self.local[at], is_discarded=False))
+            return replace(self, local=kept)._formed((at, r) for r in self._partners(new, self.remote))
+        start = self if at is None else self._without_local(at)
+        place = len(start.local)
+        return replace(start, local=(*start.local, new))._formed((place, r) for r in self._partners(new, self.remote))
+
+    def add_remote(self, line: str) -> Agent:
+        """Adds a remote candidate by its text, unless it is ignored."""
+        words = line.split()
+        more = dict(zip(words[8::2], words[9::2]))
+        address = SocketAddress(words[4], int(words[5]))
+        related = SocketAddress(more["raddr"], int(more["rport"])) if "raddr" in more and "rport" in more else None
+        new = Place(words[7], address, address, int(words[3]), related)
+        is_other = self.peer is not None and more.get("ufrag", self.peer.ufrag) != self.peer.ufrag
+        if words[1] != "1" or is_other or any(_are_equal(self.remote[p.remote], new) for p in self.pairs):
+            return self
+        at = next((i for i, c in enumerate(self.remote) if c.is_found and c.address == address), len(self.remote))
+        return replace(self, remote=_put(self.remote, at, new))._formed((i, at) for i in self._partners(new, self.local))
+
+    def invalidate(self, candidate: Candidate) -> Agent:
+        """Discards a local candidate, and its pairs."""
+        at = self.place_to_discard(local_place(candidate), self.local)
+        return self if at is None else self._without_local(at)
+
+    def _without_local(self, at: int) -> Agent:
+        places = _put(self.local, at, replace(self.local[at], is_discarded=True))
+        return replace(self, local=places, pairs=tuple(p for p in self.pairs if p.local != at))
+
+    def restart(self, creds: IceCreds, keeps: bool) -> Agent:
+        """Makes an ICE restart."""
+        return replace(self, creds=creds, peer=None, local=self.local if keeps else (), remote=(), pairs=())
+
+    # ---- nomination
+
+    def _changed(self, number: int, change: Callable[[Pair], Pair]) -> Agent:
+        return replace(self, pairs=tuple(change(p) if p.number == number else p for p in self.pairs))
+
+    def _nominate(self) -> tuple[Agent, tuple[Path, ...]]:
+        top = max((p for p in self.pairs if self.is_eligible(p)), key=lambda p: p.priority, default=None)
+        if top is None or any(p.number == self.selected and p.priority == top.priority for p in self.pairs):
+            return self, ()
+        new = replace(self, selected=top.number)
+        if not top.is_nominated and (self.controlling or self.lite):
+            new = new._changed(top.number, lambda p: replace(p, nomination="success" if self.lite else "nominated"))
+        return new, (self.path(top),)
+
+    # ---- serving a request
+
+    def _serve(self, q: Request) -> Result:
+        at = next((i for i, c in enumerate(self.local) if c.is_direct and c.address == q.local and not c.is_discarded), None)
+        if at is None:
+            at = next((i for i, c in enumerate(self.local) if c.is_direct and c.address == q.local), None)
+        if self.peer is None or q.ufrag != self.peer.ufrag or at is None:
+            return self, None, ()
+        rival = q.controlling if self.controlling else q.controlled
+        if rival is not None and rival <= self.tie_breaker:
+            return self, Issued("failure", (q.local, q.source), q.id), ()
+        new = self if rival is None else self.switched()
+        return (new, None, ()) if new.controlling and q.use_candidate else new._serve_at(q, at)
+
+    def switched(self) -> Agent:
+        """Switches the role, and computes all priorities again."""
+        new = replace(self, controlling=not self.controlling)
+        return replace(new, pairs=tuple(replace(p, priority=new._priority(p.local, p.remote)) for p in self.pairs))
+
+    def _serve_at(self, q: Request, local: int) -> Result:
+        live = [i for i, c in enumerate(self.remote) if c.address == q.source and not c.is_discarded]
+        new = self
+        if not live:
+            if any(c.address == q.source for c in self.remote):
+                return self, None, ()
+            live = [len(self.remote)]
+            new = replace(self, remote=(*self.remote, Place("prflx", q.source, q.source, q.priority, is_found=True)))
+        remote = max(live, key=lambda i: new.remote[i].priority)
+        pair = next((p for p in new.pairs if (p.local, p.remote) == (local, remote)), None)
+        if pair is None:
+            if new.local[local].is_discarded:
+                return new, None, ()
+            pair = Pair(new.next_number, local, remote, new._priority(local, remote))
+            new = replace(new, pairs=(*new.pairs, pair), next_number=new.next_number + 1)
+        was_valid = pair.is_valid
+        new = new._changed(pair.number, lambda p: self._served(new, p, q))
+        new, told = new._nominate() if new.controlling and was_valid else (new, ())
+        return new, Issued("success", (new.local[local].base, q.source), q.id), told
+
+    @staticmethod
+    def _served(agent: Agent, pair: Pair, q: Request) -> Pair:
+        state = "succeeded" if agent.lite and not agent.controlling else pair.state
+        asks = not agent.controlling and q.use_candidate and not pair.is_nominated
+        nomination = ("success" if agent.lite else "nominated") if asks else pair.nomination
+        return replace(pair, state=state, nomination=nomination, last_request=q.time)
+
+    # ---- packets
+
+    def packet(self, now: int, source: SocketAddress, local: SocketAddress, contents: bytes) -> Result:
+        """Takes an accepted packet."""
+        message = message_of(contents)
+        if message.kind == "request":
+            q = request_of(now, source, local, contents)
+            if self.peer is None:
+                return replace(self, queue=(*self.queue, q)[-QUEUE_LIMIT:]), None, ()
+            return self._serve(q)
+        pair = next((p for p in self.pairs if self.path(p) == (local, source) and any(c.id == message.transaction for c in p.checks)), None)
+        if pair is None:
+            return self, None, ()
+        if message.kind == "failure":
+            sent = next(c for c in pair.checks if c.id == message.transaction)
+            return (self.switched() if message.code == 487 and sent.controlling == self.controlling else self), None, ()
+        new = self._mapped(pair, contents)._changed(pair.number, lambda p: p.answered(now, message.transaction))
+        chosen, told = new._nominate()
+        return chosen, None, told
+
+    def _mapped(self, pair: Pair, contents: bytes) -> Agent:
+        mapped = StunMessage(contents).mapped_address
+        if mapped is None or any(c.address == mapped for c in self.local):
+            return self
+        own = self.local[pair.local]
+        return replace(self, local=(*self.local, Place("prflx", mapped, own.base, own.check_priority)))
+
+    # ---- timeouts
+
+    def timeout(self, now: int, id: bytes, seen: Path | None = None) -> Result:
+        """Takes a `handle_timeout`. `seen` is the path of the check that was sent, which decides between equal pairs."""
+        if self.peer is not None and (queue := self._current(now)) != ():
+            return replace(self, queue=queue[1:])._serve(queue[0])
+        start = replace(self, last=now, queue=self._current(now) if self.peer is not None else self.queue)
+        new, first = start._nominate()
+        kept = tuple(p for p in new.pairs if p.stays(now, new.timing, new.lite))
+        second: tuple[Path, ...] = ()
+        if len(kept) < len(new.pairs):
+            new, second = replace(new, pairs=kept)._nominate()
+        new, issued = new._check(now, id, seen)
+        return new, issued, first + second
+
+    def _check(self, now: int, id: bytes, seen: Path | None) -> tuple[Agent, Issued | None]:
+        if self.peer is None:
+            return self, None
+        if self.lite:
+            return replace(self, pairs=tuple(p if p.last_request is not None else replace(p, last_request=now) for p in self.pairs)), None
+        new = replace(self, pairs=tuple(p.fixed(now, self.timing) for p in self.pairs))
+        order = {p.number: (p.due_at(now, self.timing), -p.priority) for p in new.pairs}
+        first = min(order.values(), default=(now + 1, 0))
+        if first[0] > now:
+            return new, None
+        equal = [p for p in new.pairs if order[p.number] == first]
+        pair = next((p for p in equal if new.path(p) == seen), equal[0])
+        checked = new._changed(pair.number, lambda p: p.checked(now, self.timing, self.controlling, id))
+        return checked, Issued("request", new.path(pair), id)
+
+    def poll_timeout(self, is_waiting: bool) -> tuple[Agent, int | None]:
+        """Returns when `handle_timeout` is due, and fixes due times. `is_waiting`: a packet waits to be polled."""
+        if self.last is None:
+            return self, None
+        soon = self.last + self.advance
+        if is_waiting or self.queue:
+            return self, soon
+        if self.lite or not self.pairs:
+            return self, self.last + 3 * SECOND
+        new = replace(self, pairs=tuple(p.fixed(self.last, self.timing) for p in self.pairs))
+        return new, max(min(p.due_at(self.last, self.timing) for p in new.pairs), soon)
+
+
+def _put(places: tuple[Place, ...], at: int, place: Place) -> tuple[Place, ...]:
+    return (*places[:at], place, *places[at + 1:])
+
+
+def _are_equal(a: Place, b: Place) -> bool:
+    return a.is_same_place(b) and a.is_same_origin(b)
+
+
+def local_place(candidate: Candidate) -> Place:
+    """Returns a local candidate as a place, without its priority."""
+    base = candidate.address if candidate.kind is CandidateKind.RELAYED else candidate.base
+    return Place(KINDS[candidate.kind], candidate.address, base, 0)
+
+
+def request_of(now: int, source: SocketAddress, local: SocketAddress, contents: bytes) -> Request:
+    """Reads a request."""
+    message = StunMessage(contents)
+    ufrag = (message.username or ":").partition(":")[2]
+    return Request(now, source, local, message.transaction, message.priority or 0, message.use_candidate, ufrag, message.ice_controlling,
+                   message.ice_controlled)

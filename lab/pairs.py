@@ -1,0 +1,172 @@
+"""The candidates, pairs and checks of an agent as values, and the rules of one pair: when it is due, and when it fails."""
+
+from __future__ import annotations
+
+from dataclasses import dataclass, replace
+
+from is_ice import SocketAddress
+
+from .clock import MILLISECOND, SECOND
+
+# From the source to the destination, as the agent that sends on it sees them.
+Path = tuple[SocketAddress, SocketAddress]
+
+
+def reversed_path(path: Path) -> Path:
+    """Returns the path back."""
+    return path[1], path[0]
+
+
+@dataclass(frozen=True)
+class Timing:
+    """The settings of retransmission. Durations are nanoseconds."""
+
+    initial: int = 250 * MILLISECOND
+    greatest: int = 3000 * MILLISECOND
+    retransmits: int = 9
+
+    def delay(self, count: int) -> int:
+        """Returns the delay after the last of `count` checks, in whole milliseconds: it doubles up to a bound."""
+        if count == 0:
+            return 0
+        return min(self.initial // MILLISECOND * 2 ** min(count - 1, self.retransmits), self.greatest // MILLISECOND) * MILLISECOND
+
+    def timeout(self) -> int:
+        """Returns how long a full series of checks without a response takes."""
+        return sum(self.delay(n) for n in range(2, self.retransmits + 1)) + self.delay(self.retransmits)
+
+
+@dataclass(frozen=True)
+class Place:
+    """A candidate at its index. `is_found` marks a remote candidate that a request added."""
+
+    kind: str
+    address: SocketAddress
+    base: SocketAddress
+    priority: int
+    related: object = None
+    is_discarded: bool = False
+    is_found: bool = False
+
+    @property
+    def is_direct(self) -> bool:
+        """Whether packets are received at its own address."""
+        return self.kind in ("host", "relay")
+
+    @property
+    def check_priority(self) -> int:
+        """The PRIORITY of a check from it: that of a peer-reflexive candidate."""
+        return self.priority if self.kind == "prflx" else (110 << 24) + self.priority % (1 << 24)
+
+    def is_same_place(self, other: Place) -> bool:
+        """Whether both have the same address and base."""
+        return self.address == other.address and self.base == other.base
+
+    def is_same_origin(self, other: Place) -> bool:
+        """Whether both are of the same kind and have the same related address."""
+        return self.kind == other.kind and self.related == other.related
+
+
+@dataclass(frozen=True)
+class Check:
+    """A check that was sent."""
+
+    id: bytes
+    sent: int
+    nominated: bool
+    controlling: bool
+    answered: int | None = None
+
+
+def unanswered(checks: tuple[Check, ...]) -> int:
+    """Returns how many checks follow the last answered one."""
+    for count, check in enumerate(reversed(checks)):
+        if check.answered is not None:
+            return count
+    return len(checks)
+
+
+@dataclass(frozen=True)
+class Pair:
+    """A pair. `nomination` is none, nominated, attempt or success; `state` is waiting, progress or succeeded."""
+
+    number: int
+    local: int
+    remote: int
+    priority: int
+    checks: tuple[Check, ...] = ()
+    nomination: str = "none"
+    state: str = "waiting"
+    last_request: int | None = None
+    due: int | None = None
+
+    @property
+    def is_valid(self) -> bool:
+        """Whether a check of it succeeded."""
+        return self.state == "succeeded"
+
+    @property
+    def is_nominated(self) -> bool:
+        """Whether it is nominated."""
+        return self.nomination != "none"
+
+    # ---- when it is due
+
+    def due_at(self, now: int, timing: Timing) -> int:
+        """Returns its due time: the fixed one, or the one that is computed now."""
+        if self.due is not None:
+            return self.due
+        if self.nomination == "nominated":
+            wanted = now if now < 60 * SECOND else now - 60 * SECOND
+        else:
+            wanted = self._next(now, timing)
+        return min(wanted, now + timing.greatest)
+
+    def _next(self, now: int, timing: Timing) -> int:
+        if not self.checks:
+            return now
+        silent = unanswered(self.checks)
+        first = len(self.checks) - silent
+        is_silent = first < len(self.checks) and timing.greatest < 2 * (now - self.checks[first].sent)
+        return self.checks[-1].sent + timing.delay(silent if is_silent else len(self.checks))
+
+    def fixed(self, now: int, timing: Timing) -> Pair:
+        """Fixes its due time."""
+        return self if self.due is not None else replace(self, due=self.due_at(now, timing))
+
+    # ---- when it fails
+
+    def stays(self, now: int, timing: Timing, lite: bool) -> bool:
+        """Whether its consent has not expired; for a lite agent, whether the peer's checks go on."""
+        if lite:
+            return self.last_request is None or now - self.last_request < 15 * SECOND
+        is_heard = self.last_request is not None and now - self.last_request < 15 * SECOND
+        is_in_time = bool(self.checks) and now < self.checks[-1].sent + timing.delay(timing.retransmits)
+        return is_heard or unanswered(self.checks) < timing.retransmits or is_in_time
+
+    # ---- what happens to it
+
+    def checked(self, now: int, timing: Timing, controlling: bool, id: bytes) -> Pair:
+        """Returns it after a check: only the last ones are stored."""
+        checks = (*self.checks, Check(id, now, self.is_nominated, controlling))[-timing.retransmits:]
+        return replace(self, checks=checks, due=None, nomination="attempt" if self.nomination == "nominated" else self.nomination,
+                       state="progress" if self.state == "waiting" else self.state)
+
+    def answered(self, now: int, id: bytes) -> Pair:
+        """Returns it after a success response to the check."""
+        at = next(i for i, c in enumerate(self.checks) if c.id == id)
+        check = replace(self.checks[at], answered=now)
+        done = check.nominated and self.nomination == "attempt"
+        return replace(self, checks=(*self.checks[:at], check, *self.checks[at + 1:]), due=None,
+                       nomination="success" if done else self.nomination, state="succeeded" if self.state == "progress" else self.state)
+
+    def taking_over(self, other: Pair, lite: bool) -> Pair:
+        """Returns it with what it copies from the pair that it replaces."""
+        nomination = {"none": self.nomination, "attempt": "nominated"}.get(other.nomination, other.nomination)
+        new = replace(self, nomination=nomination, state="succeeded" if other.is_valid else self.state)
+        return replace(new, last_request=other.last_request) if lite else new
+
+
+def pair_priority(controlling: int, controlled: int) -> int:
+    """Returns the priority of a pair of two candidate priorities (RFC 8445, section 6.1.2.3)."""
+    return (min(controlling, controlled) << 32) + 2 * max(controlling, controlled) + (controlling > controlled)

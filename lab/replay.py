@@ -1,0 +1,138 @@
+"""A session's log with the state of both agents before and after each entry: the log of `World::run`, as the clauses see it."""
+
+from __future__ import annotations
+
+from dataclasses import dataclass, field, replace
+
+from is_ice import NominatedSend
+
+from .log import Entry, Log
+from .model import Agent, Issued
+from .pairs import Path
+from .scenario import SIDES
+from .stun import message_of
+
+# The calls that issue packets.
+ISSUING = ("handle_packet", "handle_timeout")
+
+
+def other(side: str) -> str:
+    """Returns the other side."""
+    return "b" if side == "a" else "a"
+
+
+@dataclass(frozen=True)
+class Step:
+    """An entry with the agents before and after it, and what the call issued and selected, as seen from outside."""
+
+    at: int
+    entry: Entry
+    before: dict[str, Agent]
+    after: dict[str, Agent]
+    sent: Entry | None = None  # the `poll_transmit` that returned the issued packet
+    issued: Issued | None = None
+    selected: tuple[Path, ...] = ()
+
+    @property
+    def is_timeout(self) -> bool:
+        """Whether it is a `handle_timeout`."""
+        return self.entry.call == "handle_timeout"
+
+    def checks(self, side: str, path: Path) -> bool:
+        """Whether the side sends a check on the path."""
+        return self.entry.side == side and self.issued is not None and self.issued.kind == "request" and self.issued.path == path
+
+
+@dataclass
+class Replay:
+    """The steps of a session. `differences`: what the model of the pairs did not foresee."""
+
+    steps: list[Step]
+    differences: list[str] = field(default_factory=list)
+    arrivals: dict[tuple[str, bytes], list[int]] = field(default_factory=dict)  # by receiving side and bytes
+
+    def timeouts(self, side: str) -> list[int]:
+        """Returns the indices of the side's `handle_timeout` calls."""
+        return [s.at for s in self.steps if s.is_timeout and s.entry.side == side]
+
+
+def replay(log: Log) -> Replay:
+    """Follows both agents through the log."""
+    sent, selected = _issued(log)
+    world = {side: Agent(b.creds, b.tie_breaker, b.controlling) for side, b in log.sides.items()}
+    assert set(world) == set(SIDES)
+    told = Replay([])
+    waiting = {side: 0 for side in SIDES}
+    for at, entry in enumerate(log.entries):
+        packet = sent.get(at)
+        seen = None if packet is None else _seen(packet)
+        own, foreseen = _next(world[entry.side], entry, seen, waiting[entry.side] > 0)
+        waiting[entry.side] += (packet is not None) - (entry.call == "poll_transmit")
+        if entry.call == "ice_restart":
+            waiting[entry.side] = 0
+        actual = entry.returned if entry.call == "poll_timeout" else (seen, selected.get(at, ()))
+        if foreseen is not None and foreseen != (actual,):
+            told.differences.append(f"{entry.time} {entry.side} {entry.call}: {foreseen[0]}, not {actual}")
+        after = {**world, entry.side: own}
+        told.steps.append(Step(at, entry, world, after, packet, seen, selected.get(at, ())))
+        if entry.call == "handle_packet":
+            told.arrivals.setdefault((entry.side, entry.given[3]), []).append(at)
+        world = after
+    return told
+
+
+def _seen(packet: Entry) -> Issued:
+    transmit = packet.returned
+    message = message_of(transmit.contents)
+    return Issued(message.kind, (transmit.source, transmit.destination), message.transaction)
+
+
+def _issued(log: Log) -> tuple[dict[int, Entry], dict[int, tuple[Path, ...]]]:
+    """Finds for each call the packet that it issued and the paths that it selected: those that are polled before the next one."""
+    sent: dict[int, Entry] = {}
+    selected: dict[int, tuple[Path, ...]] = {}
+    last: dict[str, int] = {}
+    for at, entry in enumerate(log.entries):
+        if entry.call in ISSUING:
+            last[entry.side] = at
+        elif entry.call == "poll_transmit" and entry.side in last:
+            sent.setdefault(last[entry.side], entry)
+        elif entry.call == "poll_event" and isinstance(entry.returned, NominatedSend) and entry.side in last:
+            at = last[entry.side]
+            selected[at] = (*selected.get(at, ()), (entry.returned.source, entry.returned.destination))
+    return sent, selected
+
+
+SETTINGS = {"set_ice_lite": "lite", "set_timing_advance": "advance", "set_max_candidate_pairs": "max_pairs",
+            "set_remote_credentials": "peer"}
+TIMING = {"set_initial_stun_rto": "initial", "set_max_stun_rto": "greatest", "set_max_stun_retransmits": "retransmits"}
+
+
+def _next(agent: Agent, entry: Entry, seen: Issued | None, is_waiting: bool) -> tuple[Agent, tuple[object] | None]:
+    """Returns the next agent, and what the model foresees of the call, if the log shows it."""
+    call, given = entry.call, entry.given
+    if call == "poll_timeout":
+        new, wake = agent.poll_timeout(is_waiting)
+        return new, (wake,)
+    if call == "handle_timeout":
+        new, issued, paths = agent.timeout(given[0], given[1], seen.path if seen else None)
+        return new, ((issued, paths),)
+    if call == "handle_packet":
+        new, issued, paths = agent.packet(*given[:4]) if entry.returned else (agent, None, ())
+        return new, ((issued, paths),)
+    return _set(agent, entry), None
+
+
+def _set(agent: Agent, entry: Entry) -> Agent:
+    call, given = entry.call, entry.given
+    if call in SETTINGS:
+        return replace(agent, **{SETTINGS[call]: given[0]})
+    if call in TIMING:
+        return replace(agent, timing=replace(agent.timing, **{TIMING[call]: given[0]}))
+    if call == "add_local_candidate":
+        return agent.add_local(given[0], entry.returned)
+    if call == "add_remote_candidate":
+        return agent.add_remote(given[0])
+    if call == "invalidate_candidate":
+        return agent.invalidate(given[0])
+    return agent.restart(*given) if call == "ice_restart" else agent

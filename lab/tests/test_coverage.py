@@ -1,0 +1,163 @@
+"""Tests the checkers of the clauses of progress, on logs made by hand."""
+
+import unittest
+
+from is_ice import SocketAddress
+from lab.coverage import verdicts_of
+from lab.clock import BEGINNING, MILLISECOND
+from lab.clauses import Verdict
+from stories import LINE, A, B, Story
+
+OUTSIDE = SocketAddress("203.0.113.1", 1000)
+
+
+def verdict(story: Story, clause: str, *without: str) -> Verdict:
+    verdicts, differences = verdicts_of(story.log, without)
+    assert not differences, differences
+    return verdicts[clause]
+
+
+def at(time: float) -> int:
+    return BEGINNING + round(time * MILLISECOND)
+
+
+class Meeting(unittest.TestCase):
+    def test_a_delivered_check_is_enough(self) -> None:
+        story = Story()
+        story.deliver(story.timeout("a", 0), "b", 5)
+        self.assertEqual(verdict(story, "meet"), Verdict("", at(0), at(5), at(0)))
+
+    def test_a_role_conflict_needs_the_487(self) -> None:
+        story = Story(roles=(True, True))
+        check = story.timeout("b", 0)
+        self.assertEqual(verdict(story, "meet").failed, "no check is delivered while the agents know each other")
+        error = story.deliver(check, "a", 5)
+        self.assertEqual(verdict(story, "meet").failed, "the 487 does not come back while its check is pending")
+        story.deliver(error, "b", 9)
+        self.assertEqual(verdict(story, "meet"), Verdict("", at(0), at(9), at(9)))
+
+    def test_not_before_they_know_each_other(self) -> None:
+        story = Story(known=False)
+        story.know("a")
+        story.deliver(story.timeout("a", 0), "b", 5)
+        self.assertEqual(verdict(story, "meet").failed, "no check is delivered while the agents know each other")
+
+
+class Granting(unittest.TestCase):
+    def connected(self, story: Story) -> Story:
+        story.exchange("a", 0)
+        story.exchange("b", 20)
+        story.exchange("a", 50)
+        return story
+
+    def test_a_nomination_and_a_response_in_either_order(self) -> None:
+        story = self.connected(Story())
+        self.assertEqual(verdict(story, "granted").failed, "no timeout of the controlled agent follows")
+        story.timeout("b", 70)
+        self.assertEqual(verdict(story, "granted"), Verdict("", at(20), at(70), at(70)))
+
+    def test_no_nomination(self) -> None:
+        story = Story()
+        story.exchange("a", 0)
+        story.exchange("b", 20)
+        story.timeout("a", 50)  # lost
+        story.timeout("b", 70)
+        self.assertEqual(verdict(story, "granted").failed, "no check with USE-CANDIDATE is delivered while the agents know each other")
+
+    def test_no_response(self) -> None:
+        story = Story()
+        story.exchange("a", 0)
+        story.deliver(story.timeout("b", 20), "a", 25)  # the response is lost
+        story.exchange("a", 50)
+        story.timeout("b", 70)
+        self.assertEqual(verdict(story, "granted").failed, "no check of the controlled agent on the nominated path is answered")
+
+    def test_a_candidate_in_between_may_remove_the_pair(self) -> None:
+        story = Story()
+        story.exchange("a", 0)
+        story.exchange("b", 20)
+        story.remote("b", LINE.format(99, "10.9.9.9", 9, "host"), 40)
+        story.exchange("a", 50)
+        story.timeout("b", 70)
+        self.assertEqual(verdict(story, "granted").failed, "a call may have removed the pair, as adding a candidate may")
+
+    def test_a_nat_may_change_the_addresses(self) -> None:
+        story = Story()
+        back = story.deliver(story.timeout("a", 0), "b", 5, (OUTSIDE, B))
+        story.deliver(back, "a", 10, (B, A))
+        story.timeout("b", 20)  # to A, which is lost
+        answer = story.deliver(story.timeout("b", 70), "a", 75, (B, A))
+        story.deliver(answer, "b", 80, (OUTSIDE, B))
+        story.deliver(story.timeout("a", 80), "b", 85, (OUTSIDE, B))
+        story.timeout("b", 120)
+        self.assertEqual(verdict(story, "granted").bound, at(120))
+
+
+class Rounds(unittest.TestCase):
+    def test_the_pair_has_to_be_due_before_the_first_timeout(self) -> None:
+        story = Story()
+        story.exchange("a", 0)
+        self.assertEqual(verdict(story, "rounds").failed, "the pair is due at the first timeout, not before it")
+        self.assertEqual(verdict(story, "rounds", "late"), Verdict("", at(0), at(10), at(10), 1))
+
+    def test_an_answered_check_after_a_lost_one(self) -> None:
+        story = Story()
+        story.timeout("a", 0)
+        story.exchange("a", 251)
+        self.assertEqual(verdict(story, "rounds"), Verdict("", at(251), at(261), at(261), 1))
+
+    def test_the_response_comes_in_the_round(self) -> None:
+        story = Story()
+        response = story.deliver(story.timeout("a", 0), "b", 40)
+        story.timeout("a", 60)
+        story.deliver(response, "a", 80)
+        self.assertEqual(verdict(story, "rounds", "late").failed, "the response comes after the next timeout")
+
+    def test_no_nat(self) -> None:
+        story = Story()
+        response = story.deliver(story.timeout("a", 0), "b", 5, (OUTSIDE, B))
+        story.deliver(response, "a", 10, (B, A))
+        self.assertEqual(verdict(story, "rounds", "late").failed, "a NAT changes the addresses")
+
+    def test_a_lost_check(self) -> None:
+        story = Story()
+        story.timeout("a", 0)
+        self.assertEqual(verdict(story, "rounds", "late").failed, "the check or its response is lost, filtered or refused")
+
+
+class Connecting(unittest.TestCase):
+    def late(self, story: Story) -> Story:
+        """Both agents time out a little after each pair is due."""
+        story.timeout("a", 0)
+        story.timeout("b", 0)
+        story.exchange("a", 251)
+        story.exchange("b", 252)
+        story.exchange("a", 302)
+        return story
+
+    def test_both_have_rounds_that_suffice(self) -> None:
+        story = self.late(Story())
+        self.assertEqual(verdict(story, "connect").failed, "controlled: the log ends before the rounds do")
+        story.timeout("b", 600)
+        self.assertTrue(verdict(story, "connect").held)
+        self.assertEqual(verdict(story, "connect").bound, at(600))
+
+    def test_other_calls_in_the_rounds(self) -> None:
+        story = self.late(Story())
+        story.remote("b", LINE.format(99, "10.9.9.9", 9, "host"), 400)
+        story.timeout("b", 600)
+        self.assertFalse(verdict(story, "connect").held)
+        self.assertEqual(verdict(story, "connect", "calls").failed, "a call may have removed the pair, as adding a candidate may")
+
+    def test_without_a_late_timeout(self) -> None:
+        story = Story()
+        story.exchange("b", 0)
+        story.exchange("a", 1)
+        story.exchange("a", 51)
+        story.timeout("b", 250)
+        self.assertEqual(verdict(story, "connect").failed, "controlled: the pair is due at the first timeout, not before it")
+        self.assertTrue(verdict(story, "connect", "late").held)
+
+
+if __name__ == "__main__":
+    unittest.main()
