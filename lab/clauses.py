@@ -5,7 +5,8 @@ returns the one with the earliest bound; or the precondition that failed in the 
 
 from __future__ import annotations
 
-from collections.abc import Callable, Iterable
+from collections.abc import Callable
+from copy import copy
 from dataclasses import dataclass
 
 from .deliveries import Deliveries, Exchange, Handed, may_end
@@ -52,13 +53,21 @@ def is_controlled(step: Step, side: str) -> bool:
 class Session:
     """A session, prepared for the checkers. `without` leaves preconditions out, to see what each of them costs:
 
-    late: the pair may be due at the first timeout of the rounds; calls: the side may make any calls in its rounds."""
+    late: the pair may be due at the first timeout of the rounds; calls: the side may make any calls in its rounds; nat, trip: in
+    `rounds` NATs may change addresses, and the response may come after the next timeout; moment: in `granted` a response that comes
+    after the nomination selects at once."""
 
-    def __init__(self, session: Replay, without: Iterable[str] = ()) -> None:
-        self.session, self.steps, self.without = session, session.steps, frozenset(without)
+    def __init__(self, session: Replay) -> None:
+        self.session, self.steps, self.without = session, session.steps, frozenset[str]()
         self.deliveries = Deliveries(session)
         self.timeouts = {side: session.timeouts(side) for side in SIDES}
         self.controlled_since = {side: self._since(lambda step, of=side: is_controlled(step, of)) for side in SIDES}  # type: ignore[misc]
+
+    def lacking(self, *without: str) -> Session:
+        """Returns the session without these preconditions."""
+        new = copy(self)
+        new.without = frozenset(without)
+        return new
 
     def _since(self, holds: Callable[[Step], bool]) -> list[int]:
         """For each step, the first index from which on the test held up to it; one past it if it does not hold."""
@@ -103,6 +112,8 @@ def is_alone(step: Step, side: str, path: Path) -> bool:
 
 def meet(s: Session) -> Verdict:
     """`RolesMeet`: a check of either side is delivered, and its 487 if it gets one."""
+    if s.steps and s.steps[0].before["a"].tie_breaker == s.steps[0].before["b"].tie_breaker:
+        return Verdict("the tie-breakers are equal")
     best: tuple[int, int] | None = None
     furthest = Furthest("no check is delivered while the agents know each other")
     for check in [h for side in SIDES for h in s.deliveries.handed[side]]:
@@ -161,6 +172,8 @@ def _granted_by(s: Session, side: str, ask: Handed, furthest: Furthest) -> Verdi
 
 def _granted_at(s: Session, side: str, path: Path, ask: Handed, exchange: Exchange, furthest: Furthest) -> Verdict | None:
     first, at = min(ask.sent, exchange.check.sent), s.moment(side, max(ask.arrived, exchange.returned))
+    if "moment" in s.without and ask.arrived < exchange.returned:
+        at = exchange.returned
     if at is None:
         furthest.add(1, "no timeout of the controlled agent follows")
     elif s.controlled_since[side][at] > first:

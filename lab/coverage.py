@@ -3,7 +3,7 @@
 from __future__ import annotations
 
 from collections import Counter
-from collections.abc import Iterable, Sequence
+from collections.abc import Callable, Iterable, Sequence
 from dataclasses import dataclass, field, replace
 
 from .clauses import Session as Checked
@@ -17,9 +17,18 @@ from .replay import replay
 from .rounds import connect, rounds
 from .session import Session
 
-CLAUSES = {"meet": meet, "rounds": rounds, "granted": granted, "connect": connect}
-# Preconditions that can be left out, to see what each of them costs.
-WITHOUT = {"late": "a pair may be due at the first timeout of the rounds", "calls": "an agent may make any calls in its rounds"}
+# The clauses, and some of them without preconditions (`Session.lacking`): what these cost.
+CLAUSES: dict[str, tuple[Callable[[Checked], Verdict], tuple[str, ...]]] = {
+    "meet": (meet, ()),
+    "rounds": (rounds, ()),
+    "granted": (granted, ()),
+    "connect": (connect, ()),
+    "granted, at once": (granted, ("moment",)),
+    "connect, due at it": (connect, ("late",)),
+    "connect, any calls": (connect, ("calls",)),
+    "connect, both": (connect, ("late", "calls")),
+    "rounds, all four": (rounds, ("late", "calls", "nat", "trip")),
+}
 
 
 @dataclass(frozen=True)
@@ -33,18 +42,17 @@ class Covered:
     differences: tuple[str, ...] = ()
 
 
-def verdicts_of(log: Log, without: Iterable[str] = ()) -> tuple[dict[str, Verdict], tuple[str, ...]]:
+def verdicts_of(log: Log) -> tuple[dict[str, Verdict], tuple[str, ...]]:
     """Applies the checkers to a log."""
     session = replay(log)
-    checked = Checked(session, without)
-    return {name: clause(checked) for name, clause in CLAUSES.items()}, tuple(session.differences)
+    checked = Checked(session)
+    return {name: clause(checked.lacking(*without)) for name, (clause, without) in CLAUSES.items()}, tuple(session.differences)
 
 
 @dataclass(frozen=True)
 class Play:
     """Runs a portion of sessions, and applies the checkers to each. `settle_s`: the sessions go on this long after the last selection."""
 
-    without: tuple[str, ...] = ()
     settle_s: float = 0.0
 
     def __call__(self, portion: Portion) -> list[Covered] | Fault:
@@ -58,7 +66,7 @@ class Play:
                 outcome = Session(longer, seed, None, log).run()
             except Broken as broken:
                 return Fault(scenario.name, seed, str(broken))
-            found.append(Covered(scenario.name, seed, outcome.first is not None, *verdicts_of(log, self.without)))
+            found.append(Covered(scenario.name, seed, outcome.first is not None, *verdicts_of(log)))
         return found
 
 
@@ -127,7 +135,7 @@ def tables(told: Sequence[Coverage]) -> str:
 
 
 _SHARES = ["scenario", "sessions", "connected", *(f"{name} %" for name in CLAUSES), "model differs"]
-_TIMES = ["scenario", "clause", "covered", "since ms", "rounds", "bound ms", "happened ms", "bound / happened"]
+_TIMES = ["scenario", "clause", "covered", "since ms", "rounds", "bound ms", "happened ms", "bound / happened", "at most 2: %"]
 _FAILED = ["clause", "precondition that failed first", "sessions", "of these scenarios"]
 
 
@@ -142,7 +150,7 @@ def _time_rows(c: Coverage) -> list[list[str]]:
         return "-" if value is None else f"{value:.{digits}f}"
 
     return [[c.scenario, name, str(s.covered), median(s.since), median(s.rounds) if any(s.rounds) else "-", median(s.bound), median(s.fact),
-             median(s.ratio, 2)] for name, s in c.shares.items() if s.covered]
+             median(s.ratio, 2), f"{100 * sum(r <= 2 for r in s.ratio) / c.connected:.1f}" if s.ratio else "-"] for name, s in c.shares.items() if s.covered]
 
 
 def _failed_rows(told: Sequence[Coverage]) -> list[list[str]]:

@@ -32,7 +32,6 @@ def _arguments() -> argparse.Namespace:
     covering.add_argument("-n", "--sessions", type=int, default=200, help="sessions of each scenario (200)")
     covering.add_argument("--set", action="append", default=[], metavar="KEY=VALUE", help="as for measure")
     covering.add_argument("--settle", type=float, default=12.0, metavar="S", help="go on this long after the last selection (12 s)")
-    covering.add_argument("--without", action="append", default=[], choices=sorted(coverage.WITHOUT), help="leaves a precondition out")
     for command in (measure, comparing, covering):
         command.add_argument("--seed", type=int, default=0, help="the first seed (0)")
         command.add_argument("-j", "--processes", type=int, default=1, help="number of processes (1)")
@@ -59,8 +58,7 @@ def _measure(options: argparse.Namespace) -> None:
 
 def _cover(options: argparse.Namespace) -> None:
     scenarios = [scenario.load(name, tuple(options.set)) for name in options.scenario or scenario.names()]
-    player = coverage.Play(tuple(options.without), options.settle)
-    found = pool.run_by(player, scenarios, options.sessions, options.seed, options.processes, options.quiet)
+    found = pool.run_by(coverage.Play(options.settle), scenarios, options.sessions, options.seed, options.processes, options.quiet)
     told = coverage.gather(found)
     print(coverage.tables([told[s.name] for s in scenarios]))
 

@@ -140,9 +140,14 @@ class Pair:
         """Whether its consent has not expired; for a lite agent, whether the peer's checks go on."""
         if lite:
             return self.last_request is None or now - self.last_request < 15 * SECOND
+        if self.is_young(timing):
+            return True
         is_heard = self.last_request is not None and now - self.last_request < 15 * SECOND
-        is_in_time = bool(self.checks) and now < self.checks[-1].sent + timing.delay(timing.retransmits)
-        return is_heard or unanswered(self.checks) < timing.retransmits or is_in_time
+        return is_heard or now < self.checks[-1].sent + timing.delay(timing.retransmits)
+
+    def is_young(self, timing: Timing) -> bool:
+        """Whether fewer than `max_retransmits` checks follow its last answered one."""
+        return len(self.checks) < timing.retransmits or unanswered(self.checks) < timing.retransmits
 
     # ---- what happens to it
 

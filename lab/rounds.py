@@ -2,12 +2,11 @@
 
 from __future__ import annotations
 
-from bisect import bisect_left
-from dataclasses import dataclass
+from bisect import bisect_left, bisect_right
 
 from .clauses import Furthest, Session, Verdict, is_alone
 from .log import POLLS
-from .pairs import Pair, Path, reversed_path, unanswered
+from .pairs import Pair, Path, reversed_path
 from .replay import Step, other
 from .scenario import SIDES
 
@@ -22,7 +21,7 @@ def line_fault(step: Step, side: str, pair: Pair, without: frozenset[str]) -> tu
         return 1, "lite, or without the remote credentials"
     if agent.queue:
         return 2, "an early request waits"
-    if unanswered(pair.checks) >= agent.timing.retransmits:
+    if not pair.is_young(agent.timing):
         return 3, "the pair has max_retransmits unanswered checks"
     if pair.is_valid and pair.due is None:
         return 4, "the pair is valid, and no due time is fixed"
@@ -50,131 +49,121 @@ def next_after(indices: list[int], at: int) -> int:
 
 def rounds(s: Session) -> Verdict:
     """`rounds`: in n rounds of the controlling side each check of one pair is answered."""
-    furthest = Furthest("no timeout of a controlling agent without a valid pair")
-    found = [v for side in SIDES for v in _rounds_of(s, side, furthest)]
-    return min(found, key=lambda v: v.bound or 0, default=Verdict(furthest.failed))
+    found = [v for side in SIDES if (v := Delivered(s, side).verdict()) is not None]
+    held = [v for v in found if v.held]
+    return min(held, key=lambda v: v.bound or 0) if held else found[0] if found else Verdict("no check of a controlling agent without a valid pair is answered")
 
 
-def _rounds_of(s: Session, side: str, furthest: Furthest) -> list[Verdict]:
-    timeouts, calls = s.timeouts[side], calls_of(s, side)
-    opposed = s.controlled_since[other(side)]
-    answered = {e.check.sent: e.returned for e in s.deliveries.exchanges[side]
-                if e.is_plain and s.is_plain_return(e) and e.returned < next_after(timeouts, e.check.sent)}
-    found: list[Verdict] = []
-    for place, at in enumerate(timeouts):
-        step = s.steps[at]
-        if not step.before[side].controlling or any(p.is_valid for p in step.before[side].pairs):
-            continue
-        for pair in step.before[side].pairs:
-            fault = line_fault(step, side, pair, s.without)
-            if fault is not None and fault[0] != 4:
-                furthest.add(*fault)
+class Delivered:
+    """The rounds of one side, while it is controlling and has no valid pair."""
+
+    def __init__(self, s: Session, side: str) -> None:
+        self.s, self.side, self.timeouts, self.calls = s, side, s.timeouts[side], calls_of(s, side)
+        self.answers = {e.check.sent: e for e in s.deliveries.exchanges[side]}
+        self.paths = {e.check.path for e in s.deliveries.exchanges[side]}
+        self.unanswered: dict[Path, list[int]] = {}  # the timeouts that send a check which is not answered in its round
+        for at in self.timeouts:
+            issued = s.steps[at].issued
+            if issued is not None and issued.kind == "request" and self._why_unanswered(at):
+                self.unanswered.setdefault(issued.path, []).append(at)
+
+    def verdict(self) -> Verdict | None:
+        """Returns the earliest bound, or what failed at the timeout that sent the first answered check; None if there is no such check."""
+        failed = None
+        for place, at in enumerate(self.timeouts):
+            step, agent = self.s.steps[at], self.s.steps[at].before[self.side]
+            if not agent.controlling or any(p.is_valid for p in agent.pairs):
                 continue
-            end = _rounds_from(s, side, place, pair, furthest, calls, answered)
-            if end is not None and opposed[min(end + 1, len(s.steps) - 1)] > at + 1:
-                furthest.add(10, "the roles change, or do not differ")
-            elif end is not None:
-                found.append(Verdict("", s.time(at), s.time(end), s.selects(side), _due_before(step, side, pair)))
-        if found:
-            break
-    return found
+            dues = sorted(p.due_at(step.entry.given[0], agent.timing) for p in agent.pairs)
+            for pair in agent.pairs:
+                verdict = self._from(place, pair, bisect_right(dues, pair.due_at(step.entry.given[0], agent.timing)))
+                if verdict.held:
+                    return verdict
+                if failed is None and at in self.answers and step.checks(self.side, agent.path(pair)):
+                    failed = verdict
+        return failed
 
+    def _from(self, place: int, pair: Pair, count: int) -> Verdict:
+        """Returns whether the `count` rounds that begin at this timeout are delivered for a pair, and the end of the last one."""
+        first = self.s.steps[self.timeouts[place]]
+        fault = line_fault(first, self.side, pair, self.s.without)
+        if fault is not None:
+            return Verdict(fault[1])
+        path = first.before[self.side].path(pair)
+        end = self.timeouts[min(place + count, len(self.timeouts)) - 1]
+        bad = next_after(self.unanswered.get(path, []), first.at - 1)
+        if bad <= end:
+            return Verdict(self._why_unanswered(bad))
+        sent = [at for at in self.timeouts[place:place + count] if self.s.steps[at].checks(self.side, path)]
+        end = max([end, *(self.answers[at].returned for at in sent[:1])])
+        if next_after(self.calls, first.at) < end:
+            return Verdict("the agent makes other calls in the rounds (trickle ICE)")
+        if len(self.timeouts) < place + count:
+            return Verdict("the log ends before the rounds do")
+        if self.s.controlled_since[other(self.side)][min(end + 1, len(self.s.steps) - 1)] > first.at + 1:
+            return Verdict("the roles change, or do not differ")
+        return Verdict("", self.s.time(first.at), self.s.time(end), self.s.selects(self.side), count)
 
-def _due_before(step: Step, side: str, pair: Pair) -> int:
-    agent, now = step.before[side], step.entry.given[0]
-    by = pair.due_at(now, agent.timing)
-    return sum(p.due_at(now, agent.timing) <= by for p in agent.pairs)
-
-
-def _rounds_from(s: Session, side: str, place: int, pair: Pair, furthest: Furthest, calls: list[int], answered: dict[int, int]) -> int | None:
-    """Returns the end of the n rounds that begin at this timeout, if they are delivered."""
-    timeouts = s.timeouts[side]
-    first = s.steps[timeouts[place]]
-    path, count = first.before[side].path(pair), _due_before(first, side, pair)
-    end = first.at
-    for n, at in enumerate(timeouts[place:place + count]):
-        end = at
-        if s.steps[at].checks(side, path):
-            if at not in answered:
-                furthest.add(8, _why_unanswered(s, side, at))
-                return None
-            end = answered[at]
-        until = next_after(timeouts, at) if n + 1 < count else end
-        if next_after(calls, at) < until:
-            furthest.add(7, "the agent makes other calls in the rounds (trickle ICE)")
-            return None
-    if len(timeouts) < place + count:
-        furthest.add(9, "the log ends before the rounds do")
-        return None
-    return end
-
-
-def _why_unanswered(s: Session, side: str, at: int) -> str:
-    exchange = next((e for e in s.deliveries.exchanges[side] if e.check.sent == at), None)
-    if exchange is None:
-        return "the check or its response is lost, filtered or refused"
-    if not (exchange.is_plain and s.is_plain_return(exchange)):
-        return "a NAT changes the addresses"
-    return "the response comes after the next timeout"
+    def _why_unanswered(self, at: int) -> str:
+        """Returns why the check of this timeout is not answered in its round, or nothing if it is."""
+        exchange = self.answers.get(at)
+        if exchange is None:
+            return "a check or its response is lost, filtered or refused"
+        if "nat" not in self.s.without and not (exchange.is_plain and self.s.is_plain_return(exchange)):
+            return "a NAT changes the addresses"
+        is_later = exchange.returned > next_after(self.timeouts, at)
+        return "the response comes after the next timeout" if is_later and "trip" not in self.s.without else ""
 
 
 # ---- connect
 
-@dataclass(frozen=True)
-class Start:
-    """A timeout from which rounds may begin: the pairs in line, how many rounds they need, and the pairs formed up to then."""
-
-    at: int
-    paths: frozenset[Path]
-    needs: int
-    formed: int
-
-
 class Rows:
     """The rounds of one side: from where they suffice (`HasRounds`)."""
 
-    def __init__(self, s: Session, side: str, furthest: Furthest) -> None:
-        self.side, self.s, self.furthest = side, s, furthest
+    def __init__(self, s: Session, side: str) -> None:
+        self.side, self.s = side, s
         self.timeouts, self.calls = s.timeouts[side], calls_of(s, side)
-        self.starts = [self._start(at) for at in self.timeouts]
+        self._lines: dict[tuple[int, Path | None], bool] = {}
 
-    def _start(self, at: int) -> Start:
-        step = self.s.steps[at]
-        agent = step.before[self.side]
-        paths = set()
-        for pair in agent.pairs:
-            fault = line_fault(step, self.side, pair, self.s.without)
-            if fault is None:
-                paths.add(agent.path(pair))
-        return Start(at, frozenset(paths), 2 * len(agent.pairs) - 1, agent.next_number)
-
-    def latest(self, path: Path | None, moment: int) -> Start | None:
-        """Returns the latest start of rounds that suffice for a pair on the path, or on any one, and last until `moment`."""
+    def latest(self, path: Path | None, moment: int, floor: int) -> int | None:
+        """Returns the latest timeout, from `floor` on, from which rounds up to `moment` suffice for a pair on the path, or for any pair."""
         formed = self.s.steps[moment].before[self.side].next_number
         end = bisect_left(self.timeouts, moment)
         for place in range(end - 1, -1, -1):
-            start = self.starts[place]
-            if next_after(self.calls, start.at) < moment:
-                break
-            if start.needs + formed - start.formed <= end - place and (path in start.paths if path is not None else start.paths):
-                return start
+            at = self.timeouts[place]
+            if at < floor or next_after(self.calls, at) < moment:
+                return None
+            added = formed - self.s.steps[at].before[self.side].next_number
+            if self.needs(at) + added <= end - place and self._is_line(at, path):
+                return at
         return None
 
-    def fault(self, path: Path | None, until: int) -> str:
-        """Returns which part of `HasRounds` failed at the timeout that came furthest, of those up to this index."""
-        furthest = Furthest("the agent has no such pair")
-        for start in self.starts:
-            if start.at > until:
-                break
-            step = self.s.steps[start.at]
-            for pair in step.before[self.side].pairs:
-                if path is None or step.before[self.side].path(pair) == path:
-                    furthest.add(*(line_fault(step, self.side, pair, self.s.without) or self._too_short(start)))
+    def needs(self, at: int) -> int:
+        """Returns how many rounds the pairs of this timeout need."""
+        return 2 * len(self.s.steps[at].before[self.side].pairs) - 1
+
+    def _pairs(self, at: int, path: Path | None) -> tuple[Pair, ...]:
+        agent = self.s.steps[at].before[self.side]
+        return agent.pairs if path is None else tuple(agent.on(path))
+
+    def _is_line(self, at: int, path: Path | None) -> bool:
+        if (at, path) not in self._lines:
+            step = self.s.steps[at]
+            self._lines[at, path] = any(line_fault(step, self.side, p, self.s.without) is None for p in self._pairs(at, path))
+        return self._lines[at, path]
+
+    def fault(self, path: Path | None, floor: int, until: int) -> str:
+        """Returns which part of `HasRounds` failed at the timeout that came furthest, of those between two indices."""
+        furthest = Furthest("the agent has no such pair before its timeouts")
+        for at in self.timeouts:
+            if floor <= at <= until:
+                for pair in self._pairs(at, path):
+                    furthest.add(*(line_fault(self.s.steps[at], self.side, pair, self.s.without) or self._too_short(at)))
         return furthest.failed
 
-    def _too_short(self, start: Start) -> tuple[int, str]:
-        last = len(self.s.steps) - 1
-        if next_after(self.calls, start.at) <= last:
+    def _too_short(self, at: int) -> tuple[int, str]:
+        end = next_after(self.calls, at)
+        if bisect_left(self.timeouts, end) - bisect_left(self.timeouts, at) <= self.needs(at) and end < len(self.s.steps):
             return 7, "the agent makes other calls in the rounds (trickle ICE)"
         return 8, "the log ends before the rounds do"
 
@@ -182,60 +171,65 @@ class Rows:
 def connect(s: Session) -> Verdict:
     """`connect`: both sides have rounds that suffice, in which a nomination and a response are delivered."""
     furthest = Furthest("no check with USE-CANDIDATE is delivered while the agents know each other")
-    found = [v for side in SIDES if (v := _connect_of(s, side, furthest)) is not None]
+    found = [v for side in SIDES if (v := Connecting(s, side, furthest).verdict()) is not None]
     return min(found, key=lambda v: v.bound or 0, default=Verdict(furthest.failed))
 
 
-def _connect_of(s: Session, side: str, furthest: Furthest) -> Verdict | None:
-    """Returns the earliest bound with this side controlled."""
-    asks = [h for h in s.deliveries.handed[other(side)] if h.nominates and s.steps[h.sent].before[other(side)].controlling]
-    paths = {reversed_path(h.over) for h in asks}
-    if not paths:
-        return None
-    exchanges = [e for e in s.deliveries.exchanges[side] if e.check.path in paths]
-    furthest.add(0, "no check of the controlled agent on the nominated path is answered")
-    if not exchanges:
-        return None
-    own, peers = Rows(s, side, furthest), Rows(s, other(side), furthest)
-    ready = min(max(e.returned, min(h.arrived for h in asks if reversed_path(h.over) == e.check.path)) for e in exchanges)
-    for at in s.timeouts[side]:
-        if at > ready and s.steps[at].before[side].request_at(s.steps[at].entry.given[0]) is None:
-            verdict = _connect_at(s, side, at, (own, peers), sorted(paths), furthest)
-            if verdict is not None:
-                return verdict
-    _add_rounds_fault(s, side, own, peers, sorted(paths), furthest)
-    return None
+class Connecting:
+    """The search for rounds of both sides, with this side controlled."""
 
+    def __init__(self, s: Session, side: str, furthest: Furthest) -> None:
+        self.s, self.side, self.furthest = s, side, furthest
+        self.asks = [h for h in s.deliveries.handed[other(side)] if h.nominates and s.steps[h.sent].before[other(side)].controlling]
+        self.paths = sorted({reversed_path(h.over) for h in self.asks})
+        self.answers = [e for e in s.deliveries.exchanges[side] if e.check.path in self.paths]
+        self.own, self.peers = Rows(s, side), Rows(s, other(side))
 
-def _connect_at(s: Session, side: str, at: int, rows: tuple[Rows, Rows], paths: list[Path], furthest: Furthest) -> Verdict | None:
-    own, peers = rows
-    its = peers.latest(None, at)
-    if its is None:
+    def verdict(self) -> Verdict | None:
+        """Returns the earliest bound, or None, with what failed in `furthest`."""
+        if self.asks:
+            self.furthest.add(0, "no check of the controlled agent on the nominated path is answered")
+        if not self.answers:
+            return None
+        ready = min(e.returned for e in self.answers)
+        for at in self.s.timeouts[self.side]:
+            if at > ready and self.s.steps[at].before[self.side].request_at(self.s.steps[at].entry.given[0]) is None:
+                verdict = self._at(at)
+                if verdict is not None:
+                    return verdict
+        self._add_fault()
         return None
-    for path in paths:
-        start = own.latest(path, at)
-        ask = max((h.sent for h in s.deliveries.handed[other(side)] if h.arrived < at and h.nominates and reversed_path(h.over) == path), default=None)
-        answer = max((e.check.sent for e in s.deliveries.exchanges[side] if e.returned < at and e.check.path == path), default=None)
-        if start is None or ask is None or answer is None:
-            continue
-        first = min(its.at, start.at, ask, answer)
-        if s.controlled_since[side][at] > first:
-            furthest.add(20, "the roles change, or do not differ")
-        elif s.ends(side, path, first, at):
-            furthest.add(21, "a call may have removed the pair, as adding a candidate may")
-        elif not is_alone(s.steps[at], side, path):
-            furthest.add(22, "two pairs use the path's addresses")
+
+    def _at(self, at: int) -> Verdict | None:
+        """Returns a verdict if the preconditions hold with this timeout as the last one."""
+        s, side = self.s, self.side
+        floor = s.controlled_since[side][at]
+        its = self.peers.latest(None, at, floor)
+        for path in self.paths if its is not None else ():
+            start = self.own.latest(path, at, floor)
+            ask = max((h.sent for h in self.asks if h.arrived < at and reversed_path(h.over) == path), default=-1)
+            answer = max((e.check.sent for e in self.answers if e.returned < at and e.check.path == path), default=-1)
+            if start is None or its is None or min(ask, answer) < 0:
+                continue
+            first = min(its, start, ask, answer)
+            if first < floor:
+                self.furthest.add(20, "the roles change, or do not differ")
+            elif s.ends(side, path, first, at):
+                self.furthest.add(21, "a call may have removed the pair, as adding a candidate may")
+            elif not is_alone(s.steps[at], side, path):
+                self.furthest.add(22, "two pairs use the path's addresses")
+            else:
+                return Verdict("", s.time(first), s.time(at), s.selects(side), max(self.own.needs(start), self.peers.needs(its)))
+        return None
+
+    def _add_fault(self) -> None:
+        """Records which side has no rounds that suffice, by its timeouts up to the first selection."""
+        s, side = self.s, self.side
+        until = next((x.at for x in s.steps if x.entry.side == side and x.selected), len(s.steps) - 1)
+        floor, moments = s.controlled_since[side][until], [at for at in s.timeouts[side] if at >= s.controlled_since[side][until]]
+        if not any(self.peers.latest(None, at, floor) for at in moments):
+            self.furthest.add(1, f"controlling: {self.peers.fault(None, floor, until)}")
+        elif not any(self.own.latest(path, at, floor) for at in moments for path in self.paths):
+            self.furthest.add(2, f"controlled: {min(self.own.fault(path, floor, until) for path in self.paths)}")
         else:
-            return Verdict("", s.time(first), s.time(at), s.selects(side), max(start.needs, its.needs))
-    return None
-
-
-def _add_rounds_fault(s: Session, side: str, own: Rows, peers: Rows, paths: list[Path], furthest: Furthest) -> None:
-    """Records which side has no rounds that suffice, by its timeouts up to the first selection."""
-    moments, selection = s.timeouts[side], next((x.at for x in s.steps if x.entry.side == side and x.selected), len(s.steps))
-    if not any(peers.latest(None, at) for at in moments):
-        furthest.add(1, f"controlling: {peers.fault(None, selection)}")
-    elif not any(own.latest(path, at) for at in moments for path in paths):
-        furthest.add(2, f"controlled: {min(own.fault(path, selection) for path in paths)}")
-    else:
-        furthest.add(3, "both sides have such rounds, and not at the same time")
+            self.furthest.add(3, "both sides have such rounds, and not at the same time")

@@ -3,18 +3,20 @@
 import unittest
 
 from is_ice import SocketAddress
-from lab.coverage import verdicts_of
+from lab.clauses import Session, Verdict, granted, meet
 from lab.clock import BEGINNING, MILLISECOND
-from lab.clauses import Verdict
+from lab.replay import replay
+from lab.rounds import connect, rounds
 from stories import LINE, A, B, Story
 
+CLAUSES = {"meet": meet, "rounds": rounds, "granted": granted, "connect": connect}
 OUTSIDE = SocketAddress("203.0.113.1", 1000)
 
 
 def verdict(story: Story, clause: str, *without: str) -> Verdict:
-    verdicts, differences = verdicts_of(story.log, without)
-    assert not differences, differences
-    return verdicts[clause]
+    session = replay(story.log)
+    assert not session.differences, session.differences
+    return CLAUSES[clause](Session(session).lacking(*without))
 
 
 def at(time: float) -> int:
@@ -122,7 +124,7 @@ class Rounds(unittest.TestCase):
     def test_a_lost_check(self) -> None:
         story = Story()
         story.timeout("a", 0)
-        self.assertEqual(verdict(story, "rounds", "late").failed, "the check or its response is lost, filtered or refused")
+        self.assertEqual(verdict(story, "rounds", "late").failed, "no check of a controlling agent without a valid pair is answered")
 
 
 class Connecting(unittest.TestCase):
@@ -145,6 +147,7 @@ class Connecting(unittest.TestCase):
     def test_other_calls_in_the_rounds(self) -> None:
         story = self.late(Story())
         story.remote("b", LINE.format(99, "10.9.9.9", 9, "host"), 400)
+        story.timeout("b", 500)
         story.timeout("b", 600)
         self.assertFalse(verdict(story, "connect").held)
         self.assertEqual(verdict(story, "connect", "calls").failed, "a call may have removed the pair, as adding a candidate may")
