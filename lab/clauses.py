@@ -9,7 +9,7 @@ from collections.abc import Callable
 from copy import copy
 from dataclasses import dataclass
 
-from .deliveries import Deliveries, Exchange, Handed, may_end
+from .deliveries import Deliveries, Exchange, Handed, is_gone, may_end
 from .pairs import Path, reversed_path
 from .replay import Replay, Step, other
 from .scenario import SIDES
@@ -31,6 +31,11 @@ class Verdict:
     def held(self) -> bool:
         """Whether all preconditions held."""
         return not self.failed
+
+    @property
+    def is_broken(self) -> bool:
+        """Whether they held, and the conclusion was not true by its bound."""
+        return self.held and (self.bound is None or self.fact is None or self.fact > self.bound)
 
 
 class Furthest:
@@ -55,7 +60,7 @@ class Session:
 
     late: the pair may be due at the first timeout of the rounds; calls: the side may make any calls in its rounds; nat, trip: in
     `rounds` NATs may change addresses, and the response may come after the next timeout; moment: in `granted` a response that comes
-    after the nomination selects at once."""
+    after the nomination selects at once; ends: a call that might remove a pair of the path counts only if it does."""
 
     def __init__(self, session: Replay) -> None:
         self.session, self.steps, self.without = session, session.steps, frozenset[str]()
@@ -88,7 +93,7 @@ class Session:
 
     def ends(self, side: str, path: Path, first: int, last: int) -> bool:
         """Whether a call of the side may remove a pair of the path."""
-        return any(may_end(s, side, path) for s in self.steps[first:last + 1])
+        return any(may_end(s, side, path) and ("ends" not in self.without or is_gone(s, side, path)) for s in self.steps[first:last + 1])
 
     def is_plain_return(self, exchange: Exchange) -> bool:
         """Whether no NAT changed the addresses of the response."""

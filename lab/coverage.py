@@ -17,17 +17,19 @@ from .replay import replay
 from .rounds import connect, rounds
 from .session import Session
 
-# The clauses, and some of them without preconditions (`Session.lacking`): what these cost.
+# The clauses; and, to see what preconditions cost, some of them without these (`Session.lacking`).
 CLAUSES: dict[str, tuple[Callable[[Checked], Verdict], tuple[str, ...]]] = {
     "meet": (meet, ()),
     "rounds": (rounds, ()),
     "granted": (granted, ()),
     "connect": (connect, ()),
-    "granted, at once": (granted, ("moment",)),
-    "connect, due at it": (connect, ("late",)),
-    "connect, any calls": (connect, ("calls",)),
-    "connect, both": (connect, ("late", "calls")),
-    "rounds, all four": (rounds, ("late", "calls", "nat", "trip")),
+    "granted at once": (granted, ("moment",)),
+    "granted, kept": (granted, ("moment", "ends")),
+    "connect, due at": (connect, ("late",)),
+    "connect, calls": (connect, ("calls",)),
+    "connect, kept": (connect, ("calls", "ends")),
+    "connect, all": (connect, ("late", "calls", "ends")),
+    "rounds, all": (rounds, ("late", "calls", "nat", "trip")),
 }
 
 
@@ -66,7 +68,10 @@ class Play:
                 outcome = Session(longer, seed, None, log).run()
             except Broken as broken:
                 return Fault(scenario.name, seed, str(broken))
-            found.append(Covered(scenario.name, seed, outcome.first is not None, *verdicts_of(log)))
+            covered = Covered(scenario.name, seed, outcome.first is not None, *verdicts_of(log))
+            if broken_clauses := [name for name, verdict in covered.verdicts.items() if not CLAUSES[name][1] and verdict.is_broken]:
+                return Fault(scenario.name, seed, f"all preconditions of {broken_clauses[0]} held, and its conclusion did not")
+            found.append(covered)
         return found
 
 
@@ -75,6 +80,7 @@ class Share:
     """What one clause covers of a scenario's connected sessions. Times are milliseconds from the first signaling message."""
 
     covered: int = 0
+    broken: int = 0  # the conclusion came later than the bound, as may happen if a precondition is left out
     since: list[float] = field(default_factory=list)
     bound: list[float] = field(default_factory=list)
     fact: list[float] = field(default_factory=list)
@@ -88,6 +94,7 @@ class Share:
             self.failed[verdict.failed] += 1
             return
         self.covered += 1
+        self.broken += verdict.is_broken
         assert verdict.since is not None and verdict.bound is not None
         since, bound = ((time - BEGINNING) / MILLISECOND for time in (verdict.since, verdict.bound))
         self.since.append(since)
@@ -135,7 +142,7 @@ def tables(told: Sequence[Coverage]) -> str:
 
 
 _SHARES = ["scenario", "sessions", "connected", *(f"{name} %" for name in CLAUSES), "model differs"]
-_TIMES = ["scenario", "clause", "covered", "since ms", "rounds", "bound ms", "happened ms", "bound / happened", "at most 2: %"]
+_TIMES = ["scenario", "clause", "covered", "since ms", "rounds", "bound ms", "happened ms", "bound / happened", "at most 2: %", "later"]
 _FAILED = ["clause", "precondition that failed first", "sessions", "of these scenarios"]
 
 
@@ -149,8 +156,13 @@ def _time_rows(c: Coverage) -> list[list[str]]:
         value = quantile(values, 0.5)
         return "-" if value is None else f"{value:.{digits}f}"
 
-    return [[c.scenario, name, str(s.covered), median(s.since), median(s.rounds) if any(s.rounds) else "-", median(s.bound), median(s.fact),
-             median(s.ratio, 2), f"{100 * sum(r <= 2 for r in s.ratio) / c.connected:.1f}" if s.ratio else "-"] for name, s in c.shares.items() if s.covered]
+    rows = []
+    for name, share in c.shares.items():
+        if share.covered:
+            near = f"{100 * sum(r <= 2 for r in share.ratio) / c.connected:.1f}" if share.ratio else "-"
+            rows.append([c.scenario, name, str(share.covered), median(share.since), median(share.rounds) if any(share.rounds) else "-",
+                         median(share.bound), median(share.fact), median(share.ratio, 2), near, str(share.broken)])
+    return rows
 
 
 def _failed_rows(told: Sequence[Coverage]) -> list[list[str]]:
@@ -159,6 +171,6 @@ def _failed_rows(told: Sequence[Coverage]) -> list[list[str]]:
         for name, share in c.shares.items():
             for failed, count in share.failed.items():
                 counts.setdefault((name, failed), Counter())[c.scenario] += count
-    order = sorted(counts, key=lambda k: (list(CLAUSES).index(k[0]), -sum(counts[k].values())))
-    return [[name, failed, str(sum(counts[name, failed].values())), ", ".join(f"{s} {n}" for s, n in counts[name, failed].most_common())]
+    order = sorted(counts, key=lambda k: (list(CLAUSES).index(k[0]), -counts[k].total()))
+    return [[name, failed, str(counts[name, failed].total()), ", ".join(f"{s} {n}" for s, n in counts[name, failed].most_common())]
             for name, failed in order]

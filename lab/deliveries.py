@@ -67,6 +67,12 @@ def may_end(step: Step, side: str, path: Path) -> bool:
     return entry.call in ("add_remote_candidate", "ice_restart")
 
 
+def is_gone(step: Step, side: str, path: Path) -> bool:
+    """Whether the step removed a pair of the path."""
+    left = {p.number for p in step.after[side].pairs}
+    return any(p.number not in left for p in step.before[side].on(path))
+
+
 class Deliveries:
     """The deliveries of a session."""
 

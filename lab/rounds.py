@@ -51,7 +51,9 @@ def rounds(s: Session) -> Verdict:
     """`rounds`: in n rounds of the controlling side each check of one pair is answered."""
     found = [v for side in SIDES if (v := Delivered(s, side).verdict()) is not None]
     held = [v for v in found if v.held]
-    return min(held, key=lambda v: v.bound or 0) if held else found[0] if found else Verdict("no check of a controlling agent without a valid pair is answered")
+    if held:
+        return min(held, key=lambda v: v.bound or 0)
+    return found[0] if found else Verdict("no check of a controlling agent without a valid pair is answered")
 
 
 class Delivered:

@@ -2,6 +2,8 @@
 
 from __future__ import annotations
 
+from dataclasses import replace
+
 from is_ice import Candidate, IceCreds, NominatedSend, Protocol, SocketAddress, Transmit
 from lab.clock import BEGINNING, MILLISECOND
 from lab.log import Beginning, Entry, Log
@@ -60,7 +62,7 @@ class Story:
     def know(self, side: str, time: float = 0) -> None:
         """The side gets the other one's credentials and candidates."""
         peer = self.agents[other(side)]
-        self.agents[side] = Agent(**{**vars(self.agents[side]), "peer": peer.creds})
+        self.agents[side] = replace(self.agents[side], peer=peer.creds)
         self._log(time, side, "set_remote_credentials", (peer.creds,))
         for place in peer.local:
             self.remote(side, LINE.format(place.priority, place.address.ip, place.address.port, place.kind), time)

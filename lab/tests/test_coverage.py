@@ -1,10 +1,13 @@
 """Tests the checkers of the clauses of progress, on logs made by hand."""
 
 import unittest
+from dataclasses import replace
 
 from is_ice import SocketAddress
+from lab import scenario
 from lab.clauses import Session, Verdict, granted, meet
 from lab.clock import BEGINNING, MILLISECOND
+from lab.coverage import Covered, Play, gather, tables, verdicts_of
 from lab.replay import replay
 from lab.rounds import connect, rounds
 from stories import LINE, A, B, Story
@@ -57,6 +60,16 @@ class Granting(unittest.TestCase):
         self.assertEqual(verdict(story, "granted").failed, "no timeout of the controlled agent follows")
         story.timeout("b", 70)
         self.assertEqual(verdict(story, "granted"), Verdict("", at(20), at(70), at(70)))
+
+    def test_a_response_after_the_nomination_selects_at_once(self) -> None:
+        story = Story()
+        story.exchange("a", 0)
+        check = story.timeout("b", 20)
+        story.exchange("a", 50)
+        story.deliver(story.deliver(check, "a", 60), "b", 65)
+        story.timeout("b", 70)
+        self.assertEqual(verdict(story, "granted"), Verdict("", at(20), at(70), at(65)))
+        self.assertEqual(verdict(story, "granted", "moment"), Verdict("", at(20), at(65), at(65)))
 
     def test_no_nomination(self) -> None:
         story = Story()
@@ -160,6 +173,31 @@ class Connecting(unittest.TestCase):
         story.timeout("b", 250)
         self.assertEqual(verdict(story, "connect").failed, "controlled: the pair is due at the first timeout, not before it")
         self.assertTrue(verdict(story, "connect", "late").held)
+
+
+class Sessions(unittest.TestCase):
+    def test_the_model_foresees_what_the_agents_do(self) -> None:
+        for name in scenario.names():
+            with self.subTest(scenario=name):
+                found = Play()((scenario.load(name), range(1)))
+                assert isinstance(found, list)
+                self.assertEqual(found[0].differences, ())
+                self.assertEqual(found[0].connected, found[0].verdicts["meet"].held)
+
+    def test_a_difference_is_found(self) -> None:
+        story = Story()
+        story.timeout("a", 0)
+        story.log.entries[-2] = replace(story.log.entries[-2], returned=0)  # what `poll_timeout` returned
+        self.assertEqual(len(replay(story.log).differences), 1)
+
+    def test_the_tables(self) -> None:
+        story = Story()
+        story.deliver(story.timeout("a", 0), "b", 5)
+        verdicts, _ = verdicts_of(story.log)
+        told = gather([Covered("x", 0, True, verdicts), Covered("x", 1, False, verdicts)])["x"]
+        self.assertEqual((told.sessions, told.connected, told.shares["meet"].covered, told.shares["granted"].covered), (2, 1, 1, 0))
+        self.assertEqual((told.shares["meet"].bound, told.shares["meet"].fact), ([5.0], [0.0]))
+        self.assertIn("no check with USE-CANDIDATE is delivered while the agents know each other", tables([told]))
 
 
 if __name__ == "__main__":
