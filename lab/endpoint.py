@@ -217,7 +217,7 @@ class Endpoint:
             self._watch.told(self.side, event)
         if timeout is not None and timeout != self._timeout:
             self._timeout = timeout
-            self._clock.at(timeout, self._timed_out, timeout)
+            self._clock.at(timeout + nanoseconds(self.settings.late_ms), self._timed_out, timeout)
 
     def _timed_out(self, timeout: int) -> None:
         if timeout == self._timeout:

@@ -43,6 +43,7 @@ class AgentSettings:
     initial_rto_ms: float | None = None
     max_rto_ms: float = 3000.0
     advance_ms: float | None = None
+    late_ms: float = 0.0  # how much later than the agent's timeout its endpoint calls `handle_timeout`
     retransmits: int = 9
     max_pairs: int | None = None
     stun: bool = True  # gathers server-reflexive candidates

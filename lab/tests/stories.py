@@ -1,4 +1,4 @@
-"""Hand-made logs: two agents by the model of `lab.model`, whose calls and deliveries a test makes one by one."""
+"""Logs that a test writes: two agents by the model of `lab.model`, whose calls and deliveries a test makes one by one."""
 
 from __future__ import annotations
 

@@ -1,4 +1,4 @@
-"""Tests the checkers of the clauses of progress, on logs made by hand."""
+"""Tests the checkers of the clauses of progress, on logs that the tests write, and the model on sessions."""
 
 import unittest
 from dataclasses import replace
