@@ -58,9 +58,9 @@ def is_controlled(step: Step, side: str) -> bool:
 class Session:
     """A session, prepared for the checkers. `without` leaves preconditions out, to see what each of them costs:
 
-    late: the pair may be due at the first timeout of the rounds; calls: the side may make any calls in its rounds; nat, trip: in
-    `rounds` NATs may change addresses, and the response may come after the next timeout; moment: in `granted` a response that comes
-    after the nomination selects at once; ends: a call that might remove a pair of the path counts only if it does."""
+    late: the pair may be due at the first timeout of the rounds. calls: the side may make any calls in its rounds. later: in `rounds`
+    it is enough that one check on the path is answered, at any time while it is pending, and through NATs. moment: in `granted` a
+    response that comes after the nomination selects at once. ends: a call that might remove a pair of the path counts if it does."""
 
     def __init__(self, session: Replay) -> None:
         self.session, self.steps, self.without = session, session.steps, frozenset[str]()

@@ -29,7 +29,8 @@ CLAUSES: dict[str, tuple[Callable[[Checked], Verdict], tuple[str, ...]]] = {
     "connect, calls": (connect, ("calls",)),
     "connect, kept": (connect, ("calls", "ends")),
     "connect, all": (connect, ("late", "calls", "ends")),
-    "rounds, all": (rounds, ("late", "calls", "nat", "trip")),
+    "rounds, later": (rounds, ("later",)),
+    "rounds, all": (rounds, ("later", "late", "calls")),
 }
 
 

@@ -11,6 +11,7 @@ from .replay import Step, other
 from .scenario import SIDES
 
 NEVER = 1 << 62
+LOST = "a check or its response is lost, filtered or refused"
 
 
 def line_fault(step: Step, side: str, pair: Pair, without: frozenset[str]) -> tuple[int, str] | None:
@@ -48,7 +49,7 @@ def next_after(indices: list[int], at: int) -> int:
 # ---- rounds
 
 def rounds(s: Session) -> Verdict:
-    """`rounds`: in n rounds of the controlling side each check of one pair is answered."""
+    """`rounds`: in n rounds of the controlling side each check of one pair is answered; or, without `later`, one at any time."""
     found = [v for side in SIDES if (v := Delivered(s, side).verdict()) is not None]
     held = [v for v in found if v.held]
     if held:
@@ -62,12 +63,14 @@ class Delivered:
     def __init__(self, s: Session, side: str) -> None:
         self.s, self.side, self.timeouts, self.calls = s, side, s.timeouts[side], calls_of(s, side)
         self.answers = {e.check.sent: e for e in s.deliveries.exchanges[side]}
-        self.paths = {e.check.path for e in s.deliveries.exchanges[side]}
-        self.unanswered: dict[Path, list[int]] = {}  # the timeouts that send a check which is not answered in its round
+        self.checked: dict[Path, list[int]] = {}  # the timeouts that send a check
+        self.unanswered: dict[Path, list[int]] = {}  # those of them whose check is not answered in its round
         for at in self.timeouts:
             issued = s.steps[at].issued
-            if issued is not None and issued.kind == "request" and self._why_unanswered(at):
-                self.unanswered.setdefault(issued.path, []).append(at)
+            if issued is not None and issued.kind == "request":
+                self.checked.setdefault(issued.path, []).append(at)
+                if self._why_unanswered(at):
+                    self.unanswered.setdefault(issued.path, []).append(at)
 
     def verdict(self) -> Verdict | None:
         """Returns the earliest bound, or what failed at the timeout that sent the first answered check; None if there is no such check."""
@@ -92,13 +95,18 @@ class Delivered:
         if fault is not None:
             return Verdict(fault[1])
         path = first.before[self.side].path(pair)
-        end = self.timeouts[min(place + count, len(self.timeouts)) - 1]
-        bad = next_after(self.unanswered.get(path, []), first.at - 1)
-        if bad <= end:
-            return Verdict(self._why_unanswered(bad))
-        sent = [at for at in self.timeouts[place:place + count] if self.s.steps[at].checks(self.side, path)]
-        end = max([end, *(self.answers[at].returned for at in sent[:1])])
-        if next_after(self.calls, first.at) < end:
+        end = last = self.timeouts[min(place + count, len(self.timeouts)) - 1]
+        if "later" in self.s.without:
+            end = self._answered_from(first.at, last, path)
+            if end is None:
+                return Verdict(LOST)
+        else:
+            bad = next_after(self.unanswered.get(path, []), first.at - 1)
+            if bad <= end:
+                return Verdict(self._why_unanswered(bad))
+            if self.s.steps[end].checks(self.side, path):
+                end = last = self.answers[end].returned
+        if next_after(self.calls, first.at) < last:
             return Verdict("the agent makes other calls in the rounds (trickle ICE)")
         if len(self.timeouts) < place + count:
             return Verdict("the log ends before the rounds do")
@@ -106,15 +114,23 @@ class Delivered:
             return Verdict("the roles change, or do not differ")
         return Verdict("", self.s.time(first.at), self.s.time(end), self.s.selects(self.side), count)
 
+    def _answered_from(self, first: int, last: int, path: Path) -> int | None:
+        """Returns the end of rounds of which a check on the path is answered at any time, or their last timeout if none goes out."""
+        if next_after(self.checked.get(path, []), first - 1) > last:
+            return last
+        back = (e.returned for at in self.checked[path] if at >= first and (e := self.answers.get(at)) is not None
+                and not self.s.ends(self.side, path, at + 1, e.returned - 1))
+        found = min(back, default=None)
+        return None if found is None else max(found, last)
+
     def _why_unanswered(self, at: int) -> str:
         """Returns why the check of this timeout is not answered in its round, or nothing if it is."""
         exchange = self.answers.get(at)
         if exchange is None:
-            return "a check or its response is lost, filtered or refused"
-        if "nat" not in self.s.without and not (exchange.is_plain and self.s.is_plain_return(exchange)):
+            return LOST
+        if not (exchange.is_plain and self.s.is_plain_return(exchange)):
             return "a NAT changes the addresses"
-        is_later = exchange.returned > next_after(self.timeouts, at)
-        return "the response comes after the next timeout" if is_later and "trip" not in self.s.without else ""
+        return "the response comes after the next timeout" if exchange.returned > next_after(self.timeouts, at) else ""
 
 
 # ---- connect

@@ -73,6 +73,12 @@ class Scenarios(unittest.TestCase):
         self.assertEqual((changed.a.initial_rto_ms, changed.link["home"].loss), (100, 0.5))
 
 
+    def test_late_timeouts(self) -> None:
+        punctual, late = (Session(scenario.load("same_lan", (f"a.late_ms={n}", f"b.late_ms={n}")), 1).run().first for n in (0, 20))
+        assert punctual is not None and late is not None
+        self.assertGreater(late, punctual)
+
+
 class BrokenGuarantees(unittest.TestCase):
     def test_a_path_without_a_successful_check(self) -> None:
         side = guarantees()
