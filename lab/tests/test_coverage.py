@@ -47,6 +47,20 @@ class Meeting(unittest.TestCase):
         story.deliver(story.timeout("a", 0), "b", 5)
         self.assertEqual(verdict(story, "meet").failed, "no check is delivered while the agents know each other")
 
+    def test_no_call_removes_the_pair_before_the_487(self) -> None:
+        story = Story(roles=(True, True))
+        error = story.deliver(story.timeout("b", 0), "a", 5)
+        story.remote("b", LINE.format(99, "10.9.9.9", 9, "host"), 7)
+        story.deliver(error, "b", 9)
+        self.assertEqual(verdict(story, "meet").failed, "a call may have removed a pair of the check's path")
+        self.assertTrue(verdict(story, "meet", "ends").held)
+
+    def test_equal_tie_breakers(self) -> None:
+        story = Story()
+        story.log.sides["b"] = replace(story.log.sides["b"], tie_breaker=10)
+        story.timeout("a", 0)
+        self.assertEqual(meet(Session(replay(story.log))).failed, "the tie-breakers are equal")
+
 
 class Granting(unittest.TestCase):
     def connected(self, story: Story) -> Story:
@@ -95,6 +109,28 @@ class Granting(unittest.TestCase):
         story.exchange("a", 50)
         story.timeout("b", 70)
         self.assertEqual(verdict(story, "granted").failed, "a call may have removed the pair, as adding a candidate may")
+
+    def test_a_response_after_nine_later_checks(self) -> None:
+        story = Story()
+        story.exchange("a", 0)
+        response = story.deliver(story.timeout("b", 20), "a", 25)
+        for time in range(4000, 40000, 4000):
+            story.deliver(story.timeout("a", time), "b", time + 5)
+            story.timeout("b", time + 20)
+        story.deliver(response, "b", 36100)
+        story.timeout("b", 36150)
+        self.assertEqual(verdict(story, "granted").failed, "no check of the controlled agent on the nominated path is answered")
+
+    def test_a_response_from_another_address(self) -> None:
+        story = Story()
+        story.exchange("a", 0)
+        story.exchange("a", 50)
+        response = story.deliver(story.timeout("b", 60), "a", 65)
+        assert response is not None
+        entry = replace(story.log.entries[-1], side="b", call="handle_packet", returned=False, given=(at(70), OUTSIDE, B, response.contents))
+        story.log.entries.append(entry)
+        story.timeout("b", 110)
+        self.assertEqual(verdict(story, "granted").failed, "no check of the controlled agent on the nominated path is answered")
 
     def test_a_nat_may_change_the_addresses(self) -> None:
         story = Story()
