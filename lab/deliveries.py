@@ -84,7 +84,8 @@ class Deliveries:
             if step.is_timeout and step.issued is not None and step.issued.kind == "request":
                 self._sent.setdefault((step.entry.side, step.issued.path), []).append(step.at)
         self.handed = {side: self._handed(side) for side in SIDES}
-        self.exchanges = {side: [e for h in self.handed[side] if (e := self._exchange(h))] for side in SIDES}
+        found = {side: [e for h in self.handed[side] if (e := self._exchange(h))] for side in SIDES}
+        self.exchanges = {side: sorted(found[side], key=lambda e: e.returned) for side in SIDES}
 
     def _handed(self, side: str) -> list[Handed]:
         found = []

@@ -74,19 +74,21 @@ class Delivered:
 
     def verdict(self) -> Verdict | None:
         """Returns the earliest bound, or what failed at the timeout that sent the first answered check; None if there is no such check."""
-        failed = None
+        best, failed = None, None
         for place, at in enumerate(self.timeouts):
             step, agent = self.s.steps[at], self.s.steps[at].before[self.side]
             if not agent.controlling or any(p.is_valid for p in agent.pairs):
                 continue
+            if best is not None and step.entry.time >= (best.bound or 0):
+                break
             dues = sorted(p.due_at(step.entry.given[0], agent.timing) for p in agent.pairs)
             for pair in agent.pairs:
                 verdict = self._from(place, pair, bisect_right(dues, pair.due_at(step.entry.given[0], agent.timing)))
-                if verdict.held:
-                    return verdict
-                if failed is None and at in self.answers and step.checks(self.side, agent.path(pair)):
+                if verdict.held and (best is None or (verdict.bound or 0) < (best.bound or 0)):
+                    best = verdict
+                elif failed is None and at in self.answers and step.checks(self.side, agent.path(pair)):
                     failed = verdict
-        return failed
+        return best or failed
 
     def _from(self, place: int, pair: Pair, count: int) -> Verdict:
         """Returns whether the `count` rounds that begin at this timeout are delivered for a pair, and the end of the last one."""
