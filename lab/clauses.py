@@ -151,13 +151,18 @@ def _opposite_since(s: Session) -> int | None:
 
 # ---- granted
 
+TWO_ON_PATH = "a pair on the path of the check with USE-CANDIDATE is not nominated: two use it"
+
+
 def granted(s: Session) -> Verdict:
     """`GrantedPathsAnnounce`: the controlled side gets a nomination, and a response to its own check."""
     found, furthest = [], Furthest("no check with USE-CANDIDATE is delivered while the agents know each other")
     for side in SIDES:
         for ask in s.deliveries.handed[other(side)]:
-            if ask.nominates and s.steps[ask.sent].before[other(side)].controlling:
+            if ask.asks and ask.nominates:
                 found.append(_granted_by(s, side, ask, furthest))
+            elif ask.asks:
+                furthest.add(0, TWO_ON_PATH)
     held = [v for v in found if v.held]
     return min(held, key=lambda v: v.bound or 0) if held else Verdict(furthest.failed)
 
@@ -165,7 +170,7 @@ def granted(s: Session) -> Verdict:
 def _granted_by(s: Session, side: str, ask: Handed, furthest: Furthest) -> Verdict:
     path = reversed_path(ask.over)
     held: list[Verdict] = []
-    furthest.add(0, "no check of the controlled agent on the nominated path is answered")
+    furthest.add(1, "no check of the controlled agent on the nominated path is answered")
     for exchange in s.deliveries.exchanges[side]:
         if exchange.check.path == path:
             verdict = _granted_at(s, side, path, ask, exchange, furthest)
@@ -180,13 +185,13 @@ def _granted_at(s: Session, side: str, path: Path, ask: Handed, exchange: Exchan
     if "moment" in s.without and ask.arrived < exchange.returned:
         at = exchange.returned
     if at is None:
-        furthest.add(1, "no timeout of the controlled agent follows")
+        furthest.add(2, "no timeout of the controlled agent follows")
     elif s.controlled_since[side][at] > first:
-        furthest.add(2, "the roles change, or do not differ")
+        furthest.add(3, "the roles change, or do not differ")
     elif s.ends(side, path, first, at):
-        furthest.add(3, "a call may have removed the pair, as adding a candidate may")
+        furthest.add(4, "a call may have removed the pair, as adding a candidate may")
     elif not is_alone(s.steps[at], side, path):
-        furthest.add(4, "two pairs use the path's addresses")
+        furthest.add(5, "two pairs use the path's addresses")
     else:
         return Verdict("", s.time(first), s.time(at), s.selects(side))
     return None

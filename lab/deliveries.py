@@ -9,18 +9,20 @@ from .model import Agent, local_place
 from .pairs import Path, reversed_path
 from .replay import Replay, Step, other
 from .scenario import SIDES
+from .stun import message_of
 
 
 @dataclass(frozen=True)
 class Handed:
     """A check that is delivered (`HandedCheck`): the indices of its `handle_timeout` and of its delivery, and its path before and
-    after NATs. `nominates`: all pairs on its path are nominated after it."""
+    after NATs. `asks`: it has USE-CANDIDATE. `nominates`: all pairs on its path are nominated after it."""
 
     side: str
     path: Path
     over: Path
     sent: int
     arrived: int
+    asks: bool
     nominates: bool
 
 
@@ -103,7 +105,8 @@ class Deliveries:
             agent, given = self.steps[at].before[there], self.steps[at].entry.given
             over = given[1], given[2]
             if know_each_other(before, agent) and is_reached(agent, over):
-                found.append(Handed(side, path, over, step.at, at, nominates))
+                asks = message_of(step.sent.returned.contents).use_candidate
+                found.append(Handed(side, path, over, step.at, at, asks, nominates))
         return found
 
     def response(self, check: Handed, kind: str) -> Step | None:

@@ -4,7 +4,7 @@ from __future__ import annotations
 
 from bisect import bisect_left, bisect_right
 
-from .clauses import Furthest, Session, Verdict, is_alone
+from .clauses import TWO_ON_PATH, Furthest, Session, Verdict, is_alone
 from .log import POLLS
 from .pairs import Pair, Path, reversed_path
 from .replay import Step, other
@@ -200,7 +200,10 @@ class Connecting:
 
     def __init__(self, s: Session, side: str, furthest: Furthest) -> None:
         self.s, self.side, self.furthest = s, side, furthest
-        self.asks = [h for h in s.deliveries.handed[other(side)] if h.nominates and s.steps[h.sent].before[other(side)].controlling]
+        asks = [h for h in s.deliveries.handed[other(side)] if h.asks]
+        self.asks = [h for h in asks if h.nominates]
+        if asks:
+            furthest.add(0, TWO_ON_PATH)
         self.paths = sorted({reversed_path(h.over) for h in self.asks})
         self.answers = [e for e in s.deliveries.exchanges[side] if e.check.path in self.paths]
         self.own, self.peers = Rows(s, side), Rows(s, other(side))
@@ -208,7 +211,7 @@ class Connecting:
     def verdict(self) -> Verdict | None:
         """Returns the earliest bound, or None, with what failed in `furthest`."""
         if self.asks:
-            self.furthest.add(0, "no check of the controlled agent on the nominated path is answered")
+            self.furthest.add(1, "no check of the controlled agent on the nominated path is answered")
         if not self.answers:
             return None
         ready = min(e.returned for e in self.answers)
@@ -248,8 +251,8 @@ class Connecting:
         until = next((x.at for x in s.steps if x.entry.side == side and x.selected), len(s.steps) - 1)
         floor, moments = s.controlled_since[side][until], [at for at in s.timeouts[side] if at >= s.controlled_since[side][until]]
         if not any(self.peers.latest(None, at, floor) for at in moments):
-            self.furthest.add(1, f"controlling: {self.peers.fault(None, floor, until)}")
+            self.furthest.add(2, f"controlling: {self.peers.fault(None, floor, until)}")
         elif not any(self.own.latest(path, at, floor) for at in moments for path in self.paths):
-            self.furthest.add(2, f"controlled: {min(self.own.fault(path, floor, until) for path in self.paths)}")
+            self.furthest.add(3, f"controlled: {min(self.own.fault(path, floor, until) for path in self.paths)}")
         else:
-            self.furthest.add(3, "both sides have such rounds, and not at the same time")
+            self.furthest.add(4, "both sides have such rounds, and not at the same time")

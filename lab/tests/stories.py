@@ -55,7 +55,10 @@ class Story:
 
     def host(self, side: str, address: SocketAddress, priority: int, time: float = 0) -> None:
         """The side adds a host candidate."""
-        line, candidate = LINE.format(priority, address.ip, address.port, "host"), Candidate.host(address)
+        self.local(side, Candidate.host(address), LINE.format(priority, address.ip, address.port, "host"), time)
+
+    def local(self, side: str, candidate: Candidate, line: str, time: float = 0) -> None:
+        """The side adds a local candidate."""
         self.agents[side] = self.agents[side].add_local(candidate, line)
         self._log(time, side, "add_local_candidate", (candidate,), line)
 

@@ -3,9 +3,9 @@
 import unittest
 from dataclasses import replace
 
-from is_ice import SocketAddress
+from is_ice import Candidate, SocketAddress
 from lab import scenario
-from lab.clauses import Session, Verdict, granted, meet
+from lab.clauses import TWO_ON_PATH, Session, Verdict, granted, meet
 from lab.clock import BEGINNING, MILLISECOND
 from lab.coverage import Covered, Play, gather, tables, verdicts_of
 from lab.replay import replay
@@ -100,6 +100,18 @@ class Granting(unittest.TestCase):
         story.exchange("a", 50)
         story.timeout("b", 70)
         self.assertEqual(verdict(story, "granted").failed, "no check of the controlled agent on the nominated path is answered")
+
+    def test_all_pairs_on_the_path_are_nominated(self) -> None:
+        story = Story(known=False, hosts=(0, 1))
+        story.local("a", Candidate.server_reflexive(OUTSIDE, A), LINE.format(100 << 24, OUTSIDE.ip, OUTSIDE.port, "srflx"))
+        story.host("a", A, 1)  # of lower priority, so the server-reflexive candidate keeps its pair
+        story.know("a")
+        story.know("b")
+        story.deliver(story.timeout("b", 0), "a", 5, (B, A))  # forms a pair of the host candidate
+        for time in (10, 60):
+            story.exchange("a", time)
+        self.assertEqual(len(replay(story.log).steps[-1].after["a"].on((A, B))), 2)
+        self.assertEqual(verdict(story, "granted").failed, TWO_ON_PATH)
 
     def test_a_candidate_in_between_may_remove_the_pair(self) -> None:
         story = Story()
