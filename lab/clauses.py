@@ -58,9 +58,9 @@ def is_controlled(step: Step, side: str) -> bool:
 class Session:
     """A session, prepared for the checkers. `without` leaves preconditions out, to see what each of them costs:
 
-    late: the pair may be due at the first timeout of the rounds. calls: the side may make any calls in its rounds. later: in `rounds`
-    it is enough that one check on the path is answered, at any time while it is pending, and through NATs. moment: in `granted` a
-    response that comes after the nomination selects at once. ends: a call that might remove a pair of the path counts if it does."""
+    late: the pair may be due at the first timeout of the rounds. calls: the side may make any calls in its rounds. moment: in
+    `granted` a response that comes after the nomination selects at once. ends: a call that might remove a pair of the path counts
+    if it does."""
 
     def __init__(self, session: Replay) -> None:
         self.session, self.steps, self.without = session, session.steps, frozenset[str]()
@@ -94,11 +94,6 @@ class Session:
     def ends(self, side: str, path: Path, first: int, last: int) -> bool:
         """Whether a call of the side may remove a pair of the path."""
         return any(may_end(s, side, path) and ("ends" not in self.without or is_gone(s, side, path)) for s in self.steps[first:last + 1])
-
-    def is_plain_return(self, exchange: Exchange) -> bool:
-        """Whether no NAT changed the addresses of the response."""
-        issued, given = self.steps[exchange.check.arrived].issued, self.steps[exchange.returned].entry.given
-        return issued is not None and issued.path == (given[1], given[2])
 
     def moment(self, side: str, after: int) -> int | None:
         """Returns the side's next `handle_timeout` that serves no early request."""

@@ -29,8 +29,7 @@ CLAUSES: dict[str, tuple[Callable[[Checked], Verdict], tuple[str, ...]]] = {
     "connect, calls": (connect, ("calls",)),
     "connect, kept": (connect, ("calls", "ends")),
     "connect, all": (connect, ("late", "calls", "ends")),
-    "rounds, later": (rounds, ("later",)),
-    "rounds, all": (rounds, ("later", "late", "calls")),
+    "rounds, all": (rounds, ("late", "calls")),
 }
 
 

@@ -33,11 +33,6 @@ class Exchange:
     check: Handed
     returned: int
 
-    @property
-    def is_plain(self) -> bool:
-        """Whether no NAT changed the addresses of the check."""
-        return self.check.path == self.check.over
-
 
 def know_each_other(a: Agent, b: Agent) -> bool:
     """Whether both agents have each other's credentials (`KnowEachOther`)."""

@@ -49,7 +49,7 @@ def next_after(indices: list[int], at: int) -> int:
 # ---- rounds
 
 def rounds(s: Session) -> Verdict:
-    """`rounds`: in n rounds of the controlling side each check of one pair is answered; or, without `later`, one at any time."""
+    """`rounds`: a check that goes out in n rounds of the controlling side, or later, is answered at any time while it is pending."""
     found = [v for side in SIDES if (v := Delivered(s, side).verdict()) is not None]
     held = [v for v in found if v.held]
     if held:
@@ -64,13 +64,10 @@ class Delivered:
         self.s, self.side, self.timeouts, self.calls = s, side, s.timeouts[side], calls_of(s, side)
         self.answers = {e.check.sent: e for e in s.deliveries.exchanges[side]}
         self.checked: dict[Path, list[int]] = {}  # the timeouts that send a check
-        self.unanswered: dict[Path, list[int]] = {}  # those of them whose check is not answered in its round
         for at in self.timeouts:
             issued = s.steps[at].issued
             if issued is not None and issued.kind == "request":
                 self.checked.setdefault(issued.path, []).append(at)
-                if self._why_unanswered(at):
-                    self.unanswered.setdefault(issued.path, []).append(at)
 
     def verdict(self) -> Verdict | None:
         """Returns the earliest bound, or what failed at the timeout that sent the first answered check; None if there is no such check."""
@@ -97,17 +94,10 @@ class Delivered:
         if fault is not None:
             return Verdict(fault[1])
         path = first.before[self.side].path(pair)
-        end = last = self.timeouts[min(place + count, len(self.timeouts)) - 1]
-        if "later" in self.s.without:
-            end = self._answered_from(first.at, last, path)
-            if end is None:
-                return Verdict(LOST)
-        else:
-            bad = next_after(self.unanswered.get(path, []), first.at - 1)
-            if bad <= end:
-                return Verdict(self._why_unanswered(bad))
-            if self.s.steps[end].checks(self.side, path):
-                end = last = self.answers[end].returned
+        last = self.timeouts[min(place + count, len(self.timeouts)) - 1]
+        end = self._answered_from(first.at, last, path)
+        if end is None:
+            return Verdict(LOST)
         if next_after(self.calls, first.at) < last:
             return Verdict("the agent makes other calls in the rounds (trickle ICE)")
         if len(self.timeouts) < place + count:
@@ -124,15 +114,6 @@ class Delivered:
                 and not self.s.ends(self.side, path, at + 1, e.returned - 1))
         found = min(back, default=None)
         return None if found is None else max(found, last)
-
-    def _why_unanswered(self, at: int) -> str:
-        """Returns why the check of this timeout is not answered in its round, or nothing if it is."""
-        exchange = self.answers.get(at)
-        if exchange is None:
-            return LOST
-        if not (exchange.is_plain and self.s.is_plain_return(exchange)):
-            return "a NAT changes the addresses"
-        return "the response comes after the next timeout" if exchange.returned > next_after(self.timeouts, at) else ""
 
 
 # ---- connect
