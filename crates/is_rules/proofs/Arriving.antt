@@ -15,19 +15,20 @@ use Rattle.is_stun.specs.declared.timing.StunTiming.{StunTiming}
 use Rattle.is_stun.specs.Message.{Message}
 use Rattle.is_rules.specs.declared.credentials.IceCreds.{IceCreds}
 use Rattle.is_rules.specs.declared.places.RemotePlace.{RemotePlace}
-use Rattle.is_rules.specs.declared.places.RemotePlace.TheVariants.{Known, Barred, Unknown}
+use Rattle.is_rules.specs.declared.places.RemotePlace.TheVariants.{Known, Barred, Unknown, Vacant, Full}
 use Rattle.is_rules.specs.declared.roles.Conflict.{Conflict}
 use Rattle.is_rules.specs.declared.roles.Conflict.TheVariants.{Absent, Insists, Yields}
 use Rattle.is_rules.specs.declared.emitted.Path.{Path}
 use Rattle.is_rules.specs.declared.emitted.Emitted.{Emitted}
 use Rattle.is_rules.specs.Request.{RequestRecord, request_in}
 use Rattle.is_rules.specs.Places.{local_place}
+use Rattle.is_rules.specs.Limit.{IsSenderPlace}
 use Rattle.is_rules.specs.Agent.{AgentRecord}
 use Rattle.is_rules.specs.Sending.{path_between}
 use Rattle.is_rules.specs.Forming.{formed, with_pair, priority_between}
 use Rattle.is_rules.specs.Nominating.{NominatesWhere}
 use Rattle.is_rules.specs.Roles.{conflict_of, switched}
-use Rattle.is_rules.specs.Serving.{served, is_misled, names_another, pair_served, request_counted, with_sender, sender_candidate, replied, Drops, Queues, RecordsAndResponds, FindsOrAddsPair, AddsUnknownSender, CountsAndServes, ResolvesRoleConflictBy, ResolvesRoleConflict, Serves}
+use Rattle.is_rules.specs.Serving.{served, is_misled, names_another, pair_served, request_counted, with_sender, with_sender_at, sender_candidate, replied, Drops, Queues, RecordsAndResponds, FindsOrAddsPair, AddsUnknownSender, CountsAndServes, ResolvesRoleConflictBy, ResolvesRoleConflict, Serves}
 use Rattle.is_rules.specs.Answers.{is_role_conflict, GivesUpRole, TakesFailure}
 use Rattle.rand_core.specs.Stream.{Stream}
 use Rattle.is_rules.specs.Steps.{Entry, Flag, ReceivePacket, Step}
@@ -37,6 +38,7 @@ use Rattle.is_rules.proofs.Moves.{Has-map}
 use Rattle.is_rules.proofs.Onward.{Has-push}
 use Rattle.is_rules.proofs.Rising.{AllBelow}
 use Rattle.is_rules.proofs.Serves.{Has-mapped}
+use Rattle.is_rules.proofs.Vacant.{KeepsRemote, keeps-remote-same, keeps-remote-more, keeps-remote-put, vacant-at}
 use Rattle.is_pair.specs.Turns.{is_due_by, due_by}
 use Rattle.is_pair.proofs.Fewer.{no-more, not-by}
 use Rattle.is_rules.specs.Progress.{Arrival, IsSuccess}
@@ -231,13 +233,13 @@ module _ {H P : Type 0} where
     Rests old new = (core_of new ≡ core_of old) × (new.remote ≡ old.remote) × Spares by at old.timing old.next_number old.pairs new.next_number new.pairs
 
     abbrev pub Arrived : AgentRecord H P → AgentRecord H P → Type 0
-    Arrived old new = (core_of new ≡ core_of old) × Grown old.remote new.remote × Spares by at old.timing old.next_number old.pairs new.next_number new.pairs
+    Arrived old new = (core_of new ≡ core_of old) × KeepsRemote old.pairs old.remote new.remote × Spares by at old.timing old.next_number old.pairs new.next_number new.pairs
 
     rests-same : (old new : AgentRecord H P) → new ≡ old → Rests old new
     rests-same old new e = subst (λ (a : AgentRecord H P). Rests old a) (sym e) (refl, refl, spares-same by at old.timing old.next_number old.pairs)
 
     arrived : (old new : AgentRecord H P) → Rests old new → Arrived old new
-    arrived old new r = (r.0, inl r.1, r.2)
+    arrived old new r = (r.0, keeps-remote-same old.pairs old.remote new.remote r.1, r.2)
 
     pub arrived-same : (old new : AgentRecord H P) → new ≡ old → Arrived old new
     arrived-same old new e = arrived old new (rests-same old new e)
@@ -259,23 +261,27 @@ module _ {H P : Type 0} where
           let rest = pair l r s.next_number (with_pair (formed s l r) s) new emitted role full (push.invalid none) k.1 in
           (rest.0, rest.1, spares-on by at s.timing s.next_number (s.next_number + 1) new.next_number s.pairs (s.pairs ++ formed s l r ∷ []) new.pairs push rest.2)))
 
-      joins_at : (l : ℕ) (place : RemotePlace) (s new : AgentRecord H P) (emitted : Emitted) → s.controlling ≡ true → s.lite ≡ false → NoneValid s.pairs → AddsUnknownSender mac q l place s emitted new → Arrived s new
-      joins_at l (Known r) s new emitted role full none (number, between, h) = arrived s new (takes l r number s new emitted role full none h)
-      joins_at l Barred s new emitted role full none h = arrived-same s new h.1
-      joins_at l Unknown s new emitted role full none (number, between, h) =
+      joins_at : (l : ℕ) (place : RemotePlace) (s new : AgentRecord H P) (emitted : Emitted) → s.controlling ≡ true → s.lite ≡ false → NoneValid s.pairs → IsSenderPlace s q place → AddsUnknownSender mac q l place s emitted new → Arrived s new
+      joins_at l (Known r) s new emitted role full none is (number, between, h) = arrived s new (takes l r number s new emitted role full none h)
+      joins_at l Barred s new emitted role full none is h = arrived-same s new h.1
+      joins_at l (Vacant place) s new emitted role full none is (number, between, h) =
+          let r = takes l place number (with_sender_at place q s) new emitted role full none h in
+          (r.0, keeps-remote-put s.pairs s.remote new.remote place (sender_candidate s q) (vacant-at s.max_discovered s.remote s.pairs q place is).1 r.1, r.2)
+      joins_at l Full s new emitted role full none is h = arrived-same s new h.1
+      joins_at l Unknown s new emitted role full none is (number, between, h) =
           let r = takes l (length s.remote) number (with_sender q s) new emitted role full none h in
-          (r.0, inr (sender_candidate s q, r.1), r.2)
+          (r.0, keeps-remote-more s.pairs s.remote new.remote (sender_candidate s q) r.1, r.2)
 
       admitted : (l : ℕ) (s new : AgentRecord H P) (emitted : Emitted) → s.controlling ≡ true → s.lite ≡ false → NoneValid s.pairs → CountsAndServes mac q l s emitted new → Arrived s new
       admitted l s new emitted role full none h = either (is_misled s.controlling q) h
           (λ _ k. arrived-same s new k.1)
-          (λ _ k. joins_at l k.0 (request_counted s) new emitted role full none k.2)
+          (λ _ k. joins_at l k.0 (request_counted s) new emitted role full none k.1 k.2)
 
       resolves_by : (conflict : Conflict) (l : ℕ) (s new : AgentRecord H P) (emitted : Emitted) → s.controlling ≡ true → s.lite ≡ false → NoneValid s.pairs → new.controlling ≡ true
           → ResolvesRoleConflictBy mac conflict q l s emitted new → Arrived s new
       resolves_by Absent l s new emitted role full none stays h = admitted l s new emitted role full none h
       resolves_by Insists l s new emitted role full none stays (values, emitted_is, made) =
-          subst (λ (a : AgentRecord H P). Arrived s a) (sym made) (refl, inl refl, spares-same by at s.timing s.next_number s.pairs)
+          subst (λ (a : AgentRecord H P). Arrived s a) (sym made) (refl, keeps-remote-same s.pairs s.remote s.remote refl, spares-same by at s.timing s.next_number s.pairs)
       resolves_by Yields l s new emitted role full none stays h =
           let f : new.controlling ≡ not s.controlling = ap (λ (f : Frame H). f.controlling) (admits mac q l (switched s) new emitted h).0 in
           let no : true ≡ false = sym stays ∙ (f ∙ ap not role) in absurd (cc)

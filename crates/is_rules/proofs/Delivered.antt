@@ -23,7 +23,7 @@ use Rattle.is_stun.specs.Reading.{Reads, Fault}
 use Rattle.is_stun.specs.Writing.{written}
 use Rattle.is_rules.specs.declared.credentials.IceCreds.{IceCreds}
 use Rattle.is_rules.specs.declared.places.RemotePlace.{RemotePlace}
-use Rattle.is_rules.specs.declared.places.RemotePlace.TheVariants.{Known, Barred, Unknown}
+use Rattle.is_rules.specs.declared.places.RemotePlace.TheVariants.{Known, Barred, Unknown, Vacant, Full}
 use Rattle.is_rules.specs.declared.roles.Conflict.TheVariants.{Absent}
 use Rattle.is_rules.specs.declared.emitted.Path.{Path}
 use Rattle.is_rules.specs.declared.emitted.Issued as code
@@ -37,14 +37,16 @@ use Rattle.is_rules.specs.Carried.{CarriedAreServed, CarriedAreAccepted}
 use Rattle.is_rules.specs.Delivery.{IsFragment, KnowEachOther, IsReachedBy, Sends, Delivered, Issued, IsTaken, ChecksAreServed, RepliesAreAccepted, receives, is_gone_at}
 use Rattle.is_rules.specs.Fitting.{USERNAME_LIMIT, are_too_long}
 use Rattle.is_rules.specs.Issuing.{Says, IsIssued, key_for, via_out}
+use Rattle.is_rules.specs.Limit.{has_room, IsVacancy, IsSenderPlace, HasPlaceFor}
 use Rattle.is_rules.specs.Places.{is_live, is_reached, is_sender, local_place, place_by, IsRemotePlace, IsGreatestPlace}
 use Rattle.is_rules.specs.Request.{RequestRecord, request_in, rival_in}
 use Rattle.is_rules.specs.Roles.{conflict_by, conflict_of}
 use Rattle.is_rules.specs.Sending.{carried, path_between}
-use Rattle.is_rules.specs.Serving.{is_misled, names_another, request_counted, with_sender, Drops, Queues, TakesRequest, RecordsAndResponds, AddsPairAndResponds, FindsOrAddsPair, AddsUnknownSender, FindsSender, CountsAndServes, ResolvesRoleConflictBy, ResolvesRoleConflict, ServesHere, Serves}
+use Rattle.is_rules.specs.Serving.{is_misled, names_another, request_counted, with_sender, with_sender_at, Drops, Queues, TakesRequest, RecordsAndResponds, AddsPairAndResponds, FindsOrAddsPair, AddsUnknownSender, FindsSender, CountsAndServes, ResolvesRoleConflictBy, ResolvesRoleConflict, ServesHere, Serves}
 use Rattle.is_rules.specs.Sound.{IsSound}
 use Rattle.is_rules.specs.Steps.{answer_by, Call, Entry, Flag, ReceivePacket, Receives, is_refusal}
 use Rattle.is_rules.specs.Emitted.{issued_as, reversed}
+use Rattle.is_rules.proofs.Frames.{either}
 use Rattle.is_rules.proofs.Addresses.{both}
 use Rattle.is_rules.proofs.EffectLaws.{issues}
 use Rattle.is_rules.proofs.Moves.{Has-at}
@@ -175,10 +177,12 @@ module _ {H P : Type 0} (mac : H → List ℕ → List ℕ → List ℕ) (answer
         at_pair l r s.next_number _ new emitted k.1
 
     joins_at : (l : ℕ) (place : RemotePlace) (s new : AgentRecord H P) (emitted : Emitted) → (candidate_at s.local l).discarded ≡ false
-        → (place ≡ Barred → ⊥) → AddsUnknownSender mac q l place s emitted new → Replied emitted
-    joins_at l (Known r) s new emitted live met (number, between, h) = takes_at l r number s new emitted live h
-    joins_at l Barred s new emitted live met h = absurd (met refl)
-    joins_at l Unknown s new emitted live met (number, between, h) = takes_at l (length s.remote) number (with_sender q s) new emitted live h
+        → (place ≡ Barred → ⊥) → (place ≡ Full → ⊥) → AddsUnknownSender mac q l place s emitted new → Replied emitted
+    joins_at l (Known r) s new emitted live met some (number, between, h) = takes_at l r number s new emitted live h
+    joins_at l Barred s new emitted live met some h = absurd (met refl)
+    joins_at l (Vacant r) s new emitted live met some (number, between, h) = takes_at l r number (with_sender_at r q s) new emitted live h
+    joins_at l Full s new emitted live met some h = absurd (some refl)
+    joins_at l Unknown s new emitted live met some (number, between, h) = takes_at l (length s.remote) number (with_sender q s) new emitted live h
 
     -- if no candidate at its source address was discarded, its remote place is not `Barred`
     meets : (remote : List CandidateRecord) (place : RemotePlace) → list_any (is_gone_at q.path) remote ≡ false → IsRemotePlace remote q place → place ≡ Barred → ⊥
@@ -194,6 +198,38 @@ module _ {H P : Type 0} (mac : H → List ℕ → List ℕ → List ℕ) (answer
           let c = candidate_at cs k in
           neither_way c.discarded (is_sender q c) found.1 (greatest k found.0) (passes_none (is_gone_at q.path) cs c none (Has-at cs k nowhere found.0))
 
+    -- the same with a limit
+    is-met : (s : AgentRecord H P) (place : RemotePlace) → list_any (is_gone_at q.path) s.remote ≡ false → IsSenderPlace s q place → place ≡ Barred → ⊥
+    is-met s place none (Known k, is, same) barred = let no : Known k ≡ Barred = sym same ∙ barred in cc
+    is-met s place none (Barred, is, same) barred = meets s.remote Barred none is refl
+    is-met s place none (Unknown, is, room) barred = either (has_room s.max_discovered s.remote) room
+        (λ _ same. (let no : Unknown ≡ Barred = sym same ∙ barred in cc))
+        (λ _ vacancy. subst (λ r. IsVacancy s.remote s.pairs r) barred vacancy)
+    is-met s place none (Vacant k, is, wrong) barred = wrong
+    is-met s place none (Full, is, wrong) barred = wrong
+
+    -- a known sender has a place without regard to the limit
+    is-unknown : (s : AgentRecord H P) → IsRemotePlace s.remote q Unknown → list_any (is_sender q) s.remote ≡ false
+    is-unknown s (Some live, greatest, is) = let no : Unknown ≡ Known live = is in cc
+    is-unknown s (None, greatest, is) = by (list_any (is_sender q) s.remote) is where
+      by : (b : Bool) → Unknown ≡ place_by None b → b ≡ false
+      by true wrong = let no : Unknown ≡ Barred = wrong in cc
+      by false e = refl
+
+    -- so there is a place for the sender
+    fits-in : (s : AgentRecord H P) (place : RemotePlace) → HasPlaceFor s q.path → IsSenderPlace s q place → place ≡ Full → ⊥
+    fits-in s place some (Known k, is, same) full = let no : Known k ≡ Full = sym same ∙ full in cc
+    fits-in s place some (Barred, is, same) full = let no : Barred ≡ Full = sym same ∙ full in cc
+    fits-in s place some (Vacant k, is, wrong) full = wrong
+    fits-in s place some (Full, is, wrong) full = wrong
+    fits-in s place some (Unknown, is, room) full = either (has_room s.max_discovered s.remote) room
+        (λ _ same. (let no : Unknown ≡ Full = sym same ∙ full in cc))
+        (λ filled vacancy. lacks filled (subst (λ r. IsVacancy s.remote s.pairs r) full vacancy) some) where
+          lacks : has_room s.max_discovered s.remote ≡ false → IsVacancy s.remote s.pairs Full → HasPlaceFor s q.path → ⊥
+          lacks filled none (inl e) =
+              let no : true ≡ false = sym e ∙ rw (is-unknown s is, filled) refl in cc
+          lacks filled none (inr (k, lt, vacant)) = let no : true ≡ false = sym vacant ∙ none k lt in cc
+
     -- the roles differ, USE-CANDIDATE comes only from a controlling agent, and the candidates exist: so the request
     -- is served
     serves : (s new : AgentRecord H P) (emitted : Emitted) → names_another s q ≡ false → IsReachedBy s q.path → conflict_of s q ≡ Absent
@@ -205,7 +241,7 @@ module _ {H P : Type 0} (mac : H → List ℕ → List ℕ → List ℕ) (answer
         let m : ResolvesRoleConflict mac q l s emitted new = subst (λ o. MatchOption o (Drops s emitted new) (λ l. ResolvesRoleConflict mac q l s emitted new)) place.1 k in
         let n : CountsAndServes mac q l s emitted new = subst (λ c. ResolvesRoleConflictBy mac c q l s emitted new) apart m in
         let o : FindsSender mac q l (request_counted s) emitted new = subst (λ b. MatchBool b (Drops s emitted new) (FindsSender mac q l (request_counted s) emitted new)) led n in
-        joins_at l o.0 (request_counted s) new emitted place.2 (meets s.remote o.0 reached.from o.1) o.2
+        joins_at l o.0 (request_counted s) new emitted place.2 (is-met s o.0 reached.from o.1) (fits-in s o.0 reached.room o.1) o.2
 
   -- ---- the result of a packet
 

@@ -8,7 +8,7 @@ use Rattle.is_candidate.specs.Candidates.{candidate_at}
 use Rattle.is_stun.specs.Message.{Message}
 use Rattle.is_rules.specs.declared.credentials.IceCreds.{IceCreds}
 use Rattle.is_rules.specs.declared.places.RemotePlace.{RemotePlace}
-use Rattle.is_rules.specs.declared.places.RemotePlace.TheVariants.{Known, Barred, Unknown}
+use Rattle.is_rules.specs.declared.places.RemotePlace.TheVariants.{Known, Barred, Unknown, Vacant, Full}
 use Rattle.is_rules.specs.declared.emitted.Path.{Path}
 use Rattle.is_rules.specs.declared.emitted.Emitted.{Emitted}
 use Rattle.is_rules.specs.Request.{RequestRecord}
@@ -24,7 +24,7 @@ use Rattle.is_rules.specs.Forming.{formed, with_pair}
 use Rattle.is_pair.specs.Bag.{is_valid_at}
 use Rattle.is_rules.specs.Nominating.{Nominates, NominatesWhere, with_selection, nominated_emitted}
 use Rattle.is_rules.specs.Roles.{conflict_of, switched}
-use Rattle.is_rules.specs.Serving.{is_misled, names_another, request_counted, with_sender, pair_served, Drops, RecordsAndResponds, FindsOrAddsPair, AddsUnknownSender, CountsAndServes, ResolvesRoleConflictBy, ResolvesRoleConflict, ServesHere, Serves}
+use Rattle.is_rules.specs.Serving.{is_misled, names_another, request_counted, with_sender, with_sender_at, pair_served, Drops, RecordsAndResponds, FindsOrAddsPair, AddsUnknownSender, CountsAndServes, ResolvesRoleConflictBy, ResolvesRoleConflict, ServesHere, Serves}
 use Rattle.is_rules.specs.Answers.{TakesSuccess}
 use Rattle.is_rules.specs.Timeouts.{is_given_up, given_up_gone, GivesUp}
 use Rattle.is_rules.specs.Issuing.{IsQueued}
@@ -102,6 +102,8 @@ module _ {H P : Type 0} where
     joins_at l (Known r) s new emitted (number, between, h) = takes l r number s new emitted h
     joins_at l Barred s new emitted h = drops s new emitted h
     joins_at l Unknown s new emitted (number, between, h) = takes l (length s.remote) number (with_sender q s) new emitted h
+    joins_at l (Vacant r) s new emitted (number, between, h) = takes l r number (with_sender_at r q s) new emitted h
+    joins_at l Full s new emitted h = drops s new emitted h
 
     pub admits : (l : ℕ) (s new : AgentRecord H P) (emitted : Emitted) → CountsAndServes mac q l s emitted new → Stays s emitted new
     admits l s new emitted h = either (is_misled s.controlling q) h (λ _ k. drops s new emitted k)

@@ -24,7 +24,7 @@ use Rattle.is_stun.specs.Laws.{IsPut}
 use Rattle.is_stun.specs.Writing.{written}
 use Rattle.is_rules.specs.declared.credentials.IceCreds.{IceCreds}
 use Rattle.is_rules.specs.declared.places.RemotePlace.{RemotePlace}
-use Rattle.is_rules.specs.declared.places.RemotePlace.TheVariants.{Known, Barred, Unknown}
+use Rattle.is_rules.specs.declared.places.RemotePlace.TheVariants.{Known, Barred, Unknown, Vacant, Full}
 use Rattle.is_rules.specs.declared.roles.Conflict.{Conflict}
 use Rattle.is_rules.specs.declared.roles.Conflict.TheVariants.{Absent, Insists, Yields}
 use Rattle.is_rules.specs.declared.emitted.Issued as code
@@ -41,7 +41,7 @@ use Rattle.is_rules.specs.Queue.{request_at, first_taken}
 use Rattle.is_rules.specs.Request.{RequestRecord}
 use Rattle.is_rules.specs.Roles.{conflict_of, switched}
 use Rattle.is_rules.specs.Sending.{path_of}
-use Rattle.is_rules.specs.Serving.{is_misled, names_another, request_counted, with_sender, Drops, RecordsAndResponds, FindsOrAddsPair, AddsUnknownSender, CountsAndServes, ResolvesRoleConflictBy, ResolvesRoleConflict, Serves}
+use Rattle.is_rules.specs.Serving.{is_misled, names_another, request_counted, with_sender, with_sender_at, Drops, RecordsAndResponds, FindsOrAddsPair, AddsUnknownSender, CountsAndServes, ResolvesRoleConflictBy, ResolvesRoleConflict, Serves}
 use Rattle.is_rules.specs.Steps.{Entry, HandleTimeout, Step}
 use Rattle.is_rules.specs.Timeouts.{timeout_begun, MaintainsPairs, ServesQueued, TimesOut}
 use Rattle.is_rules.specs.Emitted.{issued_only, issued_as, reversed}
@@ -118,6 +118,8 @@ module _ {H P : Type 0} (mac : H → List ℕ → List ℕ → List ℕ) (answer
     joins_at l (Known r) s new emitted (number, between, h) = takes_at l r number s new emitted h
     joins_at l Barred s new emitted h = dropped s new emitted h
     joins_at l Unknown s new emitted (number, between, h) = takes_at l _ number (with_sender q s) new emitted h
+    joins_at l (Vacant r) s new emitted (number, between, h) = takes_at l r number (with_sender_at r q s) new emitted h
+    joins_at l Full s new emitted h = dropped s new emitted h
 
     admits : (l : ℕ) (s new : AgentRecord H P) (emitted : Emitted) → CountsAndServes mac q l s emitted new → NoCheck emitted
     admits l s new emitted h = either (is_misled s.controlling q) h (λ _ k. dropped s new emitted k) (λ _ k. joins_at l k.0 (request_counted s) new emitted k.2)

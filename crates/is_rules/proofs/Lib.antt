@@ -16,6 +16,7 @@ mod RowLaws
 pub mod RefusalLaws
 pub mod Nominations
 pub mod Frames
+pub mod Vacant
 pub mod Enrolments
 pub mod FrameLaws
 pub mod ReportLaws

@@ -25,6 +25,7 @@ use Rattle.is_rules.proofs.Passing.{Calm, Stands, Waits, begins, stands, passed,
 use Rattle.is_rules.proofs.Rounding.{calm-on, waits-on, asks}
 use Rattle.is_rules.proofs.LogParts.{no-case, run-on, starts-controlling, Halves, halves, passed as passed-at}
 use Rattle.is_rules.proofs.Announced.{announces-at}
+use Rattle.is_rules.proofs.Vacant.{keeps-remote-same}
 
 module _ {P : Type 0} where
   falls-late : (by : ℕ) (path : Path) (r : LoggedRound P) → IsRound by path r → by < r.now
@@ -51,10 +52,10 @@ module _ {H P : Type 0} where
             | inr k ↦ inr k
           ]
       between-by PollTransmit e old new s t rests is stays (given, emitted, (polled, made), drawn) =
-          inr (subst (λ (a : AgentRecord H P). Arrived mac by at behind early old a) (sym made) (refl, inl refl, spares-same by at old.timing old.next_number old.pairs))
+          inr (subst (λ (a : AgentRecord H P). Arrived mac by at behind early old a) (sym made) (refl, keeps-remote-same old.pairs old.remote old.remote refl, spares-same by at old.timing old.next_number old.pairs))
       between-by PollTimeout e old new s t (calm, last) is stays (wake, emitted, woken, drawn) = inr (asks mac answers by at behind early old new wake last woken)
       between-by PollEvent e old new s t rests is stays (given, emitted, (polled, made), drawn) =
-          inr (subst (λ (a : AgentRecord H P). Arrived mac by at behind early old a) (sym made) (refl, inl refl, spares-same by at old.timing old.next_number old.pairs))
+          inr (subst (λ (a : AgentRecord H P). Arrived mac by at behind early old a) (sym made) (refl, keeps-remote-same old.pairs old.remote old.remote refl, spares-same by at old.timing old.next_number old.pairs))
       between-by _ e old new s t rests is stays step = no-case is
 
     -- after the rounds so far the pair still waits

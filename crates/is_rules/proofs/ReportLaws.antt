@@ -21,7 +21,7 @@ use Rattle.is_rules.specs.declared.emitted.Issued.{Issued}
 use Rattle.is_rules.specs.declared.roles.Conflict.{Conflict}
 use Rattle.is_rules.specs.declared.roles.Conflict.TheVariants.{Absent, Insists, Yields}
 use Rattle.is_rules.specs.declared.places.RemotePlace.{RemotePlace}
-use Rattle.is_rules.specs.declared.places.RemotePlace.TheVariants.{Known, Barred, Unknown}
+use Rattle.is_rules.specs.declared.places.RemotePlace.TheVariants.{Known, Barred, Unknown, Vacant, Full}
 use Rattle.is_rules.specs.Emitted.{nothing_emitted}
 use Rattle.is_rules.specs.Request.{RequestRecord, request_in}
 use Rattle.is_rules.specs.Places.{local_place}
@@ -36,13 +36,13 @@ use Rattle.is_rules.specs.Remote.{AddsRemote, as_remote, with_remote}
 use Rattle.is_rules.specs.Restarting.{restarted, emptied}
 use Rattle.is_rules.specs.States.{same_state, with_state, evaluated}
 use Rattle.is_rules.specs.Nominating.{with_selection, nominated_emitted, Nominates, NominatesWhere}
-use Rattle.is_rules.specs.Serving.{pair_served, request_counted, with_sender, is_misled, names_another, RecordsAndResponds, FindsOrAddsPair, AddsUnknownSender, CountsAndServes, ResolvesRoleConflictBy, ResolvesRoleConflict, Drops, Serves}
+use Rattle.is_rules.specs.Serving.{pair_served, request_counted, with_sender, with_sender_at, is_misled, names_another, RecordsAndResponds, FindsOrAddsPair, AddsUnknownSender, CountsAndServes, ResolvesRoleConflictBy, ResolvesRoleConflict, Drops, Serves}
 use Rattle.is_rules.specs.Queue.{first_taken, request_at, queued}
 use Rattle.is_rules.specs.Answers.{TakesSuccess, TakesFailure, GivesUpRole, is_role_conflict}
-use Rattle.is_rules.specs.Accepting.{Takes, discovered_emitted, is_discovered, HandlesPacket}
+use Rattle.is_rules.specs.Accepting.{Takes, discovered_emitted, is_passed_over, HandlesPacket}
 use Rattle.is_rules.specs.Checking.{all_asked, MayCheck, ChecksTop}
 use Rattle.is_rules.specs.Timeouts.{timeout_begun, start_emitted, at_moment, is_given_up, given_up_gone, GivesUp, MaintainsPairs, ServesQueued, TimesOut}
-use Rattle.is_rules.specs.Steps.{Call, SetMtu, SetControlTieBreaker, SetMaxCandidatePairs, SetIceLite, SetTimingAdvance, SetInitialStunRto, SetMaxStunRto, SetMaxStunRetransmits, SetLocalPreference, SetControlling, SetLocalCredentials, SetRemoteCredentials, SkipPairIds, AddLocalCandidate, AddRemoteCandidate, InvalidateCandidate, RestartIce, RecreateCandidatePairs, ReceivePacket, HandleTimeout, PollTransmit, PollTimeout, PollEvent, Done, NotCalled, Entry, quiet, Becomes, Receives, Step}
+use Rattle.is_rules.specs.Steps.{Call, SetMtu, SetControlTieBreaker, SetMaxCandidatePairs, SetMaxDiscovered, SetIceLite, SetTimingAdvance, SetInitialStunRto, SetMaxStunRto, SetMaxStunRetransmits, SetLocalPreference, SetControlling, SetLocalCredentials, SetRemoteCredentials, SkipPairIds, AddLocalCandidate, AddRemoteCandidate, InvalidateCandidate, RestartIce, RecreateCandidatePairs, ReceivePacket, HandleTimeout, PollTransmit, PollTimeout, PollEvent, Done, NotCalled, Entry, quiet, Becomes, Receives, Step}
 use Rattle.is_rules.specs.Reporting.{Extends, Begins, Reports, QueuesLaw}
 use Rattle.is_rules.proofs.Frames.{either}
 use Rattle.is_rules.proofs.RefusalLaws.{mtu_kept, local_kept, remote_kept, restart_kept, recreation_kept, enrolment_kept, storing_kept}
@@ -122,6 +122,8 @@ module _ {H P : Type 0} where
     joins_grows l (Known r) s new emitted (number, between, h) = takes_grows l r number s new emitted h
     joins_grows l Barred s new emitted h = drops_grows s new emitted h
     joins_grows l Unknown s new emitted (number, between, h) = takes_grows l (length s.remote) number (with_sender q s) new emitted h
+    joins_grows l (Vacant r) s new emitted (number, between, h) = takes_grows l r number (with_sender_at r q s) new emitted h
+    joins_grows l Full s new emitted h = drops_grows s new emitted h
 
     admits_grows : (l : ℕ) (s new : AgentRecord H P) (emitted : Emitted) → CountsAndServes mac q l s emitted new → Grows s new
     admits_grows l s new emitted h = either (is_misled s.controlling q) h (λ _ k. drops_grows s new emitted k)
@@ -233,7 +235,7 @@ module _ {H P : Type 0} where
     by false = inr refl
 
   source_grows : (via : Path) (a : AgentRecord H P) → Grows a (discovered_emitted via a)
-  source_grows via a = one_more (is_discovered via a) a.events _
+  source_grows via a = one_more (is_passed_over via a) a.events _
 
   handles_grows : (mac : H → List ℕ → List ℕ → List ℕ) (now : ℕ) (old new : AgentRecord H P) (via : Path) (m : Message) (r : Result Bool IceError) (emitted : Emitted)
       → HandlesPacket mac now old via m r emitted new → Grows old new
@@ -266,6 +268,7 @@ module _ {H P : Type 0} where
     reports (SetMtu target warn) (Err error, is, h, drawn) = stays old new (mtu_kept old new target warn error h)
     reports (SetControlTieBreaker tie) h = becomes _ refl h
     reports (SetMaxCandidatePairs n) h = becomes _ refl h
+    reports (SetMaxDiscovered n) h = becomes _ refl h
     reports (SetIceLite lite) h = becomes _ refl h
     reports (SetTimingAdvance by) h = becomes _ refl h
     reports (SetInitialStunRto rto) h = becomes (with_rtos rto old.timing.max_rto.0 old) refl h

@@ -9,7 +9,7 @@ use Rattle.is_pair.specs.Pairs.{PairRecord}
 use Rattle.is_stun.specs.declared.timing.StunTiming.{StunTiming}
 use Rattle.is_rules.specs.declared.credentials.IceCreds.{IceCreds}
 use Rattle.is_rules.specs.declared.places.RemotePlace.{RemotePlace}
-use Rattle.is_rules.specs.declared.places.RemotePlace.TheVariants.{Known, Barred, Unknown}
+use Rattle.is_rules.specs.declared.places.RemotePlace.TheVariants.{Known, Barred, Unknown, Vacant, Full}
 use Rattle.is_rules.specs.declared.emitted.Issued.{Issued}
 use Rattle.is_rules.specs.declared.emitted.Path.{Path}
 use Rattle.is_rules.specs.declared.emitted.Emitted.{Emitted}
@@ -22,7 +22,7 @@ use Rattle.is_pair.specs.Bag.{is_valid_at}
 use Rattle.is_rules.specs.Forming.{formed, with_pair}
 use Rattle.is_rules.specs.Nominating.{Nominates, NominatesWhere, with_selection, nominated_emitted}
 use Rattle.is_rules.specs.Roles.{conflict_of, switched}
-use Rattle.is_rules.specs.Serving.{Drops, is_misled, names_another, pair_served, request_counted, with_sender, RecordsAndResponds, FindsOrAddsPair, AddsUnknownSender, CountsAndServes, ResolvesRoleConflictBy, ResolvesRoleConflict, Serves}
+use Rattle.is_rules.specs.Serving.{Drops, is_misled, names_another, pair_served, request_counted, with_sender, with_sender_at, RecordsAndResponds, FindsOrAddsPair, AddsUnknownSender, CountsAndServes, ResolvesRoleConflictBy, ResolvesRoleConflict, Serves}
 use Rattle.is_rules.specs.Checking.{all_asked, ChecksTop, MayCheck}
 use Rattle.is_rules.specs.Timeouts.{is_given_up, given_up_gone, GivesUp, at_moment, MaintainsPairs}
 use Rattle.is_rules.proofs.Frames.{either}
@@ -84,6 +84,8 @@ module _ {H P : Type 0} where
     joins_at l (Known r) s new emitted (number, between, h) = takes l r number s new emitted h
     joins_at l Barred s new emitted h = same s new h.1
     joins_at l Unknown s new emitted (number, between, h) = takes l (length s.remote) number (with_sender q s) new emitted h
+    joins_at l (Vacant r) s new emitted (number, between, h) = takes l r number (with_sender_at r q s) new emitted h
+    joins_at l Full s new emitted h = same s new h.1
 
     admits : (l : ℕ) (s new : AgentRecord H P) (emitted : Emitted) → CountsAndServes mac q l s emitted new → Rests s new
     admits l s new emitted h = either (is_misled s.controlling q) h (λ _ k. same s new k.1)

@@ -26,16 +26,9 @@ use Rattle.is_rules.proofs.Frames.{either}
 use Rattle.is_pair.specs.Turns.{IsPaced, due_by}
 use Rattle.is_rules.specs.Progress.{Passes, MayBeAsked, Arrival, IsMet, Round, IsSuccess, HasAnnounced, Arrives, Rounds, AnnouncesBehind, AnnouncesIn, AnsweredAnnounce}
 use Rattle.is_rules.proofs.Passing.{Calm, Stands, Waits, polled-sound, asked-sound, begins, stands, passed, pass-on, never}
-use Rattle.is_rules.proofs.Arriving.{Core, Grown, DueAlike, Held, Arrived, arrived-same, receives, spares-map}
+use Rattle.is_rules.proofs.Arriving.{Core, DueAlike, Held, Arrived, arrived-same, receives, spares-map}
 use Rattle.is_rules.proofs.Announcing.{eligible}
-
--- an element of the list stays at its index
-grown-at : (old new : List CandidateRecord) (r : ℕ) → Grown old new → r < length old → (candidate_at new r ≡ candidate_at old r) × (r < length new)
-grown-at old new r (inl e) lt = (ap (λ cs. candidate_at cs r) e, subst (λ cs. r < length cs) (sym e) lt)
-grown-at old new r (inr (c, e)) lt = (
-  ap (λ cs. candidate_at cs r) e ∙ get_or_append_left old (c ∷ []) nowhere r lt,
-  subst (λ cs. r < length cs) (sym e) (let long : length (old ++ c ∷ []) ≡ length old + length (c ∷ []) = length-append old (c ∷ []) in omega (arith, long, lt)),
-)
+use Rattle.is_rules.proofs.Vacant.{keeps-remote-same}
 
 via-to : List CandidateRecord → ℕ → CandidateRecord → Path
 via-to local l remote = record { proto = (candidate_at local l).proto; source = base_of (candidate_at local l); destination = remote.addr }
@@ -72,7 +65,7 @@ module _ {H P : Type 0} where
       waits-on n path k old new w sound (core, grown, spares) =
           let x = spares.forth w.pair w.there in
           let timing : new.timing ≡ old.timing = ap (λ (c : Core). c.timing) core in
-          let g = grown-at old.remote new.remote w.pair.remote grown w.placed in
+          let g = grown w.pair w.there w.placed in
           record {
             calm = calm-on old new w.calm sound (core, grown, spares);
             last = ap (λ (c : Core). c.last_moment) core ∙ w.last;
@@ -98,7 +91,7 @@ module _ {H P : Type 0} where
         fixed : new ≡ record old { pairs = map (asked at old.timing) old.pairs } → Arrived mac by at behind early old new
         fixed made = subst (λ (a : AgentRecord H P). Arrived mac by at behind early old a) (sym made) (
           refl,
-          inl refl,
+          keeps-remote-same old.pairs old.remote old.remote refl,
           spares-map by at old.timing old.next_number (asked at old.timing) old.pairs
               (λ p. record { matches = record { number = refl; local = refl; remote = refl; valid = refl }; checks = refl; due = refl; whenever = λ m. inr refl }),
         )

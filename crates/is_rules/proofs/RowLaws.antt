@@ -253,7 +253,7 @@ module _ {H P : Type 0} (mac : H → List ℕ → List ℕ → List ℕ) (answer
   -- the peer nominates: a peer-reflexive candidate, a nominated pair, and a response
   serves : IsPut (written (mac provider) (Some (codes "p1")) (binding_reply zero_id address_2)) (binding_reply zero_id address_2)
       → Serves mac (request zero_id) (controlled {P = P} mac provider) (issued_only path_12 class.Success zero_id) (served mac provider zero_id)
-  serves values = (Unknown, (None, (λ k below. refl), refl), (None, refl, (refl, (None, _, (refl, refl), (values, refl, refl)))))
+  serves values = (Unknown, (Unknown, (None, (λ k below. refl), refl), refl), (None, refl, (refl, (None, _, (refl, refl), (values, refl, refl)))))
 
   nominated_pair : PairRecord
   nominated_pair = record (new_pair 0 0 0 7962116751041232382) { nomination = Nominated; requests = 1; last_request = Some 0 }
@@ -293,7 +293,7 @@ module _ {H P : Type 0} (mac : H → List ℕ → List ℕ → List ℕ) (answer
   -- with a greater one: the role switches, the request is served, and the pair is nominated
   yielded : IsPut (written (mac provider) (Some (codes "p1")) (binding_reply zero_id address_2)) (binding_reply zero_id address_2)
       → Serves mac (request zero_id) (with_host {P = P} mac provider) (issued_only path_12 class.Success zero_id) (served mac provider zero_id)
-  yielded values = (Unknown, (None, (λ k below. refl), refl), (None, refl, (refl, (None, _, (refl, refl), (values, refl, refl)))))
+  yielded values = (Unknown, (Unknown, (None, (λ k below. refl), refl), refl), (None, refl, (refl, (None, _, (refl, refl), (values, refl, refl)))))
 
   -- a re-created agent in New goes to Checking, and has its pair again under a new number
   recreates : Step mac answers (with_both {P = P} mac provider) s RecreateCandidatePairs (quiet Done)
@@ -321,7 +321,7 @@ module _ {H P : Type 0} (mac : H → List ℕ → List ℕ → List ℕ) (answer
 
   lite_serves : IsPut (written (mac provider) (Some (codes "p1")) (binding_reply zero_id address_2)) (binding_reply zero_id address_2)
       → Serves mac (request zero_id) (record (controlled {P = P} mac provider) { lite = true }) (issued_only path_12 class.Success zero_id) (lite_served mac provider zero_id)
-  lite_serves values = (Unknown, (None, (λ k below. refl), refl), (None, refl, (refl, (None, _, (refl, refl), (values, refl, refl)))))
+  lite_serves values = (Unknown, (Unknown, (None, (λ k below. refl), refl), refl), (None, refl, (refl, (None, _, (refl, refl), (values, refl, refl)))))
 
   lite_pair : PairRecord
   lite_pair = record (new_pair 0 0 0 7962116751041232382) { nomination = Success; state = Succeeded; requests = 1; last_request = Some 0 }

@@ -1,6 +1,6 @@
 -- The effects of serving a request on pairs, and which path it selects.
 use Rattle.std.proofs.Common.{◌≡◌, ◌≢◌, ℕ, ◌+◌, ◌<◌, ◌&&◌, ◌||◌, Bool, true, false, not, List, [], ◌∷◌, ◌++◌, length, map, position, Option, Some, None, inl, inr, ◌⊎◌, refl, ap, sym, ◌∙◌, subst, arith, if◌then◌else◌}
-use Rattle.std.specs.Prelude.{MatchOption}
+use Rattle.std.specs.Prelude.{MatchOption, slice_set}
 use Rattle.std.proofs.lemmas.Bool.{eqb-true, eq-eqb}
 use Rattle.std.proofs.lemmas.List.{get_or_append_left, length-append}
 use Rattle.is_proto.specs.Lists.{Has}
@@ -10,7 +10,7 @@ use Rattle.is_stun.specs.Laws.{IsPut}
 use Rattle.is_rules.specs.declared.emitted.Path.{Path}
 use Rattle.is_rules.specs.declared.emitted.Emitted.{Emitted}
 use Rattle.is_rules.specs.declared.places.RemotePlace.{RemotePlace}
-use Rattle.is_rules.specs.declared.places.RemotePlace.TheVariants.{Known, Barred, Unknown}
+use Rattle.is_rules.specs.declared.places.RemotePlace.TheVariants.{Known, Barred, Unknown, Vacant, Full}
 use Rattle.is_rules.specs.Request.{RequestRecord}
 use Rattle.is_rules.specs.Places.{is_at, is_live, is_reached, is_sender, place_by, local_place, IsRemotePlace}
 use Rattle.is_rules.proofs.Addresses.{both, same_address-sound, same_protocol-sound}
@@ -34,7 +34,9 @@ use Rattle.is_rules.specs.Sending.{path_between, carried}
 use Rattle.is_rules.specs.Forming.{formed, with_pair}
 use Rattle.is_rules.specs.Nominating.{NominatesWhere}
 use Rattle.is_rules.specs.Roles.{conflict_of, switched, switched_sides, with_priority_in}
-use Rattle.is_rules.specs.Serving.{validated_by_peer, nominated_by_peer, served, with_sender, sender_candidate, request_counted, pair_served, is_misled, Drops, names_another, RecordsAndResponds, FindsOrAddsPair, AddsUnknownSender, CountsAndServes, ResolvesRoleConflictBy, ResolvesRoleConflict, Serves}
+use Rattle.is_rules.specs.Serving.{validated_by_peer, nominated_by_peer, served, with_sender, with_sender_at, sender_candidate, request_counted, pair_served, is_misled, Drops, names_another, RecordsAndResponds, FindsOrAddsPair, AddsUnknownSender, CountsAndServes, ResolvesRoleConflictBy, ResolvesRoleConflict, Serves}
+use Rattle.is_rules.specs.Limit.{is_vacant, IsSenderPlace}
+use Rattle.is_rules.proofs.Vacant.{known-in, vacant-at, off-vacant, length-put, put-here, put-elsewhere}
 use Rattle.is_rules.proofs.Frames.{Frame, either, admits, where_frame, packet_along}
 use Rattle.is_rules.proofs.Onward.{Parts, path_in, Fit, IsNominatedIn, Onward, here, onward, pushed, Has-push}
 use Rattle.is_rules.proofs.Moves.{Has-at, self_kept, Changed, unchanged, mapped, one_changed, parts_of, nominates}
@@ -208,6 +210,29 @@ module _ (asks met : Path → Type 0) (sent : Path → List ℕ → Bool → Typ
   -- ---- the rules
 
   -- a remote candidate is appended
+  pub remote_puts : (x : Parts) (r : ℕ) (c : CandidateRecord) → Fit x → is_vacant x.remote x.pairs r ≡ true → Onward asks met sent x (record x { remote = slice_set x.remote r c })
+  remote_puts x r c fit vacant = record {
+    counter = omega arith;
+    pairs = λ p has. inl (record {
+      was = p;
+      there = has;
+      number = refl;
+      path = ap (λ (y : CandidateRecord). let path : Path = record { proto = (candidate_at x.local p.local).proto; source = base_of (candidate_at x.local p.local); destination = y.addr } in path)
+          (sym (put-elsewhere x.remote r p.remote c (off-vacant x.remote x.pairs r vacant p has)));
+      checks = λ k keeps. inl (k, keeps, refl, refl);
+      valid = λ is. inl is;
+      asked = λ is. inl is;
+      still_valid = λ is. is;
+      still_nominated = λ is. is;
+    });
+    fit = record {
+      placed = λ p has. (let w = fit.placed p has in (w.0, subst (λ n. p.remote < n) (sym (length-put x.remote r c)) w.1));
+      rising = fit.rising;
+      below = fit.below;
+      started = fit.started;
+    };
+  }
+
   pub remote_joins : (x : Parts) (c : CandidateRecord) → Fit x → Onward asks met sent x (record x { remote = x.remote ++ c ∷ [] })
   remote_joins x c fit =
       let longer : length (x.remote ++ c ∷ []) ≡ length x.remote + 1 = length-append x.remote (c ∷ []) in record {
@@ -419,11 +444,25 @@ module _ (asks met : Path → Type 0) (sent : Path → List ℕ → Bool → Typ
           (λ _ k. adds_does l r s new emitted in_local in_remote fit grants k.1)
 
       joins_does : (l : ℕ) (place : RemotePlace) (s new : AgentRecord H P) (emitted : Emitted) → l < length s.local → IsHere s l → Fit (parts_of asks met sent s) → Granted s
-          → IsRemotePlace s.remote q place → AddsUnknownSender mac q l place s emitted new → Does s emitted new
+          → IsSenderPlace s q place → AddsUnknownSender mac q l place s emitted new → Does s emitted new
       joins_does l (Known r) s new emitted in_local is_here fit granted remote (number, between, h) =
-          let k = known_at s.remote q r remote in
+          let k = known_at s.remote q r (known-in s.max_discovered s.remote s.pairs q r remote) in
           takes_does l r number s new emitted in_local k.0 fit (grants_at s l r (via_back s l r is_here k.1) granted) between h
       joins_does l Barred s new emitted in_local is_here fit granted remote h = drops_does s new emitted fit h
+      joins_does l Full s new emitted in_local is_here fit granted remote h = drops_does s new emitted fit h
+      joins_does l (Vacant r) s new emitted in_local is_here fit granted remote (number, between, h) =
+          let x : Parts = parts_of asks met sent s in
+          let y : AgentRecord H P = with_sender_at r q s in
+          let c : CandidateRecord = sender_candidate s q in
+          let v = vacant-at s.max_discovered s.remote s.pairs q r remote in
+          let joins = remote_puts x r c fit v.1 in
+          let at : (candidate_at (slice_set s.remote r c) r).addr ≡ q.path.source = ap (λ (z : CandidateRecord). z.addr) (put-here s.remote r c v.0) in
+          let k = takes_does l r number y new emitted in_local (subst (λ n. r < n) (sym (length-put s.remote r c)) v.0) joins.fit
+          (grants_at y l r (via_back y l r is_here at) (record { valid = granted.valid; asking = granted.asking; free = granted.free })) between h in (
+            onward asks met sent x (parts_of asks met sent y) (parts_of asks met sent new) joins k.0,
+            tells_behind asks met sent x (parts_of asks met sent y) (parts_of asks met sent new) s.selected_pair new.selected_pair emitted.announced joins k.1,
+            k.2,
+          )
       joins_does l Unknown s new emitted in_local is_here fit granted remote (number, between, h) =
           let x : Parts = parts_of asks met sent s in
           let y : AgentRecord H P = with_sender q s in

@@ -17,7 +17,7 @@ use Rattle.is_stun.specs.declared.header.Class.TheVariants as class
 use Rattle.is_stun.specs.Message.{Message}
 use Rattle.is_rules.specs.declared.credentials.IceCreds.{IceCreds}
 use Rattle.is_rules.specs.declared.places.RemotePlace.{RemotePlace}
-use Rattle.is_rules.specs.declared.places.RemotePlace.TheVariants.{Known, Barred, Unknown}
+use Rattle.is_rules.specs.declared.places.RemotePlace.TheVariants.{Known, Barred, Unknown, Vacant, Full}
 use Rattle.is_rules.specs.declared.roles.Conflict.{Conflict}
 use Rattle.is_rules.specs.declared.roles.Conflict.TheVariants.{Absent, Insists, Yields}
 use Rattle.is_rules.specs.declared.emitted.Path.{Path}
@@ -27,6 +27,7 @@ use Rattle.is_rules.specs.Agent.{AgentRecord}
 use Rattle.is_rules.specs.Answers.{is_known_address, is_role_conflict, goes_back, keeps_check_on, mapped_candidate, local_with, mapped_learnt, success_counted, Records, TakesSuccess, GivesUpRole, TakesFailure}
 use Rattle.is_rules.specs.Exchange.{AreBetween, Course, ChecksStay}
 use Rattle.is_rules.specs.Forming.{formed, with_pair}
+use Rattle.is_rules.specs.Limit.{IsSenderPlace}
 use Rattle.is_rules.specs.Nominating.{nominated_by_self, stands_at, Nominates, NominatesWhere}
 use Rattle.is_rules.specs.Places.{local_place}
 use Rattle.is_rules.specs.Polls.{WakesFrom, is_waiting, is_idle}
@@ -34,7 +35,7 @@ use Rattle.is_rules.specs.Request.{RequestRecord, request_in}
 use Rattle.is_rules.specs.Roles.{conflict_of, switched, switched_sides, with_priority_in}
 use Rattle.is_rules.specs.Rounds.{is_between}
 use Rattle.is_rules.specs.Sending.{path_of, path_between}
-use Rattle.is_rules.specs.Serving.{served, validated_by_peer, is_misled, names_another, pair_served, request_counted, with_sender, replied, Drops, Queues, RecordsAndResponds, FindsOrAddsPair, AddsUnknownSender, CountsAndServes, ResolvesRoleConflictBy, ResolvesRoleConflict, Serves}
+use Rattle.is_rules.specs.Serving.{served, validated_by_peer, is_misled, names_another, pair_served, request_counted, with_sender, with_sender_at, sender_candidate, replied, Drops, Queues, RecordsAndResponds, FindsOrAddsPair, AddsUnknownSender, CountsAndServes, ResolvesRoleConflictBy, ResolvesRoleConflict, Serves}
 use Rattle.is_rules.specs.Sound.{IsSound, IsPlaced}
 use Rattle.is_rules.specs.Steps.{Call, Entry, ReceivePacket, PollTransmit, PollTimeout, PollEvent, Step}
 use Rattle.is_rules.proofs.Addresses.{both}
@@ -47,6 +48,7 @@ use Rattle.is_rules.proofs.Names.{any_has}
 use Rattle.is_rules.proofs.Nominations.{announced, Announces, announces}
 use Rattle.is_rules.proofs.Serves.{Has-mapped}
 use Rattle.is_rules.proofs.Tells.{some_is}
+use Rattle.is_rules.proofs.Vacant.{KeepsRemote, keeps-remote-put, vacant-at}
 
 -- ---- lists
 
@@ -160,13 +162,13 @@ module _ {H P : Type 0} where
         checks = λ id. y.checks id ∙ x.checks id;
       }
 
-  -- candidates are appended, and each pair has one that is alike
-  stays_by : (old new : AgentRecord H P) → Grown old.local new.local → Grown old.remote new.remote
+  -- the candidates of pairs stay, and each pair has one that is alike
+  stays_at : (old new : AgentRecord H P) → Grown old.local new.local → KeepsRemote old.pairs old.remote new.remote
       → ((p : PairRecord) → Has old.pairs p → (q : PairRecord) × Has new.pairs q × Alike p q) → Stays old new
-  stays_by old new local remote pairs p has (left, right) =
+  stays_at old new local remote pairs p has (left, right) =
       let k = pairs p has in
       let l = grown_at old.local new.local p.local local left in
-      let r = grown_at old.remote new.remote p.remote remote right in
+      let r = remote p has right in
       record {
         pair = k.0;
         there = k.1;
@@ -175,6 +177,11 @@ module _ {H P : Type 0} where
         remote = ap (λ i. candidate_at new.remote i) k.2.remote ∙ r.0;
         checks = k.2.checks;
       }
+
+  -- candidates are appended
+  stays_by : (old new : AgentRecord H P) → Grown old.local new.local → Grown old.remote new.remote
+      → ((p : PairRecord) → Has old.pairs p → (q : PairRecord) × Has new.pairs q × Alike p q) → Stays old new
+  stays_by old new local remote pairs = stays_at old new local (λ p has lt. grown_at old.remote new.remote p.remote remote lt) pairs
 
   stays_same : (old new : AgentRecord H P) → new ≡ old → Stays old new
   stays_same old new is = subst (λ (a : AgentRecord H P). Stays old a) (sym is) (stays_by old old (inl refl) (inl refl) (same_pairs old.pairs))
@@ -221,10 +228,16 @@ module _ {H P : Type 0} where
           (stays_by s (with_pair (formed s l r) s) (inl refl) (inl refl) (λ p has. (p, has_front s.pairs (formed s l r) p has, alike_same p)))
           (at_pair l r s.next_number (with_pair (formed s l r) s) new emitted k.1))
 
-      joins_at : (l : ℕ) (place : RemotePlace) (s new : AgentRecord H P) (emitted : Emitted) → AddsUnknownSender mac q l place s emitted new → Stays s new
-      joins_at l (Known r) s new emitted (number, between, h) = takes_at l r number s new emitted h
-      joins_at l Barred s new emitted h = stays_same s new h.1
-      joins_at l Unknown s new emitted (number, between, h) =
+      joins_at : (l : ℕ) (place : RemotePlace) (s new : AgentRecord H P) (emitted : Emitted) → IsSenderPlace s q place → AddsUnknownSender mac q l place s emitted new → Stays s new
+      joins_at l (Known r) s new emitted is (number, between, h) = takes_at l r number s new emitted h
+      joins_at l Barred s new emitted is h = stays_same s new h.1
+      joins_at l (Vacant r) s new emitted is (number, between, h) =
+          let v = vacant-at s.max_discovered s.remote s.pairs q r is in
+          stays_on s (with_sender_at r q s) new
+          (stays_at s (with_sender_at r q s) (inl refl) (keeps-remote-put s.pairs s.remote (slice_set s.remote r (sender_candidate s q)) r (sender_candidate s q) v.1 refl) (same_pairs s.pairs))
+          (takes_at l r number (with_sender_at r q s) new emitted h)
+      joins_at l Full s new emitted is h = stays_same s new h.1
+      joins_at l Unknown s new emitted is (number, between, h) =
           stays_on s (with_sender q s) new (stays_by s (with_sender q s) (inl refl) (inr (_, refl)) (same_pairs s.pairs))
           (takes_at l (length s.remote) number (with_sender q s) new emitted h)
 
@@ -232,7 +245,7 @@ module _ {H P : Type 0} where
       admitted l s new emitted h = either (is_misled s.controlling q) h
           (λ _ k. stays_same s new k.1)
           (λ _ k. stays_on s (request_counted s) new (stays_by s (request_counted s) (inl refl) (inl refl) (same_pairs s.pairs))
-          (joins_at l k.0 (request_counted s) new emitted k.2))
+          (joins_at l k.0 (request_counted s) new emitted k.1 k.2))
 
       resolves_by : (conflict : Conflict) (l : ℕ) (s new : AgentRecord H P) (emitted : Emitted) → ResolvesRoleConflictBy mac conflict q l s emitted new → Stays s new
       resolves_by Absent l s new emitted h = admitted l s new emitted h

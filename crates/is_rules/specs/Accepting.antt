@@ -1,5 +1,5 @@
 -- Which messages the agent accepts, and what it does with a packet (RFC 8445, sections 7.2.5 and 7.3).
-use Rattle.std.specs.Prelude.{◌≡◌, ℕ, ◌&&◌, Bool, true, false, List, [], ◌∷◌, ◌++◌, IfSome, IsSomeAnd, Option, Some, None, Result, Ok, Err}
+use Rattle.std.specs.Prelude.{◌≡◌, ℕ, ◌&&◌, ◌||◌, Bool, true, false, List, [], ◌∷◌, ◌++◌, IfSome, IsSomeAnd, Option, Some, None, Result, Ok, Err}
 use Rattle.std.specs.Prelude.{if◌then◌else◌}
 use Rattle.std.specs.List.{list_any}
 use Rattle.is_proto.specs.Moments.{counted}
@@ -19,6 +19,7 @@ use Rattle.is_rules.specs.declared.emitted.Emitted.{Emitted}
 use Rattle.is_rules.specs.Request.{RequestRecord, request_in}
 use Rattle.is_rules.specs.Emitted.{nothing_emitted}
 use Rattle.is_rules.specs.Agent.{AgentRecord}
+use Rattle.is_rules.specs.Limit.{newest, is_crowded}
 use Rattle.is_rules.specs.Serving.{TakesRequest, MayRefuseArrival}
 use Rattle.is_pair.specs.Bag.{keeps_check}
 use Rattle.is_rules.specs.Answers.{keeps_check_on, TakesSuccess, TakesFailure}
@@ -64,13 +65,18 @@ module _ {H P : Type 0} where
   abbrev pub is_discovered : Path → AgentRecord H P → Bool
   is_discovered path a = list_any (is_source path) a.discovered_sources
 
+  -- With a limit, a source is not announced while as many events wait to be polled.
+  abbrev pub is_passed_over : Path → AgentRecord H P → Bool
+  is_passed_over path a = is_discovered path a || is_crowded a
+
   -- A protocol and source address that was not seen since the last ICE restart is discovered: its event is emitted, and counted.
+  -- With a limit, only the newest sources are kept.
   abbrev pub discovered_emitted : Path → AgentRecord H P → AgentRecord H P
   discovered_emitted path a = record a {
-    discovered_sources = if is_discovered path a then a.discovered_sources else a.discovered_sources ++ record { proto = path.proto; address = path.source } ∷ [];
-    events = if is_discovered path a then a.events else a.events ++ DiscoveredRecv path.proto path.source ∷ [];
+    discovered_sources = if is_passed_over path a then a.discovered_sources else newest a.max_discovered (a.discovered_sources ++ record { proto = path.proto; address = path.source } ∷ []);
+    events = if is_passed_over path a then a.events else a.events ++ DiscoveredRecv path.proto path.source ∷ [];
     stats = record a.stats {
-      discovered_recv_count = if is_discovered path a then a.stats.discovered_recv_count else counted a.stats.discovered_recv_count;
+      discovered_recv_count = if is_passed_over path a then a.stats.discovered_recv_count else counted a.stats.discovered_recv_count;
     };
   }
 

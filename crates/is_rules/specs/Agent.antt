@@ -21,6 +21,8 @@ pub record AgentRecord (H P : Type 0) : Type 0 where
   pub provider : H
   pub preference : Option P
   pub max_pairs : ℕ
+  -- the limit on remote candidates that requests bring
+  pub max_discovered : Option ℕ
   pub timing : StunTiming
   pub timing_advance : ℕ
   pub lite : Bool
@@ -72,6 +74,7 @@ module _ {H P : Type 0} where
     provider = provider;
     preference = None;
     max_pairs = 100;
+    max_discovered = None;
     timing = default_timing;
     timing_advance = 50 * MILLISECOND;
     lite = false;

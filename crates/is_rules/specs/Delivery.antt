@@ -16,6 +16,7 @@ use Rattle.is_rules.specs.Answers.{keeps_check_on}
 use Rattle.is_rules.specs.Brought.{Brings}
 use Rattle.is_rules.specs.Fitting.{are_too_long}
 use Rattle.is_rules.specs.Issuing.{via_out}
+use Rattle.is_rules.specs.Limit.{HasPlaceFor}
 use Rattle.is_rules.specs.Places.{is_at, is_live}
 use Rattle.is_rules.specs.Sound.{IsSound}
 use Rattle.is_rules.specs.Steps.{Call, Entry, HandleTimeout, ReceivePacket, Step, is_refusal}
@@ -45,10 +46,12 @@ module _ {H P : Type 0} where
     pub alike : mac a.provider ≡ mac b.provider
     pub twenty : (key text : List ℕ) → length (mac a.provider key text) ≡ 20
 
-  -- The path leads to a local candidate that is not discarded, and does not begin at a discarded remote candidate.
+  -- The path leads to a local candidate that is not discarded, and does not begin at a discarded remote candidate. The limit on
+  -- candidates that requests bring does not bar its sender; without a limit nothing does.
   pub record IsReachedBy (a : AgentRecord H P) (path : Path) : Type 0 where
     pub there : list_any (is_live (receives path)) a.local ≡ true
     pub from : list_any (is_gone_at path) a.remote ≡ false
+    pub room : HasPlaceFor a path
 
   -- The transition reports this packet as issued, and appends it to the packet queue.
   pub record Sends (old : AgentRecord H P) (e : Entry) (class : Class) (id : List ℕ) (packet : Packet) (new : AgentRecord H P) : Type 0 where

@@ -9,6 +9,7 @@ pub mod Local
 pub mod Request
 pub mod RequestView
 pub mod Places
+pub mod Limit
 pub mod Each
 pub mod Forming
 pub mod FormingView

@@ -9,7 +9,7 @@ use Rattle.is_candidate.specs.Kinds.{is_direct}
 use Rattle.is_candidate.specs.Candidates.{CandidateRecord, candidate_at}
 use Rattle.is_candidate.specs.Priorities.{candidate_priority}
 use Rattle.is_rules.specs.declared.places.RemotePlace.{RemotePlace}
-use Rattle.is_rules.specs.declared.places.RemotePlace.TheVariants.{Known, Barred, Unknown}
+use Rattle.is_rules.specs.declared.places.RemotePlace.TheVariants.{Known, Barred, Unknown, Vacant, Full}
 use Rattle.is_rules.specs.Request.{RequestRecord}
 
 abbrev pub is_at : SocketAddr → Protocol → CandidateRecord → Bool
@@ -58,8 +58,10 @@ abbrev pub IsRemotePlace : List CandidateRecord → RequestRecord → RemotePlac
 IsRemotePlace remote q place =
     (live : Option ℕ) × IsGreatestPlace (is_live (is_sender q)) remote live × (place ≡ place_by live (list_any (is_sender q) remote))
 
--- the index of the remote candidate; an unknown one is appended
+-- the index of the remote candidate; an unknown one is appended, or gets a vacant index
 abbrev pub remote_index : List CandidateRecord → RemotePlace → ℕ
 remote_index remote (Known place) = place
 remote_index remote Barred = length remote
 remote_index remote Unknown = length remote
+remote_index remote (Vacant place) = place
+remote_index remote Full = length remote

@@ -1,6 +1,6 @@
 -- Serving a Binding request (RFC 8445, section 7.3). There is one definition for each rule, in the order in which they act; each
 -- ends in the next one. `s` is the state before the rule. `emitted` and `new` are what serving emits, and the state after it.
-use Rattle.std.specs.Prelude.{◌≡◌, ℕ, ◌==◌, ◌&&◌, Bool, true, false, not, List, [], ◌∷◌, ◌++◌, length, bytes_eq, Option, Some, None}
+use Rattle.std.specs.Prelude.{◌≡◌, ℕ, ◌==◌, ◌&&◌, Bool, true, false, not, List, [], ◌∷◌, ◌++◌, length, slice_set, bytes_eq, Option, Some, None}
 use Rattle.std.specs.Prelude.{is_some, MatchBool, MatchOption, if◌then◌else◌}
 use Rattle.std.specs.Option.{option_map_or}
 use Rattle.is_proto.specs.Moments.{MAX, counted}
@@ -16,7 +16,7 @@ use Rattle.is_stun.specs.Laws.{IsPut}
 use Rattle.is_stun.specs.Writing.{written}
 use Rattle.is_rules.specs.declared.credentials.IceCreds.{IceCreds}
 use Rattle.is_rules.specs.declared.places.RemotePlace.{RemotePlace}
-use Rattle.is_rules.specs.declared.places.RemotePlace.TheVariants.{Known, Barred, Unknown}
+use Rattle.is_rules.specs.declared.places.RemotePlace.TheVariants.{Known, Barred, Unknown, Vacant, Full}
 use Rattle.is_rules.specs.declared.roles.Conflict.{Conflict}
 use Rattle.is_rules.specs.declared.roles.Conflict.TheVariants.{Absent, Insists, Yields}
 use Rattle.is_rules.specs.declared.serving.Places.{Places}
@@ -26,7 +26,8 @@ use Rattle.is_rules.specs.Emitted.{nothing_emitted, issued_as, issued_only, emit
 use Rattle.is_rules.specs.Request.{RequestRecord}
 use Rattle.is_rules.specs.Agent.{AgentRecord}
 use Rattle.is_pair.specs.Bag.{change_pair, is_valid_at, IsPairBetween}
-use Rattle.is_rules.specs.Places.{local_place, IsRemotePlace, remote_index}
+use Rattle.is_rules.specs.Places.{local_place, remote_index}
+use Rattle.is_rules.specs.Limit.{IsSenderPlace}
 use Rattle.is_rules.specs.Forming.{formed, with_pair}
 use Rattle.is_rules.specs.Queue.{queued}
 use Rattle.is_rules.specs.Sending.{carried, path_between, with_packet}
@@ -62,6 +63,8 @@ abbrev pub wants_pair_at : RemotePlace → Option ℕ → Bool → Bool
 wants_pair_at Barred pair discarded = false
 wants_pair_at (Known r) pair discarded = not (is_some pair) && not discarded
 wants_pair_at Unknown pair discarded = not (is_some pair) && not discarded
+wants_pair_at (Vacant r) pair discarded = not (is_some pair) && not discarded
+wants_pair_at Full pair discarded = false
 
 module _ {H P : Type 0} where
   -- the request is dropped
@@ -88,16 +91,22 @@ module _ {H P : Type 0} where
   abbrev pub with_sender : RequestRecord → AgentRecord H P → AgentRecord H P
   with_sender q s = record s { remote = s.remote ++ sender_candidate s q ∷ [] }
 
+  -- It replaces the one at the index.
+  abbrev pub with_sender_at : ℕ → RequestRecord → AgentRecord H P → AgentRecord H P
+  with_sender_at r q s = record s { remote = slice_set s.remote r (sender_candidate s q) }
+
   abbrev pub pair_served : RequestRecord → ℕ → AgentRecord H P → AgentRecord H P
   pair_served q number s = record s { pairs = change_pair number (served s.controlling s.lite q) s.pairs }
 
   -- ---- what serving prepares
 
-  -- the candidate that serving appends
+  -- the candidate that serving adds
   abbrev pub sender_at : AgentRecord H P → RequestRecord → RemotePlace → Option CandidateRecord
   sender_at s q (Known r) = None
   sender_at s q Barred = None
   sender_at s q Unknown = Some (sender_candidate s q)
+  sender_at s q (Vacant r) = Some (sender_candidate s q)
+  sender_at s q Full = None
 
   -- ---- the rules
 
@@ -138,16 +147,18 @@ module _ {H P : Type 0} where
     abbrev pub Joins : RequestRecord → ℕ → ℕ → AgentRecord H P → Emitted → AgentRecord H P → Type 0
     Joins q l r s emitted new = (pair : Option ℕ) × IsPairBetween s.pairs l r pair × FindsOrAddsPair q l r pair s emitted new
 
-    -- An unknown sender is appended to the remote candidates. If only discarded candidates match the sender, the request is
-    -- dropped.
+    -- An unknown sender is appended to the remote candidates. At the limit it replaces a candidate that has no pair, or the
+    -- request is dropped. It is dropped too if only discarded candidates match the sender.
     abbrev pub AddsUnknownSender : RequestRecord → ℕ → RemotePlace → AgentRecord H P → Emitted → AgentRecord H P → Type 0
     AddsUnknownSender q l (Known r) s emitted new = Joins q l r s emitted new
     AddsUnknownSender q l Barred s emitted new = Drops s emitted new
     AddsUnknownSender q l Unknown s emitted new = Joins q l (length s.remote) (with_sender q s) emitted new
+    AddsUnknownSender q l (Vacant r) s emitted new = Joins q l r (with_sender_at r q s) emitted new
+    AddsUnknownSender q l Full s emitted new = Drops s emitted new
 
     -- The remote candidate is looked up.
     abbrev pub FindsSender : RequestRecord → ℕ → AgentRecord H P → Emitted → AgentRecord H P → Type 0
-    FindsSender q l s emitted new = (place : RemotePlace) × IsRemotePlace s.remote q place × AddsUnknownSender q l place s emitted new
+    FindsSender q l s emitted new = (place : RemotePlace) × IsSenderPlace s q place × AddsUnknownSender q l place s emitted new
 
     -- A controlling agent drops a request with USE-CANDIDATE, and counts any other request.
     abbrev pub CountsAndServes : RequestRecord → ℕ → AgentRecord H P → Emitted → AgentRecord H P → Type 0
@@ -186,7 +197,7 @@ module _ {H P : Type 0} where
   abbrev pub Chooses : AgentRecord H P → RequestRecord → Option Places → Type 0
   Chooses s q None = MatchBool (names_another s q) (Unit {0}) (local_place s.local q ≡ None)
   Chooses s q (Some at) =
-      (names_another s q ≡ false) × (local_place s.local q ≡ Some at.local) × IsRemotePlace s.remote q at.remote
+      (names_another s q ≡ false) × (local_place s.local q ≡ Some at.local) × IsSenderPlace s q at.remote
       × IsPairBetween s.pairs at.local (remote_index s.remote at.remote) at.pair
 
   -- A pair must be added for these candidates.

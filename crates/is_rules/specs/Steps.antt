@@ -31,6 +31,7 @@ pub data Call (P : Type 0) : Type 0 where
   SetMtu : ℕ → ℕ → Call P
   SetControlTieBreaker : ℕ → Call P
   SetMaxCandidatePairs : ℕ → Call P
+  SetMaxDiscovered : Option ℕ → Call P
   SetIceLite : Bool → Call P
   SetTimingAdvance : ℕ → Call P
   SetInitialStunRto : ℕ → Call P
@@ -136,6 +137,7 @@ module _ {H P : Type 0} (mac : H → List ℕ → List ℕ → List ℕ) (answer
   Step old s (SetMtu target warn) e new t = MayDo (SetsMtu old target warn) s e new t
   Step old s (SetControlTieBreaker tie_breaker) e new t = Becomes (record old { tie_breaker = tie_breaker }) s e new t
   Step old s (SetMaxCandidatePairs n) e new t = Becomes (record old { max_pairs = n }) s e new t
+  Step old s (SetMaxDiscovered limit) e new t = Becomes (record old { max_discovered = limit }) s e new t
   Step old s (SetIceLite lite) e new t = Becomes (record old { lite = lite }) s e new t
   Step old s (SetTimingAdvance by) e new t = Becomes (record old { timing_advance = by }) s e new t
   Step old s (SetInitialStunRto rto) e new t = Becomes (with_rtos rto old.timing.max_rto.0 old) s e new t

@@ -13,6 +13,7 @@ pub mod emitted;
 pub mod event;
 pub mod forming;
 pub mod laws;
+pub mod limit;
 pub mod local;
 pub mod nomination;
 pub mod pairs;

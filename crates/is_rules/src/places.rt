@@ -27,8 +27,12 @@ pub enum RemotePlace {
     Known(usize),
     /// Only discarded candidates have the address and the protocol.
     Barred,
-    /// No candidate has them.
+    /// No candidate has them, and the sender is appended.
     Unknown,
+    /// No candidate has them, and the limit is reached: the sender replaces the candidate at this index, which has no pair.
+    Vacant(usize),
+    /// No candidate has them, and there is no place for another one.
+    Full,
 }
 
 /// The candidate at an index.
@@ -255,7 +259,7 @@ fn knows_sender(remote: &[Candidate], request: &Request<'_>) -> bool
     remote.iter().any(|c| is_sender(request, c))
 }
 
-/// Where the request's sender is among the remote candidates.
+/// Where the request's sender is among the remote candidates, without regard to the limit.
 pub fn remote_place(remote: &[Candidate], request: &Request<'_>) -> RemotePlace
     ensures { IsRemotePlace remote.now (request_view request.now) result }
 {
@@ -266,12 +270,12 @@ pub fn remote_place(remote: &[Candidate], request: &Request<'_>) -> RemotePlace
     }
 }
 
-/// The index of the remote candidate; an unknown one is appended.
+/// The index of the remote candidate; an unknown one is appended, or gets a vacant index.
 pub fn remote_index(remote: &[Candidate], place: RemotePlace) -> usize
     ensures { result ≡ remote_index remote.now place }
 {
     match place {
-        RemotePlace::Known(place) => place,
-        RemotePlace::Barred | RemotePlace::Unknown => remote.len(),
+        RemotePlace::Known(place) | RemotePlace::Vacant(place) => place,
+        RemotePlace::Barred | RemotePlace::Unknown | RemotePlace::Full => remote.len(),
     }
 }

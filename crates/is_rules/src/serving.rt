@@ -53,7 +53,9 @@ pub fn wants_pair_at(remote: RemotePlace, pair: Option<u64>, discarded: bool) ->
     ensures { result ≡ wants_pair_at remote pair discarded }
 {
     match remote {
-        RemotePlace::Barred => false,
-        RemotePlace::Known(_) | RemotePlace::Unknown => pair.is_none() && !discarded,
+        RemotePlace::Barred | RemotePlace::Full => false,
+        RemotePlace::Known(_) | RemotePlace::Unknown | RemotePlace::Vacant(_) => {
+            pair.is_none() && !discarded
+        }
     }
 }
