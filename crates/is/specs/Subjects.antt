@@ -1,12 +1,13 @@
 -- Which function of a run makes a call.
 use Rattle.std.specs.Prelude.{Bool, true, false}
-use Rattle.is_rules.specs.Steps.{Call, SetControlTieBreaker, SetMaxCandidatePairs, SetIceLite, SetTimingAdvance, SetInitialStunRto}
+use Rattle.is_rules.specs.Steps.{Call, SetControlTieBreaker, SetMaxCandidatePairs, SetMaxDiscovered, SetIceLite, SetTimingAdvance, SetInitialStunRto}
 use Rattle.is_rules.specs.Steps.{SetMaxStunRto, SetLocalPreference, SetControlling, SkipPairIds, ReceivePacket, HandleTimeout}
 
 -- a setting that takes any value
 abbrev pub is_plain_setting : {P : Type 0} → Call P → Bool
 is_plain_setting (SetControlTieBreaker _) = true
 is_plain_setting (SetMaxCandidatePairs _) = true
+is_plain_setting (SetMaxDiscovered _) = true
 is_plain_setting (SetIceLite _) = true
 is_plain_setting (SetTimingAdvance _) = true
 is_plain_setting (SetInitialStunRto _) = true

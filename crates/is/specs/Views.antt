@@ -5,7 +5,7 @@ use Rattle.std.specs.Range.{range_inclusive_start, range_inclusive_end}
 use Rattle.is_proto.specs.Packets.{packet_of}
 use Rattle.is_rules.specs.Steps as agent
 use Rattle.is.specs.declared.calls.AgentCall.{AgentCall}
-use Rattle.is.specs.declared.calls.AgentCall.TheVariants.{SetMtu, SetControlTieBreaker, SetMaxCandidatePairs, SetIceLite, SetTimingAdvance}
+use Rattle.is.specs.declared.calls.AgentCall.TheVariants.{SetMtu, SetControlTieBreaker, SetMaxCandidatePairs, SetMaxDiscovered, SetIceLite, SetTimingAdvance}
 use Rattle.is.specs.declared.calls.AgentCall.TheVariants.{SetInitialStunRto, SetMaxStunRto, SetMaxStunRetransmits, SetLocalPreference}
 use Rattle.is.specs.declared.calls.AgentCall.TheVariants.{SetControlling, SetLocalCredentials, SetRemoteCredentials, SkipPairIds}
 use Rattle.is.specs.declared.calls.AgentCall.TheVariants.{AddLocalCandidate, AddRemoteCandidate, InvalidateCandidate, RestartIce}
@@ -20,6 +20,7 @@ abbrev pub call_view : {P : Type 0} → AgentCall P → agent.Call P
 call_view (SetMtu mtu) = agent.SetMtu (range_inclusive_start mtu) (range_inclusive_end mtu)
 call_view (SetControlTieBreaker tie_breaker) = agent.SetControlTieBreaker tie_breaker
 call_view (SetMaxCandidatePairs limit) = agent.SetMaxCandidatePairs limit
+call_view (SetMaxDiscovered limit) = agent.SetMaxDiscovered limit
 call_view (SetIceLite lite) = agent.SetIceLite lite
 call_view (SetTimingAdvance advance) = agent.SetTimingAdvance advance.0
 call_view (SetInitialStunRto rto) = agent.SetInitialStunRto rto.0

@@ -19,6 +19,8 @@ pub enum AgentCall<P> {
     SetControlTieBreaker(u64),
     /// `set_max_candidate_pairs`. Its result is `Done`.
     SetMaxCandidatePairs(usize),
+    /// `set_max_discovered`. Its result is `Done`.
+    SetMaxDiscovered(Option<usize>),
     /// `set_ice_lite`. Its result is `Done`.
     SetIceLite(bool),
     /// `set_timing_advance`. Its result is `Done`.

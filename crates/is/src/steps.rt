@@ -144,6 +144,7 @@ fn take_setting<H: Sha1HmacProvider + Drop, P: LocalPreference>(
     match call {
         AgentCall::SetControlTieBreaker(tie_breaker) => agent.set_control_tie_breaker(tie_breaker),
         AgentCall::SetMaxCandidatePairs(limit) => agent.set_max_candidate_pairs(limit),
+        AgentCall::SetMaxDiscovered(limit) => agent.set_max_discovered(limit),
         AgentCall::SetIceLite(lite) => agent.set_ice_lite(lite),
         AgentCall::SetTimingAdvance(advance) => agent.set_timing_advance(advance),
         AgentCall::SetInitialStunRto(rto) => agent.set_initial_stun_rto(rto),

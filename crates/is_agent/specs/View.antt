@@ -13,6 +13,7 @@ record_of a = record {
   provider = a.provider;
   preference = a.preference;
   max_pairs = a.max_pairs;
+  max_discovered = a.max_discovered;
   timing = a.timing;
   timing_advance = a.timing_advance.0;
   lite = a.lite;

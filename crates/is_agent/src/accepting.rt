@@ -9,6 +9,7 @@ ghost use Rattle.is_rules.specs.RequestView.{request_view, packet_path};
 ghost use Rattle.is_rules.specs.Serving.{TakesRequest, MayRefuseArrival};
 ghost use Rattle.is_rules.specs.Answers.{keeps_check_on};
 ghost use Rattle.is_agent.specs.Room.{HasNewsRoom};
+ghost use Rattle.is_rules.specs.Limit.{is_crowded};
 ghost use Rattle.is_rules.specs.Accepting.{IsAddressed, IsAcceptedAs, IsAccepted, IsAcceptedOn, Arrives, discovered_emitted, HandlesPacket};
 
 use crate::agent::Agent;
@@ -18,6 +19,7 @@ use is_rules::accepting::{Source, is_discovered, is_same};
 use is_rules::answers::keeps_any;
 use is_rules::emitted::{Emitted, Path};
 use is_rules::event::IceAgentEvent;
+use is_rules::limit::{is_below, keep_newest};
 use is_rules::request::{Request, packet_path};
 use is_stun::stun::{Class, Method, StunMessage, StunPacket};
 
@@ -89,18 +91,27 @@ impl<H: Sha1HmacProvider + Drop, P: LocalPreference> Agent<H, P> {
         }
     }
 
-    /// Emits `DiscoveredRecv` for the source of a packet, if it was not emitted for it since the last ICE restart.
+    /// As many events wait to be polled as the limit on discovered candidates allows sources.
+    fn is_crowded(&self) -> bool
+        ensures { result ≡ is_crowded (record_of self.now) }
+    {
+        !is_below(self.max_discovered, self.events.len())
+    }
+
+    /// Emits `DiscoveredRecv` for the source of a packet, if it was not emitted for it since the last ICE restart. With a
+    /// limit on discovered candidates, it is emitted only while fewer events wait to be polled.
     fn emit_discovered(&mut self, path: &Path)
         requires { HasNewsRoom 1 self.old }
         ensures { record_of self.new ≡ discovered_emitted path.now (record_of self.old) }
     {
-        if is_discovered(&self.discovered_sources, path) {
+        if is_discovered(&self.discovered_sources, path) || self.is_crowded() {
             return;
         }
         self.discovered_sources.push_reserved(Source {
             proto: path.proto,
             address: path.source,
         });
+        keep_newest(&mut self.discovered_sources, self.max_discovered);
         self.events
             .push_back_reserved(IceAgentEvent::DiscoveredRecv {
                 proto: path.proto,

@@ -39,6 +39,8 @@ pub struct Agent<H, P> {
     pub(crate) preference: Option<P>,
     /// The greatest number of pairs after forming.
     pub(crate) max_pairs: usize,
+    /// The greatest number of remote candidates that requests bring.
+    pub(crate) max_discovered: Option<usize>,
     pub(crate) timing: StunTiming,
     pub(crate) timing_advance: Duration,
     /// The agent has only host candidates, and responds to checks without sending any (RFC 8445, section 2.5).
@@ -137,6 +139,7 @@ impl<H: Sha1HmacProvider + Drop, P: LocalPreference> Agent<H, P> {
             provider,
             preference: None,
             max_pairs: DEFAULT_MAX_PAIRS,
+            max_discovered: None,
             timing: StunTiming::default(),
             timing_advance: Duration(50_000_000),
             lite: false,

@@ -31,8 +31,9 @@ use is_pair::pair::CandidatePair;
 use is_proto::{IceError, Sha1HmacProvider, Text, Transmit};
 use is_rules::emitted::{Emitted, Issued, Path};
 use is_rules::forming::pair_of;
+use is_rules::limit::sender_place;
 use is_rules::pairs::{Standing, is_valid_at, pair_between, serve_pair};
-use is_rules::places::{RemotePlace, is_discarded_at, local_place, remote_index, remote_place};
+use is_rules::places::{RemotePlace, is_discarded_at, local_place, remote_index};
 use is_rules::reply::{REPLY_LEN, write_conflict, write_reply};
 use is_rules::request::Request;
 use is_rules::roles::Conflict;
@@ -61,7 +62,7 @@ impl<H: Sha1HmacProvider + Drop, P: LocalPreference> Agent<H, P> {
             return None;
         }
         let local = local_place(&self.local, request)?;
-        let remote = remote_place(&self.remote, request);
+        let remote = sender_place(self.max_discovered, &self.remote, &self.pairs, request);
         let pair = pair_between(&self.pairs, local, remote_index(&self.remote, remote));
         Some(Places {
             local,
@@ -125,8 +126,8 @@ impl<H: Sha1HmacProvider + Drop, P: LocalPreference> Agent<H, P> {
         ensures { IfOk result (λ sender. sender ≡ sender_at (record_of self.now) (request_view request.now) place) }
     {
         match place {
-            RemotePlace::Known(_) | RemotePlace::Barred => Ok(None),
-            RemotePlace::Unknown => {
+            RemotePlace::Known(_) | RemotePlace::Barred | RemotePlace::Full => Ok(None),
+            RemotePlace::Unknown | RemotePlace::Vacant(_) => {
                 let foundation = Text::from_str(*self.remote.allocator(), TEMPORARY_FOUNDATION)?;
                 let ufrag = self.local_creds.ufrag.clone()?;
                 let source = request.path.source;
@@ -317,8 +318,9 @@ impl<H: Sha1HmacProvider + Drop, P: LocalPreference> Agent<H, P> {
         }
     }
 
-    /// An unknown sender is added as a peer-reflexive candidate (RFC 8445, section 7.3.1.3), then the pair is found or added. A
-    /// request of a sender whose candidates are all discarded is dropped.
+    /// An unknown sender is added as a peer-reflexive candidate (RFC 8445, section 7.3.1.3), then the pair is found or added. At
+    /// the limit it replaces one without a pair. A request is dropped if there is no place for its sender, or if all
+    /// candidates of its sender are discarded.
     fn add_unknown_sender(
         &mut self,
         request: &Request<'_>,
@@ -340,7 +342,11 @@ impl<H: Sha1HmacProvider + Drop, P: LocalPreference> Agent<H, P> {
                 self.remote.push_reserved(sender);
                 self.find_or_add_pair(request, at.local, r, at.pair, reply)
             }
-            (RemotePlace::Barred | RemotePlace::Unknown, _) => Emitted::nothing(),
+            (RemotePlace::Vacant(r), Some(sender)) => {
+                self.remote[r] = sender;
+                self.find_or_add_pair(request, at.local, r, at.pair, reply)
+            }
+            _ => Emitted::nothing(),
         }
     }
 

@@ -65,7 +65,7 @@ module _ {H P : Type 0} where
   abbrev pub is_discovered : Path → AgentRecord H P → Bool
   is_discovered path a = list_any (is_source path) a.discovered_sources
 
-  -- With a limit, a source is not announced while as many events wait to be polled.
+  -- With a limit, a source is not reported while as many events wait to be polled.
   abbrev pub is_passed_over : Path → AgentRecord H P → Bool
   is_passed_over path a = is_discovered path a || is_crowded a
 

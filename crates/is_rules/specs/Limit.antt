@@ -70,7 +70,7 @@ module _ {H P : Type 0} where
   abbrev pub IsSenderPlace : AgentRecord H P → RequestRecord → RemotePlace → Type 0
   IsSenderPlace a q place = IsPlaceOf a.max_discovered a.remote a.pairs q place
 
-  -- So many events wait to be polled that no source is announced.
+  -- So many events wait to be polled that no source is reported.
   abbrev pub is_crowded : AgentRecord H P → Bool
   is_crowded a = not (is_below a.max_discovered (length a.events))
 

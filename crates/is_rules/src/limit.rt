@@ -83,7 +83,7 @@ fn room(limit: Option<usize>, remote: &[Candidate], pairs: &Checklist) -> Remote
     vacancy(remote, pairs)
 }
 
-/// Where the request's sender is among the remote candidates, or the place that it gets.
+/// The place of the request's sender among the remote candidates, or the one that it gets.
 pub fn sender_place(
     limit: Option<usize>,
     remote: &[Candidate],

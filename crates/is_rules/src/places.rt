@@ -259,7 +259,7 @@ fn knows_sender(remote: &[Candidate], request: &Request<'_>) -> bool
     remote.iter().any(|c| is_sender(request, c))
 }
 
-/// Where the request's sender is among the remote candidates, without regard to the limit.
+/// The place of the request's sender among the remote candidates, without regard to the limit.
 pub fn remote_place(remote: &[Candidate], request: &Request<'_>) -> RemotePlace
     ensures { IsRemotePlace remote.now (request_view request.now) result }
 {
