@@ -6,6 +6,7 @@ mod calls;
 mod candidates;
 mod credentials;
 mod driver;
+mod limits;
 mod memory;
 mod moments;
 mod pairs;

@@ -1,0 +1,134 @@
+//! The limit on remote candidates that requests bring.
+
+use super::*;
+use is::stun::Builder;
+
+/// What happens at the limit.
+struct Limits;
+
+impl Subject for Limits {
+    fn play(&self, player: &mut Player) -> Told {
+        without_a_limit_each_sender_is_stored(player)?;
+        a_sender_past_the_limit_is_dropped(player)?;
+        a_known_sender_is_served_at_the_limit(player)?;
+        a_signaled_sender_needs_no_place(player)?;
+        a_discarded_sender_counts(player)?;
+        a_sender_without_a_pair_makes_room(player)?;
+        only_the_newest_source_is_remembered(player)?;
+        sources_wait_while_events_do(player)
+    }
+}
+
+#[test]
+fn discovered_candidates_are_limited(rt: HostRuntime) -> Result<(), Fail> {
+    tell(rt.alloc(), &Limits)
+}
+
+/// An agent at 10.0.0.1:1000 with this limit. The peer's next request is written.
+fn set_up_limited(player: &mut Player, limit: Option<usize>) -> bool {
+    let request = Builder::new()
+        .binding()
+        .request()
+        .username("near:farr")
+        .prio(100)
+        .build(TransId([1; 12]));
+    if !player.set_up_alone() || !player.expects(request, "nearpass") {
+        return false;
+    }
+    player.agent.set_max_discovered(limit);
+    true
+}
+
+/// The request comes from 10.0.0.2 and this port, and gets a response.
+fn is_served(player: &mut Player, ms: u64, port: u16) -> bool {
+    player.takes(ms, at(2, port), at(1, 1000))
+        && player.sends()
+        && player.has_sent(Class::Success, 64)
+}
+
+/// The same request is accepted, and gets none.
+fn is_dropped(player: &mut Player, ms: u64, port: u16) -> bool {
+    player.takes(ms, at(2, port), at(1, 1000)) && player.sends_nothing()
+}
+
+fn without_a_limit_each_sender_is_stored(player: &mut Player) -> Told {
+    Story("without_a_limit_each_sender_is_stored").holds(&[
+        set_up_limited(player, None),
+        is_served(player, 0, 2000) && is_served(player, 0, 2001) && is_served(player, 0, 2002),
+        player.has_heard_of(&[at(2, 2000), at(2, 2001), at(2, 2002)]),
+    ])
+}
+
+fn a_sender_past_the_limit_is_dropped(player: &mut Player) -> Told {
+    Story("a_sender_past_the_limit_is_dropped").holds(&[
+        set_up_limited(player, Some(2)),
+        is_served(player, 0, 2000) && is_served(player, 0, 2001) && is_dropped(player, 0, 2002),
+        player.has_heard_of(&[at(2, 2000), at(2, 2001)]),
+        same(player.agent.stats().bind_request_recv, 3, player),
+    ])
+}
+
+fn a_known_sender_is_served_at_the_limit(player: &mut Player) -> Told {
+    Story("a_known_sender_is_served_at_the_limit").holds(&[
+        set_up_limited(player, Some(1)),
+        is_served(player, 0, 2000) && is_dropped(player, 0, 2001) && is_served(player, 1, 2000),
+        player.has_heard_of(&[at(2, 2000)]),
+    ])
+}
+
+fn a_signaled_sender_needs_no_place(player: &mut Player) -> Told {
+    Story("a_signaled_sender_needs_no_place").holds(&[
+        set_up_limited(player, Some(0)),
+        is_dropped(player, 0, 2000) && player.hears(PEER) && is_served(player, 1, 2000),
+        is_dropped(player, 2, 2001) && player.has_heard_of(&[at(2, 2000)]),
+    ])
+}
+
+fn a_discarded_sender_counts(player: &mut Player) -> Told {
+    let sender = "candidate:1 1 udp 100 10.0.0.2 2000 typ prflx";
+    Story("a_discarded_sender_counts").holds(&[
+        set_up_limited(player, Some(2)),
+        is_served(player, 0, 2000) && is_served(player, 0, 2001) && player.loses(sender),
+        // it has no pair now, so the next sender takes its place
+        is_served(player, 1, 2002) && is_dropped(player, 1, 2003),
+        player.has_heard_of(&[at(2, 2002), at(2, 2001)]),
+    ])
+}
+
+fn a_sender_without_a_pair_makes_room(player: &mut Player) -> Told {
+    Story("a_sender_without_a_pair_makes_room").holds(&[
+        set_up_limited(player, Some(1)) && player.tries_once(),
+        is_served(player, 0, 2000) && player.checks(0) && is_dropped(player, 1, 2001),
+        // the pair is removed
+        player.timeout(22_000) && is_served(player, 22_001, 2001),
+        player.has_heard_of(&[at(2, 2001)]) && is_dropped(player, 22_002, 2000),
+    ])
+}
+
+/// The events report a packet from this port as discovered, and nothing else of packets.
+fn discovers(player: &mut Player, port: u16) -> bool {
+    match player.agent.poll_event() {
+        Some(IceAgentEvent::DiscoveredRecv { source, .. }) => source == at(2, port),
+        _ => false,
+    }
+}
+
+fn only_the_newest_source_is_remembered(player: &mut Player) -> Told {
+    Story("only_the_newest_source_is_remembered").holds(&[
+        set_up_limited(player, Some(1)),
+        is_served(player, 0, 2000) && discovers(player, 2000),
+        is_served(player, 0, 2000) && player.tells(b""),
+        is_dropped(player, 0, 2001) && discovers(player, 2001),
+        is_served(player, 0, 2000) && discovers(player, 2000) && player.tells(b""),
+    ])
+}
+
+fn sources_wait_while_events_do(player: &mut Player) -> Told {
+    Story("sources_wait_while_events_do").holds(&[
+        set_up_limited(player, Some(1)),
+        is_served(player, 0, 2000) && is_dropped(player, 0, 2001),
+        discovers(player, 2000) && player.tells(b""),
+        is_dropped(player, 0, 2001) && discovers(player, 2001),
+        same(player.agent.stats().discovered_recv_count, 2, player),
+    ])
+}
