@@ -35,6 +35,7 @@ pub mod TopLaws
 pub mod BringLaws
 pub mod Bags
 pub mod LogLaws
+pub mod BoundLaws
 pub mod PointLaws
 pub mod EffectLaws
 pub mod RoleLaws

@@ -4,6 +4,7 @@
 ghost use Rattle.is_rules.specs.Sound.{FreshIsSound};
 ghost use Rattle.is_rules.specs.Effects.{PathLaw, TradeLaw, RefusalKeeps};
 ghost use Rattle.is_rules.specs.Runs.{EntriesArePoints, RunsAreSound, AnnouncedAreAnswered, AnnouncedAreAskedFor, PointsAreTop, TakersAreValid, AskedAreNominated, RepliesAreAmong, UnacceptedChangeNothing};
+ghost use Rattle.is_rules.specs.Bounds.{LimitsBound};
 ghost use Rattle.is_rules.specs.Reporting.{QueuesLaw};
 ghost use Rattle.is_rules.specs.RoleView.{FreshIsNew, RoleLaw};
 ghost use Rattle.is_rules.specs.Progress.{AnsweredAnnounce, AnswersAnnounce, MomentsAnnounce, NoPairStarves, WakesAhead, WakesAreOfUse, WakesInTime};
@@ -51,6 +52,12 @@ pub fn trade_effect<H: Sha1HmacProvider, P: LocalPreference>()
 /// An execution from a newly created agent ends in a state that satisfies the invariant.
 pub fn runs_are_sound<H: Sha1HmacProvider, P: LocalPreference>()
     ensures { RunsAreSound H.mac P.answers }
+{}
+
+/// If a limit on what requests bring is set whenever a packet or a timeout comes, the list of remote candidates is never longer
+/// than the limit and the candidates that the caller added, and that of remembered sources is never longer than the limit.
+pub fn limits_bound<H: Sha1HmacProvider, P: LocalPreference>()
+    ensures { LimitsBound H.mac P.answers }
 {}
 
 /// Each entry of an execution's log is between two states, so what holds at each entry says something of each.
