@@ -279,6 +279,14 @@ IS_ICE_QUIET_CALL int32_t is_ice_set_tie_breaker(is_ice_agent *agent, uint64_t t
  * priority are removed. IS_ICE_OK. Value: 100. */
 IS_ICE_QUIET_CALL int32_t is_ice_set_max_pairs(is_ice_agent *agent, size_t limit);
 
+/* is_ice_set_max_discovered - limits the number of remote candidates that requests bring (RFC 8445, section 7.3.1.3),
+ * invalidated ones included. Whoever sees one request can replay it from other ports, and each port would become a
+ * candidate. At the limit an unknown sender replaces one without a pair, or its request is dropped without a response. A
+ * known sender is always served. As many sources are remembered for IS_ICE_DISCOVERED_RECV, and none is reported while
+ * that many events wait. IS_ICE_NO_LIMIT: no limit. Set it before the first packet. IS_ICE_OK. Value: 32. */
+#define IS_ICE_NO_LIMIT SIZE_MAX
+IS_ICE_QUIET_CALL int32_t is_ice_set_max_discovered(is_ice_agent *agent, size_t limit);
+
 /* is_ice_set_timing_advance - sets the pacing interval Ta (RFC 8445, section 14.2): the least time from the last
  * is_ice_handle_timeout call to the next one that is_ice_poll_timeout returns. Each is_ice_handle_timeout call sends at
  * most one packet. IS_ICE_OK. Value: 50 ms. */
