@@ -58,12 +58,24 @@ fn a_check_of_either_makes_the_roles_different(stage: &mut Stage, play: &mut Pla
     ])
 }
 
-fn the_check_or_its_refusal_is_missing(stage: &mut Stage, play: &mut Play) -> Told {
-    let comes = [deliver(2, 20, Side::B), Event::Poll(Side::B)];
-    let lost = [Event::Poll(Side::B), Event::Poll(Side::A)];
-    let clears = [Event::Do(Side::B, Step::Recreate)];
-    // B has no candidate
-    let unreached = [
+/// A does not know B, whose check it stores as an early request.
+fn unknown() -> [Event; 9] {
+    [
+        Event::Do(Side::A, Step::Host(home(Side::A))),
+        Event::Do(Side::A, Step::Peer(home(Side::B))),
+        Event::Do(Side::B, Step::Remote),
+        Event::Do(Side::B, Step::Host(home(Side::B))),
+        Event::Do(Side::B, Step::Peer(home(Side::A))),
+        Event::Do(Side::B, Step::Moment(0)),
+        Event::Poll(Side::B),
+        deliver(0, 10, Side::A),
+        Event::Poll(Side::A),
+    ]
+}
+
+/// B has no candidate.
+fn unreached() -> [Event; 8] {
+    [
         Event::Do(Side::A, Step::Remote),
         Event::Do(Side::A, Step::Host(home(Side::A))),
         Event::Do(Side::A, Step::Peer(home(Side::B))),
@@ -72,36 +84,34 @@ fn the_check_or_its_refusal_is_missing(stage: &mut Stage, play: &mut Play) -> To
         Event::Poll(Side::A),
         deliver(0, 10, Side::B),
         Event::Poll(Side::B),
-    ];
+    ]
+}
+
+/// A check of the side lacks only this, and the roles stay alike.
+fn stays_alike(
+    stage: &mut Stage,
+    play: &mut Play,
+    parts: &[&[Event]],
+    side: Side,
+    lacks: Exchange,
+) -> bool {
+    meets(stage, play, parts, side, Some(Lacks::Meets(lacks))) == Some(false)
+}
+
+fn the_check_or_its_refusal_is_missing(stage: &mut Stage, play: &mut Play) -> Told {
+    let comes = [deliver(2, 20, Side::B), Event::Poll(Side::B)];
+    let lost = [Event::Poll(Side::B), Event::Poll(Side::A)];
+    let clears = [Event::Do(Side::B, Step::Recreate)];
+    let lost: [&[Event]; 2] = [&opening(), &lost];
+    let unanswered: [&[Event]; 2] = [&opening(), &refused()];
+    let cleared: [&[Event]; 4] = [&opening(), &refused(), &clears, &comes];
+    let (a, b) = (Side::A, Side::B);
     Story("the_check_or_its_refusal_is_missing").holds(&[
-        meets(
-            stage,
-            play,
-            &[&opening(), &lost],
-            Side::B,
-            lacks_of(Exchange::Comes),
-        ) == Some(false),
-        meets(
-            stage,
-            play,
-            &[&unreached],
-            Side::A,
-            lacks_of(Exchange::Reached),
-        ) == Some(false),
-        meets(
-            stage,
-            play,
-            &[&opening(), &refused()],
-            Side::B,
-            lacks_of(Exchange::Returned),
-        ) == Some(false),
-        meets(
-            stage,
-            play,
-            &[&opening(), &refused(), &clears, &comes],
-            Side::B,
-            lacks_of(Exchange::Stays),
-        ) == Some(false),
+        stays_alike(stage, play, &lost, b, Exchange::Comes),
+        stays_alike(stage, play, &[&unknown()], b, Exchange::Know),
+        stays_alike(stage, play, &[&unreached()], a, Exchange::Reached),
+        stays_alike(stage, play, &unanswered, b, Exchange::Returned),
+        stays_alike(stage, play, &cleared, b, Exchange::Stays),
     ])
 }
 
@@ -128,8 +138,4 @@ fn the_tie_breakers_are_equal(stage: &mut Stage, play: &mut Play) -> Told {
         ),
         !play.differ_from(16),
     ])
-}
-
-fn lacks_of(exchange: Exchange) -> Option<Lacks> {
-    Some(Lacks::Meets(exchange))
 }

@@ -136,7 +136,8 @@ impl Play {
         let limit = of(side, self.limits);
         let mut next = agent_seen(self.agent(side), of(side, self.paths), now, limit);
         next.numbers = next.numbers.max(of(side, self.numbers));
-        self.numbers = with(side, self.numbers, next.numbers);
+        let numbers = with(side, self.numbers, next.numbers);
+        self.numbers = numbers;
         next.early = of(side, self.early);
         next
     }
@@ -243,10 +244,12 @@ impl Play {
             None => false,
         };
         if is_request && note.accepted && !knows {
-            self.early = with(side, self.early, early.saturating_add(1));
+            let more = with(side, self.early, early.saturating_add(1));
+            self.early = more;
         }
         if matches!(note.event, Event::Do(_, Step::Moment(_))) && note.done && knows {
-            self.early = with(side, self.early, early.saturating_sub(1));
+            let fewer = with(side, self.early, early.saturating_sub(1));
+            self.early = fewer;
         }
     }
 
@@ -260,20 +263,23 @@ impl Play {
             return false;
         };
         note.issued = entry.issued;
-        note.announced = entry.announced;
+        let announced = entry.announced;
+        note.announced = announced;
         if !self.keeps(side, entry.answer, &mut note) {
             return false;
         }
         self.counts(side, &note);
         if let Event::Do(side, Step::Checks(limit)) = event {
-            self.limits = with(side, self.limits, limit);
+            let limits = with(side, self.limits, limit);
+            self.limits = limits;
         }
         self.notes.push(note).is_ok()
     }
 
     /// Looks at both agents after all events.
     pub(super) fn ends(&mut self) -> bool {
-        self.last = [self.looks(Side::A, LATE), self.looks(Side::B, LATE)];
+        let last = [self.looks(Side::A, LATE), self.looks(Side::B, LATE)];
+        self.last = last;
         true
     }
 

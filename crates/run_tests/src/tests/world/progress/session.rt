@@ -114,7 +114,7 @@ impl Plan {
 }
 
 impl Play {
-    /// After an event of the side: it asks for its next timeout, and then sends all its packets.
+    /// After an event of the side: it calls `poll_timeout`, and then sends all its packets.
     fn loops(&mut self, plan: &mut Plan, side: Side, ms: u64) -> bool {
         if !self.acts(Event::Do(side, Step::PollWake)) {
             return false;
