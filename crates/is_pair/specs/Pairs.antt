@@ -136,6 +136,6 @@ TakesAnswer old now id new =
 abbrev pub is_recent : ℕ → ℕ → Bool
 is_recent now at = nat_lt (now - at) (15 * SECOND)
 
--- on an ICE-lite agent, a pair fails if a check from the peer arrived, but none in the last 15 s
-abbrev pub is_lite_alive : ℕ → PairRecord → Bool
-is_lite_alive now p = option_map_or (is_recent now) p.last_request true
+-- on an ICE-lite agent, a pair fails if a check from the peer arrived, but none within the timeout
+abbrev pub is_lite_alive : ℕ → StunTiming → PairRecord → Bool
+is_lite_alive now t p = option_map_or (λ at. nat_lt (now - at) t.lite_timeout.0) p.last_request true
