@@ -25,7 +25,7 @@ use Rattle.is_rules.specs.Sending.{path_of}
 use Rattle.is_rules.specs.Settings.{with_rtos}
 use Rattle.is_rules.specs.Sound.{IsSound}
 use Rattle.is_rules.specs.Staying.{Stays, IsOfDiscarded, MayEnd, PairsStay, EndsIn, PairsStayOn}
-use Rattle.is_rules.specs.Steps.{Call, SetMtu, SetControlTieBreaker, SetMaxCandidatePairs, SetMaxDiscovered, SetIceLite, SetTimingAdvance, SetInitialStunRto, SetMaxStunRto, SetMaxStunRetransmits, SetLocalPreference, SetControlling, SetLocalCredentials, SetRemoteCredentials, SkipPairIds, AddLocalCandidate, AddRemoteCandidate, InvalidateCandidate, RestartIce, RecreateCandidatePairs, ReceivePacket, HandleTimeout, PollTransmit, PollTimeout, PollEvent, Done, Flag, Entry, Receives, Step}
+use Rattle.is_rules.specs.Steps.{Call, SetMtu, SetControlTieBreaker, SetMaxCandidatePairs, SetMaxDiscovered, SetIceLite, SetTimingAdvance, SetInitialStunRto, SetMaxStunRto, SetMaxStunRetransmits, SetLiteTimeout, SetLocalPreference, SetControlling, SetLocalCredentials, SetRemoteCredentials, SkipPairIds, AddLocalCandidate, AddRemoteCandidate, InvalidateCandidate, RestartIce, RecreateCandidatePairs, ReceivePacket, HandleTimeout, PollTransmit, PollTimeout, PollEvent, Done, Flag, Entry, Receives, Step}
 use Rattle.is_rules.specs.Timeouts.{timeout_begun, is_given_up, MaintainsPairs, ServesQueued}
 use Rattle.is_rules.proofs.EffectLaws.{path_law}
 use Rattle.is_rules.proofs.Enrolments.{by_waking}
@@ -133,6 +133,7 @@ module _ {H P : Type 0} where
       lasts (SetMaxStunRetransmits n) h = either (n == 0) h
           (λ _ k. inl (as-it-was k.1))
           (λ _ k. inl (becomes _ (λ n x. x) k.1))
+      lasts (SetLiteTimeout by) (is, made, drawn) = inl (becomes _ (λ n x. x) made)
       lasts (SetLocalPreference object) (is, made, drawn) = inl (becomes _ (λ n x. x) made)
       lasts (SetControlling controlling) (is, made, drawn) = inl (becomes _ (λ n x. x) made)
       lasts (SetLocalCredentials creds) (Ok _, is, h, drawn) = inl (becomes _ (λ n x. x) h.1)
