@@ -115,6 +115,7 @@ static void introduce(struct story *s)
     QUIET(IS_ICE_OK, is_ice_set_timing_advance(&s->b, 50000000));
     QUIET(IS_ICE_OK, is_ice_set_initial_rto(&s->b, 250000000));
     QUIET(IS_ICE_OK, is_ice_set_max_rto(&s->b, UINT64_C(3000000000)));
+    QUIET(IS_ICE_OK, is_ice_set_lite_timeout(&s->b, UINT64_C(15000000000)));
     QUIET(IS_ICE_OK, is_ice_set_max_retransmits(&s->b, 9));
     QUIET(IS_ICE_OK, is_ice_set_mtu(&s->b, 1150, 1280));
     QUIET(IS_ICE_OK, is_ice_skip_pair_ids(&s->b, 0));

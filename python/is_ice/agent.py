@@ -150,6 +150,13 @@ class IceAgent:
         """Sets the longest time from one check of a pair until the next one is due. Default: 2.9 s."""
         done(self._c.is_ice_set_max_rto(self._at, in_range(nanoseconds, 64, "a time")))
 
+    def set_lite_timeout(self, nanoseconds: int) -> None:
+        """Sets how long a lite agent keeps a pair after the peer's last check on it. Default: 15 s.
+
+        A pair without any counts as checked at its first timeout. Full agents do not use it.
+        """
+        done(self._c.is_ice_set_lite_timeout(self._at, in_range(nanoseconds, 64, "a time")))
+
     def set_max_stun_retransmits(self, limit: int) -> None:
         """Sets after how many checks in a row without a response a pair is removed. BadLimit for 0. Default: 11.
 

@@ -65,6 +65,12 @@ impl IceAgent {
         self.tell("maximal RTO", |agent| ffi::is_ice_set_max_rto(agent, nanoseconds(timeout)));
     }
 
+    /// Sets how long a lite agent keeps a pair after the peer's last check on it. A pair without any counts as checked at its first
+    /// timeout. Full agents do not use it. Default: 15 s.
+    pub fn set_lite_timeout(&mut self, timeout: Duration) {
+        self.tell("lite timeout", |agent| ffi::is_ice_set_lite_timeout(agent, nanoseconds(timeout)));
+    }
+
     /// Sets after how many checks in a row without a response a pair is removed. It is not removed while the last check may still
     /// be answered in time, nor within 15 s of a check of the peer on it. Default: 11; in the original 9.
     ///

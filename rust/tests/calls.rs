@@ -153,6 +153,7 @@ fn delays_are_set() {
     agent.set_initial_stun_rto(ms(100));
     assert_eq!(agent.ice_timeout(), ms(400));
     agent.set_timing_advance(ms(20));
+    agent.set_lite_timeout(ms(30000));
     agent.set_mtu(600..=700);
     assert_eq!((agent.mtu(), agent.mtu_warn()), (600, 700));
 }
