@@ -35,8 +35,16 @@ pub mod TopLaws
 pub mod BringLaws
 pub mod Bags
 pub mod LogLaws
+pub mod PartPoints
+pub mod BoundLists
+pub mod BoundFrames
+pub mod BoundServing
+pub mod BoundLaws
 pub mod PointLaws
 pub mod EffectLaws
+pub mod Cells
+pub mod CellSteps
+pub mod CellLaws
 pub mod RoleLaws
 pub mod Wakes
 pub mod Thinning

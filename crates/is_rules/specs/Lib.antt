@@ -41,6 +41,7 @@ pub mod Points
 pub mod Effects
 pub mod Logs
 pub mod Runs
+pub mod Bounds
 pub mod Standing
 pub mod RoleView
 pub mod Progress

@@ -4,6 +4,7 @@
 ghost use Rattle.is_rules.specs.Sound.{FreshIsSound};
 ghost use Rattle.is_rules.specs.Effects.{PathLaw, TradeLaw, RefusalKeeps};
 ghost use Rattle.is_rules.specs.Runs.{EntriesArePoints, RunsAreSound, AnnouncedAreAnswered, AnnouncedAreAskedFor, PointsAreTop, TakersAreValid, AskedAreNominated, RepliesAreAmong, UnacceptedChangeNothing};
+ghost use Rattle.is_rules.specs.Bounds.{LimitsBound, LimitsPairs};
 ghost use Rattle.is_rules.specs.Reporting.{QueuesLaw};
 ghost use Rattle.is_rules.specs.RoleView.{FreshIsNew, RoleLaw};
 ghost use Rattle.is_rules.specs.Progress.{AnsweredAnnounce, AnswersAnnounce, MomentsAnnounce, NoPairStarves, WakesAhead, WakesAreOfUse, WakesInTime};
@@ -51,6 +52,17 @@ pub fn trade_effect<H: Sha1HmacProvider, P: LocalPreference>()
 /// An execution from a newly created agent ends in a state that satisfies the invariant.
 pub fn runs_are_sound<H: Sha1HmacProvider, P: LocalPreference>()
     ensures { RunsAreSound H.mac P.answers }
+{}
+
+/// If a limit on what requests bring is set whenever a packet or a timeout comes, the list of remote candidates is never longer
+/// than the limit and the candidates that the caller added, and that of remembered sources is never longer than the limit.
+pub fn limits_bound<H: Sha1HmacProvider, P: LocalPreference>()
+    ensures { LimitsBound H.mac P.answers }
+{}
+
+/// There are never more pairs than the limit on pairs, and one for each local and each remote candidate.
+pub fn limits_pairs<H: Sha1HmacProvider, P: LocalPreference>()
+    ensures { LimitsPairs H.mac P.answers }
 {}
 
 /// Each entry of an execution's log is between two states, so what holds at each entry says something of each.
