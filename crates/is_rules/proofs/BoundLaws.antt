@@ -140,12 +140,14 @@ module _ {H P : Type 0} where
     bounds (SetRemoteCredentials creds) _ h = kept (may (SetsRemote old creds) (λ k. ap (λ (a : AgentRecord H P). lists_of a) k.1) (remote_kept old new creds) h)
     bounds (SkipPairIds k) _ (is, made, drawn) = kept (ap (λ (a : AgentRecord H P). lists_of a) made)
     bounds (AddLocalCandidate c) _ (r, is, h, drawn) = kept (adds_local c r h)
-    bounds (AddRemoteCandidate c) _ h = signals c h
+    bounds (AddRemoteCandidate c) _ h =
+        λ within. let l = signals c h within in let a = l.remote in let b = l.signaled in
+        record { remote = omega (arith, a); signaled = omega (arith, b); sources = l.sources }
     bounds (InvalidateCandidate c) _ (found, is, h, drawn) = discards (place_to_discard c old.local) (place_to_discard c old.remote) found h
     bounds (RestartIce creds keep) _ h = restarts creds keep h
     bounds RecreateCandidatePairs _ h = kept (recreates h)
-    bounds (ReceivePacket now via bytes) limit (h, drawn) = lifted (received most n mac answers now old new via bytes e (limit refl) h)
-    bounds (HandleTimeout now) limit (r, emitted, is, h) = lifted (timed most n mac now old new s t r emitted (limit refl) h)
+    bounds (ReceivePacket now via bytes) limit (h, drawn) = lifted (received most n mac answers now old new via bytes e (limit (cc)) h)
+    bounds (HandleTimeout now) limit (r, emitted, is, h) = lifted (timed most n mac now old new s t r emitted (limit (cc)) h)
     bounds PollTransmit _ (given, is, (polled, made), drawn) = kept (ap (λ (a : AgentRecord H P). lists_of a) made)
     bounds PollTimeout _ (wake, is, h, drawn) = kept (by_waking old new wake h (λ made. same old new made) (λ at made. ap (λ (a : AgentRecord H P). lists_of a) made))
     bounds PollEvent _ (given, is, (polled, made), drawn) = kept (ap (λ (a : AgentRecord H P). lists_of a) made)
@@ -153,7 +155,7 @@ module _ {H P : Type 0} where
   -- ---- executions
 
   module _ (mac : H → List ℕ → List ℕ → List ℕ) (answers : P → CandidateRecord → ℕ → ℕ → Type 0) where
-    within_run : (most : ℕ) (first : AgentRecord H P) (s : Stream) (log : List (Logged P)) (last : AgentRecord H P) (t : Stream) → IsFresh first → IsLimited mac answers most first s log
+    pub within_run : (most : ℕ) (first : AgentRecord H P) (s : Stream) (log : List (Logged P)) (last : AgentRecord H P) (t : Stream) → IsFresh first → IsLimited mac answers most first s log
         → Run mac answers first s log last t → Within most (signal_count log) (lists_of last)
     within_run most first s [] last t (creds, tie, is) limited (same, drawn) =
         subst (λ (a : AgentRecord H P). Within most 0 (lists_of a)) (sym (same ∙ is)) (record { remote = omega arith; signaled = omega arith; sources = omega arith })

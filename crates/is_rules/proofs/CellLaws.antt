@@ -134,13 +134,20 @@ module _ {H P : Type 0} where
               let some = repeats-length (cells last.pairs) in
               omega (arith, formed, most, all, some)
 
-    pub limits_pairs : LimitsPairs {H = H} mac answers
-    limits_pairs first s log is_fresh limit few before mid after x point =
-        let run = run_to mac answers first s log before mid x after point in
-        let le = few_repeats limit first s (x ∷ before) after point.behind is_fresh
-        (λ b m a y p. few b m a y (deeper mac answers first s log (x ∷ before) point.rest b m y a point.split p)) run in
-        let sound : IsSound after = runs_sound mac answers (path_law mac answers) first after s point.behind (x ∷ before) is_fresh run in
-        let k = pairs-in-grid after.pairs (length after.local) (length after.remote) sound.placed in
-        along (length after.pairs) (repeats (cells after.pairs)) (length after.local * length after.remote) limit k le where
+    pub few_pairs : (limit : ℕ) (first : AgentRecord H P) (s : Stream) (log : List (Logged P)) (last : AgentRecord H P) (t : Stream) → IsFresh first → FormsFew mac answers limit first s log
+        → Run mac answers first s log last t → length last.pairs ≤ limit + length last.local * length last.remote
+    few_pairs limit first s log last t is_fresh few run =
+        let le = few_repeats limit first s log last t is_fresh few run in
+        let sound : IsSound last = runs_sound mac answers (path_law mac answers) first last s t log is_fresh run in
+        let k = pairs-in-grid last.pairs (length last.local) (length last.remote) sound.placed in
+        along (length last.pairs) (repeats (cells last.pairs)) (length last.local * length last.remote) limit k le where
           along : (a r g k : ℕ) → a ≤ r + g → r ≤ k → a ≤ k + g
           along a r g k h le = omega (arith, h, le)
+
+    pub limits_pairs : LimitsPairs {H = H} mac answers
+    limits_pairs first s log is_fresh limit few before mid after x point =
+        let most : length after.pairs ≤ limit + length after.local * length after.remote =
+        few_pairs limit first s (x ∷ before) after point.behind is_fresh
+        (λ b m a y p. few b m a y (deeper mac answers first s log (x ∷ before) point.rest b m y a point.split p))
+        (run_to mac answers first s log before mid x after point) in
+        omega (arith, most)

@@ -76,5 +76,6 @@ pub mod Mild
 pub mod MildSteps
 pub mod Reaching
 pub mod ReachLaws
+pub mod BoundedReach
 pub mod ReachedCourses
 pub mod SamePath

@@ -55,6 +55,7 @@ pub mod AskedCourses
 pub mod Staying
 pub mod Asked
 pub mod Reached
+pub mod BoundedRounds
 pub mod ReachedCourses
 pub mod Pending
 pub mod Carried

@@ -5,6 +5,7 @@ ghost use Rattle.is_rules.specs.Sound.{FreshIsSound};
 ghost use Rattle.is_rules.specs.Effects.{PathLaw, TradeLaw, RefusalKeeps};
 ghost use Rattle.is_rules.specs.Runs.{EntriesArePoints, RunsAreSound, AnnouncedAreAnswered, AnnouncedAreAskedFor, PointsAreTop, TakersAreValid, AskedAreNominated, RepliesAreAmong, UnacceptedChangeNothing};
 ghost use Rattle.is_rules.specs.Bounds.{LimitsBound, LimitsPairs};
+ghost use Rattle.is_rules.specs.BoundedRounds.{LimitsReach};
 ghost use Rattle.is_rules.specs.Reporting.{QueuesLaw};
 ghost use Rattle.is_rules.specs.RoleView.{FreshIsNew, RoleLaw};
 ghost use Rattle.is_rules.specs.Progress.{AnsweredAnnounce, AnswersAnnounce, MomentsAnnounce, NoPairStarves, WakesAhead, WakesAreOfUse, WakesInTime};
@@ -272,6 +273,14 @@ pub fn asked_are_announced<H: Sha1HmacProvider, P: LocalPreference>()
 pub fn pairs_are_reached<H: Sha1HmacProvider, P: LocalPreference>()
     ensures { PairsAreReached H.mac P.answers }
 {}
+
+/// With limits on pairs and on what requests bring, n pairs at most: a check is sent on the path of a pair that is due in one of
+/// 2n - 1 rounds, and one more for each pair that is added in them, whatever the agent receives and received before.
+pub fn limits_reach<H: Sha1HmacProvider, P: LocalPreference>()
+    ensures { LimitsReach H.mac P.answers }
+{
+    pairs_are_reached::<H, P>();
+}
 
 /// The same of an agent that shares its random source.
 pub fn courses_reach<H: Sha1HmacProvider, P: LocalPreference>()
