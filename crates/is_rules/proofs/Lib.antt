@@ -22,6 +22,7 @@ pub mod FrameLaws
 pub mod ReportLaws
 pub mod Rests
 pub mod Onward
+pub mod Removals
 pub mod Tells
 pub mod Moves
 pub mod Checks

@@ -52,6 +52,7 @@ pub mod Conflicts
 pub mod Courses
 pub mod Asking
 pub mod AskedCourses
+pub mod Removing
 pub mod Staying
 pub mod Asked
 pub mod Reached
