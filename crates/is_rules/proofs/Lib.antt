@@ -23,6 +23,7 @@ pub mod ReportLaws
 pub mod Rests
 pub mod Onward
 pub mod Removals
+pub mod Trickling
 pub mod Tells
 pub mod Moves
 pub mod Checks

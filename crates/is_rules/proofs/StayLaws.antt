@@ -53,7 +53,7 @@ is-refused (Err e) error is wrong = absurd (cc)
 module _ {H P : Type 0} where
   -- ---- a candidate is not added, or is
 
-  none-entered : (answers : P → CandidateRecord → ℕ → ℕ → Type 0) (old new : AgentRecord H P) (c : CandidateRecord) → AddsLocal answers old c (Ok None) new → new ≡ old
+  pub none-entered : (answers : P → CandidateRecord → ℕ → ℕ → Type 0) (old new : AgentRecord H P) (c : CandidateRecord) → AddsLocal answers old c (Ok None) new → new ≡ old
   none-entered answers old new c h = either (is_too_high c) h
       (λ _ k. is-refused (Ok None) _ refl k.0)
       (λ _ k. either (is_unwanted old c) k

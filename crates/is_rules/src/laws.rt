@@ -268,7 +268,8 @@ pub fn asked_are_announced<H: Sha1HmacProvider, P: LocalPreference>()
 {}
 
 /// From a newly created agent: one of n pairs is due. Then a check is sent on its path in one of 2n - 1 rounds, and one more for
-/// each pair that is added in them, unless a success response is received on the path in one of them. This holds in either role,
+/// each pair that is added in them, unless a success response is received on the path in one of them, or a candidate that is added in
+/// them may remove a pair of the path. Any candidates may be added in the rounds. This holds in either role,
 /// whatever the agent receives and nominates.
 pub fn pairs_are_reached<H: Sha1HmacProvider, P: LocalPreference>()
     ensures { PairsAreReached H.mac P.answers }
