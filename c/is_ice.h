@@ -81,7 +81,7 @@ enum {
     IS_ICE_NOT_UTF8 = -3,              /* a text is not UTF-8 */
     IS_ICE_BAD_ADDRESS = -4,           /* a family other than 4 and 6, or an unknown number of a protocol or a kind */
     IS_ICE_UNPARSED = -5,              /* not a STUN message, or one without what ICE requires of it */
-    IS_ICE_BUFFER_TOO_SHORT = -6,      /* the buffer is unchanged, and the required length was returned */
+    IS_ICE_BUFFER_TOO_SHORT = -6,      /* the buffer is unchanged; of a text or packet the required length was returned */
     IS_ICE_OUT_OF_MEMORY = -7,         /* malloc or realloc failed */
     IS_ICE_BAD_CANDIDATE = -8,         /* an address that no candidate may have, or a text that is not a candidate */
     IS_ICE_PAIR_IDS_EXHAUSTED = -9,    /* the call may form more pairs than there are pair numbers left */
@@ -89,7 +89,9 @@ enum {
     IS_ICE_CREDENTIALS_TOO_LONG = -11, /* both username fragments and a colon are longer than 508 bytes */
     IS_ICE_PRIORITY_TOO_HIGH = -12,    /* a local candidate of priority 4294967295 */
     IS_ICE_BAD_LIMIT = -13,            /* a limit of 0 retransmits */
-    IS_ICE_TOO_FEW_RANDOM_BYTES = -14  /* see the call */
+    IS_ICE_TOO_FEW_RANDOM_BYTES = -14, /* see the call */
+    IS_ICE_BAD_MESSAGE = -15,          /* see is_ice_stun_write, for this and the next */
+    IS_ICE_MESSAGE_TOO_LONG = -16
 };
 
 /* is_ice_code_text - describes a code for a message: a zero-terminated text with static lifetime. */
@@ -112,6 +114,8 @@ static inline const char *is_ice_code_text(int32_t code)
     case IS_ICE_PRIORITY_TOO_HIGH: return "candidate priority too high";
     case IS_ICE_BAD_LIMIT: return "bad limit";
     case IS_ICE_TOO_FEW_RANDOM_BYTES: return "too few random bytes";
+    case IS_ICE_BAD_MESSAGE: return "STUN message that cannot be written";
+    case IS_ICE_MESSAGE_TOO_LONG: return "STUN message or one of its texts too long";
     default: return "unknown code";
     }
 }
@@ -634,8 +638,8 @@ typedef struct is_ice_stun_number {
     bool is_set;
 } is_ice_stun_number;
 
-/* A message, except its texts, MESSAGE-INTEGRITY and FINGERPRINT. Each attribute is the last one of its type before
- * MESSAGE-INTEGRITY. An address that the message does not have is of family 0. */
+/* A message, except its texts. Each attribute is the last one of its type before MESSAGE-INTEGRITY. An address that the
+ * message does not have is of family 0. If all but method, class and ID is zero, the message has no attributes. */
 typedef struct is_ice_stun_message {
     is_ice_stun_number priority;       /* PRIORITY (RFC 8445, section 16.1) */
     is_ice_stun_number controlled;     /* the tie-breaker of ICE-CONTROLLED */
@@ -652,6 +656,8 @@ typedef struct is_ice_stun_message {
     uint16_t method;
     uint8_t cls;                       /* the class */
     bool use_candidate;                /* USE-CANDIDATE (RFC 8445, section 16.1) */
+    bool has_integrity;                /* MESSAGE-INTEGRITY (RFC 8489, section 14.5); is_ice_stun_verify verifies it */
+    bool has_fingerprint;              /* FINGERPRINT (RFC 8489, section 14.7); is_ice_stun_write always writes it */
 } is_ice_stun_message;
 
 /* is_ice_stun_read - reads a message of any method and class. Nothing is verified, and no attribute is required.
@@ -665,6 +671,43 @@ IS_ICE_CALL int32_t is_ice_stun_read(const uint8_t *bytes, size_t length, is_ice
  *
  * IS_ICE_OK: it is. IS_ICE_NOTHING: it is not. IS_ICE_UNPARSED. */
 IS_ICE_CALL int32_t is_ice_stun_verify(const uint8_t *bytes, size_t length, const uint8_t *key, size_t key_length);
+
+/* A text in the bytes that is_ice_stun_write gets: `length` bytes, from `start` on. */
+typedef struct is_ice_stun_span {
+    size_t start;
+    size_t length;
+    bool is_set; /* false: the message does not have it, and the rest is not read */
+} is_ice_stun_span;
+
+/* The texts of a message to write. All zero: it has none. Of a message that was read, is_ice_stun_text returns each. */
+typedef struct is_ice_stun_texts {
+    is_ice_stun_span username; /* 508 bytes at most; the others 128 */
+    is_ice_stun_span reason;   /* the reason phrase of ERROR-CODE: empty if it is not set; not written without a code */
+    is_ice_stun_span data;     /* any bytes, 65535 at most; the others are UTF-8 */
+    is_ice_stun_span realm;
+    is_ice_stun_span nonce;
+    is_ice_stun_span software;
+} is_ice_stun_texts;
+
+/* is_ice_stun_write - writes a message to the start of the buffer: its attributes; MESSAGE-INTEGRITY with this key, if
+ * `has_integrity` is set; and FINGERPRINT (RFC 8489, sections 5 and 14). The fields of *message mean what
+ * is_ice_stun_read says of them. Flow information and scope of addresses are not written.
+ *
+ * `texts` says where in `bytes` each text is: `is_ice_stun_texts texts = {.username = {0, 9, true}};` with the bytes
+ * "evtj:h6vY", for example. A buffer of IS_ICE_STUN_WRITE_LENGTH bytes is long enough for any message without DATA.
+ * With it the message is longer by 4 bytes and the length of DATA, rounded up to a multiple of four.
+ *
+ * IS_ICE_OK: *length is the length of the message. After an error the buffer and *length are unchanged:
+ * - IS_ICE_BAD_MESSAGE: a class or method that is not listed above, or an error code outside 300 to 699. A priority or
+ *   lifetime of more than 32 bits, or a channel number, network ID or cost of more than 16. Only one of network_id and
+ *   network_cost. A span that ends after the last byte.
+ * - IS_ICE_BAD_ADDRESS: a family other than 0, 4 and 6. IS_ICE_NOT_UTF8: a text that is set, except DATA.
+ * - IS_ICE_MESSAGE_TOO_LONG: a text is too long, or more than 65535 bytes would follow the header.
+ * - IS_ICE_BUFFER_TOO_SHORT: the message does not fit, and nothing else is wrong with it. */
+enum { IS_ICE_STUN_WRITE_LENGTH = 1228 };
+IS_ICE_CALL int32_t is_ice_stun_write(
+    const is_ice_stun_message *message, const is_ice_stun_texts *texts, const uint8_t *bytes, size_t bytes_length,
+    const uint8_t *key, size_t key_length, uint8_t *buffer, size_t size, size_t *length);
 
 #ifdef __cplusplus
 }
@@ -692,6 +735,8 @@ IS_ICE_SIZE(is_ice_stun_transaction, 12);
 IS_ICE_SIZE(is_ice_stun_result, 32);
 IS_ICE_SIZE(is_ice_stun_number, 16);
 IS_ICE_SIZE(is_ice_stun_message, 232);
+IS_ICE_SIZE(is_ice_stun_span, 24);
+IS_ICE_SIZE(is_ice_stun_texts, 144);
 #undef IS_ICE_SIZE
 #endif
 

@@ -19,4 +19,7 @@ pub mod Questions
 pub mod StunRead
 pub mod StunClient
 pub mod StunMessage
+pub mod StunTexts
+pub mod StunWrite
+pub mod StunFill
 pub mod Pairs
