@@ -227,7 +227,8 @@ impl IceAgent {
         self.ask(|agent| agent.accepts_packet(packet.proto.number(), &source, &destination, packet.message.bytes())) == ffi::OK
     }
 
-    /// Passes a received packet to the agent. Returns whether it is for this agent; if not, the agent is unchanged.
+    /// Passes a received packet to the agent. Returns whether it is for this agent; if not, the agent is unchanged. A message that was
+    /// built, or lacks what ICE requires, is for none.
     ///
     /// # Panics
     ///
@@ -235,7 +236,10 @@ impl IceAgent {
     pub fn handle_packet(&mut self, now: Instant, packet: StunPacket<'_>) -> bool {
         let now = self.time(now);
         let (source, destination) = (address_of(packet.source), address_of(packet.destination));
-        self.tell("packet", |agent| agent.handle_packet(now, packet.proto.number(), &source, &destination, packet.message.bytes()))
+        self.tell("packet", |agent| match agent.handle_packet(now, packet.proto.number(), &source, &destination, packet.message.bytes()) {
+            ffi::UNPARSED => ffi::NOTHING,
+            code => code,
+        })
     }
 
     /// Passes the current time to the agent. The first call starts the session.

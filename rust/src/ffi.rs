@@ -33,6 +33,8 @@ pub(crate) fn text_of(code: i32) -> &'static str {
         -12 => "candidate priority too high",
         -13 => "bad limit",
         -14 => "too few random bytes",
+        -15 => "STUN message that cannot be written",
+        -16 => "STUN message or one of its texts too long",
         _ => "unknown code",
     }
 }
@@ -193,6 +195,26 @@ pub(crate) struct StunMessage {
     pub(crate) method: u16,
     pub(crate) cls: u8,
     pub(crate) use_candidate: bool,
+    pub(crate) has_integrity: bool,
+    pub(crate) has_fingerprint: bool,
+}
+
+#[repr(C)]
+#[derive(Clone, Copy)]
+pub(crate) struct StunSpan {
+    pub(crate) start: usize,
+    pub(crate) length: usize,
+    pub(crate) is_set: bool,
+}
+
+#[repr(C)]
+pub(crate) struct StunTexts {
+    pub(crate) username: StunSpan,
+    pub(crate) reason: StunSpan,
+    pub(crate) data: StunSpan,
+    pub(crate) realm: StunSpan,
+    pub(crate) nonce: StunSpan,
+    pub(crate) software: StunSpan,
 }
 
 // The sizes that the header asserts, and some offsets.
@@ -204,6 +226,7 @@ const _: () = {
     assert!(size_of::<KindPreferences>() == 8 && size_of::<PreferenceTable>() == 16);
     assert!(size_of::<StunTransaction>() == 12 && size_of::<StunResult>() == 32);
     assert!(size_of::<StunNumber>() == 16 && size_of::<StunMessage>() == 232);
+    assert!(size_of::<StunSpan>() == 24 && size_of::<StunTexts>() == 144);
     assert!(std::mem::offset_of!(Agent, at) == 8 && std::mem::offset_of!(Address, flow) == 20);
     assert!(std::mem::offset_of!(Gathered, kind) == 56 && std::mem::offset_of!(Packet, length) == 56);
     assert!(std::mem::offset_of!(Event, state) == 60 && std::mem::offset_of!(Status, mtu) == 8);
@@ -298,6 +321,17 @@ unsafe extern "C" {
     fn is_ice_stun_text(attribute: u16, bytes: *const u8, bytes_length: usize, buffer: *mut u8, size: usize, length: &mut usize) -> i32;
     fn is_ice_stun_read(bytes: *const u8, length: usize, message: &mut StunMessage) -> i32;
     fn is_ice_stun_verify(bytes: *const u8, length: usize, key: *const u8, key_length: usize) -> i32;
+    fn is_ice_stun_write(
+        message: &StunMessage,
+        texts: &StunTexts,
+        bytes: *const u8,
+        bytes_length: usize,
+        key: *const u8,
+        key_length: usize,
+        buffer: *mut u8,
+        size: usize,
+        length: &mut usize,
+    ) -> i32;
 }
 
 // ---- calls with texts, datagrams and buffers
@@ -480,6 +514,15 @@ pub(crate) fn stun_verify(bytes: &[u8], key: &[u8]) -> i32 {
     // SAFETY: both are slices that are read.
     unsafe {
         is_ice_stun_verify(bytes.as_ptr(), bytes.len(), key.as_ptr(), key.len())
+    }
+}
+
+pub(crate) fn stun_write(message: &StunMessage, texts: &StunTexts, bytes: &[u8], key: &[u8], buffer: &mut [u8], length: &mut usize) -> i32 {
+    let (size, at) = (buffer.len(), buffer.as_mut_ptr());
+    #[allow(unsafe_code)]
+    // SAFETY: texts and key are slices that are read, the buffer one that is borrowed mutably.
+    unsafe {
+        is_ice_stun_write(message, texts, bytes.as_ptr(), bytes.len(), key.as_ptr(), key.len(), at, size, length)
     }
 }
 

@@ -17,7 +17,8 @@
 //! - An error that the original does not have, such as out of memory, is a panic that names it. Each method documents its panics.
 //! - A local preference is a number or a table, [`LocalPreference`], not a callback.
 //! - HMAC-SHA1 is the proved one: there is no `with_hmac`. Random bytes are read from `/dev/urandom`.
-//! - A [`stun::StunMessage`] is read and verified, and has no builder. [`stun::StunMessage::binding_query`] writes a Binding request.
+//! - [`stun::StunMessage`]: `verify` and `to_bytes` do not call the HMAC function that they get. [`stun::StunMessage::binding_query`] writes a
+//!   Binding request without credentials.
 //! - Local candidates are created by three constructors: there are no `Candidate::builder`, `from_parts` and `set_ufrag`, no serde, and no
 //!   `find_pair_for_equivalent_remote_candidate`.
 
@@ -32,6 +33,8 @@ mod preference;
 mod proto;
 mod settings;
 pub mod stun;
+mod stun_builder;
+mod stun_texts;
 
 pub use agent::IceAgent;
 pub use candidate::{Candidate, CandidateKind};
