@@ -12,9 +12,11 @@ from .errors import (
     BadAddress,
     BadCandidate,
     BadLimit,
+    BadMessage,
     CredentialsTooLong,
     HasAgent,
     IceError,
+    MessageTooLong,
     MtuTooSmall,
     NoAgent,
     NotUtf8,
@@ -40,9 +42,9 @@ from .events import (
 )
 
 __all__ = [
-    "AddResult", "BadAddress", "BadCandidate", "BadLimit", "Candidate", "CandidateKind", "CandidatePair",
+    "AddResult", "BadAddress", "BadCandidate", "BadLimit", "BadMessage", "Candidate", "CandidateKind", "CandidatePair",
     "CheckState", "CredentialsTooLong", "DiscoveredRecv", "HasAgent", "IceAgent", "IceAgentEvent", "IceAgentStats", "IceConnectionState", "IceConnectionStateChange",
-    "IceCreds", "IceError", "IceRestart", "KindPreferences", "MtuTooSmall", "NoAgent", "NominatedPair", "NominatedSend",
+    "IceCreds", "IceError", "IceRestart", "KindPreferences", "MessageTooLong", "MtuTooSmall", "NoAgent", "NominatedPair", "NominatedSend",
     "NotUtf8", "OutOfMemory", "PairIdsExhausted", "PriorityTooHigh", "Protocol", "SocketAddress", "TooFewRandomBytes",
     "Transmit", "Unparsed", "has_mdns_name", "line_refusal", "new_creds",
 ]

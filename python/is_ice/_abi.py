@@ -14,6 +14,7 @@ TIMEOUT_RANDOM = 12
 UFRAG_LENGTH = 16
 PASS_LENGTH = 22
 STUN_REQUEST_LENGTH = 28
+STUN_WRITE_LENGTH = 1228
 
 
 class Agent(ctypes.Structure):
@@ -147,12 +148,27 @@ class StunMessage(ctypes.Structure):
         ("method", c_uint16),
         ("cls", c_uint8),
         ("use_candidate", c_bool),
+        ("has_integrity", c_bool),
+        ("has_fingerprint", c_bool),
     ]
+
+
+class StunSpan(ctypes.Structure):
+    """is_ice_stun_span."""
+
+    _fields_ = [("start", c_size_t), ("length", c_size_t), ("is_set", c_bool)]
+
+
+class StunTexts(ctypes.Structure):
+    """is_ice_stun_texts."""
+
+    _fields_ = [(name, StunSpan) for name in ("username", "reason", "data", "realm", "nonce", "software")]
 
 
 # The sizes of the structs that c/is_ice.h asserts.
 SIZES = {Agent: 16, Address: 28, Candidate: 60, Packet: 72, Event: 68, Status: 32, Stats: 40, Nominated: 32, Pair: 80,
-         KindPreferences: 8, PreferenceTable: 16, StunTransaction: 12, StunResult: 32, StunNumber: 16, StunMessage: 232}
+         KindPreferences: 8, PreferenceTable: 16, StunTransaction: 12, StunResult: 32, StunNumber: 16, StunMessage: 232,
+         StunSpan: 24, StunTexts: 144}
 
 _AGENT = POINTER(Agent)
 _BYTES = [c_char_p, c_size_t]
@@ -211,6 +227,7 @@ PROTOTYPES: dict[str, list[object]] = {
     "is_ice_stun_text": [c_uint16, *_BYTES, *_TEXT],
     "is_ice_stun_read": [*_BYTES, POINTER(StunMessage)],
     "is_ice_stun_verify": [*_BYTES, *_BYTES],
+    "is_ice_stun_write": [POINTER(StunMessage), POINTER(StunTexts), *_BYTES, *_BYTES, *_TEXT],
 }
 
 
