@@ -315,6 +315,25 @@ IS_ICE_QUIET_CALL int32_t is_ice_set_tie_breaker(is_ice_agent *agent, uint64_t t
  * priority are removed. IS_ICE_OK. Value: 100. */
 IS_ICE_QUIET_CALL int32_t is_ice_set_max_pairs(is_ice_agent *agent, size_t limit);
 
+/* No limit: see is_ice_set_max_discovered. */
+#define IS_ICE_NO_LIMIT ((size_t)-1)
+
+/* is_ice_set_max_discovered - limits how many remote candidates requests bring: the peer-reflexive ones (RFC 8445, section
+ * 7.3.1.3), invalidated ones included.
+ *
+ * It is against this attack: whoever sees one request of the other agent on the wire can send it again from other
+ * addresses and ports, without a password. Each of them would become a candidate with a pair, whose checks cost memory,
+ * time and turns of the pacing interval.
+ *
+ * At the limit an unknown sender takes the place of such a candidate whose pair was removed. If there is none, its request
+ * is dropped without a response. Known senders are always served, and those that is_ice_add_remote added do not count. The
+ * limit also bounds how many sources are remembered for IS_ICE_DISCOVERED_RECV; while as many events wait to be polled, no
+ * further source is reported. With 0 no request brings a candidate.
+ *
+ * IS_ICE_NO_LIMIT: each sender becomes a candidate. Set the limit before the first packet: a lower one removes no candidate.
+ * IS_ICE_OK. Value: 32. */
+IS_ICE_QUIET_CALL int32_t is_ice_set_max_discovered(is_ice_agent *agent, size_t limit);
+
 /* is_ice_set_timing_advance - sets the pacing interval Ta (RFC 8445, section 14.2): the least time from the last
  * is_ice_handle_timeout call to the next one that is_ice_poll_timeout returns. Each is_ice_handle_timeout call sends at
  * most one packet. IS_ICE_OK. Value: 50 ms. */

@@ -186,6 +186,7 @@ PROTOTYPES: dict[str, list[object]] = {
     "is_ice_set_lite_timeout": [_AGENT, c_uint64],
     "is_ice_set_tie_breaker": [_AGENT, c_uint64],
     "is_ice_set_max_pairs": [_AGENT, c_size_t],
+    "is_ice_set_max_discovered": [_AGENT, c_size_t],
     "is_ice_set_timing_advance": [_AGENT, c_uint64],
     "is_ice_set_initial_rto": [_AGENT, c_uint64],
     "is_ice_set_max_rto": [_AGENT, c_uint64],

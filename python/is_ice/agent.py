@@ -138,6 +138,16 @@ class IceAgent:
         """Limits the number of pairs, when pairs are next formed. Default: 100."""
         done(self._c.is_ice_set_max_pairs(self._at, in_range(limit, 64, "a limit")))
 
+    def set_max_discovered(self, limit: int | None) -> None:
+        """Limits how many remote candidates requests may bring, invalidated ones included. Default: 32. None: no limit, as in the original.
+
+        Whoever sees one request can replay it from other ports, and each port would become a candidate. At the limit an unknown
+        sender replaces one without a pair, or its request is dropped without a response. Known and signaled senders are always
+        served. Set the limit before the first packet.
+        """
+        most = (1 << 64) - 1 if limit is None else in_range(limit, 64, "a limit")
+        done(self._c.is_ice_set_max_discovered(self._at, most))
+
     def set_timing_advance(self, nanoseconds: int) -> None:
         """Sets the pacing interval Ta: the least time between two timeouts, each of which sends at most one packet. Default: 50 ms."""
         done(self._c.is_ice_set_timing_advance(self._at, in_range(nanoseconds, 64, "a time")))

@@ -244,6 +244,7 @@ unsafe extern "C" {
     pub(crate) safe fn is_ice_set_lite_timeout(agent: &mut Agent, nanoseconds: u64) -> i32;
     pub(crate) safe fn is_ice_set_tie_breaker(agent: &mut Agent, tie_breaker: u64) -> i32;
     pub(crate) safe fn is_ice_set_max_pairs(agent: &mut Agent, limit: usize) -> i32;
+    pub(crate) safe fn is_ice_set_max_discovered(agent: &mut Agent, limit: usize) -> i32;
     pub(crate) safe fn is_ice_set_timing_advance(agent: &mut Agent, nanoseconds: u64) -> i32;
     pub(crate) safe fn is_ice_set_initial_rto(agent: &mut Agent, nanoseconds: u64) -> i32;
     pub(crate) safe fn is_ice_set_max_rto(agent: &mut Agent, nanoseconds: u64) -> i32;

@@ -7,6 +7,7 @@ pub mod Texts
 pub mod Preferences
 pub mod Candidates
 pub mod Held
+pub mod Limits
 pub mod Given
 pub mod Adding
 pub mod Refusals
