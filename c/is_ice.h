@@ -79,7 +79,7 @@ enum {
     IS_ICE_NO_AGENT = -1,              /* the is_ice_agent holds no agent */
     IS_ICE_HAS_AGENT = -2,             /* the is_ice_agent holds one already */
     IS_ICE_NOT_UTF8 = -3,              /* a text is not UTF-8 */
-    IS_ICE_BAD_ADDRESS = -4,           /* a family other than 4 and 6, or an unknown number of a protocol or a kind */
+    IS_ICE_BAD_ADDRESS = -4,           /* a family other than 4 and 6, or an unknown number of a protocol, a kind or a TCP type */
     IS_ICE_UNPARSED = -5,              /* not a STUN message, or one without what ICE requires of it */
     IS_ICE_BUFFER_TOO_SHORT = -6,      /* the buffer is unchanged; of a text or packet the required length was returned */
     IS_ICE_OUT_OF_MEMORY = -7,         /* malloc or realloc failed */
@@ -122,7 +122,7 @@ static inline const char *is_ice_code_text(int32_t code)
 
 /* is_ice_version - returns the version of the library's interface. It equals IS_ICE_VERSION if this header belongs to
  * the library. It increases with each change of a name, an argument, a struct or a code. Does not allocate. */
-#define IS_ICE_VERSION 2
+#define IS_ICE_VERSION 3
 uint32_t is_ice_version(void);
 
 /* ---- types */
@@ -148,6 +148,9 @@ typedef struct is_ice_address {
 /* Kinds of candidates that a caller gathers (RFC 8445, section 5.1.1). */
 enum { IS_ICE_HOST = 0, IS_ICE_SERVER_REFLEXIVE = 1, IS_ICE_RELAYED = 2 };
 
+/* TCP types: which side opens the connection of a TCP candidate (RFC 6544, section 4.5). */
+enum { IS_ICE_TCP_UNSTATED = 0, IS_ICE_TCP_ACTIVE = 1, IS_ICE_TCP_PASSIVE = 2, IS_ICE_TCP_SO = 3 };
+
 /* A candidate that the caller gathered. Packets of a relayed candidate come out with its address as source: the caller
  * sends them through the TURN server. What the server relays goes to is_ice_handle_packet, with its address as
  * destination. docs/GUIDE.md says what to write. */
@@ -156,6 +159,7 @@ typedef struct is_ice_candidate {
     is_ice_address base;    /* server-reflexive: of the local socket; relayed: the local address; host: not read */
     uint8_t kind;
     uint8_t protocol;
+    uint8_t tcptype;        /* IS_ICE_TCP_UNSTATED over UDP */
 } is_ice_candidate;
 
 /* A packet to send: one STUN message, whose bytes are in the caller's buffer. */
@@ -231,6 +235,8 @@ typedef struct is_ice_pair {
     size_t local;           /* the index of its local candidate: see is_ice_local_candidate */
     size_t remote;          /* the index of its remote candidate: see is_ice_remote_candidate */
     uint64_t priority;      /* RFC 8445, section 6.1.2.3 */
+    uint64_t checks_sent;   /* the number of checks that were sent on it */
+    uint64_t requests_received; /* the number of checks of the other agent that arrived on it */
     uint64_t responses;     /* the number of responses to its checks */
     uint64_t total_rtt;     /* the sum of the round-trip times of its checks */
     uint64_t rtt;           /* the last round-trip time, if has_rtt */
@@ -400,9 +406,9 @@ IS_ICE_CALL int32_t is_ice_set_remote_credentials(
  * IS_ICE_OK: added; *index is its index, at which is_ice_local_candidate returns its text. IS_ICE_NOTHING: it is
  * redundant, or the agent is lite and it is not a host candidate; *index is the index of the first local candidate that
  * has its address, base and protocol, or IS_ICE_NO_INDEX. After an error *index is unchanged. IS_ICE_BAD_ADDRESS: an
- * unknown family, kind or protocol. IS_ICE_BAD_CANDIDATE: an address that no candidate may have, or address and base of
- * two IP versions (is_ice_candidate_refusal says which). IS_ICE_PRIORITY_TOO_HIGH. IS_ICE_PAIR_IDS_EXHAUSTED.
- * IS_ICE_OUT_OF_MEMORY. */
+ * unknown family, kind, protocol or TCP type, or a TCP type over UDP. IS_ICE_BAD_CANDIDATE: an address that no candidate
+ * may have, or address and base of two IP versions (is_ice_candidate_refusal says which). IS_ICE_PRIORITY_TOO_HIGH.
+ * IS_ICE_PAIR_IDS_EXHAUSTED. IS_ICE_OUT_OF_MEMORY. */
 IS_ICE_CALL int32_t is_ice_add_local(is_ice_agent *agent, const is_ice_candidate *candidate, size_t *index);
 
 /* is_ice_add_remote - adds a candidate of the other agent, by its text, and forms its pairs.
@@ -460,6 +466,59 @@ IS_ICE_CALL int32_t is_ice_line_refusal(
  * On any thread. */
 IS_ICE_CALL int32_t is_ice_candidate_refusal(
     const is_ice_candidate *candidate, uint8_t *buffer, size_t size, size_t *length);
+
+/* ---- candidates without an agent: their texts and their JSON. On any thread. After an error or IS_ICE_NOTHING the buffer is
+ * unchanged. */
+
+/* is_ice_candidate_line - returns the text of a candidate that no agent has: with the priority of a first candidate of its
+ * kind (RFC 8445, section 5.1.2.1), and without a username fragment. An agent may list another priority.
+ *
+ * IS_ICE_OK. IS_ICE_BAD_ADDRESS, IS_ICE_BAD_CANDIDATE: see is_ice_add_local. IS_ICE_BUFFER_TOO_SHORT. IS_ICE_OUT_OF_MEMORY. */
+IS_ICE_CALL int32_t is_ice_candidate_line(
+    const is_ice_candidate *candidate, uint8_t *buffer, size_t size, size_t *length);
+
+/* is_ice_line_with_ufrag - returns the text of a candidate again, with this username fragment in place of its own: so that
+ * is_ice_add_remote can leave out candidates of an earlier session. The fragment has letters, digits, '+' and '/' (RFC 8839,
+ * section 5.4), which the call does not check. Unknown extensions are left out.
+ *
+ * IS_ICE_OK. IS_ICE_NOT_UTF8. IS_ICE_BAD_CANDIDATE. IS_ICE_BUFFER_TOO_SHORT. IS_ICE_OUT_OF_MEMORY. */
+IS_ICE_CALL int32_t is_ice_line_with_ufrag(
+    const uint8_t *line, size_t line_length, const uint8_t *ufrag, size_t ufrag_length, uint8_t *buffer, size_t size,
+    size_t *length);
+
+/* is_ice_line_to_json - returns the JSON in which browsers signal a candidate, the RTCIceCandidateInit of W3C WebRTC:
+ * {"candidate":"candidate:..","sdpMLineIndex":0,"sdpMid":null,"usernameFragment":..}. The last member is the username
+ * fragment of the candidate, or null.
+ *
+ * IS_ICE_OK. IS_ICE_NOT_UTF8. IS_ICE_BAD_CANDIDATE. IS_ICE_BUFFER_TOO_SHORT. IS_ICE_OUT_OF_MEMORY. */
+IS_ICE_CALL int32_t is_ice_line_to_json(
+    const uint8_t *line, size_t line_length, uint8_t *buffer, size_t size, size_t *length);
+
+/* is_ice_line_from_json - returns the text of the candidate in such JSON, for is_ice_add_remote. A usernameFragment that is
+ * a string replaces that of the candidate. Other members are not read: with several media sections, compare sdpMid or
+ * sdpMLineIndex yourself. The end of candidates, which has an empty `candidate`, is IS_ICE_BAD_CANDIDATE.
+ *
+ * IS_ICE_OK. IS_ICE_NOT_UTF8. IS_ICE_BAD_CANDIDATE: not JSON, no object, without a candidate, or with one that is not one
+ * (is_ice_json_refusal says which). IS_ICE_BUFFER_TOO_SHORT. IS_ICE_OUT_OF_MEMORY. */
+IS_ICE_CALL int32_t is_ice_line_from_json(
+    const uint8_t *json, size_t json_length, uint8_t *buffer, size_t size, size_t *length);
+
+/* is_ice_json_refusal - says why JSON is not a candidate.
+ *
+ * IS_ICE_OK: it is not, and the explanation is at the start of the buffer. IS_ICE_NOTHING: it is a candidate.
+ * IS_ICE_NOT_UTF8. IS_ICE_BUFFER_TOO_SHORT. IS_ICE_OUT_OF_MEMORY. */
+IS_ICE_CALL int32_t is_ice_json_refusal(
+    const uint8_t *json, size_t json_length, uint8_t *buffer, size_t size, size_t *length);
+
+/* is_ice_candidate_preference, is_ice_line_preference - return the default local preference of a candidate that comes after
+ * `same_kind` local candidates of its kind and IP version: for a table of your own that changes the default one.
+ *
+ * IS_ICE_OK: 0 to 65535. Else *preference is unchanged. IS_ICE_BAD_ADDRESS (the first), IS_ICE_NOT_UTF8 (the second),
+ * IS_ICE_BAD_CANDIDATE, IS_ICE_OUT_OF_MEMORY. */
+IS_ICE_CALL int32_t is_ice_candidate_preference(
+    const is_ice_candidate *candidate, size_t same_kind, uint32_t *preference);
+IS_ICE_CALL int32_t is_ice_line_preference(
+    const uint8_t *line, size_t line_length, size_t same_kind, uint32_t *preference);
 
 /* ---- packets, events and timeouts */
 
@@ -563,6 +622,13 @@ IS_ICE_CALL int32_t is_ice_pair_count(is_ice_agent *agent, size_t *count);
  *
  * IS_ICE_OK. IS_ICE_NOTHING: the index is past the last one; *pair is unchanged. */
 IS_ICE_CALL int32_t is_ice_pair_at(is_ice_agent *agent, size_t index, is_ice_pair *pair);
+
+/* is_ice_find_pair - returns a pair whose remote candidate equals the candidate of this text in address, base, protocol,
+ * kind and related address: one of the greatest priority. This query allocates.
+ *
+ * IS_ICE_OK. After the others *pair is unchanged. IS_ICE_NOTHING: there is none. IS_ICE_NOT_UTF8. IS_ICE_BAD_CANDIDATE.
+ * IS_ICE_OUT_OF_MEMORY. */
+IS_ICE_CALL int32_t is_ice_find_pair(is_ice_agent *agent, const uint8_t *line, size_t length, is_ice_pair *pair);
 
 /* is_ice_has_viable_remote - returns whether there is a valid pair whose remote candidate has this address. A pair
  * becomes valid when one of its checks succeeds; under lite, when a check of the other agent arrives on it.
@@ -747,7 +813,7 @@ IS_ICE_SIZE(is_ice_event, 68);
 IS_ICE_SIZE(is_ice_agent_status, 32);
 IS_ICE_SIZE(is_ice_agent_stats, 40);
 IS_ICE_SIZE(is_ice_nominated_pair, 32);
-IS_ICE_SIZE(is_ice_pair, 80);
+IS_ICE_SIZE(is_ice_pair, 96);
 IS_ICE_SIZE(is_ice_kind_preferences, 8);
 IS_ICE_SIZE(is_ice_preference_table, 16);
 IS_ICE_SIZE(is_ice_stun_transaction, 12);

@@ -57,8 +57,8 @@ struct story {
     uint8_t random[IS_ICE_CREDENTIALS_RANDOM];
 };
 
-static const is_ice_candidate host_a = {{4, {10, 0, 0, 1}, 1000, 0, 0}, {4, {10, 0, 0, 1}, 1000, 0, 0}, IS_ICE_HOST, IS_ICE_UDP};
-static const is_ice_candidate host_b = {{4, {10, 0, 0, 2}, 2000, 0, 0}, {4, {10, 0, 0, 2}, 2000, 0, 0}, IS_ICE_HOST, IS_ICE_UDP};
+static const is_ice_candidate host_a = {{4, {10, 0, 0, 1}, 1000, 0, 0}, {4, {10, 0, 0, 1}, 1000, 0, 0}, IS_ICE_HOST, IS_ICE_UDP, 0};
+static const is_ice_candidate host_b = {{4, {10, 0, 0, 2}, 2000, 0, 0}, {4, {10, 0, 0, 2}, 2000, 0, 0}, IS_ICE_HOST, IS_ICE_UDP, 0};
 
 static void add(struct story *s, const void *bytes, size_t length)
 {

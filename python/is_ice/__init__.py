@@ -6,8 +6,17 @@ over UDP sockets.
 """
 
 from .address import Protocol, SocketAddress
-from .agent import IceAgent, line_refusal, new_creds
-from .candidate import AddResult, Candidate, CandidateKind, KindPreferences, has_mdns_name
+from .agent import (
+    IceAgent,
+    candidate_line,
+    default_local_preference,
+    line_from_json,
+    line_refusal,
+    line_to_json,
+    line_with_ufrag,
+    new_creds,
+)
+from .candidate import AddResult, Candidate, CandidateKind, KindPreferences, TcpType, has_mdns_name
 from .errors import (
     BadAddress,
     BadCandidate,
@@ -45,6 +54,7 @@ __all__ = [
     "AddResult", "BadAddress", "BadCandidate", "BadLimit", "BadMessage", "Candidate", "CandidateKind", "CandidatePair",
     "CheckState", "CredentialsTooLong", "DiscoveredRecv", "HasAgent", "IceAgent", "IceAgentEvent", "IceAgentStats", "IceConnectionState", "IceConnectionStateChange",
     "IceCreds", "IceError", "IceRestart", "KindPreferences", "MessageTooLong", "MtuTooSmall", "NoAgent", "NominatedPair", "NominatedSend",
-    "NotUtf8", "OutOfMemory", "PairIdsExhausted", "PriorityTooHigh", "Protocol", "SocketAddress", "TooFewRandomBytes",
-    "Transmit", "Unparsed", "has_mdns_name", "line_refusal", "new_creds",
+    "NotUtf8", "OutOfMemory", "PairIdsExhausted", "PriorityTooHigh", "Protocol", "SocketAddress", "TcpType",
+    "TooFewRandomBytes", "Transmit", "Unparsed", "candidate_line", "default_local_preference", "has_mdns_name", "line_from_json",
+    "line_refusal", "line_to_json", "line_with_ufrag", "new_creds",
 ]

@@ -173,6 +173,17 @@ impl IceAgent {
         }
     }
 
+    /// A pair whose remote candidate equals this one in address, base, protocol, kind and related address: one of the greatest priority.
+    ///
+    /// # Panics
+    ///
+    /// If out of memory.
+    pub fn find_pair_for_equivalent_remote_candidate(&self, c: &Candidate) -> Option<CandidatePair> {
+        let mut pair = ffi::Pair::default();
+        let is_some = yes("a pair", self.ask(|agent| agent.find_pair(&c.to_sdp_string(), &mut pair)));
+        is_some.then(|| CandidatePair::of(&pair, |at| self.instant(at)))
+    }
+
     /// Whether there is a valid pair whose remote candidate has this address.
     pub fn has_viable_remote_candidate(&self, addr: SocketAddr) -> bool {
         yes("address", self.ask(|agent| ffi::is_ice_has_viable_remote(agent, &address_of(addr))))

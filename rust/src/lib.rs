@@ -19,10 +19,11 @@
 //! - HMAC-SHA1 is the proved one: there is no `with_hmac`. Random bytes are read from `/dev/urandom`.
 //! - [`stun::StunMessage`]: `verify` and `to_bytes` do not call the HMAC function that they get. [`stun::StunMessage::binding_query`] writes a
 //!   Binding request without credentials.
-//! - Local candidates are created by three constructors: there are no `Candidate::builder`, `from_parts` and `set_ufrag`, no serde, and no
-//!   `find_pair_for_equivalent_remote_candidate`.
+//! - Candidate JSON is a text, by [`Candidate::to_json`] and [`Candidate::from_json`]: there is no serde. There is no
+//!   `Candidate::from_parts`: [`Candidate::from_sdp_string`] reads the same fields.
 
 mod agent;
+mod builder;
 mod candidate;
 mod creds;
 mod error;
@@ -37,10 +38,11 @@ mod stun_builder;
 mod stun_texts;
 
 pub use agent::IceAgent;
+pub use builder::CandidateBuilder;
 pub use candidate::{Candidate, CandidateKind};
 pub use creds::IceCreds;
 pub use error::{IceError, StunError};
 pub use event::{IceAgentEvent, IceAgentStats, IceConnectionState, Transmit};
 pub use pair::{CandidatePair, CheckState};
-pub use preference::{KindPreferences, LocalPreference, PreferenceTable};
+pub use preference::{KindPreferences, LocalPreference, PreferenceTable, default_local_preference};
 pub use proto::{Protocol, TcpType};

@@ -24,3 +24,5 @@ pub mod StunTexts
 pub mod StunWrite
 pub mod StunFill
 pub mod Pairs
+pub mod Lines
+pub mod Infos

@@ -13,6 +13,8 @@ mod credentials;
 mod events;
 mod handle;
 mod home;
+mod infos;
+mod lines;
 mod making;
 mod packets;
 mod pairs;

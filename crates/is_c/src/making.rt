@@ -71,7 +71,7 @@ pub extern "C" fn is_ice_agent_free(alloc: Global, slot: &mut Slot)
 /// The version of this interface. The header has the same number.
 #[unsafe(no_mangle)]
 pub extern "C" fn is_ice_version() -> u32
-    ensures { result ≡ 2 }
+    ensures { result ≡ 3 }
 {
-    2
+    3
 }

@@ -1,5 +1,7 @@
 //! The exports as C calls them, in stories that the library's own tests have too.
 
+mod texts;
+
 use crate::accepting::{is_ice_accepts_message, is_ice_accepts_packet};
 use crate::address::Address;
 use crate::candidate::LocalCandidate;
@@ -56,6 +58,7 @@ fn host(at: Address) -> LocalCandidate {
         base: at,
         kind: 0,
         protocol: 0,
+        tcptype: 0,
     }
 }
 
