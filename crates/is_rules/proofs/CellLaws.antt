@@ -19,7 +19,7 @@ use Rattle.is_rules.specs.Credentials.{SetsLocal, SetsRemote}
 use Rattle.is_rules.specs.Settings.{SetsMtu}
 use Rattle.is_rules.specs.Runs.{IsFresh, Run, run_to}
 use Rattle.is_rules.specs.Sound.{IsSound}
-use Rattle.is_rules.specs.Steps.{Call, SetMtu, SetControlTieBreaker, SetMaxCandidatePairs, SetMaxDiscovered, SetIceLite, SetTimingAdvance, SetInitialStunRto, SetMaxStunRto, SetMaxStunRetransmits, SetLocalPreference, SetControlling, SetLocalCredentials, SetRemoteCredentials, SkipPairIds, AddLocalCandidate, AddRemoteCandidate, InvalidateCandidate, RestartIce, RecreateCandidatePairs, ReceivePacket, HandleTimeout, PollTransmit, PollTimeout, PollEvent, Entry, Step, MayDo}
+use Rattle.is_rules.specs.Steps.{Call, SetMtu, SetControlTieBreaker, SetMaxCandidatePairs, SetMaxDiscovered, SetIceLite, SetTimingAdvance, SetInitialStunRto, SetMaxStunRto, SetMaxStunRetransmits, SetLiteTimeout, SetLocalPreference, SetControlling, SetLocalCredentials, SetRemoteCredentials, SkipPairIds, AddLocalCandidate, AddRemoteCandidate, InvalidateCandidate, RestartIce, RecreateCandidatePairs, ReceivePacket, HandleTimeout, PollTransmit, PollTimeout, PollEvent, Entry, Step, MayDo}
 use Rattle.is_rules.proofs.Cells.{cell_of, cells, cells-map, pairs-in-grid, repeats, repeats-filter, repeats-length}
 use Rattle.is_rules.proofs.CellSteps.{Fewer, alike, made-as, unchanged, forms_few, received, timed}
 use Rattle.is_rules.proofs.EffectLaws.{path_law}
@@ -96,6 +96,7 @@ module _ {H P : Type 0} where
     steps (SetInitialStunRto rto) (is, made, drawn) = placed (cells_in _ made ∙ unless_undue (old.timing.initial_rto.0 == rto && old.timing.max_rto.0 == old.timing.max_rto.0) old.pairs)
     steps (SetMaxStunRto rto) (is, made, drawn) = placed (cells_in _ made ∙ unless_undue (old.timing.initial_rto.0 == old.timing.initial_rto.0 && old.timing.max_rto.0 == rto) old.pairs)
     steps (SetMaxStunRetransmits k) h = either (k == 0) h (λ _ x. kept x.1) (λ _ x. placed (cells_in _ x.1))
+    steps (SetLiteTimeout timeout) (is, made, drawn) = placed (cells_in _ made)
     steps (SetLocalPreference object) (is, made, drawn) = placed (cells_in _ made)
     steps (SetControlling controlling) (is, made, drawn) = placed (cells_in _ made)
     steps (SetLocalCredentials creds) h = may (SetsLocal old creds) (λ k. placed (cells_in _ k.1)) (local_kept old new creds) h

@@ -8,7 +8,7 @@ use Rattle.is_rules.specs.Agent.{AgentRecord}
 use Rattle.is_rules.specs.Asked.{IsAnsweredIn}
 use Rattle.is_rules.specs.Bounds.{FormsFew, IsLimited, signal_count}
 use Rattle.is_rules.specs.Logs.{Logged}
-use Rattle.is_rules.specs.Reached.{ChecksIn, IsInLine, IsPassing}
+use Rattle.is_rules.specs.Reached.{ChecksIn, IsEndedIn, IsInLine, IsPassing}
 use Rattle.is_rules.specs.Rounds.{LoggedRound, Part, began_at, entries_of}
 use Rattle.is_rules.specs.Runs.{IsFresh}
 use Rattle.is_rules.specs.Sending.{path_of}
@@ -29,15 +29,17 @@ module _ {H P : Type 0} where
     pub enough : 2 * bound + last.next_number ≤ length rounds + 1 + start.next_number
 
   module _ (mac : H → List ℕ → List ℕ → List ℕ) (answers : P → CandidateRecord → ℕ → ℕ → Type 0) where
-    -- Then a check is sent on the pair's path in one of them, unless a success response is received on the path in one of them,
-    -- whatever the agent receives and whatever it received before.
+    -- Then a check is sent on the pair's path in one of them, unless a success response is received on the path in one of them, or
+    -- a candidate that is added in them may remove a pair of the path. This holds whatever the agent receives and received before.
     abbrev pub LimitedRoundsReach : AgentRecord H P → Stream → List (Logged P) → Type 0
     LimitedRoundsReach first s log =
         (most limit : ℕ) → IsLimited mac answers most first s log → FormsFew mac answers limit first s log
         → (before : List (Logged P)) (start last : AgentRecord H P) (rounds : List (LoggedRound P)) (p : PairRecord) (by : ℕ)
-        → Part mac answers first s log before start (entries_of rounds) last
+        → (found : Part mac answers first s log before start (entries_of rounds) last)
         → SufficeWithin (pair_bound limit (length start.local) most (signal_count before)) by start rounds last p
-        → ChecksIn rounds (path_of start p) ⊎ IsAnsweredIn (entries_of rounds) (path_of start p)
+        → ChecksIn rounds (path_of start p)
+        ⊎ (IsAnsweredIn (entries_of rounds) (path_of start p)
+        ⊎ IsEndedIn mac answers before start found.at (entries_of rounds) last found.behind found.run (path_of start p))
 
     abbrev pub LimitsReach : Type 0
     LimitsReach = (first : AgentRecord H P) (s : Stream) (log : List (Logged P)) → IsFresh first → LimitedRoundsReach first s log
