@@ -10,17 +10,17 @@
 /* The example of RTCIceCandidate in MDN, and its line with an extension of RFC 8839, section 5.1. */
 static const char line[] = "candidate:4234997325 1 udp 2043278322 192.0.2.172 44323 typ host";
 static const char named[] = "candidate:4234997325 1 udp 2043278322 192.0.2.172 44323 typ host ufrag EsAw";
-/* What the toJSON of Chromium and of Firefox give, apart from their addresses. */
-static const char chromium[] =
+/* RTCIceCandidateInit as browsers document it, in two orders and spacings; not captured from one. */
+static const char compact[] =
     "{\"candidate\":\"candidate:4234997325 1 udp 2043278322 192.0.2.172 44323 typ host\",\"sdpMid\":\"0\",\"sdpMLineIndex\":0,"
     "\"usernameFragment\":\"EsAw\"}";
-static const char firefox[] =
+static const char spaced[] =
     "{ \"candidate\": \"candidate:4234997325 1 UDP 2043278322 192.0.2.172 44323 typ host\", \"sdpMLineIndex\": 0, \"sdpMid\": \"0\","
     " \"usernameFragment\": \"EsAw\" }";
 static const char without[] =
     "{\"candidate\":\"candidate:4234997325 1 udp 2043278322 192.0.2.172 44323 typ host\",\"sdpMLineIndex\":0,\"sdpMid\":null,"
     "\"usernameFragment\":null}";
-/* The end of candidates (W3C WebRTC, section 4.8.2). */
+/* The end of candidates: an empty candidate. */
 static const char ended[] = "{\"candidate\":\"\",\"sdpMid\":\"0\",\"sdpMLineIndex\":0,\"usernameFragment\":\"EsAw\"}";
 
 static uint8_t buffer[256];
@@ -43,8 +43,8 @@ static void json(void)
     HOLD(is_ice_line_to_json(TEXT(line), buffer, sizeof buffer, &length) == IS_ICE_OK && holds_text(without));
     HOLD(is_ice_line_to_json(TEXT(line), buffer, length - 1, &length) == IS_ICE_BUFFER_TOO_SHORT && holds_text(without));
     HOLD(is_ice_line_from_json(TEXT(without), buffer, sizeof buffer, &length) == IS_ICE_OK && holds_text(line));
-    HOLD(is_ice_line_from_json(TEXT(chromium), buffer, sizeof buffer, &length) == IS_ICE_OK && holds_text(named));
-    HOLD(is_ice_line_from_json(TEXT(firefox), buffer, sizeof buffer, &length) == IS_ICE_OK && holds_text(named));
+    HOLD(is_ice_line_from_json(TEXT(compact), buffer, sizeof buffer, &length) == IS_ICE_OK && holds_text(named));
+    HOLD(is_ice_line_from_json(TEXT(spaced), buffer, sizeof buffer, &length) == IS_ICE_OK && holds_text(named));
     HOLD(is_ice_line_to_json(TEXT(named), buffer, sizeof buffer, &length) == IS_ICE_OK);
     HOLD(is_ice_line_to_json(TEXT("\xff"), buffer, sizeof buffer, &length) == IS_ICE_NOT_UTF8);
     HOLD(is_ice_line_to_json(TEXT(""), buffer, sizeof buffer, &length) == IS_ICE_BAD_CANDIDATE);
@@ -57,7 +57,7 @@ static void refusals(void)
     HOLD(is_ice_json_refusal(TEXT("[]"), buffer, sizeof buffer, &length) == IS_ICE_OK);
     HOLD(holds_text("candidate info is not an object"));
     HOLD(is_ice_json_refusal(TEXT("{"), buffer, 3, &length) == IS_ICE_BUFFER_TOO_SHORT && length == 26);
-    HOLD(is_ice_json_refusal(TEXT(chromium), buffer, sizeof buffer, &length) == IS_ICE_NOTHING);
+    HOLD(is_ice_json_refusal(TEXT(compact), buffer, sizeof buffer, &length) == IS_ICE_NOTHING);
     HOLD(is_ice_json_refusal(TEXT("\xff"), buffer, sizeof buffer, &length) == IS_ICE_NOT_UTF8);
 }
 

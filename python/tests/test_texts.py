@@ -1,4 +1,4 @@
-"""Tests candidates as texts and as JSON, with the lines of RFC 8839 and RFC 6544, and with what browsers signal."""
+"""Tests candidates as texts and as JSON, with the lines of RFC 8839 and RFC 6544, and with the documented RTCIceCandidateInit."""
 
 import json
 import unittest
@@ -26,7 +26,7 @@ HERE = SocketAddress("10.0.0.1", 1000)
 
 
 class Json(unittest.TestCase):
-    def test_what_browsers_signal_is_read(self) -> None:
+    def test_an_init_is_read(self) -> None:
         init = {"candidate": LINE, "sdpMid": "0", "sdpMLineIndex": 0, "usernameFragment": "EsAw"}
         self.assertEqual(line_from_json(json.dumps(init)), f"{LINE} ufrag EsAw")
         self.assertEqual(line_from_json(json.dumps(init, separators=(",", ":"), sort_keys=True)), f"{LINE} ufrag EsAw")

@@ -1,4 +1,4 @@
-//! Candidates as texts and as JSON, built and named. Expected lines follow RFC 8839 and RFC 6544, expected JSON is what browsers signal.
+//! Candidates as texts and as JSON, built and named. Expected lines follow RFC 8839 and RFC 6544, JSON follows the documented RTCIceCandidateInit.
 
 mod world;
 
@@ -85,10 +85,10 @@ fn a_candidate_of_another_session_is_ignored() {
 // ---- JSON
 
 #[test]
-fn what_browsers_signal_is_read() {
-    let chromium = format!(r#"{{"candidate":"{LINE}","sdpMid":"0","sdpMLineIndex":0,"usernameFragment":"EsAw"}}"#);
-    let firefox = format!(r#"{{ "candidate": "{LINE}", "sdpMLineIndex": 0, "sdpMid": "0", "usernameFragment": "EsAw" }}"#);
-    for json in [chromium, firefox] {
+fn both_spacings_are_read() {
+    let compact = format!(r#"{{"candidate":"{LINE}","sdpMid":"0","sdpMLineIndex":0,"usernameFragment":"EsAw"}}"#);
+    let spaced = format!(r#"{{ "candidate": "{LINE}", "sdpMLineIndex": 0, "sdpMid": "0", "usernameFragment": "EsAw" }}"#);
+    for json in [compact, spaced] {
         let candidate = Candidate::from_json(&json).unwrap();
         assert_eq!(candidate.to_sdp_string(), format!("{LINE} ufrag EsAw"));
         assert_eq!((candidate.addr(), candidate.prio()), (at("192.0.2.172:44323"), 2043278322));

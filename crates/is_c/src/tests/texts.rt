@@ -74,10 +74,10 @@ fn json_is_read_as_a_line(rt: HostRuntime) {
     let told = is_ice_line_from_json(alloc, INFO, &mut text, &mut length);
     assert!(rt; told == codes::OK);
     assert!(rt; text[..length] == LINE[..]);
-    // What Chrome's toJSON gives has the fragment in a member of its own.
-    let chrome =
+    // An RTCIceCandidateInit has the fragment in a member of its own.
+    let init =
         b"{\"candidate\":\"candidate:4234997325 1 udp 2043278322 192.0.2.172 44323 typ host\",\"sdpMid\":\"0\",\"sdpMLineIndex\":0,\"usernameFragment\":\"EsAw\"}";
-    let told = is_ice_line_from_json(alloc, chrome, &mut text, &mut length);
+    let told = is_ice_line_from_json(alloc, init, &mut text, &mut length);
     assert!(rt; told == codes::OK);
     assert!(rt; text[..length] == NAMED[..]);
 }
@@ -87,7 +87,7 @@ fn json_of_no_candidate_tells_its_fault(rt: HostRuntime) {
     let alloc = rt.alloc();
     let mut text = [0; 60];
     let mut length = 0;
-    // The end of candidates (W3C WebRTC, section 4.4.2).
+    // The end of candidates: an empty candidate.
     let ended = b"{\"candidate\":\"\",\"sdpMid\":\"0\",\"sdpMLineIndex\":0}";
     let read = is_ice_line_from_json(alloc, ended, &mut text, &mut length);
     assert!(rt; read == codes::BAD_CANDIDATE);
