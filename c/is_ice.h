@@ -79,9 +79,9 @@ enum {
     IS_ICE_NO_AGENT = -1,              /* the is_ice_agent holds no agent */
     IS_ICE_HAS_AGENT = -2,             /* the is_ice_agent holds one already */
     IS_ICE_NOT_UTF8 = -3,              /* a text is not UTF-8 */
-    IS_ICE_BAD_ADDRESS = -4,           /* a family other than 4 and 6, or an unknown number of a protocol or a kind */
+    IS_ICE_BAD_ADDRESS = -4,           /* a family other than 4 and 6, or an unknown number of a protocol, a kind or a TCP type */
     IS_ICE_UNPARSED = -5,              /* not a STUN message, or one without what ICE requires of it */
-    IS_ICE_BUFFER_TOO_SHORT = -6,      /* the buffer is unchanged, and the required length was returned */
+    IS_ICE_BUFFER_TOO_SHORT = -6,      /* the buffer is unchanged; of a text or packet the required length was returned */
     IS_ICE_OUT_OF_MEMORY = -7,         /* malloc or realloc failed */
     IS_ICE_BAD_CANDIDATE = -8,         /* an address that no candidate may have, or a text that is not a candidate */
     IS_ICE_PAIR_IDS_EXHAUSTED = -9,    /* the call may form more pairs than there are pair numbers left */
@@ -89,7 +89,9 @@ enum {
     IS_ICE_CREDENTIALS_TOO_LONG = -11, /* both username fragments and a colon are longer than 508 bytes */
     IS_ICE_PRIORITY_TOO_HIGH = -12,    /* a local candidate of priority 4294967295 */
     IS_ICE_BAD_LIMIT = -13,            /* a limit of 0 retransmits */
-    IS_ICE_TOO_FEW_RANDOM_BYTES = -14  /* see the call */
+    IS_ICE_TOO_FEW_RANDOM_BYTES = -14, /* see the call */
+    IS_ICE_BAD_MESSAGE = -15,          /* see is_ice_stun_write, for this and the next */
+    IS_ICE_MESSAGE_TOO_LONG = -16
 };
 
 /* is_ice_code_text - describes a code for a message: a zero-terminated text with static lifetime. */
@@ -112,13 +114,15 @@ static inline const char *is_ice_code_text(int32_t code)
     case IS_ICE_PRIORITY_TOO_HIGH: return "candidate priority too high";
     case IS_ICE_BAD_LIMIT: return "bad limit";
     case IS_ICE_TOO_FEW_RANDOM_BYTES: return "too few random bytes";
+    case IS_ICE_BAD_MESSAGE: return "STUN message that cannot be written";
+    case IS_ICE_MESSAGE_TOO_LONG: return "STUN message or one of its texts too long";
     default: return "unknown code";
     }
 }
 
 /* is_ice_version - returns the version of the library's interface. It equals IS_ICE_VERSION if this header belongs to
  * the library. It increases with each change of a name, an argument, a struct or a code. Does not allocate. */
-#define IS_ICE_VERSION 2
+#define IS_ICE_VERSION 3
 uint32_t is_ice_version(void);
 
 /* ---- types */
@@ -144,6 +148,9 @@ typedef struct is_ice_address {
 /* Kinds of candidates that a caller gathers (RFC 8445, section 5.1.1). */
 enum { IS_ICE_HOST = 0, IS_ICE_SERVER_REFLEXIVE = 1, IS_ICE_RELAYED = 2 };
 
+/* TCP types: which side opens the connection of a TCP candidate (RFC 6544, section 4.5). */
+enum { IS_ICE_TCP_UNSTATED = 0, IS_ICE_TCP_ACTIVE = 1, IS_ICE_TCP_PASSIVE = 2, IS_ICE_TCP_SO = 3 };
+
 /* A candidate that the caller gathered. Packets of a relayed candidate come out with its address as source: the caller
  * sends them through the TURN server. What the server relays goes to is_ice_handle_packet, with its address as
  * destination. docs/GUIDE.md says what to write. */
@@ -152,6 +159,7 @@ typedef struct is_ice_candidate {
     is_ice_address base;    /* server-reflexive: of the local socket; relayed: the local address; host: not read */
     uint8_t kind;
     uint8_t protocol;
+    uint8_t tcptype;        /* IS_ICE_TCP_UNSTATED over UDP */
 } is_ice_candidate;
 
 /* A packet to send: one STUN message, whose bytes are in the caller's buffer. */
@@ -227,6 +235,8 @@ typedef struct is_ice_pair {
     size_t local;           /* the index of its local candidate: see is_ice_local_candidate */
     size_t remote;          /* the index of its remote candidate: see is_ice_remote_candidate */
     uint64_t priority;      /* RFC 8445, section 6.1.2.3 */
+    uint64_t checks_sent;   /* the number of checks that were sent on it */
+    uint64_t requests_received; /* the number of checks of the other agent that arrived on it */
     uint64_t responses;     /* the number of responses to its checks */
     uint64_t total_rtt;     /* the sum of the round-trip times of its checks */
     uint64_t rtt;           /* the last round-trip time, if has_rtt */
@@ -298,6 +308,11 @@ IS_ICE_QUIET_CALL int32_t is_ice_set_controlling(is_ice_agent *agent, bool contr
  * never finds a path, and no call reports it. IS_ICE_OK. Value: false. */
 IS_ICE_QUIET_CALL int32_t is_ice_set_lite(is_ice_agent *agent, bool lite);
 
+/* is_ice_set_lite_timeout - sets how long a lite agent keeps a pair after the last check of the other agent on it. A pair
+ * without any counts as checked at its first is_ice_handle_timeout call. With 0 the next such call after a check removes
+ * the pair. A full agent does not use it. IS_ICE_OK. Value: 15 s. */
+IS_ICE_QUIET_CALL int32_t is_ice_set_lite_timeout(is_ice_agent *agent, uint64_t nanoseconds);
+
 /* is_ice_set_tie_breaker - sets the number that decides role conflicts: the greater one keeps its role. IS_ICE_OK.
  * Value: that of is_ice_agent_new. */
 IS_ICE_QUIET_CALL int32_t is_ice_set_tie_breaker(is_ice_agent *agent, uint64_t tie_breaker);
@@ -305,6 +320,25 @@ IS_ICE_QUIET_CALL int32_t is_ice_set_tie_breaker(is_ice_agent *agent, uint64_t t
 /* is_ice_set_max_pairs - limits the number of pairs. It takes effect when pairs are next formed; pairs of the lowest
  * priority are removed. IS_ICE_OK. Value: 100. */
 IS_ICE_QUIET_CALL int32_t is_ice_set_max_pairs(is_ice_agent *agent, size_t limit);
+
+/* No limit: see is_ice_set_max_discovered. */
+#define IS_ICE_NO_LIMIT ((size_t)-1)
+
+/* is_ice_set_max_discovered - limits how many remote candidates requests bring: the peer-reflexive ones (RFC 8445, section
+ * 7.3.1.3), invalidated ones included.
+ *
+ * It is against this attack: whoever sees one request of the other agent on the wire can send it again from other
+ * addresses and ports, without a password. Each of them would become a candidate with a pair, whose checks cost memory,
+ * time and turns of the pacing interval.
+ *
+ * At the limit an unknown sender takes the place of such a candidate whose pair was removed. If there is none, its request
+ * is dropped without a response. Known senders are always served, and those that is_ice_add_remote added do not count. The
+ * limit also bounds how many sources are remembered for IS_ICE_DISCOVERED_RECV; while as many events wait to be polled, no
+ * further source is reported. With 0 no request brings a candidate.
+ *
+ * IS_ICE_NO_LIMIT: each sender becomes a candidate. Set the limit before the first packet: a lower one removes no candidate.
+ * IS_ICE_OK. Value: 32. */
+IS_ICE_QUIET_CALL int32_t is_ice_set_max_discovered(is_ice_agent *agent, size_t limit);
 
 /* is_ice_set_timing_advance - sets the pacing interval Ta (RFC 8445, section 14.2): the least time from the last
  * is_ice_handle_timeout call to the next one that is_ice_poll_timeout returns. Each is_ice_handle_timeout call sends at
@@ -372,9 +406,9 @@ IS_ICE_CALL int32_t is_ice_set_remote_credentials(
  * IS_ICE_OK: added; *index is its index, at which is_ice_local_candidate returns its text. IS_ICE_NOTHING: it is
  * redundant, or the agent is lite and it is not a host candidate; *index is the index of the first local candidate that
  * has its address, base and protocol, or IS_ICE_NO_INDEX. After an error *index is unchanged. IS_ICE_BAD_ADDRESS: an
- * unknown family, kind or protocol. IS_ICE_BAD_CANDIDATE: an address that no candidate may have, or address and base of
- * two IP versions (is_ice_candidate_refusal says which). IS_ICE_PRIORITY_TOO_HIGH. IS_ICE_PAIR_IDS_EXHAUSTED.
- * IS_ICE_OUT_OF_MEMORY. */
+ * unknown family, kind, protocol or TCP type, or a TCP type over UDP. IS_ICE_BAD_CANDIDATE: an address that no candidate
+ * may have, or address and base of two IP versions (is_ice_candidate_refusal says which). IS_ICE_PRIORITY_TOO_HIGH.
+ * IS_ICE_PAIR_IDS_EXHAUSTED. IS_ICE_OUT_OF_MEMORY. */
 IS_ICE_CALL int32_t is_ice_add_local(is_ice_agent *agent, const is_ice_candidate *candidate, size_t *index);
 
 /* is_ice_add_remote - adds a candidate of the other agent, by its text, and forms its pairs.
@@ -432,6 +466,59 @@ IS_ICE_CALL int32_t is_ice_line_refusal(
  * On any thread. */
 IS_ICE_CALL int32_t is_ice_candidate_refusal(
     const is_ice_candidate *candidate, uint8_t *buffer, size_t size, size_t *length);
+
+/* ---- candidates without an agent: their texts and their JSON. On any thread. After an error or IS_ICE_NOTHING the buffer is
+ * unchanged. */
+
+/* is_ice_candidate_line - returns the text of a candidate that no agent has: with the priority of a first candidate of its
+ * kind (RFC 8445, section 5.1.2.1), and without a username fragment. An agent may list another priority.
+ *
+ * IS_ICE_OK. IS_ICE_BAD_ADDRESS, IS_ICE_BAD_CANDIDATE: see is_ice_add_local. IS_ICE_BUFFER_TOO_SHORT. IS_ICE_OUT_OF_MEMORY. */
+IS_ICE_CALL int32_t is_ice_candidate_line(
+    const is_ice_candidate *candidate, uint8_t *buffer, size_t size, size_t *length);
+
+/* is_ice_line_with_ufrag - returns the text of a candidate again, with this username fragment in place of its own: so that
+ * is_ice_add_remote can leave out candidates of an earlier session. The fragment has letters, digits, '+' and '/' (RFC 8839,
+ * section 5.4), which the call does not check. Unknown extensions are left out.
+ *
+ * IS_ICE_OK. IS_ICE_NOT_UTF8. IS_ICE_BAD_CANDIDATE. IS_ICE_BUFFER_TOO_SHORT. IS_ICE_OUT_OF_MEMORY. */
+IS_ICE_CALL int32_t is_ice_line_with_ufrag(
+    const uint8_t *line, size_t line_length, const uint8_t *ufrag, size_t ufrag_length, uint8_t *buffer, size_t size,
+    size_t *length);
+
+/* is_ice_line_to_json - returns the JSON in which browsers signal a candidate, the RTCIceCandidateInit of W3C WebRTC:
+ * {"candidate":"candidate:..","sdpMLineIndex":0,"sdpMid":null,"usernameFragment":..}. The last member is the username
+ * fragment of the candidate, or null.
+ *
+ * IS_ICE_OK. IS_ICE_NOT_UTF8. IS_ICE_BAD_CANDIDATE. IS_ICE_BUFFER_TOO_SHORT. IS_ICE_OUT_OF_MEMORY. */
+IS_ICE_CALL int32_t is_ice_line_to_json(
+    const uint8_t *line, size_t line_length, uint8_t *buffer, size_t size, size_t *length);
+
+/* is_ice_line_from_json - returns the text of the candidate in such JSON, for is_ice_add_remote. A usernameFragment that is
+ * a string replaces that of the candidate. Other members are not read: with several media sections, compare sdpMid or
+ * sdpMLineIndex yourself. The end of candidates, which has an empty `candidate`, is IS_ICE_BAD_CANDIDATE.
+ *
+ * IS_ICE_OK. IS_ICE_NOT_UTF8. IS_ICE_BAD_CANDIDATE: not JSON, no object, without a candidate, or with one that is not one
+ * (is_ice_json_refusal says which). IS_ICE_BUFFER_TOO_SHORT. IS_ICE_OUT_OF_MEMORY. */
+IS_ICE_CALL int32_t is_ice_line_from_json(
+    const uint8_t *json, size_t json_length, uint8_t *buffer, size_t size, size_t *length);
+
+/* is_ice_json_refusal - says why JSON is not a candidate.
+ *
+ * IS_ICE_OK: it is not, and the explanation is at the start of the buffer. IS_ICE_NOTHING: it is a candidate.
+ * IS_ICE_NOT_UTF8. IS_ICE_BUFFER_TOO_SHORT. IS_ICE_OUT_OF_MEMORY. */
+IS_ICE_CALL int32_t is_ice_json_refusal(
+    const uint8_t *json, size_t json_length, uint8_t *buffer, size_t size, size_t *length);
+
+/* is_ice_candidate_preference, is_ice_line_preference - return the default local preference of a candidate that comes after
+ * `same_kind` local candidates of its kind and IP version: for a table of your own that changes the default one.
+ *
+ * IS_ICE_OK: 0 to 65535. Else *preference is unchanged. IS_ICE_BAD_ADDRESS (the first), IS_ICE_NOT_UTF8 (the second),
+ * IS_ICE_BAD_CANDIDATE, IS_ICE_OUT_OF_MEMORY. */
+IS_ICE_CALL int32_t is_ice_candidate_preference(
+    const is_ice_candidate *candidate, size_t same_kind, uint32_t *preference);
+IS_ICE_CALL int32_t is_ice_line_preference(
+    const uint8_t *line, size_t line_length, size_t same_kind, uint32_t *preference);
 
 /* ---- packets, events and timeouts */
 
@@ -536,6 +623,13 @@ IS_ICE_CALL int32_t is_ice_pair_count(is_ice_agent *agent, size_t *count);
  * IS_ICE_OK. IS_ICE_NOTHING: the index is past the last one; *pair is unchanged. */
 IS_ICE_CALL int32_t is_ice_pair_at(is_ice_agent *agent, size_t index, is_ice_pair *pair);
 
+/* is_ice_find_pair - returns a pair whose remote candidate equals the candidate of this text in address, base, protocol,
+ * kind and related address: one of the greatest priority. This query allocates.
+ *
+ * IS_ICE_OK. After the others *pair is unchanged. IS_ICE_NOTHING: there is none. IS_ICE_NOT_UTF8. IS_ICE_BAD_CANDIDATE.
+ * IS_ICE_OUT_OF_MEMORY. */
+IS_ICE_CALL int32_t is_ice_find_pair(is_ice_agent *agent, const uint8_t *line, size_t length, is_ice_pair *pair);
+
 /* is_ice_has_viable_remote - returns whether there is a valid pair whose remote candidate has this address. A pair
  * becomes valid when one of its checks succeeds; under lite, when a check of the other agent arrives on it.
  *
@@ -629,8 +723,8 @@ typedef struct is_ice_stun_number {
     bool is_set;
 } is_ice_stun_number;
 
-/* A message, except its texts, MESSAGE-INTEGRITY and FINGERPRINT. Each attribute is the last one of its type before
- * MESSAGE-INTEGRITY. An address that the message does not have is of family 0. */
+/* A message, except its texts. Each attribute is the last one of its type before MESSAGE-INTEGRITY. An address that the
+ * message does not have is of family 0. If all but method, class and ID is zero, the message has no attributes. */
 typedef struct is_ice_stun_message {
     is_ice_stun_number priority;       /* PRIORITY (RFC 8445, section 16.1) */
     is_ice_stun_number controlled;     /* the tie-breaker of ICE-CONTROLLED */
@@ -647,6 +741,8 @@ typedef struct is_ice_stun_message {
     uint16_t method;
     uint8_t cls;                       /* the class */
     bool use_candidate;                /* USE-CANDIDATE (RFC 8445, section 16.1) */
+    bool has_integrity;                /* MESSAGE-INTEGRITY (RFC 8489, section 14.5); is_ice_stun_verify verifies it */
+    bool has_fingerprint;              /* FINGERPRINT (RFC 8489, section 14.7); is_ice_stun_write always writes it */
 } is_ice_stun_message;
 
 /* is_ice_stun_read - reads a message of any method and class. Nothing is verified, and no attribute is required.
@@ -660,6 +756,43 @@ IS_ICE_CALL int32_t is_ice_stun_read(const uint8_t *bytes, size_t length, is_ice
  *
  * IS_ICE_OK: it is. IS_ICE_NOTHING: it is not. IS_ICE_UNPARSED. */
 IS_ICE_CALL int32_t is_ice_stun_verify(const uint8_t *bytes, size_t length, const uint8_t *key, size_t key_length);
+
+/* A text in the bytes that is_ice_stun_write gets: `length` bytes, from `start` on. */
+typedef struct is_ice_stun_span {
+    size_t start;
+    size_t length;
+    bool is_set; /* false: the message does not have it, and the rest is not read */
+} is_ice_stun_span;
+
+/* The texts of a message to write. All zero: it has none. Of a message that was read, is_ice_stun_text returns each. */
+typedef struct is_ice_stun_texts {
+    is_ice_stun_span username; /* 508 bytes at most; the others 128 */
+    is_ice_stun_span reason;   /* the reason phrase of ERROR-CODE: empty if it is not set; not written without a code */
+    is_ice_stun_span data;     /* any bytes, 65535 at most; the others are UTF-8 */
+    is_ice_stun_span realm;
+    is_ice_stun_span nonce;
+    is_ice_stun_span software;
+} is_ice_stun_texts;
+
+/* is_ice_stun_write - writes a message to the start of the buffer: its attributes; MESSAGE-INTEGRITY with this key, if
+ * `has_integrity` is set; and FINGERPRINT (RFC 8489, sections 5 and 14). The fields of *message mean what
+ * is_ice_stun_read says of them. Flow information and scope of addresses are not written.
+ *
+ * `texts` says where in `bytes` each text is: `is_ice_stun_texts texts = {.username = {0, 9, true}};` with the bytes
+ * "evtj:h6vY", for example. A buffer of IS_ICE_STUN_WRITE_LENGTH bytes is long enough for any message without DATA.
+ * With it the message is longer by 4 bytes and the length of DATA, rounded up to a multiple of four.
+ *
+ * IS_ICE_OK: *length is the length of the message. After an error the buffer and *length are unchanged:
+ * - IS_ICE_BAD_MESSAGE: a class or method that is not listed above, or an error code outside 300 to 699. A priority or
+ *   lifetime of more than 32 bits, or a channel number, network ID or cost of more than 16. Only one of network_id and
+ *   network_cost. A span that ends after the last byte.
+ * - IS_ICE_BAD_ADDRESS: a family other than 0, 4 and 6. IS_ICE_NOT_UTF8: a text that is set, except DATA.
+ * - IS_ICE_MESSAGE_TOO_LONG: a text is too long, or more than 65535 bytes would follow the header.
+ * - IS_ICE_BUFFER_TOO_SHORT: the message does not fit, and nothing else is wrong with it. */
+enum { IS_ICE_STUN_WRITE_LENGTH = 1228 };
+IS_ICE_CALL int32_t is_ice_stun_write(
+    const is_ice_stun_message *message, const is_ice_stun_texts *texts, const uint8_t *bytes, size_t bytes_length,
+    const uint8_t *key, size_t key_length, uint8_t *buffer, size_t size, size_t *length);
 
 #ifdef __cplusplus
 }
@@ -680,13 +813,15 @@ IS_ICE_SIZE(is_ice_event, 68);
 IS_ICE_SIZE(is_ice_agent_status, 32);
 IS_ICE_SIZE(is_ice_agent_stats, 40);
 IS_ICE_SIZE(is_ice_nominated_pair, 32);
-IS_ICE_SIZE(is_ice_pair, 80);
+IS_ICE_SIZE(is_ice_pair, 96);
 IS_ICE_SIZE(is_ice_kind_preferences, 8);
 IS_ICE_SIZE(is_ice_preference_table, 16);
 IS_ICE_SIZE(is_ice_stun_transaction, 12);
 IS_ICE_SIZE(is_ice_stun_result, 32);
 IS_ICE_SIZE(is_ice_stun_number, 16);
 IS_ICE_SIZE(is_ice_stun_message, 232);
+IS_ICE_SIZE(is_ice_stun_span, 24);
+IS_ICE_SIZE(is_ice_stun_texts, 144);
 #undef IS_ICE_SIZE
 #endif
 

@@ -5,8 +5,8 @@ from __future__ import annotations
 from bisect import bisect_left, bisect_right
 from dataclasses import dataclass
 
-from .model import Agent, local_place
-from .pairs import Path, reversed_path
+from .model import Agent, Joined, local_place
+from .pairs import Pair, Path, reversed_path
 from .replay import Replay, Step, other
 from .scenario import SIDES
 from .stun import message_of
@@ -60,8 +60,17 @@ def may_end(step: Step, side: str, path: Path) -> bool:
         at = agent.place_to_discard(local_place(entry.given[0]), agent.local)
         return bool(entry.returned) and any(p.local == at for p in pairs)
     if entry.call == "add_local_candidate":
-        return entry.returned is not None
-    return entry.call in ("add_remote_candidate", "ice_restart")
+        return _may_lose(agent.with_local(entry.given[0], entry.returned), pairs)
+    if entry.call == "add_remote_candidate":
+        return _may_lose(agent.with_remote(entry.given[0]), pairs)
+    return entry.call == "ice_restart"
+
+
+def _may_lose(joined: Joined | None, pairs: list[Pair]) -> bool:
+    if joined is None:
+        return False
+    agent, combinations = joined
+    return any(p not in agent.pairs or agent.may_remove(p, combinations) for p in pairs)
 
 
 def is_gone(step: Step, side: str, path: Path) -> bool:

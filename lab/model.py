@@ -45,6 +45,9 @@ class Issued:
 
 Result = tuple["Agent", "Issued | None", tuple[Path, ...]]
 
+# An agent with another candidate, and the combinations of indices that it forms.
+Joined = tuple["Agent", list[tuple[int, int]]]
+
 
 @dataclass(frozen=True)
 class Agent:
@@ -126,22 +129,28 @@ class Agent:
 
     # ---- candidates
 
-    def add_local(self, candidate: Candidate, line: str | None) -> Agent:
-        """Adds a local candidate. `line` is what the agent returned, with the priority; None: it was redundant."""
+    def with_local(self, candidate: Candidate, line: str | None) -> Joined | None:
+        """Returns the agent with a local candidate, and the combinations that it forms; None if it was redundant. `line` is what the
+        agent returned, with the priority."""
         if line is None:
-            return self
+            return None
         base = candidate.address if candidate.kind is CandidateKind.RELAYED else candidate.base
         new = Place(KINDS[candidate.kind], candidate.address, base, int(line.split()[3]))
         at = next((i for i, c in enumerate(self.local) if c.is_same_place(new)), None)
         if at is not None and self.local[at].is_discarded and self.local[at].is_same_origin(new):
             kept = _put(self.local, at, replace(self.local[at], is_discarded=False))
-            return replace(self, local=kept)._formed((at, r) for r in self._partners(new, self.remote))
+            return replace(self, local=kept), [(at, r) for r in self._partners(new, self.remote)]
         start = self if at is None else self._without_local(at)
         place = len(start.local)
-        return replace(start, local=(*start.local, new))._formed((place, r) for r in self._partners(new, self.remote))
+        return replace(start, local=(*start.local, new)), [(place, r) for r in self._partners(new, self.remote)]
 
-    def add_remote(self, line: str) -> Agent:
-        """Adds a remote candidate by its text, unless it is ignored."""
+    def add_local(self, candidate: Candidate, line: str | None) -> Agent:
+        """Adds a local candidate. `line` is what the agent returned."""
+        joined = self.with_local(candidate, line)
+        return self if joined is None else joined[0]._formed(joined[1])
+
+    def with_remote(self, line: str) -> Joined | None:
+        """Returns the agent with a remote candidate by its text, and the combinations that it forms; None if it is ignored."""
         words = line.split()
         more = dict(zip(words[8::2], words[9::2]))
         address = SocketAddress(words[4], int(words[5]))
@@ -149,9 +158,22 @@ class Agent:
         new = Place(words[7], address, address, int(words[3]), related)
         is_other = self.peer is not None and more.get("ufrag", self.peer.ufrag) != self.peer.ufrag
         if words[1] != "1" or is_other or any(_are_equal(self.remote[p.remote], new) for p in self.pairs):
-            return self
+            return None
         at = next((i for i, c in enumerate(self.remote) if c.is_found and c.address == address), len(self.remote))
-        return replace(self, remote=_put(self.remote, at, new))._formed((i, at) for i in self._partners(new, self.local))
+        return replace(self, remote=_put(self.remote, at, new)), [(i, at) for i in self._partners(new, self.local)]
+
+    def add_remote(self, line: str) -> Agent:
+        """Adds a remote candidate by its text, unless it is ignored."""
+        joined = self.with_remote(line)
+        return self if joined is None else joined[0]._formed(joined[1])
+
+    def may_remove(self, pair: Pair, combinations: list[tuple[int, int]]) -> bool:
+        """Whether forming these combinations may remove the pair: by replacing it, or because too many rank with it
+        (`MayBeRemoved`)."""
+        path, new = self.path(pair), [(self.local[l].base, self.remote[r].address, self._priority(l, r)) for l, r in combinations]
+        is_replaced = any((base, address) == path and pair.priority < priority for base, address, priority in new)
+        ranks = sum(p.priority >= pair.priority for p in self.pairs) + sum(priority >= pair.priority for _, _, priority in new)
+        return is_replaced or ranks > self.max_pairs
 
     def invalidate(self, candidate: Candidate) -> Agent:
         """Discards a local candidate, and its pairs."""

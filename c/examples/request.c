@@ -62,8 +62,8 @@ static void add(is_ice_agent *agent)
 {
     uint8_t why[128];
     size_t length = 0, index = 7;
-    is_ice_candidate host = {own, own, IS_ICE_HOST, IS_ICE_UDP}, wrong = {own, own, IS_ICE_HOST, 9};
-    is_ice_candidate zero = {{4, {0}, 1, 0, 0}, own, IS_ICE_HOST, IS_ICE_UDP};
+    is_ice_candidate host = {own, own, IS_ICE_HOST, IS_ICE_UDP, 0}, wrong = {own, own, IS_ICE_HOST, 9, 0};
+    is_ice_candidate zero = {{4, {0}, 1, 0, 0}, own, IS_ICE_HOST, IS_ICE_UDP, 0};
     want("protocol 9", is_ice_add_local(agent, &wrong, &index), IS_ICE_BAD_ADDRESS);
     hold("the index is unchanged", index == 7);
     want("host", is_ice_add_local(agent, &host, &index), IS_ICE_OK);

@@ -108,7 +108,7 @@ static double measured(struct bench *b, const struct row *row)
 static int32_t make(struct bench *b)
 {
     static const uint8_t ufrag[] = "p9KA", pass[] = "xJcE9AQAR7kczUDVOXRUCl", remote[] = "SQAt", secret[] = "x";
-    const is_ice_candidate host = {own, own, IS_ICE_HOST, IS_ICE_UDP};
+    const is_ice_candidate host = {own, own, IS_ICE_HOST, IS_ICE_UDP, 0};
     size_t index;
     for (size_t i = 0; i < sizeof b->bytes; i++) {
         const char byte[3] = {request[2 * i], request[2 * i + 1], '\0'};

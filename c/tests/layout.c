@@ -27,6 +27,7 @@ static void offsets(void)
     AT(is_ice_address, family, 0), AT(is_ice_address, bytes, 1), AT(is_ice_address, port, 18);
     AT(is_ice_address, flow, 20), AT(is_ice_address, scope, 24);
     AT(is_ice_candidate, address, 0), AT(is_ice_candidate, base, 28), AT(is_ice_candidate, kind, 56), AT(is_ice_candidate, protocol, 57);
+    AT(is_ice_candidate, tcptype, 58);
     AT(is_ice_packet, source, 0), AT(is_ice_packet, destination, 28), AT(is_ice_packet, length, 56), AT(is_ice_packet, protocol, 64);
     AT(is_ice_event, source, 0), AT(is_ice_event, destination, 28), AT(is_ice_event, kind, 56);
     AT(is_ice_event, state, 60), AT(is_ice_event, protocol, 64);
@@ -37,10 +38,11 @@ static void offsets(void)
     AT(is_ice_agent_stats, nomination_send_count, 32);
     AT(is_ice_nominated_pair, total_rtt, 0), AT(is_ice_nominated_pair, responses, 8);
     AT(is_ice_nominated_pair, rtt, 16), AT(is_ice_nominated_pair, has_rtt, 24);
-    AT(is_ice_pair, local, 0), AT(is_ice_pair, remote, 8), AT(is_ice_pair, priority, 16), AT(is_ice_pair, responses, 24);
-    AT(is_ice_pair, total_rtt, 32), AT(is_ice_pair, rtt, 40), AT(is_ice_pair, last_request, 48), AT(is_ice_pair, due, 56);
-    AT(is_ice_pair, state, 64), AT(is_ice_pair, nominated, 68), AT(is_ice_pair, selected, 69), AT(is_ice_pair, has_rtt, 70);
-    AT(is_ice_pair, has_request, 71), AT(is_ice_pair, has_due, 72);
+    AT(is_ice_pair, local, 0), AT(is_ice_pair, remote, 8), AT(is_ice_pair, priority, 16), AT(is_ice_pair, checks_sent, 24);
+    AT(is_ice_pair, requests_received, 32), AT(is_ice_pair, responses, 40);
+    AT(is_ice_pair, total_rtt, 48), AT(is_ice_pair, rtt, 56), AT(is_ice_pair, last_request, 64), AT(is_ice_pair, due, 72);
+    AT(is_ice_pair, state, 80), AT(is_ice_pair, nominated, 84), AT(is_ice_pair, selected, 85), AT(is_ice_pair, has_rtt, 86);
+    AT(is_ice_pair, has_request, 87), AT(is_ice_pair, has_due, 88);
     AT(is_ice_kind_preferences, host, 0), AT(is_ice_kind_preferences, peer_reflexive, 2);
     AT(is_ice_kind_preferences, server_reflexive, 4), AT(is_ice_kind_preferences, relayed, 6);
     AT(is_ice_preference_table, v4, 0), AT(is_ice_preference_table, v6, 8);
@@ -91,20 +93,20 @@ static void candidates(void)
 {
     static const is_ice_preference_table table = {{1, 2, 3, 4}, {5, 6, 7, 8}};
     const is_ice_candidate all[] = {
-        {v4, v4, IS_ICE_HOST, IS_ICE_UDP},
-        {seen4, v4, IS_ICE_SERVER_REFLEXIVE, IS_ICE_UDP},
-        {seen4, v4, IS_ICE_RELAYED, IS_ICE_TCP},
-        {v6, v6, IS_ICE_HOST, IS_ICE_SSL_TCP},
-        {seen6, v6, IS_ICE_SERVER_REFLEXIVE, IS_ICE_TLS},
-        {seen6, v6, IS_ICE_RELAYED, IS_ICE_UDP},
+        {v4, v4, IS_ICE_HOST, IS_ICE_UDP, IS_ICE_TCP_UNSTATED},
+        {seen4, v4, IS_ICE_SERVER_REFLEXIVE, IS_ICE_UDP, IS_ICE_TCP_UNSTATED},
+        {seen4, v4, IS_ICE_RELAYED, IS_ICE_TCP, IS_ICE_TCP_UNSTATED},
+        {v6, v6, IS_ICE_HOST, IS_ICE_SSL_TCP, IS_ICE_TCP_PASSIVE},
+        {seen6, v6, IS_ICE_SERVER_REFLEXIVE, IS_ICE_TLS, IS_ICE_TCP_SO},
+        {seen6, v6, IS_ICE_RELAYED, IS_ICE_UDP, IS_ICE_TCP_UNSTATED},
     };
     is_ice_agent agent = made();
     HOLD(is_ice_set_preference_table(&agent, &table) == IS_ICE_OK);
     has_line(&agent, 0, &all[0], " 1 udp 2113929727 10.0.0.1 1000 typ host");
     has_line(&agent, 1, &all[1], " 1 udp 1677722623 192.0.2.1 2000 typ srflx raddr 0.0.0.0 rport 0");
     has_line(&agent, 2, &all[2], " 1 tcp 16778495 192.0.2.1 2000 typ relay raddr 0.0.0.0 rport 0");
-    has_line(&agent, 3, &all[3], " 1 ssltcp 1509950975 2001:db8::1 3000 typ host");
-    has_line(&agent, 4, &all[4], " 1 tls 1677723647 2001:db8::2 4000 typ srflx raddr :: rport 0");
+    has_line(&agent, 3, &all[3], " 1 ssltcp 1509950975 2001:db8::1 3000 typ host tcptype passive");
+    has_line(&agent, 4, &all[4], " 1 tls 1677723647 2001:db8::2 4000 typ srflx raddr :: rport 0 tcptype so");
     has_line(&agent, 5, &all[5], " 1 udp 33556735 2001:db8::2 4000 typ relay raddr :: rport 0");
     HOLD(is_ice_invalidate_local(&agent, &all[1]) == IS_ICE_OK && is_ice_invalidate_local(&agent, &all[1]) == IS_ICE_NOTHING);
     is_ice_agent_free(&agent);
@@ -115,7 +117,7 @@ static is_ice_agent side(const char *near, const char *far, bool controlling, co
     is_ice_agent agent = {false, NULL};
     char line[128];
     size_t index = SIZE_MAX;
-    const is_ice_candidate host = {*own, *own, IS_ICE_HOST, IS_ICE_UDP};
+    const is_ice_candidate host = {*own, *own, IS_ICE_HOST, IS_ICE_UDP, 0};
     int length = snprintf(line, sizeof line, "candidate:1 1 udp 7 2001:db8::%u %u typ host", other->bytes[15], other->port);
     HOLD(is_ice_agent_new(&agent, (const uint8_t *)near, 4, (const uint8_t *)near, 4, controlling) == IS_ICE_OK);
     HOLD(is_ice_set_remote_credentials(&agent, (const uint8_t *)far, 4, (const uint8_t *)far, 4) == IS_ICE_OK);

@@ -57,8 +57,8 @@ struct story {
     uint8_t random[IS_ICE_CREDENTIALS_RANDOM];
 };
 
-static const is_ice_candidate host_a = {{4, {10, 0, 0, 1}, 1000, 0, 0}, {4, {10, 0, 0, 1}, 1000, 0, 0}, IS_ICE_HOST, IS_ICE_UDP};
-static const is_ice_candidate host_b = {{4, {10, 0, 0, 2}, 2000, 0, 0}, {4, {10, 0, 0, 2}, 2000, 0, 0}, IS_ICE_HOST, IS_ICE_UDP};
+static const is_ice_candidate host_a = {{4, {10, 0, 0, 1}, 1000, 0, 0}, {4, {10, 0, 0, 1}, 1000, 0, 0}, IS_ICE_HOST, IS_ICE_UDP, 0};
+static const is_ice_candidate host_b = {{4, {10, 0, 0, 2}, 2000, 0, 0}, {4, {10, 0, 0, 2}, 2000, 0, 0}, IS_ICE_HOST, IS_ICE_UDP, 0};
 
 static void add(struct story *s, const void *bytes, size_t length)
 {
@@ -112,9 +112,11 @@ static void introduce(struct story *s)
     QUIET(IS_ICE_OK, is_ice_set_lite(&s->b, false));
     QUIET(IS_ICE_OK, is_ice_set_tie_breaker(&s->b, 5));
     QUIET(IS_ICE_OK, is_ice_set_max_pairs(&s->b, 100));
+    QUIET(IS_ICE_OK, is_ice_set_max_discovered(&s->b, 32));
     QUIET(IS_ICE_OK, is_ice_set_timing_advance(&s->b, 50000000));
     QUIET(IS_ICE_OK, is_ice_set_initial_rto(&s->b, 250000000));
     QUIET(IS_ICE_OK, is_ice_set_max_rto(&s->b, UINT64_C(3000000000)));
+    QUIET(IS_ICE_OK, is_ice_set_lite_timeout(&s->b, UINT64_C(15000000000)));
     QUIET(IS_ICE_OK, is_ice_set_max_retransmits(&s->b, 9));
     QUIET(IS_ICE_OK, is_ice_set_mtu(&s->b, 1150, 1280));
     QUIET(IS_ICE_OK, is_ice_skip_pair_ids(&s->b, 0));

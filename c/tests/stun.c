@@ -1,4 +1,4 @@
-/* Tests the STUN calls: the samples of RFC 5769, a request, responses of servers, and malformed messages. */
+/* Tests the STUN calls: the samples of RFC 5769, read and written; a request, responses of servers, malformed messages. */
 #include "is_ice.h"
 #include <stdio.h>
 #include <stdlib.h>
@@ -51,6 +51,10 @@ static void offsets(void)
     AT(is_ice_stun_message, network_id, 96), AT(is_ice_stun_message, network_cost, 112), AT(is_ice_stun_message, mapped, 128);
     AT(is_ice_stun_message, peer, 156), AT(is_ice_stun_message, relayed, 184), AT(is_ice_stun_message, id, 212);
     AT(is_ice_stun_message, method, 224), AT(is_ice_stun_message, cls, 226), AT(is_ice_stun_message, use_candidate, 227);
+    AT(is_ice_stun_message, has_integrity, 228), AT(is_ice_stun_message, has_fingerprint, 229);
+    AT(is_ice_stun_span, start, 0), AT(is_ice_stun_span, length, 8), AT(is_ice_stun_span, is_set, 16);
+    AT(is_ice_stun_texts, username, 0), AT(is_ice_stun_texts, reason, 24), AT(is_ice_stun_texts, data, 48);
+    AT(is_ice_stun_texts, realm, 72), AT(is_ice_stun_texts, nonce, 96), AT(is_ice_stun_texts, software, 120);
 }
 
 /* The CRC-32 of FINGERPRINT, bit by bit (RFC 8489, section 14.7). */
@@ -122,7 +126,7 @@ static void reads_any_message(void)
     HOLD(m.priority.is_set && m.priority.value == 0x6e0001ff && !m.use_candidate);
     HOLD(m.controlled.is_set && m.controlled.value == UINT64_C(0x932ff9b151263b36) && !m.controlling.is_set);
     HOLD(!m.error_code.is_set && !m.lifetime.is_set && !m.channel_number.is_set && !m.network_id.is_set && !m.network_cost.is_set);
-    HOLD(m.mapped.family == 0 && m.peer.family == 0 && m.relayed.family == 0);
+    HOLD(m.mapped.family == 0 && m.peer.family == 0 && m.relayed.family == 0 && m.has_integrity && m.has_fingerprint);
     HOLD(is_ice_stun_text(IS_ICE_STUN_USERNAME, bytes, size, text, sizeof text, &length) == IS_ICE_OK);
     HOLD(length == 9 && memcmp(text, "evtj:h6vY", 9) == 0);
     HOLD(is_ice_stun_text(IS_ICE_STUN_REALM, bytes, size, text, sizeof text, &length) == IS_ICE_NOTHING && length == 9);
@@ -133,13 +137,172 @@ static void reads_any_message(void)
     HOLD(is_ice_stun_verify(bytes, size, (const uint8_t *)password, sizeof password - 1) == IS_ICE_NOTHING);
     HOLD(is_ice_stun_read(bytes, size - 1, &m) == IS_ICE_UNPARSED && m.priority.value == 0x6e0001ff);
     HOLD(is_ice_stun_read(bytes, unhex(failed_hex, bytes), &m) == IS_ICE_OK && m.cls == IS_ICE_STUN_FAILURE);
-    HOLD(m.error_code.is_set && m.error_code.value == 401);
+    HOLD(m.error_code.is_set && m.error_code.value == 401 && !m.has_integrity && !m.has_fingerprint);
     HOLD(is_ice_stun_verify(bytes, unhex(plain_hex, bytes), (const uint8_t *)password, 0) == IS_ICE_NOTHING);
+}
+
+/* What is_ice_stun_read says of the bytes, which have this text if it is not null. */
+static void same_again(
+    const is_ice_stun_message *wanted, uint16_t attribute, const char *text, const uint8_t *bytes, size_t size)
+{
+    uint8_t found[64];
+    size_t length;
+    is_ice_stun_message m;
+    memset(&m, 0, sizeof m);
+    HOLD(is_ice_stun_read(bytes, size, &m) == IS_ICE_OK);
+    HOLD(m.method == wanted->method && m.cls == wanted->cls && memcmp(m.id.bytes, wanted->id.bytes, 12) == 0);
+    HOLD(m.priority.is_set == wanted->priority.is_set && m.priority.value == wanted->priority.value);
+    HOLD(m.controlled.is_set == wanted->controlled.is_set && m.controlled.value == wanted->controlled.value);
+    HOLD(m.controlling.is_set == wanted->controlling.is_set && m.controlling.value == wanted->controlling.value);
+    HOLD(m.error_code.is_set == wanted->error_code.is_set && m.error_code.value == wanted->error_code.value);
+    HOLD(m.lifetime.is_set == wanted->lifetime.is_set && m.lifetime.value == wanted->lifetime.value);
+    HOLD(m.channel_number.is_set == wanted->channel_number.is_set && m.channel_number.value == wanted->channel_number.value);
+    HOLD(m.network_id.is_set == wanted->network_id.is_set && m.network_id.value == wanted->network_id.value);
+    HOLD(m.network_cost.is_set == wanted->network_cost.is_set && m.network_cost.value == wanted->network_cost.value);
+    HOLD(m.mapped.family == wanted->mapped.family && m.mapped.port == wanted->mapped.port);
+    HOLD(m.mapped.family == 0 || memcmp(m.mapped.bytes, wanted->mapped.bytes, m.mapped.family == 4 ? 4 : 16) == 0);
+    HOLD(m.use_candidate == wanted->use_candidate && m.has_integrity == wanted->has_integrity && m.has_fingerprint);
+    HOLD(is_ice_stun_verify(bytes, size, (const uint8_t *)password, sizeof password - 1) == (m.has_integrity ? 0 : 1));
+    if (text == NULL) return;
+    HOLD(is_ice_stun_text(attribute, bytes, size, found, sizeof found, &length) == IS_ICE_OK);
+    HOLD(length == strlen(text) && memcmp(found, text, length) == 0);
+}
+
+static int32_t write_it(const is_ice_stun_message *m, const is_ice_stun_texts *texts, const char *text, uint8_t *buffer,
+                        size_t size, size_t *length)
+{
+    return is_ice_stun_write(m, texts, (const uint8_t *)text, strlen(text), (const uint8_t *)password,
+                             sizeof password - 1, buffer, size, length);
+}
+
+/* The samples without their SOFTWARE, which has another type, and with zeros as padding, which the RFC has as spaces. */
+static void writes_the_samples(void)
+{
+    static const char *samples[3] = {request_hex, v4_hex, v6_hex};
+    static const size_t lengths[3] = {88, 64, 76};
+    for (int i = 0; i < 3; i++) {
+        uint8_t bytes[128], written[128];
+        size_t length = 0, size = unhex(samples[i], bytes);
+        is_ice_stun_message m;
+        is_ice_stun_texts texts;
+        memset(&texts, 0, sizeof texts);
+        memset(written, 0xaa, sizeof written);
+        HOLD(is_ice_stun_read(bytes, size, &m) == IS_ICE_OK);
+        if (i == 0) texts.username.length = 9, texts.username.is_set = true;
+        HOLD(write_it(&m, &texts, "evtj:h6vY", written, lengths[i] - 1, &length) == IS_ICE_BUFFER_TOO_SHORT);
+        HOLD(length == 0 && written[0] == 0xaa);
+        HOLD(write_it(&m, &texts, "evtj:h6vY", written, sizeof written, &length) == IS_ICE_OK);
+        HOLD(length == lengths[i] && written[length] == 0xaa);
+        HOLD(memcmp(written, bytes, 2) == 0 && memcmp(written + 4, bytes + 4, 16) == 0);
+        same_again(&m, IS_ICE_STUN_USERNAME, i == 0 ? "evtj:h6vY" : NULL, written, length);
+        /* XOR-MAPPED-ADDRESS as in the RFC, byte by byte */
+        if (i > 0) HOLD(memcmp(written + 20, bytes + 36, i == 1 ? 12 : 24) == 0);
+        uint32_t crc = crc32(written, length - 8) ^ 0x5354554e;
+        for (int j = 0; j < 4; j++) HOLD(written[length - 4 + (size_t)j] == (uint8_t)(crc >> (24 - 8 * j)));
+        m.has_integrity = false;
+        HOLD(write_it(&m, &texts, "evtj:h6vY", written, sizeof written, &length) == IS_ICE_OK && length == lengths[i] - 24);
+        same_again(&m, IS_ICE_STUN_USERNAME, i == 0 ? "evtj:h6vY" : NULL, written, length);
+    }
+}
+
+/* The response of a server to a request without credentials, byte by byte: 401 "no". */
+static void writes_an_error(void)
+{
+    uint8_t bytes[64], written[64];
+    size_t length, size = unhex(failed_hex, bytes);
+    is_ice_stun_message m;
+    is_ice_stun_texts texts;
+    memset(&texts, 0, sizeof texts);
+    HOLD(is_ice_stun_read(bytes, size, &m) == IS_ICE_OK);
+    texts.reason.start = 5, texts.reason.length = 2, texts.reason.is_set = true;
+    HOLD(write_it(&m, &texts, "not: no", written, sizeof written, &length) == IS_ICE_OK && length == size + 8);
+    bytes[3] = (uint8_t)(bytes[3] + 8); /* FINGERPRINT */
+    HOLD(memcmp(written, bytes, size) == 0);
+    same_again(&m, IS_ICE_STUN_ERROR_CODE, "no", written, length);
+    texts.reason.is_set = false;
+    HOLD(write_it(&m, &texts, "not: no", written, sizeof written, &length) == IS_ICE_OK && length == size + 4);
+    same_again(&m, IS_ICE_STUN_ERROR_CODE, "", written, length);
+    m.error_code.is_set = false;
+    texts.reason.is_set = true;
+    HOLD(write_it(&m, &texts, "not: no", written, sizeof written, &length) == IS_ICE_OK && length == 28);
+}
+
+static is_ice_stun_span whole(size_t length)
+{
+    is_ice_stun_span span = {0, 0, true};
+    span.length = length;
+    return span;
+}
+
+/* The longest message without DATA. */
+static void writes_all_attributes(void)
+{
+    static char text[509];
+    uint8_t written[IS_ICE_STUN_WRITE_LENGTH + 1];
+    size_t length;
+    is_ice_stun_message m;
+    is_ice_stun_texts texts;
+    is_ice_stun_number *numbers[8] = {&m.priority, &m.controlled, &m.controlling, &m.error_code, &m.lifetime,
+                                      &m.channel_number, &m.network_id, &m.network_cost};
+    memset(text, 'x', 508);
+    memset(&m, 0, sizeof m);
+    memset(&texts, 0, sizeof texts);
+    m.method = IS_ICE_STUN_CHANNEL_BIND, m.cls = IS_ICE_STUN_INDICATION, m.id = id;
+    for (int i = 0; i < 8; i++) numbers[i]->value = 0x4000 + (uint64_t)i, numbers[i]->is_set = true;
+    m.error_code.value = 699;
+    m.mapped.family = m.peer.family = m.relayed.family = 6;
+    m.use_candidate = m.has_integrity = true;
+    texts.username = whole(508);
+    texts.reason = texts.realm = texts.nonce = texts.software = whole(128);
+    HOLD(write_it(&m, &texts, text, written, sizeof written, &length) == IS_ICE_OK && length == IS_ICE_STUN_WRITE_LENGTH);
+    same_again(&m, 0, NULL, written, length);
+    texts.software = whole(129);
+    HOLD(write_it(&m, &texts, text, written, sizeof written, &length) == IS_ICE_MESSAGE_TOO_LONG);
+    texts.software = whole(0);
+    HOLD(write_it(&m, &texts, text, written, sizeof written, &length) == IS_ICE_OK);
+    same_again(&m, IS_ICE_STUN_SOFTWARE, "", written, length);
+}
+
+static int32_t refused(const is_ice_stun_message *m, const is_ice_stun_texts *texts, const char *text)
+{
+    uint8_t written[64];
+    size_t length = 77;
+    memset(written, 0xaa, sizeof written);
+    int32_t code = write_it(m, texts, text, written, sizeof written, &length);
+    HOLD(length == 77 && written[0] == 0xaa);
+    return code;
+}
+
+static void refuses_what_is_no_message(void)
+{
+    is_ice_stun_message good, m;
+    is_ice_stun_texts none, texts;
+    memset(&good, 0, sizeof good);
+    memset(&none, 0, sizeof none);
+    good.method = IS_ICE_STUN_BINDING;
+    is_ice_stun_number big = {UINT64_C(0x100000000), true}, small = {7, true};
+    m = good, m.method = IS_ICE_STUN_OTHER, HOLD(refused(&m, &none, "") == IS_ICE_BAD_MESSAGE);
+    m = good, m.method = 2, HOLD(refused(&m, &none, "") == IS_ICE_BAD_MESSAGE);
+    m = good, m.cls = 4, HOLD(refused(&m, &none, "") == IS_ICE_BAD_MESSAGE);
+    m = good, m.priority = big, HOLD(refused(&m, &none, "") == IS_ICE_BAD_MESSAGE);
+    m = good, m.lifetime = big, HOLD(refused(&m, &none, "") == IS_ICE_BAD_MESSAGE);
+    m = good, m.channel_number = big, HOLD(refused(&m, &none, "") == IS_ICE_BAD_MESSAGE);
+    m = good, m.error_code = small, HOLD(refused(&m, &none, "") == IS_ICE_BAD_MESSAGE);
+    m = good, m.network_id = small, HOLD(refused(&m, &none, "") == IS_ICE_BAD_MESSAGE);
+    m = good, m.network_cost = small, HOLD(refused(&m, &none, "") == IS_ICE_BAD_MESSAGE);
+    m = good, m.peer.family = 5, HOLD(refused(&m, &none, "") == IS_ICE_BAD_ADDRESS);
+    texts = none, texts.username = whole(4), HOLD(refused(&good, &texts, "a:b") == IS_ICE_BAD_MESSAGE);
+    texts = none, texts.nonce = whole(SIZE_MAX), texts.nonce.start = 2, HOLD(refused(&good, &texts, "a:b") == IS_ICE_BAD_MESSAGE);
+    texts = none, texts.realm = whole(1), HOLD(refused(&good, &texts, "\xff") == IS_ICE_NOT_UTF8);
 }
 
 int main(void)
 {
     offsets();
+    writes_the_samples();
+    writes_an_error();
+    writes_all_attributes();
+    refuses_what_is_no_message();
     writes_a_request();
     reads_responses();
     reads_any_message();

@@ -59,7 +59,7 @@ static void signal_candidate(pair *p, int side)
     uint8_t line[128];
     size_t length = 0, index = 0;
     is_ice_address own = address_of((uint8_t)(side + 1));
-    is_ice_candidate host = {own, own, IS_ICE_HOST, IS_ICE_UDP};
+    is_ice_candidate host = {own, own, IS_ICE_HOST, IS_ICE_UDP, 0};
     must(is_ice_add_local(&p->agents[side], &host, &index));
     must(is_ice_local_candidate(&p->agents[side], index, line, sizeof line, &length));
     must(is_ice_add_remote(&p->agents[!side], line, length, &index));

@@ -6,15 +6,26 @@ over UDP sockets.
 """
 
 from .address import Protocol, SocketAddress
-from .agent import IceAgent, line_refusal, new_creds
-from .candidate import AddResult, Candidate, CandidateKind, KindPreferences, has_mdns_name
+from .agent import (
+    IceAgent,
+    candidate_line,
+    default_local_preference,
+    line_from_json,
+    line_refusal,
+    line_to_json,
+    line_with_ufrag,
+    new_creds,
+)
+from .candidate import AddResult, Candidate, CandidateKind, KindPreferences, TcpType, has_mdns_name
 from .errors import (
     BadAddress,
     BadCandidate,
     BadLimit,
+    BadMessage,
     CredentialsTooLong,
     HasAgent,
     IceError,
+    MessageTooLong,
     MtuTooSmall,
     NoAgent,
     NotUtf8,
@@ -40,9 +51,10 @@ from .events import (
 )
 
 __all__ = [
-    "AddResult", "BadAddress", "BadCandidate", "BadLimit", "Candidate", "CandidateKind", "CandidatePair",
+    "AddResult", "BadAddress", "BadCandidate", "BadLimit", "BadMessage", "Candidate", "CandidateKind", "CandidatePair",
     "CheckState", "CredentialsTooLong", "DiscoveredRecv", "HasAgent", "IceAgent", "IceAgentEvent", "IceAgentStats", "IceConnectionState", "IceConnectionStateChange",
-    "IceCreds", "IceError", "IceRestart", "KindPreferences", "MtuTooSmall", "NoAgent", "NominatedPair", "NominatedSend",
-    "NotUtf8", "OutOfMemory", "PairIdsExhausted", "PriorityTooHigh", "Protocol", "SocketAddress", "TooFewRandomBytes",
-    "Transmit", "Unparsed", "has_mdns_name", "line_refusal", "new_creds",
+    "IceCreds", "IceError", "IceRestart", "KindPreferences", "MessageTooLong", "MtuTooSmall", "NoAgent", "NominatedPair", "NominatedSend",
+    "NotUtf8", "OutOfMemory", "PairIdsExhausted", "PriorityTooHigh", "Protocol", "SocketAddress", "TcpType",
+    "TooFewRandomBytes", "Transmit", "Unparsed", "candidate_line", "default_local_preference", "has_mdns_name", "line_from_json",
+    "line_refusal", "line_to_json", "line_with_ufrag", "new_creds",
 ]

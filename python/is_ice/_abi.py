@@ -7,13 +7,14 @@ import os
 from ctypes import POINTER, c_bool, c_char_p, c_int32, c_size_t, c_uint8, c_uint16, c_uint32, c_uint64, c_void_p
 from pathlib import Path
 
-VERSION = 2
+VERSION = 3
 NAME = "libis_ice.so"
 CREDENTIALS_RANDOM = 38
 TIMEOUT_RANDOM = 12
 UFRAG_LENGTH = 16
 PASS_LENGTH = 22
 STUN_REQUEST_LENGTH = 28
+STUN_WRITE_LENGTH = 1228
 
 
 class Agent(ctypes.Structure):
@@ -31,7 +32,7 @@ class Address(ctypes.Structure):
 class Candidate(ctypes.Structure):
     """is_ice_candidate."""
 
-    _fields_ = [("address", Address), ("base", Address), ("kind", c_uint8), ("protocol", c_uint8)]
+    _fields_ = [("address", Address), ("base", Address), ("kind", c_uint8), ("protocol", c_uint8), ("tcptype", c_uint8)]
 
 
 class Packet(ctypes.Structure):
@@ -84,6 +85,8 @@ class Pair(ctypes.Structure):
         ("local", c_size_t),
         ("remote", c_size_t),
         ("priority", c_uint64),
+        ("checks_sent", c_uint64),
+        ("requests_received", c_uint64),
         ("responses", c_uint64),
         ("total_rtt", c_uint64),
         ("rtt", c_uint64),
@@ -147,12 +150,27 @@ class StunMessage(ctypes.Structure):
         ("method", c_uint16),
         ("cls", c_uint8),
         ("use_candidate", c_bool),
+        ("has_integrity", c_bool),
+        ("has_fingerprint", c_bool),
     ]
 
 
+class StunSpan(ctypes.Structure):
+    """is_ice_stun_span."""
+
+    _fields_ = [("start", c_size_t), ("length", c_size_t), ("is_set", c_bool)]
+
+
+class StunTexts(ctypes.Structure):
+    """is_ice_stun_texts."""
+
+    _fields_ = [(name, StunSpan) for name in ("username", "reason", "data", "realm", "nonce", "software")]
+
+
 # The sizes of the structs that c/is_ice.h asserts.
-SIZES = {Agent: 16, Address: 28, Candidate: 60, Packet: 72, Event: 68, Status: 32, Stats: 40, Nominated: 32, Pair: 80,
-         KindPreferences: 8, PreferenceTable: 16, StunTransaction: 12, StunResult: 32, StunNumber: 16, StunMessage: 232}
+SIZES = {Agent: 16, Address: 28, Candidate: 60, Packet: 72, Event: 68, Status: 32, Stats: 40, Nominated: 32, Pair: 96,
+         KindPreferences: 8, PreferenceTable: 16, StunTransaction: 12, StunResult: 32, StunNumber: 16, StunMessage: 232,
+         StunSpan: 24, StunTexts: 144}
 
 _AGENT = POINTER(Agent)
 _BYTES = [c_char_p, c_size_t]
@@ -164,11 +182,20 @@ PROTOTYPES: dict[str, list[object]] = {
     "is_ice_make_credentials": [*_BYTES, c_void_p, c_size_t, c_void_p, c_size_t],
     "is_ice_line_refusal": [*_BYTES, *_TEXT],
     "is_ice_candidate_refusal": [POINTER(Candidate), *_TEXT],
+    "is_ice_candidate_line": [POINTER(Candidate), *_TEXT],
+    "is_ice_line_with_ufrag": [*_BYTES, *_BYTES, *_TEXT],
+    "is_ice_line_to_json": [*_BYTES, *_TEXT],
+    "is_ice_line_from_json": [*_BYTES, *_TEXT],
+    "is_ice_json_refusal": [*_BYTES, *_TEXT],
+    "is_ice_candidate_preference": [POINTER(Candidate), c_size_t, POINTER(c_uint32)],
+    "is_ice_line_preference": [*_BYTES, c_size_t, POINTER(c_uint32)],
     "is_ice_agent_new": [_AGENT, *_BYTES, *_BYTES, c_uint64],
     "is_ice_set_controlling": [_AGENT, c_bool],
     "is_ice_set_lite": [_AGENT, c_bool],
+    "is_ice_set_lite_timeout": [_AGENT, c_uint64],
     "is_ice_set_tie_breaker": [_AGENT, c_uint64],
     "is_ice_set_max_pairs": [_AGENT, c_size_t],
+    "is_ice_set_max_discovered": [_AGENT, c_size_t],
     "is_ice_set_timing_advance": [_AGENT, c_uint64],
     "is_ice_set_initial_rto": [_AGENT, c_uint64],
     "is_ice_set_max_rto": [_AGENT, c_uint64],
@@ -200,6 +227,7 @@ PROTOTYPES: dict[str, list[object]] = {
     "is_ice_nominated": [_AGENT, POINTER(Nominated)],
     "is_ice_pair_count": [_AGENT, POINTER(c_size_t)],
     "is_ice_pair_at": [_AGENT, c_size_t, POINTER(Pair)],
+    "is_ice_find_pair": [_AGENT, *_BYTES, POINTER(Pair)],
     "is_ice_has_viable_remote": [_AGENT, POINTER(Address)],
     "is_ice_local_ufrag": [_AGENT, *_TEXT],
     "is_ice_local_pass": [_AGENT, *_TEXT],
@@ -210,6 +238,7 @@ PROTOTYPES: dict[str, list[object]] = {
     "is_ice_stun_text": [c_uint16, *_BYTES, *_TEXT],
     "is_ice_stun_read": [*_BYTES, POINTER(StunMessage)],
     "is_ice_stun_verify": [*_BYTES, *_BYTES],
+    "is_ice_stun_write": [POINTER(StunMessage), POINTER(StunTexts), *_BYTES, *_BYTES, *_TEXT],
 }
 
 

@@ -7,7 +7,7 @@ import os
 import threading
 from collections import deque
 from collections.abc import Callable
-from ctypes import byref, c_size_t, c_uint64, create_string_buffer, string_at
+from ctypes import byref, c_size_t, c_uint32, c_uint64, create_string_buffer, string_at
 from functools import cached_property
 from types import TracebackType
 
@@ -76,6 +76,67 @@ def line_refusal(line: str) -> str | None:
     return _text(lambda *into: _library.calls.is_ice_line_refusal(text, len(text), *into))
 
 
+def candidate_line(candidate: Candidate) -> str:
+    """Returns the text of a local candidate that no agent has: with the priority of the first one of its kind, without a fragment."""
+    struct = struct_of(candidate)
+    return _text_or_refusal(lambda *into: _library.calls.is_ice_candidate_line(byref(struct), *into),
+                            lambda *into: _library.calls.is_ice_candidate_refusal(byref(struct), *into))
+
+
+def line_with_ufrag(line: str, ufrag: str) -> str:
+    """Returns the text of a candidate with this username fragment in place of its own: of ice-char (RFC 8839, section 5.4)."""
+    text, name = line.encode(), ufrag.encode()
+    return _text_or_refusal(lambda *into: _library.calls.is_ice_line_with_ufrag(text, len(text), name, len(name), *into),
+                            lambda *into: _library.calls.is_ice_line_refusal(text, len(text), *into))
+
+
+def line_to_json(line: str) -> str:
+    """Returns the JSON in which browsers signal a candidate: the RTCIceCandidateInit of W3C WebRTC.
+
+    `sdpMid` is null and `sdpMLineIndex` is 0. BadCandidate says why the text is not a candidate.
+    """
+    text = line.encode()
+    return _text_or_refusal(lambda *into: _library.calls.is_ice_line_to_json(text, len(text), *into),
+                            lambda *into: _library.calls.is_ice_line_refusal(text, len(text), *into))
+
+
+def line_from_json(json: str) -> str:
+    """Returns the text of the candidate in such JSON, for `IceAgent.add_remote_candidate`.
+
+    A `usernameFragment` that is a string replaces that of the candidate; other members are not read. BadCandidate says why it is not
+    a candidate. The end of candidates, which has an empty `candidate`, is not one.
+    """
+    text = json.encode()
+    return _text_or_refusal(lambda *into: _library.calls.is_ice_line_from_json(text, len(text), *into),
+                            lambda *into: _library.calls.is_ice_json_refusal(text, len(text), *into))
+
+
+def _text_or_refusal(call: Callable[..., int], refusal: Callable[..., int]) -> str:
+    """Returns the text that a call writes. BadCandidate has the explanation that another call writes."""
+    try:
+        return _text(call) or ""
+    except BadCandidate:
+        raise error_of(BadCandidate.code, _text(refusal) or "") from None
+
+
+def default_local_preference(candidate: Candidate | str, same_kind: int) -> int:
+    """Returns the default local preference of a candidate that comes after `same_kind` local ones of its kind and IP version."""
+    preference, before = c_uint32(), in_range(same_kind, 64, "a number of candidates")
+    if isinstance(candidate, Candidate):
+        done(_library.calls.is_ice_candidate_preference(byref(struct_of(candidate)), before, byref(preference)))
+    else:
+        text = candidate.encode()
+        done(_library.calls.is_ice_line_preference(text, len(text), before, byref(preference)))
+    return preference.value
+
+
+def _pair_of(pair: _abi.Pair) -> CandidatePair:
+    return CandidatePair(
+        pair.local, pair.remote, pair.priority, CheckState(pair.state), pair.nominated, pair.selected, pair.checks_sent,
+        pair.requests_received, pair.responses, pair.total_rtt, pair.rtt if pair.has_rtt else None, pair.last_request if pair.has_request else None,
+        pair.due if pair.has_due else None)
+
+
 @one_call_at_a_time
 class IceAgent:
     """One side of a session. Its names are those of the Rust crate `is`. Times and durations are whole nanoseconds.
@@ -138,6 +199,16 @@ class IceAgent:
         """Limits the number of pairs, when pairs are next formed. Default: 100."""
         done(self._c.is_ice_set_max_pairs(self._at, in_range(limit, 64, "a limit")))
 
+    def set_max_discovered(self, limit: int | None) -> None:
+        """Limits how many remote candidates requests may bring, invalidated ones included. Default: 32. None: no limit, as in the original.
+
+        Whoever sees one request can replay it from other ports, and each port would become a candidate. At the limit an unknown
+        sender replaces one without a pair, or its request is dropped without a response. Known and signaled senders are always
+        served. Set the limit before the first packet.
+        """
+        most = (1 << 64) - 1 if limit is None else in_range(limit, 64, "a limit")
+        done(self._c.is_ice_set_max_discovered(self._at, most))
+
     def set_timing_advance(self, nanoseconds: int) -> None:
         """Sets the pacing interval Ta: the least time between two timeouts, each of which sends at most one packet. Default: 50 ms."""
         done(self._c.is_ice_set_timing_advance(self._at, in_range(nanoseconds, 64, "a time")))
@@ -149,6 +220,13 @@ class IceAgent:
     def set_max_stun_rto(self, nanoseconds: int) -> None:
         """Sets the longest time from one check of a pair until the next one is due. Default: 2.9 s."""
         done(self._c.is_ice_set_max_rto(self._at, in_range(nanoseconds, 64, "a time")))
+
+    def set_lite_timeout(self, nanoseconds: int) -> None:
+        """Sets how long a lite agent keeps a pair after the peer's last check on it. Default: 15 s.
+
+        A pair without any counts as checked at its first timeout. Full agents do not use it.
+        """
+        done(self._c.is_ice_set_lite_timeout(self._at, in_range(nanoseconds, 64, "a time")))
 
     def set_max_stun_retransmits(self, limit: int) -> None:
         """Sets after how many checks in a row without a response a pair is removed. BadLimit for 0. Default: 11.
@@ -368,11 +446,16 @@ class IceAgent:
         """The candidate pairs, in the order in which they were formed."""
         pair, pairs = _abi.Pair(), list[CandidatePair]()
         while done(self._c.is_ice_pair_at(self._at, len(pairs), byref(pair))):
-            pairs.append(CandidatePair(
-                pair.local, pair.remote, pair.priority, CheckState(pair.state), pair.nominated, pair.selected, pair.responses,
-                pair.total_rtt, pair.rtt if pair.has_rtt else None, pair.last_request if pair.has_request else None,
-                pair.due if pair.has_due else None))
+            pairs.append(_pair_of(pair))
         return pairs
+
+    def find_pair_for_equivalent_remote_candidate(self, line: str) -> CandidatePair | None:
+        """Returns a pair whose remote candidate equals this one in address, base, protocol, kind and related address, or None.
+
+        Of several it is one of the greatest priority.
+        """
+        pair, text = _abi.Pair(), line.encode()
+        return _pair_of(pair) if done(self._c.is_ice_find_pair(self._at, text, len(text), byref(pair))) else None
 
     def has_viable_remote_candidate(self, address: SocketAddress) -> bool:
         """Returns whether there is a valid pair whose remote candidate has this address."""

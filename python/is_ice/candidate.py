@@ -18,29 +18,43 @@ class CandidateKind(enum.IntEnum):
     RELAYED = 2
 
 
+class TcpType(enum.IntEnum):
+    """Which side opens the connection of a TCP candidate (RFC 6544, section 4.5): the candidate's, the other one, or both at once."""
+
+    ACTIVE = 1
+    PASSIVE = 2
+    SO = 3
+
+
 @dataclass(frozen=True)
 class Candidate:
-    """A local candidate. `base` is the local socket of a server-reflexive candidate, the local address of a relayed one."""
+    """A local candidate. `base` is the local socket of a server-reflexive candidate, the local address of a relayed one.
+
+    Only a protocol over TCP has a `tcptype`; BadAddress is raised for one over UDP.
+    """
 
     kind: CandidateKind
     address: SocketAddress
     base: SocketAddress
     protocol: Protocol = Protocol.UDP
+    tcptype: TcpType | None = None
 
     @staticmethod
-    def host(address: SocketAddress, protocol: Protocol = Protocol.UDP) -> Candidate:
+    def host(address: SocketAddress, protocol: Protocol = Protocol.UDP, tcptype: TcpType | None = None) -> Candidate:
         """Creates a host candidate: the address of a local socket."""
-        return Candidate(CandidateKind.HOST, address, address, protocol)
+        return Candidate(CandidateKind.HOST, address, address, protocol, tcptype)
 
     @staticmethod
-    def server_reflexive(address: SocketAddress, base: SocketAddress, protocol: Protocol = Protocol.UDP) -> Candidate:
+    def server_reflexive(address: SocketAddress, base: SocketAddress, protocol: Protocol = Protocol.UDP,
+                         tcptype: TcpType | None = None) -> Candidate:
         """Creates a server-reflexive candidate: the address at which a STUN server saw the socket `base`."""
-        return Candidate(CandidateKind.SERVER_REFLEXIVE, address, base, protocol)
+        return Candidate(CandidateKind.SERVER_REFLEXIVE, address, base, protocol, tcptype)
 
     @staticmethod
-    def relayed(address: SocketAddress, local: SocketAddress, protocol: Protocol = Protocol.UDP) -> Candidate:
+    def relayed(address: SocketAddress, local: SocketAddress, protocol: Protocol = Protocol.UDP,
+                tcptype: TcpType | None = None) -> Candidate:
         """Creates a relayed candidate: the address that a TURN server allocated for the socket `local`."""
-        return Candidate(CandidateKind.RELAYED, address, local, protocol)
+        return Candidate(CandidateKind.RELAYED, address, local, protocol, tcptype)
 
 
 @dataclass(frozen=True)
@@ -103,4 +117,5 @@ def struct_of(candidate: Candidate) -> _abi.Candidate:
     ctypes.memmove(ctypes.byref(struct, _abi.Candidate.base.offset), ctypes.byref(address_of(candidate.base)), 28)
     struct.kind = candidate.kind
     struct.protocol = candidate.protocol
+    struct.tcptype = candidate.tcptype or 0
     return struct

@@ -102,6 +102,18 @@ class TooFewRandomBytes(IceError):
     code, text = -14, "too few random bytes"
 
 
+class BadMessage(IceError):
+    """A STUN message that cannot be written: an unknown method, or an error code outside 300 to 699."""
+
+    code, text = -15, "STUN message that cannot be written"
+
+
+class MessageTooLong(IceError):
+    """USERNAME is longer than 508 bytes, another text than 128, or DATA or all attributes are longer than 65535."""
+
+    code, text = -16, "STUN message or one of its texts too long"
+
+
 _BY_CODE: dict[int, type[IceError]] = {kind.code: kind for kind in IceError.__subclasses__()}
 
 

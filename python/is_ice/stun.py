@@ -1,4 +1,4 @@
-"""STUN messages (RFC 8489): a client's request and its response, and any message by its attributes. The library reads and writes them."""
+"""STUN messages (RFC 8489): a client's request and its response, and any message by its attributes, read and written by the library."""
 
 from __future__ import annotations
 
@@ -7,7 +7,7 @@ from ctypes import byref, c_size_t, create_string_buffer, string_at
 from dataclasses import dataclass
 
 from . import _abi
-from .address import SocketAddress, socket_of
+from .address import SocketAddress, address_of, in_range, socket_of
 from .agent import _library
 from .errors import BUFFER_TOO_SHORT, UNPARSED, done
 
@@ -97,6 +97,60 @@ def _number(number: _abi.StunNumber) -> int | None:
 
 def _address(address: _abi.Address) -> SocketAddress | None:
     return socket_of(address) if address.family else None
+
+
+def _spans(**texts: bytes | None) -> tuple[_abi.StunTexts, bytes]:
+    """All texts in one array, and where each is in it."""
+    spans, joined = _abi.StunTexts(), b""
+    for name, text in texts.items():
+        if text is not None:
+            setattr(spans, name, _abi.StunSpan(len(joined), len(text), True))
+            joined += text
+    return spans, joined
+
+
+def _write(flat: _abi.StunMessage, texts: dict[str, bytes | None], key: bytes | None) -> bytes:
+    spans, joined = _spans(**texts)
+    flat.has_integrity = key is not None
+    buffer, length = create_string_buffer(_abi.STUN_WRITE_LENGTH + len(joined) + 8), c_size_t()
+    key = key or b""
+    done(_library.calls.is_ice_stun_write(
+        byref(flat), byref(spans), joined, len(joined), key, len(key), buffer, len(buffer), byref(length)))
+    return buffer.raw[:length.value]
+
+
+def _bytes_of(text: str | None) -> bytes | None:
+    return None if text is None else text.encode()
+
+
+def write_message(
+    method: StunMethod, class_: StunClass, transaction: bytes, *, key: bytes | None = None,
+    username: str | None = None, priority: int | None = None, use_candidate: bool = False,
+    ice_controlled: int | None = None, ice_controlling: int | None = None,
+    mapped_address: SocketAddress | None = None, error: tuple[int, str] | None = None,
+    realm: str | None = None, nonce: str | None = None, software: str | None = None,
+    peer_address: SocketAddress | None = None, relayed_address: SocketAddress | None = None, data: bytes | None = None,
+    lifetime: int | None = None, channel_number: int | None = None, network_cost: tuple[int, int] | None = None,
+) -> bytes:
+    """Writes a message: the attributes that are not None, MESSAGE-INTEGRITY if there is a key, and FINGERPRINT.
+
+    The names are those of `StunMessage`; `error` is the code and the reason phrase. In ICE the key is the password of the request's
+    receiver. Raises BadMessage or MessageTooLong, and ValueError for a number that does not fit its attribute.
+    """
+    network, cost = network_cost or (None, None)
+    flat = _abi.StunMessage(id=_id_of(transaction), method=int(method), cls=int(class_), use_candidate=use_candidate)
+    numbers = (("priority", priority, 32), ("controlled", ice_controlled, 64), ("controlling", ice_controlling, 64),
+               ("error_code", error and error[0], 16), ("lifetime", lifetime, 32), ("channel_number", channel_number, 16),
+               ("network_id", network, 16), ("network_cost", cost, 16))
+    for name, number, bits in numbers:
+        if number is not None:
+            setattr(flat, name, _abi.StunNumber(in_range(number, bits, name), True))
+    for name, address in (("mapped", mapped_address), ("peer", peer_address), ("relayed", relayed_address)):
+        if address is not None:
+            setattr(flat, name, address_of(address))
+    return _write(flat, {
+        "username": _bytes_of(username), "reason": _bytes_of(error and error[1]), "data": data, "realm": _bytes_of(realm),
+        "nonce": _bytes_of(nonce), "software": _bytes_of(software)}, key)
 
 
 class StunMessage:
@@ -193,6 +247,26 @@ class StunMessage:
         """Returns the text of an attribute. DATA, which need not be text, is `value_of_data`."""
         value = _value(attribute, self.data)
         return None if value is None else value.decode()
+
+    @property
+    def has_integrity(self) -> bool:
+        """Whether the message has MESSAGE-INTEGRITY (RFC 8489, section 14.5), which `verify` verifies."""
+        return bool(self._flat.has_integrity)
+
+    @property
+    def has_fingerprint(self) -> bool:
+        """Whether the message has FINGERPRINT (RFC 8489, section 14.7), which is not verified."""
+        return bool(self._flat.has_fingerprint)
+
+    def to_bytes(self, key: bytes | None = None) -> bytes:
+        """Writes the message again, with the MESSAGE-INTEGRITY of this key, if there is one, and FINGERPRINT.
+
+        Raises BadMessage for `StunMethod.OTHER`, and MessageTooLong for texts that may be read and not written.
+        """
+        texts = {"username": StunText.USERNAME, "reason": StunText.ERROR_CODE, "data": StunText.DATA, "realm": StunText.REALM,
+                 "nonce": StunText.NONCE, "software": StunText.SOFTWARE}
+        flat = _abi.StunMessage.from_buffer_copy(self._flat)
+        return _write(flat, {name: _value(attribute, self.data) for name, attribute in texts.items()}, key)
 
     def verify(self, key: bytes) -> bool:
         """Returns whether the message has the MESSAGE-INTEGRITY of this key (RFC 8489, section 14.5). In ICE the key is a password."""

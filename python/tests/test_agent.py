@@ -117,6 +117,21 @@ class Sessions(unittest.TestCase):
         self.assertEqual((pair.source, pair.destination), (HERE, THERE))
         self.assertTrue(a.has_viable_remote_candidate(THERE))
 
+    def test_requests_bring_few_candidates(self) -> None:
+        for limit, expected in ((32, 32), (3, 3), (None, 40)):
+            a, b = two_agents()
+            if limit != 32:
+                b.set_max_discovered(limit)
+            a.handle_timeout(BEGINNING, bytes(12))
+            request = a.poll_transmit()
+            assert request is not None
+            replies = 0
+            for port in range(3000, 3040):
+                source = SocketAddress("10.0.0.9", port)
+                self.assertTrue(b.handle_packet(BEGINNING, source, request.destination, request.contents))
+                replies += b.poll_transmit() is not None
+            self.assertEqual(replies, expected)
+
     def test_the_selected_pair_has_its_addresses_before_its_event_is_polled(self) -> None:
         a, b = two_agents()
         for count in range(3):

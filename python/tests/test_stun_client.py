@@ -3,15 +3,26 @@
 from __future__ import annotations
 
 import asyncio
+import hashlib
+import hmac
 import random
 import struct
 import time
 import unittest
 import zlib
 
-from is_ice import IceAgent, SocketAddress, Unparsed
+from is_ice import BadMessage, IceAgent, MessageTooLong, SocketAddress, Unparsed
 from is_ice.loop import IceLoop
-from is_ice.stun import BindingResponse, StunClass, StunMessage, StunMethod, StunText, binding_request, binding_response
+from is_ice.stun import (
+    BindingResponse,
+    StunClass,
+    StunMessage,
+    StunMethod,
+    StunText,
+    binding_request,
+    binding_response,
+    write_message,
+)
 from is_ice.stun_client import StunClient
 
 SAMPLE_V4 = bytes.fromhex(
@@ -87,6 +98,66 @@ class Reading(unittest.TestCase):
             for _ in range(3):
                 changed[random.randrange(len(changed))] = random.randrange(256)
             binding_response(ID, bytes(changed))
+
+
+class Writing(unittest.TestCase):
+    """The samples of RFC 5769 have a SOFTWARE of another type and spaces as padding, so they are compared by their attributes."""
+
+    def test_the_sample_request_of_rfc_5769(self) -> None:
+        written = write_message(StunMethod.BINDING, StunClass.REQUEST, ID, key=PASSWORD, username="evtj:h6vY", priority=0x6E0001FF,
+                                ice_controlled=0x932FF9B151263B36)
+        self.assertEqual(written, StunMessage(SAMPLE_REQUEST).to_bytes(PASSWORD))
+        self.assertEqual((len(written), written[:2], written[4:20]), (88, SAMPLE_REQUEST[:2], SAMPLE_REQUEST[4:20]))
+        username, controlled, priority = written[20:36], written[36:48], written[48:56]
+        self.assertEqual(username, SAMPLE_REQUEST[60:73] + bytes(3))
+        self.assertEqual((controlled, priority), (SAMPLE_REQUEST[48:60], SAMPLE_REQUEST[40:48]))
+        self.assertEqual(written[56:80], b"\0\x08\0\x14" + mac_of(written[:2] + b"\0\x3c" + written[4:56]))
+        self.assertEqual(written[80:], struct.pack("!HHI", 0x8028, 4, zlib.crc32(written[:80]) ^ 0x5354554E))
+        message = StunMessage(written)
+        self.assertTrue(message.verify(PASSWORD) and message.has_integrity and message.has_fingerprint)
+
+    def test_the_sample_responses_of_rfc_5769(self) -> None:
+        for sample in (SAMPLE_V4, SAMPLE_V6):
+            mapped = StunMessage(sample).mapped_address
+            written = write_message(StunMethod.BINDING, StunClass.SUCCESS, ID, key=PASSWORD, mapped_address=mapped)
+            self.assertEqual(written, StunMessage(sample).to_bytes(PASSWORD))
+            self.assertEqual(written[20:-32], sample[36:-32])
+            self.assertEqual(written[-28:-8], mac_of(written[:2] + struct.pack("!H", len(written) - 28) + written[4:-32]))
+            self.assertEqual(binding_response(ID, written), BindingResponse(mapped))
+
+    def test_an_error_response(self) -> None:
+        written = write_message(StunMethod.BINDING, StunClass.FAILURE, ID, error=(401, "no"))
+        self.assertEqual(written[4:-8], failure_to(SAMPLE_REQUEST)[4:])
+        self.assertEqual(binding_response(ID, written), BindingResponse(error_code=401, reason="no"))
+        self.assertFalse(StunMessage(written).has_integrity)
+
+    def test_all_attributes_come_back(self) -> None:
+        at = SocketAddress("2001:db8::1", 9)
+        written = write_message(
+            StunMethod.ALLOCATE, StunClass.INDICATION, bytes(12), username="a:b", priority=1, use_candidate=True, ice_controlled=2,
+            ice_controlling=3, mapped_address=at, error=(699, ""), realm="r", nonce="n", software="s", peer_address=at,
+            relayed_address=at, data=bytes(70), lifetime=4, channel_number=0x4000, network_cost=(5, 6))
+        m = StunMessage(written)
+        self.assertEqual((m.method, m.class_, m.transaction, m.username), (StunMethod.ALLOCATE, StunClass.INDICATION, bytes(12), "a:b"))
+        self.assertEqual((m.priority, m.use_candidate, m.ice_controlled, m.ice_controlling), (1, True, 2, 3))
+        self.assertEqual((m.mapped_address, m.peer_address, m.relayed_address, m.error_code), (at, at, at, 699))
+        self.assertEqual([m.text(text) for text in (StunText.ERROR_CODE, StunText.REALM, StunText.NONCE, StunText.SOFTWARE)], ["", "r", "n", "s"])
+        self.assertEqual((m.value_of_data, m.lifetime, m.channel_number, m.network_cost), (bytes(70), 4, 0x4000, (5, 6)))
+        self.assertEqual(m.to_bytes(), written)
+
+    def test_what_cannot_be_written(self) -> None:
+        kind = StunMethod.BINDING, StunClass.REQUEST, ID
+        self.assertRaises(BadMessage, write_message, StunMethod.OTHER, StunClass.REQUEST, ID)
+        self.assertRaises(BadMessage, write_message, *kind, error=(700, ""))
+        self.assertRaises(MessageTooLong, write_message, *kind, realm="r" * 129)
+        self.assertRaises(ValueError, write_message, *kind, priority=1 << 32)
+        self.assertRaises(ValueError, write_message, StunMethod.BINDING, StunClass.REQUEST, b"")
+        self.assertEqual(len(write_message(*kind, data=bytes(65000))), 20 + 4 + 65000 + 8)
+
+
+def mac_of(text: bytes) -> bytes:
+    """HMAC-SHA1 under the password."""
+    return hmac.new(PASSWORD, text, hashlib.sha1).digest()
 
 
 class Requests(unittest.IsolatedAsyncioTestCase):

@@ -173,6 +173,17 @@ impl IceAgent {
         }
     }
 
+    /// A pair whose remote candidate equals this one in address, base, protocol, kind and related address: one of the greatest priority.
+    ///
+    /// # Panics
+    ///
+    /// If out of memory.
+    pub fn find_pair_for_equivalent_remote_candidate(&self, c: &Candidate) -> Option<CandidatePair> {
+        let mut pair = ffi::Pair::default();
+        let is_some = yes("a pair", self.ask(|agent| agent.find_pair(&c.to_sdp_string(), &mut pair)));
+        is_some.then(|| CandidatePair::of(&pair, |at| self.instant(at)))
+    }
+
     /// Whether there is a valid pair whose remote candidate has this address.
     pub fn has_viable_remote_candidate(&self, addr: SocketAddr) -> bool {
         yes("address", self.ask(|agent| ffi::is_ice_has_viable_remote(agent, &address_of(addr))))
@@ -227,7 +238,8 @@ impl IceAgent {
         self.ask(|agent| agent.accepts_packet(packet.proto.number(), &source, &destination, packet.message.bytes())) == ffi::OK
     }
 
-    /// Passes a received packet to the agent. Returns whether it is for this agent; if not, the agent is unchanged.
+    /// Passes a received packet to the agent. Returns whether it is for this agent; if not, the agent is unchanged. A message that was
+    /// built, or lacks what ICE requires, is for none.
     ///
     /// # Panics
     ///
@@ -235,7 +247,10 @@ impl IceAgent {
     pub fn handle_packet(&mut self, now: Instant, packet: StunPacket<'_>) -> bool {
         let now = self.time(now);
         let (source, destination) = (address_of(packet.source), address_of(packet.destination));
-        self.tell("packet", |agent| agent.handle_packet(now, packet.proto.number(), &source, &destination, packet.message.bytes()))
+        self.tell("packet", |agent| match agent.handle_packet(now, packet.proto.number(), &source, &destination, packet.message.bytes()) {
+            ffi::UNPARSED => ffi::NOTHING,
+            code => code,
+        })
     }
 
     /// Passes the current time to the agent. The first call starts the session.

@@ -33,15 +33,22 @@ impl fmt::Display for CandidateKind {
 /// What a candidate was gathered as: the number of its kind, its address, and its base or local address.
 #[derive(Clone, Copy, Debug, PartialEq, Eq, Hash)]
 pub(crate) struct Gathered {
-    kind: u8,
-    addr: SocketAddr,
-    base: SocketAddr,
-    proto: Protocol,
+    pub(crate) kind: u8,
+    pub(crate) addr: SocketAddr,
+    pub(crate) base: SocketAddr,
+    pub(crate) proto: Protocol,
+    pub(crate) tcptype: Option<TcpType>,
 }
 
 impl Gathered {
     pub(crate) fn raw(&self) -> ffi::Gathered {
-        ffi::Gathered { address: address_of(self.addr), base: address_of(self.base), kind: self.kind, protocol: self.proto.number() }
+        ffi::Gathered {
+            address: address_of(self.addr),
+            base: address_of(self.base),
+            kind: self.kind,
+            protocol: self.proto.number(),
+            tcptype: self.tcptype.map_or(0, TcpType::number),
+        }
     }
 }
 
@@ -72,12 +79,16 @@ impl Candidate {
 
     fn gather(kind: u8, addr: SocketAddr, base: SocketAddr, proto: impl TryInto<Protocol>) -> Result<Candidate, IceError> {
         let proto = proto.try_into().map_err(|_| IceError::BadCandidate("invalid protocol".to_owned()))?;
-        let gathered = Gathered { kind, addr, base, proto };
+        Candidate::gathered_as(Gathered { kind, addr, base, proto, tcptype: None })
+    }
+
+    pub(crate) fn gathered_as(gathered: Gathered) -> Result<Candidate, IceError> {
         let raw = gathered.raw();
         if let Ok(why) = ffi::text(|buffer, length| ffi::candidate_refusal(&raw, buffer, length)) {
             return Err(IceError::BadCandidate(why));
         }
-        Ok(Candidate { gathered: Some(gathered), line: printed(&raw) })
+        let line = ffi::text(|buffer, length| ffi::candidate_line(&raw, buffer, length));
+        Ok(Candidate { gathered: Some(gathered), line: line.unwrap_or_else(|code| panic!("a line: {}", ffi::text_of(code))) })
     }
 
     /// Reads a candidate attribute (RFC 8839) without `a=`, as `candidate:1 1 udp 2130706175 10.0.0.2 2000 typ host`.
@@ -107,6 +118,54 @@ impl Candidate {
         }
     }
 
+    /// Reads the JSON in which browsers signal a candidate, the `RTCIceCandidateInit` of W3C WebRTC. A `usernameFragment` that is a
+    /// string replaces that of the candidate; other members are not read.
+    ///
+    /// ```
+    /// let signaled = r#"{"candidate":"candidate:1 1 udp 2130706175 10.0.0.2 2000 typ host","sdpMid":"0","usernameFragment":"EsAw"}"#;
+    /// let candidate = is::Candidate::from_json(signaled).unwrap();
+    /// assert_eq!((candidate.addr(), candidate.ufrag()), ("10.0.0.2:2000".parse().unwrap(), Some("EsAw")));
+    /// ```
+    ///
+    /// # Errors
+    ///
+    /// `BadCandidate` says why it is not a candidate. The end of candidates, which has an empty `candidate`, is not one.
+    ///
+    /// # Panics
+    ///
+    /// If out of memory.
+    pub fn from_json(json: &str) -> Result<Candidate, IceError> {
+        match ffi::text(|buffer, length| ffi::line_from_json(json, buffer, length)) {
+            Ok(line) => Ok(Candidate { gathered: None, line }),
+            Err(ffi::BAD_CANDIDATE) => {
+                let why = ffi::text(|buffer, length| ffi::json_refusal(json, buffer, length));
+                Err(IceError::BadCandidate(why.unwrap_or_else(|code| panic!("JSON: {}", ffi::text_of(code)))))
+            }
+            Err(code) => panic!("JSON: {}", ffi::text_of(code)),
+        }
+    }
+
+    /// Its JSON, in which browsers signal it: `sdpMid` is null, and `sdpMLineIndex` is 0.
+    ///
+    /// # Panics
+    ///
+    /// If out of memory.
+    pub fn to_json(&self) -> String {
+        let json = ffi::text(|buffer, length| ffi::line_to_json(&self.line, buffer, length));
+        json.unwrap_or_else(|code| panic!("JSON: {}", ffi::text_of(code)))
+    }
+
+    /// Sets the username fragment of the session that it belongs to: of `ice-char` (RFC 8839, section 5.4). An agent gives its own
+    /// one to a local candidate that is added.
+    ///
+    /// # Panics
+    ///
+    /// If out of memory.
+    pub fn set_ufrag(&mut self, ufrag: &str) {
+        let line = ffi::text(|buffer, length| ffi::line_with_ufrag(&self.line, ufrag, buffer, length));
+        self.line = line.unwrap_or_else(|code| panic!("a line: {}", ffi::text_of(code)));
+    }
+
     /// The candidate that an agent lists by this text, with what it was gathered as, if it was.
     pub(crate) fn listed(line: String, gathered: Option<Gathered>) -> Candidate {
         Candidate { gathered, line }
@@ -115,16 +174,6 @@ impl Candidate {
     pub(crate) fn gathered(&self) -> Option<Gathered> {
         self.gathered
     }
-}
-
-/// The text of a gathered candidate, without a username fragment: a temporary agent prints it.
-fn printed(raw: &ffi::Gathered) -> String {
-    let mut agent = ffi::Agent::new("-", "-", 0).unwrap_or_else(|code| panic!("an agent: {}", ffi::text_of(code)));
-    let mut index = 0;
-    let code = ffi::is_ice_add_local(&mut agent, raw, &mut index);
-    assert_eq!(code, ffi::OK, "a candidate: {}", ffi::text_of(code));
-    let line = ffi::text(|buffer, length| agent.local_candidate(index, buffer, length));
-    unnamed(&line.expect("the candidate was added")).to_owned()
 }
 
 /// The text without its username fragment, which is last.

@@ -2,6 +2,7 @@
 
 use std::error::Error;
 use std::fmt;
+use std::io;
 
 /// A candidate with an error.
 #[derive(Clone, Debug, PartialEq, Eq)]
@@ -20,19 +21,35 @@ impl fmt::Display for IceError {
 
 impl Error for IceError {}
 
-/// Bytes that are not a STUN message, or are a Binding request or success response without an attribute that ICE requires.
-#[derive(Clone, Debug, PartialEq, Eq)]
+/// A STUN message that cannot be parsed or written.
+#[derive(Debug)]
 pub enum StunError {
-    /// They cannot be parsed.
+    /// Bytes that are not a STUN message, or are a Binding request or success response without an attribute that ICE requires.
     Parse(String),
+    /// A message that cannot be written: of kind `WriteZero` if the buffer is too short, else of kind `InvalidInput`.
+    Io(io::Error),
 }
 
 impl fmt::Display for StunError {
     fn fmt(&self, f: &mut fmt::Formatter<'_>) -> fmt::Result {
         match self {
             StunError::Parse(why) => write!(f, "STUN parse error: {why}"),
+            StunError::Io(why) => write!(f, "STUN io: {why}"),
         }
     }
 }
 
-impl Error for StunError {}
+impl Error for StunError {
+    fn source(&self) -> Option<&(dyn Error + 'static)> {
+        match self {
+            StunError::Parse(_) => None,
+            StunError::Io(why) => Some(why),
+        }
+    }
+}
+
+impl From<io::Error> for StunError {
+    fn from(why: io::Error) -> StunError {
+        StunError::Io(why)
+    }
+}

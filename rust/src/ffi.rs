@@ -15,6 +15,7 @@ pub(crate) const OK: i32 = 0;
 pub(crate) const NOTHING: i32 = 1;
 pub(crate) const UNPARSED: i32 = -5;
 pub(crate) const BUFFER_TOO_SHORT: i32 = -6;
+pub(crate) const BAD_CANDIDATE: i32 = -8;
 
 /// The text of each code, as in `is_ice_code_text` of the header.
 pub(crate) fn text_of(code: i32) -> &'static str {
@@ -33,6 +34,8 @@ pub(crate) fn text_of(code: i32) -> &'static str {
         -12 => "candidate priority too high",
         -13 => "bad limit",
         -14 => "too few random bytes",
+        -15 => "STUN message that cannot be written",
+        -16 => "STUN message or one of its texts too long",
         _ => "unknown code",
     }
 }
@@ -69,6 +72,7 @@ pub(crate) struct Gathered {
     pub(crate) base: Address,
     pub(crate) kind: u8,
     pub(crate) protocol: u8,
+    pub(crate) tcptype: u8,
 }
 
 #[repr(C)]
@@ -126,6 +130,8 @@ pub(crate) struct Pair {
     pub(crate) local: usize,
     pub(crate) remote: usize,
     pub(crate) priority: u64,
+    pub(crate) checks_sent: u64,
+    pub(crate) requests_received: u64,
     pub(crate) responses: u64,
     pub(crate) total_rtt: u64,
     pub(crate) rtt: u64,
@@ -193,6 +199,26 @@ pub(crate) struct StunMessage {
     pub(crate) method: u16,
     pub(crate) cls: u8,
     pub(crate) use_candidate: bool,
+    pub(crate) has_integrity: bool,
+    pub(crate) has_fingerprint: bool,
+}
+
+#[repr(C)]
+#[derive(Clone, Copy)]
+pub(crate) struct StunSpan {
+    pub(crate) start: usize,
+    pub(crate) length: usize,
+    pub(crate) is_set: bool,
+}
+
+#[repr(C)]
+pub(crate) struct StunTexts {
+    pub(crate) username: StunSpan,
+    pub(crate) reason: StunSpan,
+    pub(crate) data: StunSpan,
+    pub(crate) realm: StunSpan,
+    pub(crate) nonce: StunSpan,
+    pub(crate) software: StunSpan,
 }
 
 // The sizes that the header asserts, and some offsets.
@@ -200,12 +226,14 @@ pub(crate) struct StunMessage {
 const _: () = {
     assert!(size_of::<Agent>() == 16 && size_of::<Address>() == 28 && size_of::<Gathered>() == 60);
     assert!(size_of::<Packet>() == 72 && size_of::<Event>() == 68 && size_of::<Status>() == 32);
-    assert!(size_of::<Stats>() == 40 && size_of::<Nominated>() == 32 && size_of::<Pair>() == 80);
+    assert!(size_of::<Stats>() == 40 && size_of::<Nominated>() == 32 && size_of::<Pair>() == 96);
     assert!(size_of::<KindPreferences>() == 8 && size_of::<PreferenceTable>() == 16);
     assert!(size_of::<StunTransaction>() == 12 && size_of::<StunResult>() == 32);
     assert!(size_of::<StunNumber>() == 16 && size_of::<StunMessage>() == 232);
+    assert!(size_of::<StunSpan>() == 24 && size_of::<StunTexts>() == 144);
     assert!(std::mem::offset_of!(Agent, at) == 8 && std::mem::offset_of!(Address, flow) == 20);
-    assert!(std::mem::offset_of!(Gathered, kind) == 56 && std::mem::offset_of!(Packet, length) == 56);
+    assert!(std::mem::offset_of!(Gathered, kind) == 56 && std::mem::offset_of!(Gathered, tcptype) == 58);
+    assert!(std::mem::offset_of!(Packet, length) == 56);
     assert!(std::mem::offset_of!(Event, state) == 60 && std::mem::offset_of!(Status, mtu) == 8);
 };
 
@@ -218,8 +246,10 @@ unsafe extern "C" {
     pub(crate) safe fn is_ice_agent_free(agent: &mut Agent);
     pub(crate) safe fn is_ice_set_controlling(agent: &mut Agent, controlling: bool) -> i32;
     pub(crate) safe fn is_ice_set_lite(agent: &mut Agent, lite: bool) -> i32;
+    pub(crate) safe fn is_ice_set_lite_timeout(agent: &mut Agent, nanoseconds: u64) -> i32;
     pub(crate) safe fn is_ice_set_tie_breaker(agent: &mut Agent, tie_breaker: u64) -> i32;
     pub(crate) safe fn is_ice_set_max_pairs(agent: &mut Agent, limit: usize) -> i32;
+    pub(crate) safe fn is_ice_set_max_discovered(agent: &mut Agent, limit: usize) -> i32;
     pub(crate) safe fn is_ice_set_timing_advance(agent: &mut Agent, nanoseconds: u64) -> i32;
     pub(crate) safe fn is_ice_set_initial_rto(agent: &mut Agent, nanoseconds: u64) -> i32;
     pub(crate) safe fn is_ice_set_max_rto(agent: &mut Agent, nanoseconds: u64) -> i32;
@@ -229,6 +259,7 @@ unsafe extern "C" {
     pub(crate) safe fn is_ice_set_preference_table(agent: &mut Agent, table: &PreferenceTable) -> i32;
     pub(crate) safe fn is_ice_reset_local_preference(agent: &mut Agent) -> i32;
     pub(crate) safe fn is_ice_add_local(agent: &mut Agent, candidate: &Gathered, index: &mut usize) -> i32;
+    pub(crate) safe fn is_ice_candidate_preference(candidate: &Gathered, same_kind: usize, preference: &mut u32) -> i32;
     pub(crate) safe fn is_ice_invalidate_local(agent: &mut Agent, candidate: &Gathered) -> i32;
     pub(crate) safe fn is_ice_poll_timeout(agent: &mut Agent, at: &mut u64) -> i32;
     pub(crate) safe fn is_ice_poll_event(agent: &mut Agent, event: &mut Event) -> i32;
@@ -272,6 +303,21 @@ unsafe extern "C" {
     fn is_ice_remote_candidate(agent: &mut Agent, index: usize, buffer: *mut u8, size: usize, length: &mut usize) -> i32;
     fn is_ice_line_refusal(line: *const u8, line_length: usize, buffer: *mut u8, size: usize, length: &mut usize) -> i32;
     fn is_ice_candidate_refusal(candidate: &Gathered, buffer: *mut u8, size: usize, length: &mut usize) -> i32;
+    fn is_ice_candidate_line(candidate: &Gathered, buffer: *mut u8, size: usize, length: &mut usize) -> i32;
+    fn is_ice_line_with_ufrag(
+        line: *const u8,
+        line_length: usize,
+        ufrag: *const u8,
+        ufrag_length: usize,
+        buffer: *mut u8,
+        size: usize,
+        length: &mut usize,
+    ) -> i32;
+    fn is_ice_line_to_json(line: *const u8, line_length: usize, buffer: *mut u8, size: usize, length: &mut usize) -> i32;
+    fn is_ice_line_from_json(json: *const u8, json_length: usize, buffer: *mut u8, size: usize, length: &mut usize) -> i32;
+    fn is_ice_json_refusal(json: *const u8, json_length: usize, buffer: *mut u8, size: usize, length: &mut usize) -> i32;
+    fn is_ice_line_preference(line: *const u8, line_length: usize, same_kind: usize, preference: &mut u32) -> i32;
+    fn is_ice_find_pair(agent: &mut Agent, line: *const u8, length: usize, pair: &mut Pair) -> i32;
     fn is_ice_handle_timeout(agent: &mut Agent, now: u64, random: *const u8, random_length: usize) -> i32;
     fn is_ice_handle_packet(
         agent: &mut Agent,
@@ -297,6 +343,17 @@ unsafe extern "C" {
     fn is_ice_stun_text(attribute: u16, bytes: *const u8, bytes_length: usize, buffer: *mut u8, size: usize, length: &mut usize) -> i32;
     fn is_ice_stun_read(bytes: *const u8, length: usize, message: &mut StunMessage) -> i32;
     fn is_ice_stun_verify(bytes: *const u8, length: usize, key: *const u8, key_length: usize) -> i32;
+    fn is_ice_stun_write(
+        message: &StunMessage,
+        texts: &StunTexts,
+        bytes: *const u8,
+        bytes_length: usize,
+        key: *const u8,
+        key_length: usize,
+        buffer: *mut u8,
+        size: usize,
+        length: &mut usize,
+    ) -> i32;
 }
 
 // ---- calls with texts, datagrams and buffers
@@ -307,7 +364,7 @@ unsafe extern "C" {
 impl Agent {
     /// Creates an agent with these credentials.
     pub(crate) fn new(ufrag: &str, pass: &str, tie_breaker: u64) -> Result<Box<Agent>, i32> {
-        assert_eq!(is_ice_version(), 2, "is_ice.h belongs to another library");
+        assert_eq!(is_ice_version(), 3, "is_ice.h belongs to another library");
         let mut agent = Box::new(Agent { is_held: false, at: ptr::null_mut() });
         #[allow(unsafe_code)]
         // SAFETY: both texts are slices that are read. The agent is zeroed, and stays in its box.
@@ -352,6 +409,14 @@ impl Agent {
         // SAFETY: the line is a slice that is read.
         unsafe {
             is_ice_invalidate(self, line.as_ptr(), line.len())
+        }
+    }
+
+    pub(crate) fn find_pair(&mut self, line: &str, pair: &mut Pair) -> i32 {
+        #[allow(unsafe_code)]
+        // SAFETY: the line is a slice that is read.
+        unsafe {
+            is_ice_find_pair(self, line.as_ptr(), line.len(), pair)
         }
     }
 
@@ -442,6 +507,54 @@ pub(crate) fn candidate_refusal(candidate: &Gathered, buffer: &mut [u8], length:
     }
 }
 
+pub(crate) fn candidate_line(candidate: &Gathered, buffer: &mut [u8], length: &mut usize) -> i32 {
+    #[allow(unsafe_code)]
+    // SAFETY: the buffer is a slice that is borrowed mutably.
+    unsafe {
+        is_ice_candidate_line(candidate, buffer.as_mut_ptr(), buffer.len(), length)
+    }
+}
+
+pub(crate) fn line_with_ufrag(line: &str, ufrag: &str, buffer: &mut [u8], length: &mut usize) -> i32 {
+    #[allow(unsafe_code)]
+    // SAFETY: both texts are slices that are read, the buffer is one that is borrowed mutably.
+    unsafe {
+        is_ice_line_with_ufrag(line.as_ptr(), line.len(), ufrag.as_ptr(), ufrag.len(), buffer.as_mut_ptr(), buffer.len(), length)
+    }
+}
+
+pub(crate) fn line_to_json(line: &str, buffer: &mut [u8], length: &mut usize) -> i32 {
+    #[allow(unsafe_code)]
+    // SAFETY: the line is a slice that is read, the buffer one that is borrowed mutably.
+    unsafe {
+        is_ice_line_to_json(line.as_ptr(), line.len(), buffer.as_mut_ptr(), buffer.len(), length)
+    }
+}
+
+pub(crate) fn line_from_json(json: &str, buffer: &mut [u8], length: &mut usize) -> i32 {
+    #[allow(unsafe_code)]
+    // SAFETY: the JSON is a slice that is read, the buffer one that is borrowed mutably.
+    unsafe {
+        is_ice_line_from_json(json.as_ptr(), json.len(), buffer.as_mut_ptr(), buffer.len(), length)
+    }
+}
+
+pub(crate) fn json_refusal(json: &str, buffer: &mut [u8], length: &mut usize) -> i32 {
+    #[allow(unsafe_code)]
+    // SAFETY: the JSON is a slice that is read, the buffer one that is borrowed mutably.
+    unsafe {
+        is_ice_json_refusal(json.as_ptr(), json.len(), buffer.as_mut_ptr(), buffer.len(), length)
+    }
+}
+
+pub(crate) fn line_preference(line: &str, same_kind: usize, preference: &mut u32) -> i32 {
+    #[allow(unsafe_code)]
+    // SAFETY: the line is a slice that is read.
+    unsafe {
+        is_ice_line_preference(line.as_ptr(), line.len(), same_kind, preference)
+    }
+}
+
 pub(crate) fn stun_request(id: &StunTransaction, buffer: &mut [u8], length: &mut usize) -> i32 {
     #[allow(unsafe_code)]
     // SAFETY: the buffer is a slice that is borrowed mutably.
@@ -479,6 +592,15 @@ pub(crate) fn stun_verify(bytes: &[u8], key: &[u8]) -> i32 {
     // SAFETY: both are slices that are read.
     unsafe {
         is_ice_stun_verify(bytes.as_ptr(), bytes.len(), key.as_ptr(), key.len())
+    }
+}
+
+pub(crate) fn stun_write(message: &StunMessage, texts: &StunTexts, bytes: &[u8], key: &[u8], buffer: &mut [u8], length: &mut usize) -> i32 {
+    let (size, at) = (buffer.len(), buffer.as_mut_ptr());
+    #[allow(unsafe_code)]
+    // SAFETY: texts and key are slices that are read, the buffer one that is borrowed mutably.
+    unsafe {
+        is_ice_stun_write(message, texts, bytes.as_ptr(), bytes.len(), key.as_ptr(), key.len(), at, size, length)
     }
 }
 

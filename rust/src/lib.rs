@@ -17,11 +17,13 @@
 //! - An error that the original does not have, such as out of memory, is a panic that names it. Each method documents its panics.
 //! - A local preference is a number or a table, [`LocalPreference`], not a callback.
 //! - HMAC-SHA1 is the proved one: there is no `with_hmac`. Random bytes are read from `/dev/urandom`.
-//! - A [`stun::StunMessage`] is read and verified, and has no builder. [`stun::StunMessage::binding_query`] writes a Binding request.
-//! - Local candidates are created by three constructors: there are no `Candidate::builder`, `from_parts` and `set_ufrag`, no serde, and no
-//!   `find_pair_for_equivalent_remote_candidate`.
+//! - [`stun::StunMessage`]: `verify` and `to_bytes` do not call the HMAC function that they get. [`stun::StunMessage::binding_query`] writes a
+//!   Binding request without credentials.
+//! - Candidate JSON is a text, by [`Candidate::to_json`] and [`Candidate::from_json`]: there is no serde. There is no
+//!   `Candidate::from_parts`: [`Candidate::from_sdp_string`] reads the same fields.
 
 mod agent;
+mod builder;
 mod candidate;
 mod creds;
 mod error;
@@ -32,12 +34,15 @@ mod preference;
 mod proto;
 mod settings;
 pub mod stun;
+mod stun_builder;
+mod stun_texts;
 
 pub use agent::IceAgent;
+pub use builder::CandidateBuilder;
 pub use candidate::{Candidate, CandidateKind};
 pub use creds::IceCreds;
 pub use error::{IceError, StunError};
 pub use event::{IceAgentEvent, IceAgentStats, IceConnectionState, Transmit};
 pub use pair::{CandidatePair, CheckState};
-pub use preference::{KindPreferences, LocalPreference, PreferenceTable};
+pub use preference::{KindPreferences, LocalPreference, PreferenceTable, default_local_preference};
 pub use proto::{Protocol, TcpType};

@@ -29,6 +29,10 @@ pub struct CandidatePair {
     pub nominated: bool,
     /// Whether it is the pair of the last [`crate::IceAgentEvent::NominatedSend`].
     pub selected: bool,
+    /// The number of checks that were sent on it.
+    pub checks_sent: u64,
+    /// The number of checks of the peer that arrived on it.
+    pub requests_received: u64,
     /// The number of responses to its checks.
     pub responses: u64,
     /// The sum of the round-trip times of its checks.
@@ -54,6 +58,8 @@ impl CandidatePair {
             },
             nominated: pair.nominated,
             selected: pair.selected,
+            checks_sent: pair.checks_sent,
+            requests_received: pair.requests_received,
             responses: pair.responses,
             total_rtt: Duration::from_nanos(pair.total_rtt),
             rtt: pair.has_rtt.then(|| Duration::from_nanos(pair.rtt)),

@@ -1,5 +1,6 @@
 //! Local preferences of candidates.
 
+use crate::candidate::Candidate;
 use crate::ffi;
 
 /// Local preferences by kind, for one IP version (RFC 8445, section 5.1.2.1).
@@ -58,4 +59,24 @@ impl LocalPreference {
             }
         }
     }
+}
+
+/// The default local preference of a candidate that comes after `same_kind` local candidates of its kind and IP version.
+///
+/// ```
+/// let candidate = is::Candidate::host("192.0.2.1:5000".parse().unwrap(), "udp").unwrap();
+/// assert_eq!(is::default_local_preference(&candidate, 0), 65534);
+/// ```
+///
+/// # Panics
+///
+/// If out of memory.
+pub fn default_local_preference(c: &Candidate, same_kind: usize) -> u32 {
+    let mut preference = 0;
+    let code = match c.gathered() {
+        Some(gathered) => ffi::is_ice_candidate_preference(&gathered.raw(), same_kind, &mut preference),
+        None => ffi::line_preference(&c.to_sdp_string(), same_kind, &mut preference),
+    };
+    assert_eq!(code, ffi::OK, "a preference: {}", ffi::text_of(code));
+    preference
 }

@@ -75,6 +75,14 @@ pub enum TcpType {
 }
 
 impl TcpType {
+    pub(crate) fn number(self) -> u8 {
+        match self {
+            TcpType::Active => 1,
+            TcpType::Passive => 2,
+            TcpType::So => 3,
+        }
+    }
+
     pub(crate) fn of(word: &str) -> Option<TcpType> {
         match word {
             "active" => Some(TcpType::Active),

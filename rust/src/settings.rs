@@ -37,6 +37,16 @@ impl IceAgent {
         self.tell("limit", |agent| ffi::is_ice_set_max_pairs(agent, max));
     }
 
+    /// Limits how many remote candidates requests may bring, invalidated ones included. Default: 32. `None`: no limit, as in the
+    /// original.
+    ///
+    /// Whoever sees one request can replay it from other ports, and each port would become a candidate. At the limit an unknown
+    /// sender replaces one without a pair, or its request is dropped without a response. Known and signaled senders are always
+    /// served. Set the limit before the first packet.
+    pub fn set_max_discovered(&mut self, max: Option<usize>) {
+        self.tell("limit", |agent| ffi::is_ice_set_max_discovered(agent, max.unwrap_or(usize::MAX)));
+    }
+
     /// Whether the agent is a lite agent.
     pub fn ice_lite(&self) -> bool {
         self.status().lite
@@ -63,6 +73,12 @@ impl IceAgent {
     /// Sets the longest time from one check of a pair until the next one is due. Default: 2.9 s; in the original 3 s.
     pub fn set_max_stun_rto(&mut self, timeout: Duration) {
         self.tell("maximal RTO", |agent| ffi::is_ice_set_max_rto(agent, nanoseconds(timeout)));
+    }
+
+    /// Sets how long a lite agent keeps a pair after the peer's last check on it. A pair without any counts as checked at its first
+    /// timeout. Full agents do not use it. Default: 15 s.
+    pub fn set_lite_timeout(&mut self, timeout: Duration) {
+        self.tell("lite timeout", |agent| ffi::is_ice_set_lite_timeout(agent, nanoseconds(timeout)));
     }
 
     /// Sets after how many checks in a row without a response a pair is removed. It is not removed while the last check may still

@@ -1,11 +1,14 @@
-//! STUN messages (RFC 8489): those that a caller passes to an agent, and those of a client that gathers server-reflexive candidates.
+//! STUN messages (RFC 8489): those that a caller passes to an agent, and those of clients and servers, read and written.
 
 use crate::creds::Random;
 use crate::error::StunError;
 use crate::ffi;
 use crate::proto::{Protocol, socket_of};
+use crate::stun_texts::{Texts, write};
 use std::cell::RefCell;
 use std::net::SocketAddr;
+
+pub use crate::stun_builder::Builder as StunMessageBuilder;
 
 thread_local! {
     /// An agent without candidates, which parses messages.
@@ -38,7 +41,7 @@ impl TransId {
         TransId(Random::new().draw())
     }
 
-    fn raw(self) -> ffi::StunTransaction {
+    pub(crate) fn raw(self) -> ffi::StunTransaction {
         ffi::StunTransaction { bytes: self.0 }
     }
 }
@@ -79,6 +82,26 @@ pub enum Method {
     Unknown,
 }
 
+const METHODS: [(u16, Method); 7] = [
+    (1, Method::Binding),
+    (3, Method::Allocate),
+    (4, Method::Refresh),
+    (6, Method::Send),
+    (7, Method::Data),
+    (8, Method::CreatePermission),
+    (9, Method::ChannelBind),
+];
+
+const CLASSES: [(u8, Class); 4] = [(0, Class::Request), (1, Class::Indication), (2, Class::Success), (3, Class::Failure)];
+
+pub(crate) fn method_number(method: Method) -> u16 {
+    METHODS.iter().find(|known| known.1 == method).map_or(0, |known| known.0)
+}
+
+pub(crate) fn class_number(class: Class) -> u8 {
+    CLASSES.iter().find(|known| known.1 == class).map_or(4, |known| known.0)
+}
+
 /// What a response to a Binding request says.
 #[derive(Clone, Debug, PartialEq, Eq)]
 pub enum BindingResponse {
@@ -104,11 +127,14 @@ impl BindingResponse {
     }
 }
 
-/// A STUN message. It borrows the bytes that it was parsed from.
+/// A STUN message: either a parsed one, which borrows the bytes that it was parsed from, or a built one, which can be written.
 #[derive(Clone, Copy, Debug, PartialEq, Eq)]
 pub struct StunMessage<'a> {
+    /// Empty in a built message.
     bytes: &'a [u8],
     flat: ffi::StunMessage,
+    /// Of a built message; those of a parsed one are in its bytes.
+    texts: Texts<'a>,
 }
 
 impl<'a> StunMessage<'a> {
@@ -125,9 +151,42 @@ impl<'a> StunMessage<'a> {
     pub fn parse_any(bytes: &'a [u8]) -> Result<StunMessage<'a>, StunError> {
         let mut flat = ffi::StunMessage::default();
         match ffi::stun_read(bytes, &mut flat) {
-            ffi::OK => Ok(StunMessage { bytes, flat }),
+            ffi::OK => Ok(StunMessage { bytes, flat, texts: Texts::default() }),
             _ => Err(unparsed()),
         }
+    }
+
+    pub(crate) fn built(flat: ffi::StunMessage, texts: Texts<'a>) -> StunMessage<'a> {
+        StunMessage { bytes: &[], flat, texts }
+    }
+
+    /// Returns a connectivity check (RFC 8445, section 7.2.2). USERNAME is the peer's username fragment, a colon and the local one. The
+    /// tie-breaker goes into the attribute of the role. `use_candidate` nominates the pair.
+    pub fn binding_request(
+        username: &'a str,
+        trans_id: TransId,
+        controlling: bool,
+        control_tie_breaker: u64,
+        prio: u32,
+        use_candidate: bool,
+    ) -> StunMessage<'a> {
+        let builder = StunMessageBuilder::new().binding().request().username(username).prio(prio);
+        let builder = if use_candidate { builder.use_candidate() } else { builder };
+        match controlling {
+            true => builder.ice_controlling(control_tie_breaker),
+            false => builder.ice_controlled(control_tie_breaker),
+        }
+        .build(trans_id)
+    }
+
+    /// Returns a Binding success response with the source address of the request (RFC 8445, section 7.3.1.2).
+    pub fn binding_reply(trans_id: TransId, mapped_address: SocketAddr) -> StunMessage<'a> {
+        StunMessageBuilder::new().binding().success().xor_mapped_address(mapped_address).build(trans_id)
+    }
+
+    /// Returns a Binding error response with code 487, "Role Conflict" (RFC 8445, section 7.3.1.1).
+    pub fn binding_role_conflict_reply(trans_id: TransId) -> StunMessage<'a> {
+        StunMessageBuilder::new().binding().failure().error_code(487, "Role Conflict").build(trans_id)
     }
 
     /// Returns a Binding request without credentials, which a client sends to a STUN server. `BindingResponse::parse` reads the response.
@@ -144,27 +203,12 @@ impl<'a> StunMessage<'a> {
 
     /// The method.
     pub fn method(&self) -> Method {
-        match self.flat.method {
-            1 => Method::Binding,
-            3 => Method::Allocate,
-            4 => Method::Refresh,
-            6 => Method::Send,
-            7 => Method::Data,
-            8 => Method::CreatePermission,
-            9 => Method::ChannelBind,
-            _ => Method::Unknown,
-        }
+        METHODS.iter().find(|known| known.0 == self.flat.method).map_or(Method::Unknown, |known| known.1)
     }
 
     /// The class.
     pub fn class(&self) -> Class {
-        match self.flat.cls {
-            0 => Class::Request,
-            1 => Class::Indication,
-            2 => Class::Success,
-            3 => Class::Failure,
-            _ => Class::Unknown,
-        }
+        CLASSES.iter().find(|known| known.0 == self.flat.cls).map_or(Class::Unknown, |known| known.1)
     }
 
     fn is(&self, method: Method, class: Class) -> bool {
@@ -301,17 +345,82 @@ impl<'a> StunMessage<'a> {
         Some((number(self.flat.network_id)?, number(self.flat.network_cost)?))
     }
 
-    /// Whether the message has the MESSAGE-INTEGRITY of this password (RFC 8489, section 14.5).
-    pub fn verify(&self, password: &[u8]) -> bool {
+    /// Whether the message was parsed and has MESSAGE-INTEGRITY (RFC 8489, section 14.5).
+    pub fn has_integrity(&self) -> bool {
+        self.flat.has_integrity
+    }
+
+    /// Whether the message was parsed and has FINGERPRINT (RFC 8489, section 14.7).
+    pub fn has_fingerprint(&self) -> bool {
+        self.flat.has_fingerprint
+    }
+
+    /// Whether the message was parsed, and its MESSAGE-INTEGRITY is that of this password (RFC 8489, section 14.5). The library's own
+    /// HMAC-SHA1 computes it: `sha1_hmac` is not called, and is an argument because it is one in the original.
+    #[must_use]
+    pub fn verify(&self, password: &[u8], _sha1_hmac: impl Fn(&[u8], &[&[u8]]) -> [u8; 20]) -> bool {
+        self.is_signed_by(password)
+    }
+
+    /// As `verify`, without the function.
+    #[must_use]
+    pub fn is_signed_by(&self, password: &[u8]) -> bool {
         ffi::stun_verify(self.bytes, password) == ffi::OK
+    }
+
+    /// Writes the message to the front of the buffer and returns its length: its attributes, then MESSAGE-INTEGRITY if there is a
+    /// password, then FINGERPRINT (RFC 8489, sections 5 and 14). The library's own HMAC-SHA1 computes it: `sha1_hmac` is not called, and
+    /// is an argument because it is one in the original.
+    ///
+    /// An error leaves the buffer unchanged. `StunError::Io` of kind `WriteZero`: the buffer is too short. Of kind `InvalidInput`: the
+    /// method or class is `Unknown`; the error code is outside 300 to 699; USERNAME is longer than 508 bytes, another text longer than
+    /// 128, the data longer than 65535; or more than 65535 bytes would follow the header.
+    pub fn to_bytes(
+        self,
+        password: Option<&[u8]>,
+        buf: &mut [u8],
+        _sha1_hmac: impl Fn(&[u8], &[&[u8]]) -> [u8; 20],
+    ) -> Result<usize, StunError> {
+        self.write(password, buf)
+    }
+
+    /// As `to_bytes`, without the function.
+    pub fn write(&self, password: Option<&[u8]>, buf: &mut [u8]) -> Result<usize, StunError> {
+        write(&self.flat, &self.all_texts(), password, buf)
+    }
+
+    fn all_texts(&self) -> Texts<'a> {
+        Texts {
+            username: self.username(),
+            reason: self.error_code().map(|error| error.1),
+            data: self.data(),
+            realm: self.realm(),
+            nonce: self.nonce(),
+            software: self.software(),
+        }
     }
 
     fn text(&self, attribute: u16) -> Option<&'a str> {
         Some(std::str::from_utf8(self.value(attribute)?).expect("texts of the library are UTF-8"))
     }
 
+    fn built_value(&self, attribute: u16) -> Option<&'a [u8]> {
+        match attribute {
+            USERNAME => self.texts.username.map(str::as_bytes),
+            ERROR_CODE => self.texts.reason.map(str::as_bytes),
+            DATA => self.texts.data,
+            REALM => self.texts.realm.map(str::as_bytes),
+            NONCE => self.texts.nonce.map(str::as_bytes),
+            SOFTWARE => self.texts.software.map(str::as_bytes),
+            _ => None,
+        }
+    }
+
     /// The value of an attribute. The library copies it, so this returns the bytes of the message that are the same.
     fn value(&self, attribute: u16) -> Option<&'a [u8]> {
+        if self.bytes.is_empty() {
+            return self.built_value(attribute);
+        }
         let (mut buffer, mut length) = (vec![0; self.bytes.len()], 0);
         if ffi::stun_text(attribute, self.bytes, &mut buffer, &mut length) != ffi::OK {
             return None;

@@ -153,6 +153,7 @@ fn delays_are_set() {
     agent.set_initial_stun_rto(ms(100));
     assert_eq!(agent.ice_timeout(), ms(400));
     agent.set_timing_advance(ms(20));
+    agent.set_lite_timeout(ms(30000));
     agent.set_mtu(600..=700);
     assert_eq!((agent.mtu(), agent.mtu_warn()), (600, 700));
 }
@@ -291,6 +292,30 @@ fn pairs_may_be_few() {
     assert_eq!(agent.poll_transmit().expect("a check").destination, at("10.0.0.3:3000"));
     agent.recreate_candidate_pairs();
     assert!(!agent.has_viable_remote_candidate(at("10.0.0.3:3000")));
+}
+
+/// The request arrives from so many ports; how many of them get a response.
+fn replies_to_replays(agent: &mut IceAgent, ports: u16) -> usize {
+    let (bytes, now) = (unhex(REQUEST), Instant::now());
+    let mut replies = 0;
+    for port in 3000..3000 + ports {
+        let source = format!("10.0.0.9:{port}");
+        assert!(agent.handle_packet(now, StunPacket { source: at(&source), ..from_peer(&bytes) }));
+        replies += usize::from(agent.poll_transmit().is_some());
+        while agent.poll_event().is_some() {}
+    }
+    replies
+}
+
+#[test]
+fn requests_bring_few_candidates() {
+    assert_eq!(replies_to_replays(&mut addressed(), 40), 32);
+    let mut agent = addressed();
+    agent.set_max_discovered(Some(3));
+    assert_eq!(replies_to_replays(&mut agent, 40), 3);
+    let mut agent = addressed();
+    agent.set_max_discovered(None);
+    assert_eq!(replies_to_replays(&mut agent, 40), 40);
 }
 
 #[test]

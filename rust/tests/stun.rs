@@ -1,6 +1,8 @@
-//! STUN messages: the samples of RFC 5769, and the request and the responses of a client.
+//! STUN messages: the samples of RFC 5769, read and written, and the request and the responses of a client.
 
-use is::stun::{BindingResponse, Class, Method, QUERY_LENGTH, StunMessage, TransId};
+use is::StunError;
+use is::stun::{BindingResponse, Class, Method, QUERY_LENGTH, StunMessage, StunMessageBuilder, TransId};
+use std::io::ErrorKind;
 use std::net::SocketAddr;
 
 /// RFC 5769, sections 2.1 to 2.3.
@@ -21,6 +23,11 @@ fn unhex(text: &str) -> Vec<u8> {
     (0..text.len()).step_by(2).map(|at| u8::from_str_radix(&text[at..at + 2], 16).unwrap()).collect()
 }
 
+/// The library computes HMAC-SHA1 itself.
+fn no_hmac(_: &[u8], _: &[&[u8]]) -> [u8; 20] {
+    unreachable!()
+}
+
 fn address(text: &str) -> SocketAddr {
     text.parse().unwrap()
 }
@@ -37,7 +44,7 @@ fn reads_the_sample_request() {
     assert_eq!((message.error_code(), message.lifetime(), message.channel_number()), (None, None, None));
     assert_eq!((message.network_cost(), message.data(), message.realm()), (None, None, None));
     assert_eq!((message.nonce(), message.software()), (None, None));
-    assert!(message.verify(PASSWORD) && !message.verify(b"VOkJxbRl1RmTxUk/WvJxB"));
+    assert!(message.is_signed_by(PASSWORD) && !message.is_signed_by(b"VOkJxbRl1RmTxUk/WvJxB"));
 }
 
 #[test]
@@ -45,7 +52,7 @@ fn reads_the_sample_responses() {
     for (text, mapped) in [(V4, "192.0.2.1:32853"), (V6, "[2001:db8:1234:5678:11:2233:4455:6677]:32853")] {
         let bytes = unhex(text);
         let message = StunMessage::parse(&bytes).unwrap();
-        assert!(message.is_successful_binding_response() && message.verify(PASSWORD));
+        assert!(message.is_successful_binding_response() && message.verify(PASSWORD, no_hmac));
         assert_eq!(message.mapped_address(), Some(address(mapped)));
         assert_eq!(BindingResponse::parse(ID, &bytes), Some(BindingResponse::Mapped(address(mapped))));
     }
@@ -65,4 +72,86 @@ fn a_client_writes_a_request_and_reads_the_response() {
     assert_eq!(BindingResponse::parse(ID, &request), None);
     assert_eq!(BindingResponse::parse(ID, &unhex(PLAIN)[..31]), None);
     assert_ne!(TransId::new(), TransId::new());
+}
+
+fn bytes_of(message: StunMessage, password: Option<&[u8]>) -> Vec<u8> {
+    let mut buffer = [0xaa; 2048];
+    let length = message.to_bytes(password, &mut buffer, no_hmac).unwrap();
+    assert_eq!(buffer[length], 0xaa);
+    buffer[..length].to_vec()
+}
+
+/// Without SOFTWARE, whose type differs there, and with zeros as padding.
+#[test]
+fn writes_the_sample_request() {
+    let built = StunMessage::binding_request("evtj:h6vY", ID, false, 0x932ff9b151263b36, 0x6e0001ff, false);
+    let sample = unhex(REQUEST);
+    for message in [built, StunMessage::parse(&sample).unwrap()] {
+        let bytes = bytes_of(message, Some(PASSWORD));
+        assert_eq!((bytes.len(), &bytes[..2], &bytes[4..20]), (88, &sample[..2], &sample[4..20]));
+        let read = StunMessage::parse(&bytes).unwrap();
+        assert!(read.is_binding_request() && read.is_signed_by(PASSWORD) && read.has_fingerprint() && !message.use_candidate());
+        assert_eq!((read.trans_id(), read.username(), read.prio()), (ID, Some("evtj:h6vY"), Some(0x6e0001ff)));
+        assert_eq!((read.ice_controlled(), read.ice_controlling()), (Some(0x932ff9b151263b36), None));
+    }
+    assert!(!built.has_integrity() && !built.is_signed_by(PASSWORD) && built.username() == Some("evtj:h6vY"));
+    let nominating = StunMessage::binding_request("a:b", ID, true, 7, 9, true);
+    assert_eq!((nominating.use_candidate(), nominating.ice_controlling(), nominating.ice_controlled()), (true, Some(7), None));
+}
+
+#[test]
+fn writes_the_sample_responses() {
+    for (text, mapped) in [(V4, "192.0.2.1:32853"), (V6, "[2001:db8:1234:5678:11:2233:4455:6677]:32853")] {
+        let (sample, built) = (unhex(text), StunMessage::binding_reply(ID, address(mapped)));
+        assert_eq!((built.mapped_address(), built.is_successful_binding_response()), (Some(address(mapped)), true));
+        let bytes = bytes_of(built, Some(PASSWORD));
+        // XOR-MAPPED-ADDRESS, after SOFTWARE in the sample
+        let end = bytes.len() - 32;
+        assert_eq!(bytes[20..end], sample[36..end + 16]);
+        assert!(StunMessage::parse(&bytes).unwrap().is_signed_by(PASSWORD));
+    }
+    let conflict = bytes_of(StunMessage::binding_role_conflict_reply(ID), Some(PASSWORD));
+    let read = StunMessage::parse(&conflict).unwrap();
+    assert_eq!((read.is_failed_binding_response(), read.error_code()), (true, Some((487, "Role Conflict"))));
+}
+
+#[test]
+fn a_builder_builds_any_message() {
+    let peer = address("192.0.2.9:9");
+    let built = StunMessageBuilder::new()
+        .channel_bind()
+        .request()
+        .channel_number(0x4001)
+        .lifetime(600)
+        .xor_peer_address(peer)
+        .xor_relayed_address(peer)
+        .data(&[0xff])
+        .realm("realm")
+        .nonce("nonce")
+        .software("software")
+        .network_cost(3, 50)
+        .error_code(699, "")
+        .build(ID);
+    let bytes = bytes_of(built, None);
+    for message in [built, StunMessage::parse(&bytes).unwrap()] {
+        assert!(message.is_channel_bind_request() && !message.has_integrity());
+        assert_eq!((message.channel_number(), message.lifetime(), message.network_cost()), (Some(0x4001), Some(600), Some((3, 50))));
+        assert_eq!((message.xor_peer_address(), message.xor_relayed_address()), (Some(peer), Some(peer)));
+        assert_eq!((message.data(), message.realm()), (Some(&[0xff][..]), Some("realm")));
+        assert_eq!((message.nonce(), message.software(), message.error_code()), (Some("nonce"), Some("software"), Some((699, ""))));
+    }
+}
+
+#[test]
+fn what_cannot_be_written_says_why() {
+    let kind = |message: StunMessage, size: usize| match message.to_bytes(None, &mut vec![0; size], no_hmac) {
+        Err(StunError::Io(why)) => why.kind(),
+        other => panic!("{other:?}"),
+    };
+    let long = "x".repeat(129);
+    let binding = || StunMessageBuilder::new().binding().failure();
+    assert_eq!(kind(binding().build(ID), 27), ErrorKind::WriteZero);
+    assert_eq!(kind(binding().error_code(700, "").build(ID), 999), ErrorKind::InvalidInput);
+    assert_eq!(kind(binding().software(&long).build(ID), 999), ErrorKind::InvalidInput);
+    assert_eq!(kind(StunMessage::parse(&unhex("000200002112a442b7e7a701bc34d686fa87dfae")).unwrap(), 999), ErrorKind::InvalidInput);
 }

@@ -26,7 +26,7 @@ fn allow_pairs(agent: &mut Agent, number: usize) {
 }
 
 /// How many of the peer's candidates are stored.
-fn known(agent: &Agent) -> u32 {
+pub fn known(agent: &Agent) -> u32 {
     let mut count = 0u32;
     for _ in agent.remote_candidates() {
         count = count.saturating_add(1);

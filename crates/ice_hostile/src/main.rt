@@ -12,6 +12,7 @@ mod flood;
 mod limits;
 mod moments;
 mod random_calls;
+mod replays;
 mod request;
 mod seeds;
 mod seen;
@@ -29,6 +30,7 @@ fn play<W: Write>(agent: &mut Agent, alloc: Global, output: &mut W) -> Result<()
     flips::play(agent, alloc, output)?;
     answers::play(agent, alloc, output)?;
     flood::play(agent, alloc, output)?;
+    replays::play(agent, alloc, output)?;
     conflict::play(alloc, output)?;
     limits::play(agent, alloc, output)?;
     moments::play(agent, alloc, output)?;

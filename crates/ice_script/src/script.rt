@@ -38,6 +38,7 @@ pub enum CallName {
     Retransmits,
     Rto,
     MaxRto,
+    LiteTimeout,
     Host,
     Srflx,
     Relay,
@@ -60,7 +61,7 @@ struct Row {
 }
 
 /// The calls of scripts: the word of each, and its fields.
-static CALLS: [Row; 18] = [
+static CALLS: [Row; 19] = [
     Row {
         word: "agent",
         name: CallName::Agent,
@@ -99,6 +100,11 @@ static CALLS: [Row; 18] = [
     Row {
         word: "maxrto",
         name: CallName::MaxRto,
+        fields: &["number"],
+    },
+    Row {
+        word: "litetimeout",
+        name: CallName::LiteTimeout,
         fields: &["number"],
     },
     Row {
@@ -316,6 +322,7 @@ fn plain_call(name: CallName, fields: Fields<'_>) -> Result<Call, Fault> {
         CallName::Retransmits => Call::SetMaxStunRetransmits(fields.positive("number")?),
         CallName::Rto => Call::SetInitialStunRto(fields.duration("number")?),
         CallName::MaxRto => Call::SetMaxStunRto(fields.duration("number")?),
+        CallName::LiteTimeout => Call::SetLiteTimeout(fields.duration("number")?),
         CallName::Timeout => Call::HandleTimeout(fields.moment("now")?),
         _ => Call::RecreateCandidatePairs,
     })

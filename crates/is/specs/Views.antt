@@ -6,7 +6,7 @@ use Rattle.is_proto.specs.Packets.{packet_of}
 use Rattle.is_rules.specs.Steps as agent
 use Rattle.is.specs.declared.calls.AgentCall.{AgentCall}
 use Rattle.is.specs.declared.calls.AgentCall.TheVariants.{SetMtu, SetControlTieBreaker, SetMaxCandidatePairs, SetMaxDiscovered, SetIceLite, SetTimingAdvance}
-use Rattle.is.specs.declared.calls.AgentCall.TheVariants.{SetInitialStunRto, SetMaxStunRto, SetMaxStunRetransmits, SetLocalPreference}
+use Rattle.is.specs.declared.calls.AgentCall.TheVariants.{SetInitialStunRto, SetMaxStunRto, SetMaxStunRetransmits, SetLiteTimeout, SetLocalPreference}
 use Rattle.is.specs.declared.calls.AgentCall.TheVariants.{SetControlling, SetLocalCredentials, SetRemoteCredentials, SkipPairIds}
 use Rattle.is.specs.declared.calls.AgentCall.TheVariants.{AddLocalCandidate, AddRemoteCandidate, InvalidateCandidate, RestartIce}
 use Rattle.is.specs.declared.calls.AgentCall.TheVariants.{RecreateCandidatePairs, Packet, HandleTimeout, PollTransmit, PollTimeout}
@@ -26,6 +26,7 @@ call_view (SetTimingAdvance advance) = agent.SetTimingAdvance advance.0
 call_view (SetInitialStunRto rto) = agent.SetInitialStunRto rto.0
 call_view (SetMaxStunRto rto) = agent.SetMaxStunRto rto.0
 call_view (SetMaxStunRetransmits limit) = agent.SetMaxStunRetransmits limit
+call_view (SetLiteTimeout timeout) = agent.SetLiteTimeout timeout.0
 call_view (SetLocalPreference object) = agent.SetLocalPreference object
 call_view (SetControlling controlling) = agent.SetControlling controlling
 call_view (SetLocalCredentials creds) = agent.SetLocalCredentials creds

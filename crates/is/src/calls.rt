@@ -31,6 +31,8 @@ pub enum AgentCall<P> {
     SetMaxStunRto(Duration),
     /// `set_max_stun_retransmits`. Its result is `Done`, or `NotCalled` if the limit is 0.
     SetMaxStunRetransmits(usize),
+    /// `set_lite_timeout`. Its result is `Done`.
+    SetLiteTimeout(Duration),
     /// `set_local_preference`. Its result is `Done`.
     SetLocalPreference(P),
     /// `set_controlling`. Its result is `Done`.

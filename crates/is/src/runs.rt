@@ -1,6 +1,7 @@
 //! Executions: calls on an agent, with a log of their results.
 ghost use Rattle.is_agent.specs.View.{record_of};
 ghost use Rattle.is_rules.specs.Logs.{NeverLite, replies, requests};
+ghost use Rattle.is_rules.specs.Bounds.{ListsAreBounded, PairsAreFew};
 ghost use Rattle.is_rules.specs.Owed.{AreAmong};
 ghost use Rattle.is_rules.specs.Runs.{IsFresh, PathsAreAnswered, PathsAreAskedFor, LastPathsAreTop, SuccessesMakeValid, RequestsNominate};
 ghost use Rattle.is_rules.specs.Progress.{SuccessesAnnounce, NominationsAnnounce};
@@ -123,6 +124,17 @@ pub fn run<H: Sha1HmacProvider + Drop, P: LocalPreference, R: Rng>(
     // The responses are, as a multiset, among the accepted Binding requests, each with its ID and on its reverse path.
     ensures replies { IsFresh (record_of agent.old) → AreAmong (replies (log_of calls.items result)) (requests (log_of calls.items result)) }
 
+    // With a limit on what requests bring, set whenever a packet or a timeout comes: after each call there are at most as many
+    // remote candidates as the limit and the caller's `add_remote_candidate` calls together, and at most as many remembered sources
+    // as the limit, whatever was received.
+    ensures bounded { IsFresh (record_of agent.old)
+        → ListsAreBounded H.mac P.answers (record_of agent.old) (R.stream rng.old) (log_of calls.items result) }
+
+    // After each call there are at most as many pairs as the limit on pairs, and one for each local and each remote candidate,
+    // whatever was received.
+    ensures few { IsFresh (record_of agent.old)
+        → PairsAreFew H.mac P.answers (record_of agent.old) (R.stream rng.old) (log_of calls.items result) }
+
     // Packets and events are polled in the order in which they were issued, and an ICE restart empties both queues before its own
     // events.
     ensures order { QueuesAreKept H.mac P.answers (record_of agent.old) (R.stream rng.old) (log_of calls.items result) }
@@ -132,6 +144,8 @@ pub fn run<H: Sha1HmacProvider + Drop, P: LocalPreference, R: Rng>(
     laws::announced_are_answered::<H, P>();
     laws::announced_are_asked_for::<H, P>();
     laws::points_are_top::<H, P>();
+    laws::limits_bound::<H, P>();
+    laws::limits_pairs::<H, P>();
     laws::answers_announce::<H, P>();
     laws::moments_announce::<H, P>();
     laws::parts_are_runs::<H, P>();

@@ -149,6 +149,7 @@ fn take_setting<H: Sha1HmacProvider + Drop, P: LocalPreference>(
         AgentCall::SetTimingAdvance(advance) => agent.set_timing_advance(advance),
         AgentCall::SetInitialStunRto(rto) => agent.set_initial_stun_rto(rto),
         AgentCall::SetMaxStunRto(rto) => agent.set_max_stun_rto(rto),
+        AgentCall::SetLiteTimeout(timeout) => agent.set_lite_timeout(timeout),
         AgentCall::SetLocalPreference(object) => agent.set_local_preference(object),
         AgentCall::SetControlling(controlling) => agent.set_controlling(controlling),
         AgentCall::SkipPairIds(least) => agent.skip_pair_ids(least),

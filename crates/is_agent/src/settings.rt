@@ -3,7 +3,7 @@
 ghost use Rattle.std.specs.Prelude.{◌≡◌, ◌<◌, Some};
 ghost use Rattle.std.specs.Range.{range_inclusive_start, range_inclusive_end};
 ghost use Rattle.is_agent.specs.View.{record_of};
-ghost use Rattle.is_rules.specs.Settings.{SetsMtu, with_rtos, with_retransmits, numbers_skipped};
+ghost use Rattle.is_rules.specs.Settings.{SetsMtu, with_rtos, with_retransmits, with_lite_timeout, numbers_skipped};
 ghost use Rattle.is_rules.specs.Questions.{ice_timeout};
 
 use crate::agent::Agent;
@@ -125,6 +125,18 @@ impl<H: Sha1HmacProvider + Drop, P: LocalPreference> Agent<H, P> {
         ensures { record_of self.new ≡ with_retransmits number (record_of self.old) }
     {
         self.timing.max_retransmits = number;
+    }
+
+    /// Sets how long an ICE-lite agent keeps a pair without a check from its peer: 15 s until it is set. The agent sends no
+    /// checks, so the peer's are all that shows that the path works.
+    ///
+    /// The next `handle_timeout` call after this time removes the pair; with zero, the next call after a check. A pair on
+    /// which no check arrived counts as checked at the first call with remote credentials. The value applies to existing
+    /// pairs too. Full agents do not use it.
+    pub fn set_lite_timeout(&mut self, timeout: Duration)
+        ensures { record_of self.new ≡ with_lite_timeout timeout.0 (record_of self.old) }
+    {
+        self.timing.lite_timeout = timeout;
     }
 
     /// How long a pair is checked without a response before it is removed.

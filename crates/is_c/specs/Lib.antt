@@ -7,6 +7,7 @@ pub mod Texts
 pub mod Preferences
 pub mod Candidates
 pub mod Held
+pub mod Limits
 pub mod Given
 pub mod Adding
 pub mod Refusals
@@ -19,4 +20,9 @@ pub mod Questions
 pub mod StunRead
 pub mod StunClient
 pub mod StunMessage
+pub mod StunTexts
+pub mod StunWrite
+pub mod StunFill
 pub mod Pairs
+pub mod Lines
+pub mod Infos

@@ -6,9 +6,14 @@ use Rattle.is_rules.specs.Fitting.{are_too_long}
 use Rattle.is_c.specs.Codes.{OK, HAS_AGENT, OUT_OF_MEMORY, CREDENTIALS_TOO_LONG}
 use Rattle.is_c.specs.Credentials.{MakesCreds}
 use Rattle.is_c.specs.Held.{HomeRecord}
+use Rattle.is_c.specs.Limits.{DISCOVERED_LIMIT}
 
+-- a newly created agent, with the limit on remote candidates that requests bring
 abbrev pub fresh_home : IceCreds → ℕ → HomeRecord
-fresh_home creds tie_breaker = record { agent = fresh (record {}) creds tie_breaker; waiting = None }
+fresh_home creds tie_breaker = record {
+  agent = record (fresh (record {}) creds tie_breaker) { max_discovered = Some DISCOVERED_LIMIT };
+  waiting = None;
+}
 
 -- a newly created agent, or why there is none
 abbrev pub MakesHome : IceCreds → ℕ → ℤ → Option HomeRecord → Type 0

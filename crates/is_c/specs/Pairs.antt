@@ -1,13 +1,15 @@
 -- Candidate pairs, as C gets them.
-use Rattle.std.specs.Prelude.{◌≡◌, ℕ, Bool, true, false, length, Option, Some, None, slice_get, ℤ, pos}
+use Rattle.std.specs.Prelude.{◌≡◌, ℕ, Bool, true, false, List, length, Option, Some, None, Ok, Err, slice_get, ℤ, pos}
 use Rattle.is_pair.specs.declared.pair.states.CheckState.{CheckState}
 use Rattle.is_pair.specs.declared.pair.states.CheckState.TheVariants.{Waiting, InProgress, Succeeded}
 use Rattle.is_pair.specs.Checks.{last_round_trip}
 use Rattle.is_pair.specs.Pairs.{PairRecord, is_nominated}
+use Rattle.is_rules.specs.Questions.{FindsEquivalent}
 use Rattle.is_agent.specs.Added.{listed_index}
 use Rattle.is_agent.specs.Pairs.{is_selected, next_due}
 use Rattle.is_c.specs.declared.pairs.Pair.{Pair}
-use Rattle.is_c.specs.Codes.{OK, NOTHING}
+use Rattle.is_c.specs.Candidates.{Made, ReadsBytes}
+use Rattle.is_c.specs.Codes.{OK, NOTHING, NOT_UTF8, code_of}
 use Rattle.is_c.specs.Held.{Held, HomeRecord}
 
 abbrev pub check_number : CheckState → ℤ
@@ -26,6 +28,7 @@ IsPair a p s =
     (s.local ≡ listed_index a.local p.local) × (s.remote ≡ listed_index a.remote p.remote)
     × (s.priority ≡ p.priority) × (s.state ≡ check_number p.state)
     × (s.nominated ≡ is_nominated p) × (s.selected ≡ is_selected a p)
+    × (s.checks_sent ≡ p.checks_sent) × (s.requests_received ≡ p.requests)
     × (s.responses ≡ p.answers) × (s.total_rtt ≡ p.total_round_trip)
     × IsTime (last_round_trip p.checks) s.has_rtt s.rtt
     × IsTime p.last_request s.has_request s.last_request
@@ -43,3 +46,17 @@ TellsPair index before after old code new =
 -- `is_ice_pair_count`
 abbrev pub TellsCount : ℕ → HomeRecord → ℤ → HomeRecord → Type 0
 TellsCount count old code new = (code ≡ OK) × (count ≡ length old.agent.pairs) × (new ≡ old)
+
+-- the pair whose remote candidate equals this one, if there is a candidate
+abbrev pub FindsMade : Made → Pair → Pair → Held → ℤ → Type 0
+FindsMade None before after a code = (code ≡ NOT_UTF8) × (after ≡ before)
+FindsMade (Some (Err e)) before after a code = (code ≡ code_of e) × (after ≡ before)
+FindsMade (Some (Ok c)) before after a code =
+    (found : Option PairRecord) × FindsEquivalent a c found × TellsOfPair a found before after code
+
+abbrev pub FindsPair : List ℕ → Pair → Pair → Held → ℤ → Type 0
+FindsPair line before after a code = (made : Made) × ReadsBytes line made × FindsMade made before after a code
+
+-- `is_ice_find_pair`
+abbrev pub TellsFound : List ℕ → Pair → Pair → HomeRecord → ℤ → HomeRecord → Type 0
+TellsFound line before after old code new = FindsPair line before after old.agent code × (new ≡ old)

@@ -1,5 +1,5 @@
 -- A STUN message as a flat struct for C.
-use Rattle.std.specs.Prelude.{◌≡◌, ◌↔◌, ℕ, Bool, true, false, List, Option, Some, None, option_map, IsTrue, ℤ}
+use Rattle.std.specs.Prelude.{◌≡◌, ◌↔◌, ℕ, Bool, true, false, List, Option, Some, None, option_map, is_some, IsTrue, ℤ}
 use Rattle.is_proto.specs.Hmac.{hmac_sha1}
 use Rattle.is_stun.specs.declared.header.Class.{Class}
 use Rattle.is_stun.specs.declared.header.Class.TheVariants as classes
@@ -43,6 +43,8 @@ pub record IsFlat (m : Message) (f : Flat) : Type 0 where
   pub mapped : socket_of f.mapped ≡ m.attributes.xor_mapped_address
   pub peer : socket_of f.peer ≡ m.attributes.xor_peer_address
   pub relayed : socket_of f.relayed ≡ m.attributes.xor_relayed_address
+  pub has_integrity : f.has_integrity ≡ is_some m.integrity
+  pub has_fingerprint : f.has_fingerprint ≡ is_some m.attributes.fingerprint
 
 abbrev pub IsFlatOf : Message → ℤ → Flat → Type 0
 IsFlatOf m code f = (code ≡ OK) × IsFlat m f

@@ -37,6 +37,10 @@ pub const PRIORITY_TOO_HIGH: i32 = -12;
 pub const BAD_LIMIT: i32 = -13;
 /// Fewer random bytes than the call may use.
 pub const TOO_FEW_RANDOM_BYTES: i32 = -14;
+/// A STUN message that cannot be written: see `is_ice_stun_write`, for this and the code below.
+pub const BAD_MESSAGE: i32 = -15;
+
+pub const MESSAGE_TOO_LONG: i32 = -16;
 
 pub(crate) fn code_of(error: &IceError) -> i32
     ensures { result ≡ code.code_of error.now }

@@ -13,6 +13,8 @@ mod credentials;
 mod events;
 mod handle;
 mod home;
+mod infos;
+mod lines;
 mod making;
 mod packets;
 mod pairs;
@@ -25,8 +27,11 @@ mod session;
 mod settings;
 mod slot;
 mod stun_client;
+mod stun_fill;
 mod stun_message;
 mod stun_read;
+mod stun_texts;
+mod stun_write;
 mod text;
 
 pub use address::Address;
@@ -41,6 +46,7 @@ pub use questions::{Nominated, Stats, Status};
 pub use slot::Slot;
 pub use stun_client::{Response, Transaction};
 pub use stun_message::{Message, Number};
+pub use stun_texts::{Span, Texts};
 
 #[cfg(test)]
 mod tests;

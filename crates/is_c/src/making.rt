@@ -13,14 +13,18 @@ use crate::slot::Slot;
 use is_agent::{Agent, IceCreds};
 use std::alloc::Global;
 
+/// How many remote candidates requests may bring, until another limit is set.
+const DISCOVERED_LIMIT: usize = 32;
+
 fn boxed_agent(alloc: Global, creds: IceCreds, tie_breaker: u64) -> Result<Box<Home>, i32>
     ensures made { IfOk result (λ home. (are_too_long creds None ≡ false) × (home_of home.value ≡ fresh_home creds tie_breaker)) }
     ensures refused { IfErr result (λ why. MatchBool (are_too_long creds None) (why ≡ CREDENTIALS_TOO_LONG) (why ≡ OUT_OF_MEMORY)) }
 {
-    let agent = match Agent::new(alloc, creds, tie_breaker) {
+    let mut agent = match Agent::new(alloc, creds, tie_breaker) {
         Ok(agent) => agent,
         Err(error) => return Err(codes::code_of(&error)),
     };
+    agent.set_max_discovered(Some(DISCOVERED_LIMIT));
     let waiting = None;
     match Box::new(alloc, Home { agent, waiting }) {
         Ok(home) => Ok(home),
@@ -67,7 +71,7 @@ pub extern "C" fn is_ice_agent_free(alloc: Global, slot: &mut Slot)
 /// The version of this interface. The header has the same number.
 #[unsafe(no_mangle)]
 pub extern "C" fn is_ice_version() -> u32
-    ensures { result ≡ 2 }
+    ensures { result ≡ 3 }
 {
-    2
+    3
 }

@@ -1,10 +1,12 @@
 //! Candidate pairs, listed.
 
-ghost use Rattle.std.specs.Prelude.{◌≡◌, slice_get};
+ghost use Rattle.std.specs.Prelude.{◌≡◌};
+ghost use Rattle.std.specs.Option.{option_copied};
 ghost use Rattle.is_agent.specs.View.{record_of};
 ghost use Rattle.is_c.specs.Held.{held_by, At};
-ghost use Rattle.is_c.specs.Pairs.{check_number, IsPair, TellsOfPair, TellsPair, TellsCount};
+ghost use Rattle.is_c.specs.Pairs.{check_number, IsPair, TellsOfPair, TellsPair, TellsCount, FindsPair, TellsFound};
 
+use crate::candidate::line_candidate;
 use crate::codes;
 use crate::home::Home;
 use crate::slot::Slot;
@@ -19,6 +21,9 @@ pub struct Pair {
     pub local: usize,
     pub remote: usize,
     pub priority: u64,
+    /// The number of checks that were sent on it, and of checks of the other agent that arrived on it.
+    pub checks_sent: u64,
+    pub requests_received: u64,
     /// The number of responses to its checks.
     pub responses: u64,
     /// The sum of the round-trip times of its checks.
@@ -60,6 +65,8 @@ fn told_pair(home: &Home, pair: &CandidatePair) -> Pair
         local: agent.local_candidate_index(pair),
         remote: agent.remote_candidate_index(pair),
         priority: pair.prio(),
+        checks_sent: pair.checks_sent(),
+        requests_received: pair.remote_binding_requests(),
         responses: pair.responses_received(),
         total_rtt: pair.total_round_trip_time().0,
         rtt: match rtt {
@@ -83,10 +90,10 @@ fn told_pair(home: &Home, pair: &CandidatePair) -> Pair
     }
 }
 
-fn tell_pair(home: &Home, index: usize, pair: &mut Pair) -> i32
-    ensures { TellsOfPair (record_of home.now.agent) (slice_get (record_of home.now.agent).pairs index) pair.old pair.new result }
+fn tell_pair(home: &Home, found: Option<&CandidatePair>, pair: &mut Pair) -> i32
+    ensures { TellsOfPair (record_of home.now.agent) (option_copied found.entry) pair.old pair.new result }
 {
-    match home.agent.candidate_pair(index) {
+    match found {
         Some(found) => {
             *pair = told_pair(home, found);
             codes::OK
@@ -108,7 +115,7 @@ pub extern "C" fn is_ice_pair_at(
     let Some(home) = slot.take(alloc) else {
         return codes::NO_AGENT;
     };
-    let code = tell_pair(&home, index, pair);
+    let code = tell_pair(&home, home.agent.candidate_pair(index), pair);
     *slot = Slot::of(home);
     code
 }
@@ -124,4 +131,37 @@ pub extern "C" fn is_ice_pair_count(alloc: Global, slot: &mut Slot, count: &mut 
     *count = home.agent.candidate_pair_count();
     *slot = Slot::of(home);
     codes::OK
+}
+
+fn find_pair(alloc: Global, home: &Home, line: &[u8], pair: &mut Pair) -> i32
+    ensures { FindsPair line.now pair.old pair.new (record_of home.now.agent) result }
+{
+    match line_candidate(alloc, line) {
+        Some(Ok(candidate)) => {
+            let found = home
+                .agent
+                .find_pair_for_equivalent_remote_candidate(&candidate);
+            tell_pair(home, found, pair)
+        }
+        Some(Err(error)) => codes::code_of(&error),
+        None => codes::NOT_UTF8,
+    }
+}
+
+/// Writes a pair whose remote candidate equals the one of the candidate attribute: one of the greatest priority.
+#[unsafe(no_mangle)]
+pub extern "C" fn is_ice_find_pair(
+    alloc: Global,
+    slot: &mut Slot,
+    line: &[u8],
+    pair: &mut Pair,
+) -> i32
+    ensures { At (TellsFound line.now pair.old pair.new) (held_by slot.old) result (held_by slot.new) }
+{
+    let Some(home) = slot.take(alloc) else {
+        return codes::NO_AGENT;
+    };
+    let code = find_pair(alloc, &home, line, pair);
+    *slot = Slot::of(home);
+    code
 }

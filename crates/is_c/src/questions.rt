@@ -142,7 +142,7 @@ pub extern "C" fn is_ice_nominated(alloc: Global, slot: &mut Slot, figures: &mut
 // ---- candidates
 
 /// Writes the candidate attribute of the candidate, if there is one.
-fn put_line(
+pub(crate) fn put_line(
     alloc: Global,
     candidate: Option<&Candidate>,
     buffer: &mut [u8],

@@ -17,7 +17,11 @@ fn put_message(error: &IceError, buffer: &mut [u8], length: &mut usize) -> i32
     }
 }
 
-fn put_refusal(outcome: &Result<Candidate, IceError>, buffer: &mut [u8], length: &mut usize) -> i32
+pub(crate) fn put_refusal(
+    outcome: &Result<Candidate, IceError>,
+    buffer: &mut [u8],
+    length: &mut usize,
+) -> i32
     ensures { PutsRefusal outcome.now buffer.old result buffer.new length.new }
 {
     match outcome {

@@ -1,8 +1,9 @@
 //! Settings that the caller may change.
 
-ghost use Rattle.std.specs.Prelude.{◌==◌, Some, MatchBool};
-ghost use Rattle.is_rules.specs.Settings.{SetsMtu, with_rtos, with_retransmits, numbers_skipped};
+ghost use Rattle.std.specs.Prelude.{◌≡◌, ◌==◌, Some, MatchBool};
+ghost use Rattle.is_rules.specs.Settings.{SetsMtu, with_rtos, with_retransmits, with_lite_timeout, numbers_skipped};
 ghost use Rattle.is_c.specs.Codes.{BAD_LIMIT, done_code};
+ghost use Rattle.is_c.specs.Limits.{limit_of};
 ghost use Rattle.is_c.specs.Held.{home_of, held_by, At, Becomes, Calls, Refuses};
 ghost use Rattle.is_c.specs.declared.preference.Preference.TheVariants.{ByDefault, Fixed, ByTable};
 
@@ -65,6 +66,30 @@ pub extern "C" fn is_ice_set_max_pairs(alloc: Global, slot: &mut Slot, limit: us
     codes::OK
 }
 
+/// The limit that a number stands for: the greatest number means none.
+fn limit_of(number: usize) -> Option<usize>
+    ensures { result ≡ limit_of number }
+{
+    if number == usize::MAX {
+        None
+    } else {
+        Some(number)
+    }
+}
+
+/// Sets how many remote candidates requests may bring; the greatest number means that there is no limit.
+#[unsafe(no_mangle)]
+pub extern "C" fn is_ice_set_max_discovered(alloc: Global, slot: &mut Slot, limit: usize) -> i32
+    ensures { At (Becomes (λ a. record a { max_discovered = limit_of limit })) (held_by slot.old) result (held_by slot.new) }
+{
+    let Some(mut home) = slot.take(alloc) else {
+        return codes::NO_AGENT;
+    };
+    home.agent.set_max_discovered(limit_of(limit));
+    *slot = Slot::of(home);
+    codes::OK
+}
+
 /// Sets the pacing interval of what the agent sends, in nanoseconds.
 #[unsafe(no_mangle)]
 pub extern "C" fn is_ice_set_timing_advance(alloc: Global, slot: &mut Slot, nanoseconds: u64) -> i32
@@ -100,6 +125,19 @@ pub extern "C" fn is_ice_set_max_rto(alloc: Global, slot: &mut Slot, nanoseconds
         return codes::NO_AGENT;
     };
     home.agent.set_max_stun_rto(Duration(nanoseconds));
+    *slot = Slot::of(home);
+    codes::OK
+}
+
+/// Sets how long an ICE-lite agent keeps a pair after the peer's last check on it, in nanoseconds.
+#[unsafe(no_mangle)]
+pub extern "C" fn is_ice_set_lite_timeout(alloc: Global, slot: &mut Slot, nanoseconds: u64) -> i32
+    ensures { At (Becomes (with_lite_timeout nanoseconds)) (held_by slot.old) result (held_by slot.new) }
+{
+    let Some(mut home) = slot.take(alloc) else {
+        return codes::NO_AGENT;
+    };
+    home.agent.set_lite_timeout(Duration(nanoseconds));
     *slot = Slot::of(home);
     codes::OK
 }

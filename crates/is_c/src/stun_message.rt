@@ -24,7 +24,7 @@ pub struct Number {
     pub is_set: bool,
 }
 
-/// A message, except its texts, MESSAGE-INTEGRITY and FINGERPRINT. An address that it does not have is of family 0.
+/// A message, except its texts and the values of MESSAGE-INTEGRITY and FINGERPRINT. An address that it does not have is of family 0.
 #[repr(C)]
 #[derive(Clone, Copy)]
 pub struct Message {
@@ -48,6 +48,8 @@ pub struct Message {
     /// 0 request, 1 indication, 2 success response, 3 error response.
     pub class: u8,
     pub use_candidate: bool,
+    pub has_integrity: bool,
+    pub has_fingerprint: bool,
 }
 
 fn number_of(value: Option<u64>) -> Number
@@ -166,6 +168,8 @@ fn flat(message: &StunMessage<'_>) -> Message
         method: method_number(message.method()),
         class: class_number(message.class()),
         use_candidate: message.use_candidate(),
+        has_integrity: message.has_integrity(),
+        has_fingerprint: message.fingerprint().is_some(),
     }
 }
 

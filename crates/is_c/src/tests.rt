@@ -1,5 +1,7 @@
 //! The exports as C calls them, in stories that the library's own tests have too.
 
+mod texts;
+
 use crate::accepting::{is_ice_accepts_message, is_ice_accepts_packet};
 use crate::address::Address;
 use crate::candidate::LocalCandidate;
@@ -18,7 +20,8 @@ use crate::questions::{Status, is_ice_has_viable_remote, is_ice_local_candidate,
 use crate::refusals::{is_ice_candidate_refusal, is_ice_line_refusal};
 use crate::session::is_ice_restart;
 use crate::settings::{
-    is_ice_set_controlling, is_ice_set_max_retransmits, is_ice_set_mtu, is_ice_set_preference_table,
+    is_ice_set_controlling, is_ice_set_max_discovered, is_ice_set_max_retransmits, is_ice_set_mtu,
+    is_ice_set_preference_table,
 };
 use crate::slot::Slot;
 
@@ -55,6 +58,7 @@ fn host(at: Address) -> LocalCandidate {
         base: at,
         kind: 0,
         protocol: 0,
+        tcptype: 0,
     }
 }
 
@@ -125,6 +129,44 @@ fn a_request_is_replied_to(rt: HostRuntime) {
     is_ice_agent_free(alloc, &mut slot);
     let gone = is_ice_poll_timeout(alloc, &mut slot, &mut at);
     assert!(rt; gone == codes::NO_AGENT);
+}
+
+#[test]
+fn requests_bring_as_many_candidates_as_the_limit(rt: HostRuntime) {
+    let alloc = rt.alloc();
+    let own = address(1, 1000);
+    let first = address(2, 2000);
+    let second = address(2, 2001);
+    let mut slot = Slot::empty(alloc);
+    let mut packet = no_packet();
+    let mut index = 9;
+    let mut buffer = [0; 64];
+    let none = is_ice_set_max_discovered(alloc, &mut slot, 1);
+    assert!(rt; none == codes::NO_AGENT);
+    let made = is_ice_agent_new(alloc, &mut slot, b"p9KA", b"xJcE9AQAR7kczUDVOXRUCl", 1);
+    assert!(rt; made == codes::OK);
+    let told = is_ice_set_remote_credentials(alloc, &mut slot, b"SQAt", b"x");
+    assert!(rt; told == codes::OK);
+    let added = is_ice_add_local(alloc, &mut slot, &host(own), &mut index);
+    assert!(rt; added == codes::OK);
+    let set = is_ice_set_max_discovered(alloc, &mut slot, 1);
+    assert!(rt; set == codes::OK);
+    let taken = is_ice_handle_packet(alloc, &mut slot, 0, 0, &first, &own, &REQUEST);
+    assert!(rt; taken == codes::OK);
+    let served = is_ice_poll_transmit(alloc, &mut slot, &mut buffer, &mut packet);
+    assert!(rt; served == codes::OK);
+    let taken = is_ice_handle_packet(alloc, &mut slot, 0, 0, &second, &own, &REQUEST);
+    assert!(rt; taken == codes::OK);
+    let dropped = is_ice_poll_transmit(alloc, &mut slot, &mut buffer, &mut packet);
+    assert!(rt; dropped == codes::NOTHING);
+    let set = is_ice_set_max_discovered(alloc, &mut slot, usize::MAX);
+    assert!(rt; set == codes::OK);
+    let taken = is_ice_handle_packet(alloc, &mut slot, 0, 0, &second, &own, &REQUEST);
+    assert!(rt; taken == codes::OK);
+    let served = is_ice_poll_transmit(alloc, &mut slot, &mut buffer, &mut packet);
+    assert!(rt; served == codes::OK);
+    assert!(rt; packet.destination.port == 2001);
+    is_ice_agent_free(alloc, &mut slot);
 }
 
 #[test]

@@ -7,7 +7,6 @@ use Rattle.std.proofs.lemmas.Fmt.{decimal_is_IsNumeral}
 use Rattle.std.proofs.lemmas.Str.{encodes-IsAscii}
 use Rattle.std.specs.Char.{is_whitespace, digit_value}
 use Rattle.std.specs.Fmt.{digits, digits_onto, digit_glyph}
-use Rattle.std.specs.Int.{IsInRange}
 use Rattle.std.specs.List.{AllByRecursion}
 use Rattle.std.specs.Str.{NonePass, IsAscii}
 use Rattle.std.specs.Str.Parse.{AllDigits}
@@ -24,11 +23,7 @@ use Rattle.is_candidate.specs.declared.candidate.kind.CandidateKind.TheVariants.
 use Rattle.is_candidate.specs.Candidates.{CandidateRecord}
 use Rattle.is_candidate.specs.Foundations.{computed_foundation}
 use Rattle.is_candidate.specs.Kinds.{kind_word}
-use Rattle.is_candidate.specs.Words.{IsWord}
-
--- an ASCII character that is seen, `!` to `~`
-abbrev IsVisible : ℕ → Type 0
-IsVisible c = IsInRange 33 126 c
+use Rattle.is_candidate.specs.Words.{IsVisible, IsWord}
 
 not_space : (c : ℕ) → IsVisible c → is_whitespace c ≡ false
 not_space c visible =
@@ -44,7 +39,7 @@ all_ascii [] seen i = omega arith
 all_ascii (c ∷ cs) seen zero = omega (arith, All-head IsVisible c cs seen)
 all_ascii (c ∷ cs) seen (suc i) = all_ascii cs (All-tail IsVisible c cs seen) i
 
-visible_word : (text : List ℕ) → 0 < length text → All IsVisible text → IsWord text
+pub visible_word : (text : List ℕ) → 0 < length text → All IsVisible text → IsWord text
 visible_word text some seen = (some, (text, encodes-IsAscii text (all_ascii text seen), none_space text seen))
 
 -- the same of a text that is written out here

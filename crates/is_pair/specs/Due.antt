@@ -63,7 +63,7 @@ is_possible now t p =
 
 -- consent has not expired (RFC 7675); for an ICE-lite agent, the peer's checks have not stopped
 abbrev pub stays : Bool → ℕ → StunTiming → PairRecord → Bool
-stays lite now t p = if lite then is_lite_alive now p else is_possible now t p
+stays lite now t p = if lite then is_lite_alive now t p else is_possible now t p
 
 abbrev pub is_given_up : Bool → ℕ → StunTiming → PairRecord → Bool
 is_given_up lite now t p = not (stays lite now t p)

@@ -20,6 +20,8 @@ pub record PairRecord : Type 0 where
   -- the priority when the pair was formed, or the one that was set since
   pub priority : ℕ
   pub checks : List Check
+  -- how many checks were sent, also those that it no longer stores
+  pub checks_sent : ℕ
   pub nomination : NominationState
   pub state : CheckState
   -- the checks from the peer: how many arrived, and when the last one did
@@ -39,6 +41,7 @@ new_pair number local remote priority = record {
   remote = remote;
   priority = priority;
   checks = [];
+  checks_sent = 0;
   nomination = Unnominated;
   state = Waiting;
   requests = 0;
@@ -107,6 +110,7 @@ check_of now controlling id p = record {
 abbrev pub once_sent : ℕ → PairRecord → PairRecord
 once_sent kept p = record p {
   checks = last_checks kept p.checks;
+  checks_sent = counted p.checks_sent;
   nomination = nomination_once_sent p.nomination;
   state = state_once_sent p.state;
   due = None;
@@ -136,6 +140,6 @@ TakesAnswer old now id new =
 abbrev pub is_recent : ℕ → ℕ → Bool
 is_recent now at = nat_lt (now - at) (15 * SECOND)
 
--- on an ICE-lite agent, a pair fails if a check from the peer arrived, but none in the last 15 s
-abbrev pub is_lite_alive : ℕ → PairRecord → Bool
-is_lite_alive now p = option_map_or (is_recent now) p.last_request true
+-- on an ICE-lite agent, a pair fails if a check from the peer arrived, but none within the timeout
+abbrev pub is_lite_alive : ℕ → StunTiming → PairRecord → Bool
+is_lite_alive now t p = option_map_or (λ at. nat_lt (now - at) t.lite_timeout.0) p.last_request true

@@ -36,6 +36,7 @@ pub struct CandidatePair {
     prio: u64,
     /// The pending transactions: the checks that were sent last, oldest first.
     binding_attempts: VecDeque<BindingAttempt>,
+    checks_sent: u64,
     nomination_state: NominationState,
     state: CheckState,
     remote_binding_requests: u64,
@@ -58,6 +59,7 @@ impl Model for CandidatePair {
       remote = p.remote_idx;
       priority = p.prio;
       checks = p.binding_attempts.items;
+      checks_sent = p.checks_sent;
       nomination = p.nomination_state;
       state = p.state;
       requests = p.remote_binding_requests;
@@ -88,6 +90,7 @@ impl CandidatePair {
             remote_idx,
             prio,
             binding_attempts: VecDeque::new(alloc),
+            checks_sent: 0,
             nomination_state: NominationState::default(),
             state: CheckState::default(),
             remote_binding_requests: 0,
@@ -189,6 +192,7 @@ impl CandidatePair {
             remote_idx: self.remote_idx,
             prio: self.prio,
             binding_attempts: self.binding_attempts.clone()?,
+            checks_sent: self.checks_sent,
             nomination_state: self.nomination_state,
             state: self.state,
             remote_binding_requests: self.remote_binding_requests,

@@ -10,13 +10,13 @@ use Rattle.is_rules.specs.Emitted.{nothing_emitted}
 use Rattle.is_rules.specs.Sound.{KeepsChecks}
 use Rattle.is_rules.specs.Agent.{AgentRecord}
 use Rattle.is_rules.specs.Forming.{Combination, FormsAll}
-use Rattle.is_rules.specs.Settings.{SetsMtu, with_rtos, with_retransmits}
+use Rattle.is_rules.specs.Settings.{SetsMtu, with_rtos, with_retransmits, with_lite_timeout}
 use Rattle.is_rules.specs.Credentials.{SetsLocal, SetsRemote}
 use Rattle.is_rules.specs.Discarding.{change_place, discarded, local_discarded, remote_discarded, place_to_discard, InvalidatesAt}
 use Rattle.is_rules.specs.Local.{enabled, enabled_again, appended, AddsLocal}
 use Rattle.is_rules.specs.Remote.{as_remote, with_remote, AddsRemote}
 use Rattle.is_rules.specs.Restarting.{with_ufrag, kept_local, restarted, emptied, Restarts, Recreates}
-use Rattle.is_rules.specs.Steps.{Call, SetMtu, SetControlTieBreaker, SetMaxCandidatePairs, SetMaxDiscovered, SetIceLite, SetTimingAdvance, SetInitialStunRto, SetMaxStunRto, SetMaxStunRetransmits, SetLocalPreference, SetControlling, SetLocalCredentials, SetRemoteCredentials, SkipPairIds, AddLocalCandidate, AddRemoteCandidate, InvalidateCandidate, RestartIce, RecreateCandidatePairs, ReceivePacket, HandleTimeout, PollTransmit, PollTimeout, PollEvent, Becomes, MayDo, Step}
+use Rattle.is_rules.specs.Steps.{Call, SetMtu, SetControlTieBreaker, SetMaxCandidatePairs, SetMaxDiscovered, SetIceLite, SetTimingAdvance, SetInitialStunRto, SetMaxStunRto, SetMaxStunRetransmits, SetLiteTimeout, SetLocalPreference, SetControlling, SetLocalCredentials, SetRemoteCredentials, SkipPairIds, AddLocalCandidate, AddRemoteCandidate, InvalidateCandidate, RestartIce, RecreateCandidatePairs, ReceivePacket, HandleTimeout, PollTransmit, PollTimeout, PollEvent, Becomes, MayDo, Step}
 use Rattle.is_rules.specs.Sound.{GivesBased}
 use Rattle.is_rules.proofs.RefusalLaws.{mtu_kept, local_kept, remote_kept, restart_kept, recreation_kept, enrolment_kept, storing_kept}
 use Rattle.is_rules.proofs.Enrolments.{by_adding_local, by_adding_remote, by_waking}
@@ -137,6 +137,7 @@ module _ {H P : Type 0} where
     calm (SetInitialStunRto rto) is h = becomes (SetInitialStunRto rto) (with_rtos rto old.timing.max_rto.0 old) (record { announced = refl; checks = λ k. k; based = λ _ b. b }) h
     calm (SetMaxStunRto rto) is h = becomes (SetMaxStunRto rto) (with_rtos old.timing.initial_rto.0 rto old) (record { announced = refl; checks = λ k. k; based = λ _ b. b }) h
     calm (SetMaxStunRetransmits n) is h = retransmits (n == 0) n refl h
+    calm (SetLiteTimeout by) is h = becomes (SetLiteTimeout by) (with_lite_timeout by old) (record { announced = refl; checks = λ k. k; based = λ _ b. b }) h
     calm (SetLocalPreference object) is h = becomes (SetLocalPreference object) _ (local_alike (Unit {0}) old _ refl refl refl) h
     calm (SetControlling controlling) is h = becomes (SetControlling controlling) _ (local_alike (Unit {0}) old _ refl refl refl) h
     calm (SetLocalCredentials creds) is h = done_or (SetLocalCredentials creds) (SetsLocal old creds)

@@ -23,7 +23,7 @@ use Rattle.is_rules.specs.Request.{RequestRecord}
 use Rattle.is_rules.specs.Rounds.{LoggedRound, entries_of, began_at, BringsSuccess, IsRound, RunsOn, IsControllingIn}
 use Rattle.is_rules.specs.Runs.{Run}
 use Rattle.is_rules.specs.Sending.{path_of}
-use Rattle.is_rules.specs.Steps.{Call, SetMtu, SetControlTieBreaker, SetMaxCandidatePairs, SetMaxDiscovered, SetIceLite, SetTimingAdvance, SetInitialStunRto, SetMaxStunRto, SetMaxStunRetransmits, SetLocalPreference, SetControlling, SetLocalCredentials, SetRemoteCredentials, SkipPairIds, AddLocalCandidate, AddRemoteCandidate, InvalidateCandidate, RestartIce, RecreateCandidatePairs, ReceivePacket, HandleTimeout, PollTransmit, PollTimeout, PollEvent, NotCalled, Entry, quiet, Becomes, Step}
+use Rattle.is_rules.specs.Steps.{Call, SetMtu, SetControlTieBreaker, SetMaxCandidatePairs, SetMaxDiscovered, SetIceLite, SetTimingAdvance, SetInitialStunRto, SetMaxStunRto, SetMaxStunRetransmits, SetLiteTimeout, SetLocalPreference, SetControlling, SetLocalCredentials, SetRemoteCredentials, SkipPairIds, AddLocalCandidate, AddRemoteCandidate, InvalidateCandidate, RestartIce, RecreateCandidatePairs, ReceivePacket, HandleTimeout, PollTransmit, PollTimeout, PollEvent, NotCalled, Entry, quiet, Becomes, Step}
 use Rattle.is_rules.specs.Settings.{with_retransmits}
 use Rattle.is_rules.specs.Timeouts.{timeout_begun, MaintainsPairs, ServesQueued, TimesOut}
 use Rattle.is_rules.proofs.LoggedRounds.{answered-rounds-announce}
@@ -199,6 +199,7 @@ module _ {H P : Type 0} (mac : H → List ℕ → List ℕ → List ℕ) (answer
         → MatchBool b ((e ≡ quiet NotCalled) × (new ≡ old) × (u ≡ u)) (Becomes (with_retransmits n old) u e new u)
     by true (is, made, drawn) = (is, made, refl)
     by false (is, made, drawn) = (is, made, refl)
+  anew (SetLiteTimeout by) e old new s t u (is, made, drawn) = (u, (is, made, refl))
   anew (SetLocalPreference object) e old new s t u (is, made, drawn) = (u, (is, made, refl))
   anew (SetControlling controlling) e old new s t u (is, made, drawn) = (u, (is, made, refl))
   anew (SetLocalCredentials creds) e old new s t u (r, is, does, drawn) = (u, (r, is, does, refl))

@@ -74,6 +74,7 @@ module _ {H P : Type 0} (mac : H → List ℕ → List ℕ → List ℕ) (provid
     last_moment = Some 0;
     pairs = record (new_pair 0 0 0 9151313343271665150) {
       checks = record { id = id; sent = 0; answered = None; nominated = false; controlling = true } ∷ [];
+      checks_sent = 1;
       state = InProgress;
     } ∷ [];
     packets = record {
@@ -96,6 +97,7 @@ module _ {H P : Type 0} (mac : H → List ℕ → List ℕ → List ℕ) (provid
     selected_pair = Some 0;
     pairs = record (new_pair 0 0 0 9151313343271665150) {
       checks = record { id = id; sent = 0; answered = Some (milliseconds 50); nominated = false; controlling = true } ∷ [];
+      checks_sent = 1;
       state = Succeeded;
       nomination = Nominated;
       answers = 1;

@@ -22,6 +22,8 @@ pub mod FrameLaws
 pub mod ReportLaws
 pub mod Rests
 pub mod Onward
+pub mod Removals
+pub mod Trickling
 pub mod Tells
 pub mod Moves
 pub mod Checks
@@ -35,8 +37,16 @@ pub mod TopLaws
 pub mod BringLaws
 pub mod Bags
 pub mod LogLaws
+pub mod PartPoints
+pub mod BoundLists
+pub mod BoundFrames
+pub mod BoundServing
+pub mod BoundLaws
 pub mod PointLaws
 pub mod EffectLaws
+pub mod Cells
+pub mod CellSteps
+pub mod CellLaws
 pub mod RoleLaws
 pub mod Wakes
 pub mod Thinning
@@ -68,5 +78,6 @@ pub mod Mild
 pub mod MildSteps
 pub mod Reaching
 pub mod ReachLaws
+pub mod BoundedReach
 pub mod ReachedCourses
 pub mod SamePath

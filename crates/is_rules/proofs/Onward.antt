@@ -41,7 +41,7 @@ rising-if : (b : Bool) (p : PairRecord) (ps qs : List PairRecord) → ((q : Pair
 rising-if true p ps qs among least rising = ((λ q has. least q (among q has)), rising)
 rising-if false p ps qs among least rising = rising
 
-rising-filter : (keep : PairRecord → Bool) (ps : List PairRecord) → AreRising ps → AreRising (filter keep ps)
+pub rising-filter : (keep : PairRecord → Bool) (ps : List PairRecord) → AreRising ps → AreRising (filter keep ps)
 rising-filter keep [] rising = tt
 rising-filter keep (p ∷ ps) rising = rising-if (keep p) p ps (filter keep ps) (λ q has. Has-filter keep ps q has) rising.0 (rising-filter keep ps rising.1)
 
@@ -49,7 +49,7 @@ pub choose : (b : Bool) {X R : Type 0} (P : X → Type 0) (x y : X) → P (if b 
 choose true P x y h f g = f h
 choose false P x y h f g = g h
 
-rising-push : (ps : List PairRecord) (x : PairRecord) → AreRising ps → ((p : PairRecord) → Has ps p → p.number < x.number) → AreRising (ps ++ x ∷ [])
+pub rising-push : (ps : List PairRecord) (x : PairRecord) → AreRising ps → ((p : PairRecord) → Has ps p → p.number < x.number) → AreRising (ps ++ x ∷ [])
 rising-push [] x rising below = ((λ q none. absurd none), tt)
 rising-push (p ∷ ps) x rising below = (
   (λ q has. elim (Has-push ps x q has) [

@@ -1,6 +1,6 @@
 -- Rounds in a log: a pair that is due is checked in one of them, or answered, before more checks of other pairs are
 -- sent than the bound allows.
-use Rattle.std.proofs.Common.{◌≡◌, ℕ, suc, ◌+◌, ◌*◌, ◌<◌, ◌≤◌, true, false, not, List, [], ◌∷◌, ◌++◌, length, map, nat_lt, Option, Some, None, is_some, unwrap_or, inl, inr, ◌⊎◌, refl, ap, sym, ◌∙◌, subst, arith, append_assoc}
+use Rattle.std.proofs.Common.{◌≡◌, ℕ, suc, ◌+◌, ◌*◌, ◌<◌, ◌≤◌, true, false, not, List, [], ◌∷◌, ◌++◌, length, map, nat_lt, Option, Some, None, Ok, Err, is_some, unwrap_or, inl, inr, ◌⊎◌, refl, ap, sym, ◌∙◌, subst, arith, append_assoc}
 use Rattle.std.specs.Prelude.{IsSomeAnd}
 use Rattle.std.proofs.lemmas.Bool.Decides.{nat_tests}
 use Rattle.rand_core.specs.Stream.{Stream}
@@ -13,19 +13,20 @@ use Rattle.is_pair.specs.Pairs.{PairRecord}
 use Rattle.is_stun.specs.declared.header.Class.TheVariants as class
 use Rattle.is_stun.specs.declared.timing.StunTiming.{StunTiming}
 use Rattle.is_rules.specs.Agent.{AgentRecord}
-use Rattle.is_rules.specs.Asked.{IsAnsweredOn, IsAnsweredIn}
+use Rattle.is_rules.specs.Asked.{IsAnsweredOn, IsAnsweredIn, MayEndIn}
+use Rattle.is_rules.specs.AskedCourses.{Ends}
 use Rattle.is_rules.specs.Brought.{Brings}
 use Rattle.is_rules.specs.declared.emitted.Path.{Path}
 use Rattle.is_rules.specs.Logs.{Logged}
 use Rattle.is_rules.specs.Polls.{PollsTimeout, WakesFrom, Wakes, is_waiting, is_idle}
 use Rattle.is_rules.specs.Progress.{IsChecking}
-use Rattle.is_rules.specs.Reached.{IsPassing, ChecksIn, PairsAreReached, AskedRoundsAnnounce}
-use Rattle.is_rules.specs.Rounds.{LoggedRound, entries_of, began_at, is_between, Part, RunsOn}
-use Rattle.is_rules.specs.Runs.{IsFresh, Run}
+use Rattle.is_rules.specs.Reached.{IsPassing, ChecksIn, is_in_round, IsEndedIn, PairsAreReached, AskedRoundsAnnounce}
+use Rattle.is_rules.specs.Rounds.{LoggedRound, entries_of, began_at, Part, RunsOn}
+use Rattle.is_rules.specs.Runs.{IsFresh, Run, IsTopPath}
 use Rattle.is_rules.specs.Sending.{path_of}
 use Rattle.is_rules.specs.Sound.{IsSound}
-use Rattle.is_rules.specs.Staying.{Stays}
-use Rattle.is_rules.specs.Steps.{Call, Entry, ReceivePacket, HandleTimeout, PollTransmit, PollTimeout, PollEvent, Done, Step}
+use Rattle.is_rules.specs.Staying.{MayEnd, Stays}
+use Rattle.is_rules.specs.Steps.{Call, SetMtu, SetControlTieBreaker, SetMaxCandidatePairs, SetMaxDiscovered, SetTimingAdvance, SetLocalPreference, SetControlling, SetLocalCredentials, AddLocalCandidate, AddRemoteCandidate, Entry, ReceivePacket, HandleTimeout, PollTransmit, PollTimeout, PollEvent, Done, Step}
 use Rattle.is_rules.specs.Timeouts.{timeout_begun}
 use Rattle.is_rules.specs.Emitted.{issued_as}
 use Rattle.is_rules.proofs.AskedLaws.{asked-are-announced}
@@ -41,9 +42,11 @@ use Rattle.is_rules.proofs.Reaching.{Ready, moment-goes}
 use Rattle.is_rules.proofs.Rising.{rising-each}
 use Rattle.is_rules.proofs.Serves.{Has-mapped}
 use Rattle.is_rules.proofs.Starving.{none-left, maintains_pairs-from, distinct-sound}
-use Rattle.is_rules.proofs.StayLaws.{pairs-stay}
+use Rattle.is_rules.proofs.RefusalLaws.{mtu_kept, local_kept, enrolment_kept, storing_kept}
+use Rattle.is_rules.proofs.StayLaws.{none-entered, pairs-stay}
 use Rattle.is_rules.proofs.Tells.{one_pair}
 use Rattle.is_rules.proofs.Thinning.{Base, stays-young}
+use Rattle.is_rules.proofs.Trickling.{local-goes, remote-goes}
 
 lt-is : (n m : ℕ) → n < m → nat_lt n m ≡ true
 lt-is n m h = grind (arith, nat_tests, h)
@@ -173,46 +176,65 @@ module _ {H P : Type 0} where
           counted-on : (x y i j : ℕ) → x + k + base ≤ total + i → y + i ≤ x + j → y + k + base ≤ total + j
           counted-on x y i j h l = omega (arith, h, l)
 
-    still : (call : Call P) (e : Entry) (old new : AgentRecord H P) (s t : Stream) (p : PairRecord) → IsSound old → is_between call ≡ true → Step mac answers old s call e new t → Has old.pairs p
-        → Stays old p new
-    still (ReceivePacket now via bytes) e old new s t p sound is step has = elim (pairs-stay mac answers old new s t (ReceivePacket now via bytes) e p sound tt step has) [ inl k ↦ k | inr ends ↦ absurd ends ]
-    still PollTransmit e old new s t p sound is step has = elim (pairs-stay mac answers old new s t PollTransmit e p sound tt step has) [ inl k ↦ k | inr ends ↦ absurd ends ]
-    still PollTimeout e old new s t p sound is step has = elim (pairs-stay mac answers old new s t PollTimeout e p sound tt step has) [ inl k ↦ k | inr ends ↦ absurd ends ]
-    still PollEvent e old new s t p sound is step has = elim (pairs-stay mac answers old new s t PollEvent e p sound tt step has) [ inl k ↦ k | inr ends ↦ absurd ends ]
-    still _ e old new s t p sound is step has = no-case is
-
     between-goes : (at : ℕ) → by < at → at < MAX → (x : Logged P) (call : Call P) → x.call ≡ call → (old new : AgentRecord H P) (s t : Stream) → is_some old.remote_creds ≡ true → old.last_moment ≡ Some at
-        → ((q : PairRecord) → Has old.pairs q → q.number ≡ n → path_of old q ≡ path) → is_between call ≡ true → Step mac answers old s call x.entry new t
-        → IsAnsweredOn x path ⊎ Goes n by old new
-    between-goes at behind early x (ReceivePacket now via bytes) called old new s t known last on is (h, drawn) =
-        elim (receives-goes n by mac answers now old new via path bytes x.entry known on h) [
+        → (p : PairRecord) → IsSound old → Has old.pairs p → p.number ≡ n → path_of old p ≡ path → is_in_round call ≡ true → Step mac answers old s call x.entry new t
+        → IsAnsweredOn x path ⊎ (MayEnd old call x.entry p ⊎ Goes n by old new)
+    between-goes at behind early x (ReceivePacket now via bytes) called old new s t known last p sound has number on is (h, drawn) =
+        elim (receives-goes n by mac answers now old new via path bytes x.entry known
+        (λ q there same. (let one : q ≡ p = one_pair old.pairs q p (rising-each old.pairs sound.rising) there has (same ∙ sym number) in ap (λ (y : PairRecord). path_of old y) one ∙ on)) h) [
           | inl (m, reads, flag, success, back) ↦ inl (now, via, m, subst (λ (c : Call P). Brings c x.entry now via m) (sym called) (refl, refl, reads, flag), success, back)
-          | inr k ↦ inr k
+          | inr k ↦ inr (inr k)
         ]
-    between-goes at behind early x PollTransmit called old new s t known last on is (given, emitted, (polled, made), drawn) = inr (goes-to n by old _ new (refl, onward-same n by old.pairs old.next_number) made)
-    between-goes at behind early x PollTimeout called old new s t known last on is (wake, emitted, woken, drawn) = inr (asks-goes n by at behind early old new wake last woken)
-    between-goes at behind early x PollEvent called old new s t known last on is (given, emitted, (polled, made), drawn) = inr (goes-to n by old _ new (refl, onward-same n by old.pairs old.next_number) made)
-    between-goes at behind early x _ called old new s t known last on is step = no-case is
+    between-goes at behind early x PollTransmit called old new s t known last p sound has number on is (given, emitted, (polled, made), drawn) = inr (inr (goes-to n by old _ new (refl, onward-same n by old.pairs old.next_number) made))
+    between-goes at behind early x PollTimeout called old new s t known last p sound has number on is (wake, emitted, woken, drawn) = inr (inr (asks-goes n by at behind early old new wake last woken))
+    between-goes at behind early x PollEvent called old new s t known last p sound has number on is (given, emitted, (polled, made), drawn) = inr (inr (goes-to n by old _ new (refl, onward-same n by old.pairs old.next_number) made))
+    between-goes at behind early x (AddLocalCandidate c) called old new s t known last p sound has number on is (Ok (Some place), told, h, drawn) = elim (local-goes n by answers old new c place p sound has number h) [
+      | inl ends ↦ inr (inl (ap (λ (e : Entry). e.answer) told, ends))
+      | inr k ↦ inr (inr k)
+    ]
+    between-goes at behind early x (AddLocalCandidate c) called old new s t known last p sound has number on is (Ok None, told, h, drawn) = inr (inr (goes-same n by old new (none-entered answers old new c h)))
+    between-goes at behind early x (AddLocalCandidate c) called old new s t known last p sound has number on is (Err error, told, h, drawn) = inr (inr (goes-same n by old new (enrolment_kept answers old new c error h)))
+    between-goes at behind early x (AddRemoteCandidate c) called old new s t known last p sound has number on is (Ok _, told, h, drawn) = elim (remote-goes n by old new c p sound has number h) [
+      | inl ends ↦ inr (inl (ap (λ (e : Entry). e.answer) told, ends))
+      | inr k ↦ inr (inr k)
+    ]
+    between-goes at behind early x (AddRemoteCandidate c) called old new s t known last p sound has number on is (Err error, told, h, drawn) = inr (inr (goes-same n by old new (storing_kept old new c error h)))
+    between-goes at behind early x (SetMtu target warn) called old new s t known last p sound has number on is (Ok _, told, h, drawn) = inr (inr (goes-to n by old _ new (refl, onward-same n by old.pairs old.next_number) h.1))
+    between-goes at behind early x (SetMtu target warn) called old new s t known last p sound has number on is (Err error, told, h, drawn) = inr (inr (goes-same n by old new (mtu_kept old new target warn error h)))
+    between-goes at behind early x (SetLocalCredentials creds) called old new s t known last p sound has number on is (Ok _, told, h, drawn) = inr (inr (goes-to n by old _ new (refl, onward-same n by old.pairs old.next_number) h.1))
+    between-goes at behind early x (SetLocalCredentials creds) called old new s t known last p sound has number on is (Err error, told, h, drawn) = inr (inr (goes-same n by old new (local_kept old new creds error h)))
+    between-goes at behind early x (SetControlTieBreaker tie) called old new s t known last p sound has number on is (told, made, drawn) = inr (inr (goes-to n by old _ new (refl, onward-same n by old.pairs old.next_number) made))
+    between-goes at behind early x (SetMaxCandidatePairs k) called old new s t known last p sound has number on is (told, made, drawn) = inr (inr (goes-to n by old _ new (refl, onward-same n by old.pairs old.next_number) made))
+    between-goes at behind early x (SetMaxDiscovered limit) called old new s t known last p sound has number on is (told, made, drawn) = inr (inr (goes-to n by old _ new (refl, onward-same n by old.pairs old.next_number) made))
+    between-goes at behind early x (SetTimingAdvance advance) called old new s t known last p sound has number on is (told, made, drawn) = inr (inr (goes-to n by old _ new (refl, onward-same n by old.pairs old.next_number) made))
+    between-goes at behind early x (SetLocalPreference object) called old new s t known last p sound has number on is (told, made, drawn) = inr (inr (goes-to n by old _ new (refl, onward-same n by old.pairs old.next_number) made))
+    between-goes at behind early x (SetControlling controlling) called old new s t known last p sound has number on is (told, made, drawn) = inr (inr (goes-to n by old _ new (refl, onward-same n by old.pairs old.next_number) made))
+    between-goes at behind early x _ called old new s t known last p sound has number on is step = no-case is
 
     module _ (first : AgentRecord H P) (s : Stream) (fresh : IsFresh first) where
       sound-at : (log : List (Logged P)) (a : AgentRecord H P) (t : Stream) → Run mac answers first s log a t → IsSound a
       sound-at log a t run = runs_sound mac answers (path_law mac answers) first a s t log fresh run
 
-      walk : (at k : ℕ) → by < at → at < MAX → (before : List (Logged P)) (start last : AgentRecord H P) (u t : Stream) (xs : List (Logged P)) → ((x : Logged P) → Has xs x → is_between x.call ≡ true)
-          → Run mac answers first s before start u → RunsOn mac answers before start u xs last t → Waits by n path total base at k start → IsAnsweredIn xs path ⊎ Waits by n path total base at k last
-      walk at k behind early before start last u t [] fits led (is, same) w = inr (subst (λ (a : AgentRecord H P). Waits by n path total base at k a) (sym is) w)
+      walk : (at k : ℕ) → by < at → at < MAX → (before : List (Logged P)) (start last : AgentRecord H P) (u t : Stream) (xs : List (Logged P)) → ((x : Logged P) → Has xs x → is_in_round x.call ≡ true)
+          → Run mac answers first s before start u → (run : RunsOn mac answers before start u xs last t) → Waits by n path total base at k start
+          → IsAnsweredIn xs path ⊎ (IsEndedIn mac answers before start u xs last t run path ⊎ Waits by n path total base at k last)
+      walk at k behind early before start last u t [] fits led (is, same) w = inr (inr (subst (λ (a : AgentRecord H P). Waits by n path total base at k a) (sym is) w))
       walk at k behind early before start last u t (x ∷ xs) fits led (mid, v, run, number, given, step) w =
           elim (walk at k behind early before start mid u v xs (λ y has. fits y (inr has)) led run w) [
             | inl answered ↦ inl (answered-later path x xs answered)
-            | inr m ↦
+            | inr (inl ended) ↦ inr (inl (inr ended))
+            | inr (inr m) ↦
                 (let here = run-on mac answers first start mid s u v before xs led run in
                 let sound = sound-at (xs ++ before) mid v here in
                 let sound_last = sound-at (x ∷ (xs ++ before)) last t (mid, v, here, number, given, step) in
-                elim (between-goes at behind early x x.call refl mid last v t m.checking.peer m.last
-                (λ q has is. (let one : q ≡ m.pair = one_pair mid.pairs q m.pair (rising-each mid.pairs sound.rising) has m.there (is ∙ sym m.number) in ap (λ (y : PairRecord). path_of mid y) one ∙ m.on))
-                (fits x (inl refl)) step) [
+                let ends-here : MayEnd mid x.call x.entry m.pair → Ends mid x.call x.entry path = λ ends. (m.pair, m.there, (ap (λ (w : Path). w.source) m.on, ap (λ (w : Path). w.destination) m.on), ends) in
+                elim (between-goes at behind early x x.call refl mid last v t m.checking.peer m.last m.pair sound m.there m.number m.on (fits x (inl refl)) step) [
                   | inl answered ↦ inl (x, inl refl, answered)
-                  | inr goes ↦ inr (waits-on at k mid last m sound_last goes (still x.call x.entry mid last v t m.pair sound (fits x (inl refl)) step m.there))
+                  | inr (inl ends) ↦ inr (inl (inl (fits x (inl refl), ends-here ends)))
+                  | inr (inr goes) ↦ elim (pairs-stay mac answers mid last v t x.call x.entry m.pair sound given step m.there) [
+                    | inl stays ↦ inr (inr (waits-on at k mid last m sound_last goes stays))
+                    | inr ends ↦ inr (inl (inl (fits x (inl refl), ends-here ends)))
+                  ]
                 ])
           ]
 
@@ -260,12 +282,23 @@ module _ {H P : Type 0} where
 
     -- ---- rounds
 
-    split-run : (before : List (Logged P)) (start last : AgentRecord H P) (u t : Stream) (xs older : List (Logged P)) → RunsOn mac answers before start u (xs ++ older) last t
+    abbrev split-run : (before : List (Logged P)) (start last : AgentRecord H P) (u t : Stream) (xs older : List (Logged P)) → RunsOn mac answers before start u (xs ++ older) last t
         → (mid : AgentRecord H P) × (v : Stream) × RunsOn mac answers before start u older mid v × RunsOn mac answers (older ++ before) mid v xs last t
     split-run before start last u t [] older run = (last, t, run, (refl, refl))
     split-run before start last u t (x ∷ xs) older (m, v, run, number, given, step) =
         let k = split-run before start m u v xs older run in
         (k.0, k.1, k.2, (m, v, k.3, number ∙ ap length (append_assoc xs older before), given, step))
+
+    -- what ends a pair in one of two parts of a segment ends it in the segment
+    split-ended : (before : List (Logged P)) (start last : AgentRecord H P) (u t : Stream) (xs older : List (Logged P)) → (run : RunsOn mac answers before start u (xs ++ older) last t)
+        → IsEndedIn mac answers (older ++ before) (split-run before start last u t xs older run).0 (split-run before start last u t xs older run).1 xs last t (split-run before start last u t xs older run).3 path
+        ⊎ IsEndedIn mac answers before start u older (split-run before start last u t xs older run).0 (split-run before start last u t xs older run).1 (split-run before start last u t xs older run).2 path
+        → IsEndedIn mac answers before start u (xs ++ older) last t run path
+    split-ended before start last u t [] older run (inl none) = absurd none
+    split-ended before start last u t [] older run (inr ended) = ended
+    split-ended before start last u t (x ∷ xs) older (m, v, run, number, given, step) (inl (inl here)) = inl here
+    split-ended before start last u t (x ∷ xs) older (m, v, run, number, given, step) (inl (inr ended)) = inr (split-ended before start m u v xs older run (inl ended))
+    split-ended before start last u t (x ∷ xs) older (m, v, run, number, given, step) (inr ended) = inr (split-ended before start m u v xs older run (inr ended))
 
     abbrev Reached : List (LoggedRound P) → Type 0
     Reached rounds = ChecksIn rounds path ⊎ IsAnsweredIn (entries_of rounds) path
@@ -298,11 +331,16 @@ module _ {H P : Type 0} where
       older-began r (x ∷ rs) is = inr is
 
       rounds-go : (rounds : List (LoggedRound P)) (last : AgentRecord H P) (t : Stream) → (rounds ≡ [] ⊎ began_at rounds ≡ Some at) → ((r : LoggedRound P) → Has rounds r → IsPassing by r)
-          → RunsOn mac answers before start u (entries_of rounds) last t → Reached rounds ⊎ WaitsBehind rounds last
-      rounds-go [] last t began are (is, same) = inr is
+          → (run : RunsOn mac answers before start u (entries_of rounds) last t)
+          → Reached rounds ⊎ (IsEndedIn mac answers before start u (entries_of rounds) last t run path ⊎ WaitsBehind rounds last)
+      rounds-go [] last t began are (is, same) = inr (inr is)
       rounds-go (r ∷ older) last t began are run =
           let h = split-run before start last u t r.behind (r.moment ∷ entries_of older) run in
-          on-halves (here-began began) h (rounds-go older h.2.0 h.2.1 (older-began r older (here-began began)) (λ x has. are x (inr has)) h.2.2) where
+          elim (on-halves (here-began began) h (rounds-go older h.2.0 h.2.1 (older-began r older (here-began began)) (λ x has. are x (inr has)) h.2.2)) [
+            | inl reached ↦ inl reached
+            | inr (inl ended) ↦ inr (inl (split-ended before start last u t r.behind (r.moment ∷ entries_of older) run ended))
+            | inr (inr waits) ↦ inr (inr waits)
+          ] where
             here-began : (r ∷ older ≡ [] ⊎ began_at (r ∷ older) ≡ Some at) → began_at (r ∷ older) ≡ Some at
             here-began (inl empty) = absurd (cc)
             here-began (inr is) = is
@@ -310,12 +348,15 @@ module _ {H P : Type 0} where
             on-halves : began_at (r ∷ older) ≡ Some at
                 → (h : (mid : AgentRecord H P) × (v : Stream) × RunsOn mac answers before start u (r.moment ∷ entries_of older) mid v
                 × RunsOn mac answers ((r.moment ∷ entries_of older) ++ before) mid v r.behind last t)
-                → Reached older ⊎ WaitsBehind older h.2.0
-                → Reached (r ∷ older) ⊎ Waits by n path total base r.now (length (r ∷ older)) last
+                → Reached older ⊎ (IsEndedIn mac answers before start u (entries_of older) h.2.0 h.2.1 h.2.2 path ⊎ WaitsBehind older h.2.0)
+                → Reached (r ∷ older)
+                ⊎ ((IsEndedIn mac answers ((r.moment ∷ entries_of older) ++ before) h.0 h.1 r.behind last t h.3 path ⊎ IsEndedIn mac answers before start u (r.moment ∷ entries_of older) h.0 h.1 h.2 path)
+                ⊎ Waits by n path total base r.now (length (r ∷ older)) last)
             on-halves began (mid, v, (old, z, run_older, number, given, step), back) so_far =
                 elim so_far [
                   | inl reached ↦ inl (reached-later r older reached)
-                  | inr w ↦
+                  | inr (inl ended) ↦ inr (inl (inr (inr ended)))
+                  | inr (inr w) ↦
                       (let passing = are r (inl refl) in
                       let led_old = run-on mac answers first start old s u z before (entries_of older) led run_older in
                       let led_mid = run-on mac answers first start mid s u v before (r.moment ∷ entries_of older) led (old, z, run_older, number, given, step) in
@@ -326,7 +367,8 @@ module _ {H P : Type 0} where
                         | inr still_waits ↦
                             elim (walk first s fresh r.now (length (r ∷ older)) (falls-late by r passing) (falls-early by r passing) ((r.moment ∷ entries_of older) ++ before) mid last v t r.behind passing.between led_mid back still_waits) [
                               | inl answered ↦ inl (inr (has-front path r.behind (r.moment ∷ entries_of older) answered))
-                              | inr waits ↦ inr waits
+                              | inr (inl ended) ↦ inr (inl (inl ended))
+                              | inr (inr waits) ↦ inr (inr waits)
                             ]
                       ])
                 ]
@@ -334,7 +376,7 @@ module _ {H P : Type 0} where
   module _ (mac : H → List ℕ → List ℕ → List ℕ) (answers : P → CandidateRecord → ℕ → ℕ → Type 0) where
     pub pairs-are-reached : PairsAreReached {H = H} {P = P} mac answers
     pairs-are-reached first s log fresh before start last rounds p by found f =
-        by-rounds rounds f.began (let enough = f.enough in omega (arith, enough))
+        by-rounds (IsEndedIn mac answers before start found.at (entries_of rounds) last found.behind found.run (path_of start p)) rounds f.began (let enough = f.enough in omega (arith, enough))
         (rounds-go mac answers by p.number (path_of start p) (leads p.number by start.pairs) start.next_number first s fresh before start found.at found.led f.at begin rounds last found.behind (inr f.began) f.passing found.run) where
           begin : (late : by < f.at) (early : f.at < MAX) → Stands by p.number (path_of start p) (leads p.number by start.pairs) start.next_number f.at 0 start
           begin late early = record {
@@ -354,19 +396,46 @@ module _ {H P : Type 0} where
           over : (x y m i j k : ℕ) → y + k + i ≤ x + j → x + 2 ≤ 2 * m → 2 * m + j ≤ k + 1 + i → ⊥
           over x y m i j k h l e = omega (arith, h, l, e)
 
-          by-rounds : (rs : List (LoggedRound P)) → began_at rs ≡ Some f.at → 2 * length start.pairs + last.next_number ≤ length rs + 1 + start.next_number
+          by-rounds : (Gone : Type 0) (rs : List (LoggedRound P)) → began_at rs ≡ Some f.at → 2 * length start.pairs + last.next_number ≤ length rs + 1 + start.next_number
               → Reached mac answers by p.number (path_of start p) (leads p.number by start.pairs) start.next_number rs
-              ⊎ WaitsBehind mac answers by p.number (path_of start p) (leads p.number by start.pairs) start.next_number first s fresh before start found.at found.led f.at begin rs last
-              → Reached mac answers by p.number (path_of start p) (leads p.number by start.pairs) start.next_number rs
-          by-rounds rs none enough (inl reached) = reached
-          by-rounds [] none enough (inr w) = absurd (cc)
-          by-rounds (r ∷ older) began enough (inr w) =
+              ⊎ (Gone ⊎ WaitsBehind mac answers by p.number (path_of start p) (leads p.number by start.pairs) start.next_number first s fresh before start found.at found.led f.at begin rs last)
+              → ChecksIn rs (path_of start p) ⊎ (IsAnsweredIn (entries_of rs) (path_of start p) ⊎ Gone)
+          by-rounds Gone rs none enough (inl (inl checks)) = inl checks
+          by-rounds Gone rs none enough (inl (inr answered)) = inr (inl answered)
+          by-rounds Gone rs none enough (inr (inl gone)) = inr (inr gone)
+          by-rounds Gone [] none enough (inr (inr w)) = absurd (cc)
+          by-rounds Gone (r ∷ older) began enough (inr (inr w)) =
               absurd (over (leads p.number by start.pairs) (leads p.number by last.pairs) (length start.pairs) start.next_number last.next_number (length (r ∷ older)) w.count
               (leads-others by start.pairs p f.line.there) enough)
 
+    -- what may end the pair is an entry of the log
+    ended-may : (first : AgentRecord H P) (s : Stream) (log part before : List (Logged P)) (start : AgentRecord H P) (u : Stream) (path : Path) → Run mac answers first s before start u
+        → (over xs : List (Logged P)) (last : AgentRecord H P) (t : Stream) → log ≡ over ++ (xs ++ before) → ((x : Logged P) → Has xs x → Has part x)
+        → (run : RunsOn mac answers before start u xs last t) → IsEndedIn mac answers before start u xs last t run path → MayEndIn mac answers first s log part path
+    ended-may first s log part before start u path led over [] last t split within run none = absurd none
+    ended-may first s log part before start u path led over (x ∷ xs) last t split within (mid, v, run, number, given, step) (inr ended) =
+        ended-may first s log part before start u path led (over ++ x ∷ []) xs mid v (split ∙ sym (append_assoc over (x ∷ []) (xs ++ before))) (λ y has. within y (inr has)) run ended
+    ended-may first s log part before start u path led over (x ∷ xs) last t split within (mid, v, run, number, given, step) (inl (called, (q, has, joins, ends))) = (
+      xs ++ before,
+      mid,
+      last,
+      x,
+      q,
+      record { rest = over; split = split; at = v; led = run-on mac answers first start mid s u v before xs led run; number = number; given = given; behind = t; step = step },
+      within x (inl refl),
+      has,
+      joins,
+      ends,
+    )
+
     pub asked-rounds-announce : AskedRoundsAnnounce {H = H} {P = P} mac answers
     asked-rounds-announce first s log fresh before start last rounds moment now p by found f met asks comes done none alone =
-        asked-are-announced mac answers first s log fresh before (entries_of rounds) start last moment now (path_of start p) found comes done none asks answered alone where
+        elim (pairs-are-reached first s log fresh before start found.run.0 rounds p by part f) [
+          | inl (r, id, has, out) ↦ announced (in-entries (path_of start p) rounds r has (met r has id out))
+          | inr (inl is) ↦ announced is
+          | inr (inr ended) ↦
+              inr (ended-may first s log (moment ∷ entries_of rounds) before start found.at (path_of start p) found.led part.rest (entries_of rounds) found.run.0 found.run.1 part.split (λ x has. inr has) found.run.2 ended)
+        ] where
           part : Part mac answers first s log before start (entries_of rounds) found.run.0
           part = record {
             rest = found.rest ++ moment ∷ [];
@@ -377,8 +446,5 @@ module _ {H P : Type 0} where
             run = found.run.2;
           }
 
-          answered : IsAnsweredIn (entries_of rounds) (path_of start p)
-          answered = elim (pairs-are-reached first s log fresh before start found.run.0 rounds p by part f) [
-            | inl (r, id, has, out) ↦ in-entries (path_of start p) rounds r has (met r has id out)
-            | inr is ↦ is
-          ]
+          announced : IsAnsweredIn (entries_of rounds) (path_of start p) → IsTopPath mac answers (moment ∷ (entries_of rounds ++ before)) last ⊎ MayEndIn mac answers first s log (moment ∷ entries_of rounds) (path_of start p)
+          announced answered = asked-are-announced mac answers first s log fresh before (entries_of rounds) start last moment now (path_of start p) found comes done none asks answered alone

@@ -5,6 +5,7 @@ use Rattle.rand_core.specs.Stream.{Stream}
 use Rattle.is_proto.specs.Lists.{Has}
 use Rattle.is_candidate.specs.Addresses.{same_address, same_protocol}
 use Rattle.is_candidate.specs.Candidates.{CandidateRecord}
+use Rattle.is_pair.specs.Pairs.{PairRecord}
 use Rattle.is_stun.specs.declared.header.Class.{Class}
 use Rattle.is_stun.specs.declared.header.Class.TheVariants as class
 use Rattle.is_rules.specs.declared.emitted.Issued.{Issued}
@@ -16,11 +17,12 @@ use Rattle.is_rules.specs.Emitted.{issued_as}
 use Rattle.is_rules.specs.Exchange.{Course}
 use Rattle.is_rules.specs.Logs.{Logged}
 use Rattle.is_rules.specs.Pending.{is_request, is_same_path, is_check_on}
-use Rattle.is_rules.specs.Reached.{IsPassing, ChecksIn}
+use Rattle.is_rules.specs.Reached.{is_in_round, IsPassing, ChecksIn, IsEndedIn}
 use Rattle.is_rules.specs.ReachedCourses.{IsPassed, ChecksAmong, IsAnsweredAmong, PassRounds, CoursesReach, CoursesCheck}
-use Rattle.is_rules.specs.Rounds.{LoggedRound, entries_of, RunsOn}
+use Rattle.is_rules.specs.Rounds.{LoggedRound, entries_of, is_between, RunsOn}
 use Rattle.is_rules.specs.Sending.{path_of}
-use Rattle.is_rules.specs.Steps.{Call, Entry, HandleTimeout}
+use Rattle.is_rules.specs.Staying.{MayEnd}
+use Rattle.is_rules.specs.Steps.{Call, SetMtu, SetControlTieBreaker, SetMaxCandidatePairs, SetMaxDiscovered, SetTimingAdvance, SetLocalPreference, SetControlling, SetLocalCredentials, AddLocalCandidate, AddRemoteCandidate, ReceivePacket, HandleTimeout, PollTransmit, PollTimeout, PollEvent, Entry}
 use Rattle.is_rules.proofs.Addresses.{both, same_address-sound, same_protocol-sound}
 use Rattle.is_rules.proofs.Coursing.{entry_of, part_of, pushed, part_is, round_of, rounds_of, begun, as_many, either_has, anew, leads_on, courses-announce}
 use Rattle.is_rules.proofs.LogParts.{no-case}
@@ -50,25 +52,54 @@ is-sent path issued h =
 module _ {P : Type 0} where
   -- ---- rounds of a per-agent execution, as those of a log
 
+  -- a packet or a poll may come between two `handle_timeout` calls
+  between_in : (c : Call P) → is_between c ≡ true → is_in_round c ≡ true
+  between_in (SetMtu target warn) is = refl
+  between_in (SetControlTieBreaker tie_breaker) is = refl
+  between_in (SetMaxCandidatePairs n) is = refl
+  between_in (SetMaxDiscovered limit) is = refl
+  between_in (SetTimingAdvance by) is = refl
+  between_in (SetLocalPreference object) is = refl
+  between_in (SetControlling controlling) is = refl
+  between_in (SetLocalCredentials creds) is = refl
+  between_in (AddLocalCandidate c) is = refl
+  between_in (AddRemoteCandidate c) is = refl
+  between_in _ is = is
+
+  -- a `handle_timeout` call, and then only packets and polls
+  abbrev IsPlain : LoggedRound P → Type 0
+  IsPlain r = (r.moment.call ≡ HandleTimeout r.now) × ((x : Logged P) → Has r.behind x → is_between x.call ≡ true)
+
+  is_plain : (by : ℕ) (before : List (Logged P)) (r : CourseRound P) → IsPassed by r → IsPlain (round_of before r)
+  is_plain by before r round = (refl, λ x has. round.between (x.call, x.entry) (part_is (entry_of before (HandleTimeout r.now) r.moment ∷ before) r.behind x has))
+
   is_passing : (by : ℕ) (before : List (Logged P)) (r : CourseRound P) → IsPassed by r → IsPassing by (round_of before r)
   is_passing by before r round = record {
     comes = refl;
     done = round.done;
     late = round.late;
     early = round.early;
-    between = λ x has. round.between (x.call, x.entry) (part_is (entry_of before (HandleTimeout r.now) r.moment ∷ before) r.behind x has);
+    between = λ x has. between_in x.call ((is_plain by before r round).1 x has);
   }
 
-  are_passing : (by : ℕ) (before : List (Logged P)) (older : List (LoggedRound P)) (rounds : List (CourseRound P)) → ((r : LoggedRound P) → Has older r → IsPassing by r)
-      → ((r : CourseRound P) → Has rounds r → IsPassed by r) → (r : LoggedRound P) → Has (rounds_of before older rounds) r → IsPassing by r
-  are_passing by before older [] were are r has = were r has
-  are_passing by before older (x ∷ later) were are r has =
-      are_passing by before (round_of (entries_of older ++ before) x ∷ older) later
+  are_all : (Q : LoggedRound P → Type 0) (before : List (Logged P)) (older : List (LoggedRound P)) (rounds : List (CourseRound P)) → ((r : LoggedRound P) → Has older r → Q r)
+      → ((front : List (Logged P)) (r : CourseRound P) → Has rounds r → Q (round_of front r)) → (r : LoggedRound P) → Has (rounds_of before older rounds) r → Q r
+  are_all Q before older [] were are r has = were r has
+  are_all Q before older (x ∷ later) were are r has =
+      are_all Q before (round_of (entries_of older ++ before) x ∷ older) later
       (λ y there. elim there [
-        | inl is ↦ subst (λ (z : LoggedRound P). IsPassing by z) is (is_passing by (entries_of older ++ before) x (are x (inl refl)))
+        | inl is ↦ subst (λ (z : LoggedRound P). Q z) is (are (entries_of older ++ before) x (inl refl))
         | inr k ↦ were y k
       ])
-      (λ y there. are y (inr there)) r has
+      (λ front y there. are front y (inr there)) r has
+
+  entries_plain : (rounds : List (LoggedRound P)) → ((r : LoggedRound P) → Has rounds r → IsPlain r) → (x : Logged P) → Has (entries_of rounds) x → (is_in_round x.call ≡ false) ⊎ (is_between x.call ≡ true)
+  entries_plain [] are x has = absurd has
+  entries_plain (r ∷ older) are x has = elim (either_has r.behind (r.moment ∷ entries_of older) x has) [
+    | inl behind ↦ inr ((are r (inl refl)).1 x behind)
+    | inr (inl is) ↦ inl (ap (λ (y : Logged P). is_in_round y.call) (sym is) ∙ ap (λ (c : Call P). is_in_round c) (are r (inl refl)).0)
+    | inr (inr was) ↦ entries_plain older (λ y there. are y (inr there)) x was
+  ]
 
   checks_later : (x : CourseRound P) (rounds : List (CourseRound P)) (path : Path) → ChecksAmong rounds path → ChecksAmong (x ∷ rounds) path
   checks_later x rounds path (r, id, has, out) = (r, id, inr has, out)
@@ -103,6 +134,24 @@ module _ {P : Type 0} where
       ]
 
 module _ {H P : Type 0} (mac : H → List ℕ → List ℕ → List ℕ) (answers : P → CandidateRecord → ℕ → ℕ → Type 0) where
+  -- ---- packets and polls remove no pair
+
+  plain_stays : (old : AgentRecord H P) (c : Call P) (e : Entry) (p : PairRecord) → is_between c ≡ true → MayEnd old c e p → ⊥
+  plain_stays old (ReceivePacket now via bytes) e p is ends = ends
+  plain_stays old PollTransmit e p is ends = ends
+  plain_stays old PollTimeout e p is ends = ends
+  plain_stays old PollEvent e p is ends = ends
+  plain_stays old _ e p is ends = no-case is
+
+  none_ended : (before : List (Logged P)) (start last : AgentRecord H P) (s t : Stream) (part : List (Logged P)) (path : Path) → ((x : Logged P) → Has part x → (is_in_round x.call ≡ false) ⊎ (is_between x.call ≡ true))
+      → (run : RunsOn mac answers before start s part last t) → IsEndedIn mac answers before start s part last t run path → ⊥
+  none_ended before start last s t [] path each run none = none
+  none_ended before start last s t (x ∷ part) path each (mid, u, run, number, given, step) (inr ended) = none_ended before start mid s u part path (λ y has. each y (inr has)) run ended
+  none_ended before start last s t (x ∷ part) path each (mid, u, run, number, given, step) (inl (called, (q, has, joins, ends))) = elim (each x (inl refl)) [
+    | inl never ↦ no-case (sym never ∙ called)
+    | inr is ↦ plain_stays mid x.call x.entry q is ends
+  ]
+
   -- ---- segments of an execution, from the end backwards
 
   abbrev Runs : List (Logged P) → AgentRecord H P → List (Logged P) → AgentRecord H P → Type 0
@@ -157,17 +206,20 @@ module _ {H P : Type 0} (mac : H → List ℕ → List ℕ → List ℕ) (answer
         at = r.now;
         began = begun before (round_of ([] ++ before) r) [] rounds;
         line = line;
-        passing = are_passing by before [] (r ∷ rounds) (λ x none. absurd none) are;
+        passing = are_all (λ x. IsPassing by x) before [] (r ∷ rounds) (λ x none. absurd none) (λ front x has. is_passing by front x (are x has));
         enough = omega (arith, many, enough);
       })) [
         | inl checks ↦ elim (checks_among before [] (r ∷ rounds) (path_of start p) checks) [
           | inl k ↦ inl k
           | inr none ↦ absurd none.2
         ]
-        | inr answered ↦ elim (answered_among before [] (r ∷ rounds) (path_of start p) answered) [
+        | inr (inl answered) ↦ elim (answered_among before [] (r ∷ rounds) (path_of start p) answered) [
           | inl k ↦ inr k
           | inr none ↦ absurd none.1
         ]
+        | inr (inr ended) ↦
+            absurd (none_ended before start last ran.0 any (entries_of all) (path_of start p)
+            (entries_plain all (are_all (λ x. IsPlain x) before [] (r ∷ rounds) (λ x none. absurd none) (λ front x has. is_plain by front x (are x has)))) ran.1 ended)
       ]
 
   -- ---- a smaller bound for a controlling agent

@@ -13,7 +13,7 @@ use Rattle.is_rules.specs.Settings.{SetsMtu, with_retransmits}
 use Rattle.is_rules.specs.Credentials.{SetsLocal, SetsRemote}
 use Rattle.is_rules.specs.Remote.{as_remote, is_ignored, JoinsRemote, AddsRemote}
 use Rattle.is_rules.specs.Restarting.{Restarts, Recreates}
-use Rattle.is_rules.specs.Steps.{Call, SetMtu, SetControlTieBreaker, SetMaxCandidatePairs, SetMaxDiscovered, SetIceLite, SetTimingAdvance, SetInitialStunRto, SetMaxStunRto, SetMaxStunRetransmits, SetLocalPreference, SetControlling, SetLocalCredentials, SetRemoteCredentials, SkipPairIds, AddLocalCandidate, AddRemoteCandidate, InvalidateCandidate, RestartIce, RecreateCandidatePairs, ReceivePacket, HandleTimeout, PollTransmit, PollTimeout, PollEvent, Becomes, MayDo, Receives, Step}
+use Rattle.is_rules.specs.Steps.{Call, SetMtu, SetControlTieBreaker, SetMaxCandidatePairs, SetMaxDiscovered, SetIceLite, SetTimingAdvance, SetInitialStunRto, SetMaxStunRto, SetMaxStunRetransmits, SetLiteTimeout, SetLocalPreference, SetControlling, SetLocalCredentials, SetRemoteCredentials, SkipPairIds, AddLocalCandidate, AddRemoteCandidate, InvalidateCandidate, RestartIce, RecreateCandidatePairs, ReceivePacket, HandleTimeout, PollTransmit, PollTimeout, PollEvent, Becomes, MayDo, Receives, Step}
 use Rattle.is_rules.specs.Sound.{FreshIsSound}
 use Rattle.is_rules.specs.Effects.{RefusalKeeps}
 use Rattle.is_candidate.specs.Candidates.{candidate_at}
@@ -142,6 +142,7 @@ module _ {H P : Type 0} where
     kept (SetInitialStunRto rto) h r = silent Done h.0 refl r
     kept (SetMaxStunRto rto) h r = silent Done h.0 refl r
     kept (SetMaxStunRetransmits n) h r = retransmits (n == 0) n h r
+    kept (SetLiteTimeout by) h r = silent Done h.0 refl r
     kept (SetLocalPreference object) h r = silent Done h.0 refl r
     kept (SetControlling controlling) h r = silent Done h.0 refl r
     kept (SetLocalCredentials creds) h r = does (SetsLocal old creds) (local_kept old new creds) h r

@@ -25,7 +25,7 @@ use Rattle.is_rules.specs.Sending.{path_of}
 use Rattle.is_rules.specs.Settings.{with_rtos}
 use Rattle.is_rules.specs.Sound.{IsSound}
 use Rattle.is_rules.specs.Staying.{Stays, IsOfDiscarded, MayEnd, PairsStay, EndsIn, PairsStayOn}
-use Rattle.is_rules.specs.Steps.{Call, SetMtu, SetControlTieBreaker, SetMaxCandidatePairs, SetMaxDiscovered, SetIceLite, SetTimingAdvance, SetInitialStunRto, SetMaxStunRto, SetMaxStunRetransmits, SetLocalPreference, SetControlling, SetLocalCredentials, SetRemoteCredentials, SkipPairIds, AddLocalCandidate, AddRemoteCandidate, InvalidateCandidate, RestartIce, RecreateCandidatePairs, ReceivePacket, HandleTimeout, PollTransmit, PollTimeout, PollEvent, Done, Flag, Entry, Receives, Step}
+use Rattle.is_rules.specs.Steps.{Call, SetMtu, SetControlTieBreaker, SetMaxCandidatePairs, SetMaxDiscovered, SetIceLite, SetTimingAdvance, SetInitialStunRto, SetMaxStunRto, SetMaxStunRetransmits, SetLiteTimeout, SetLocalPreference, SetControlling, SetLocalCredentials, SetRemoteCredentials, SkipPairIds, AddLocalCandidate, AddRemoteCandidate, InvalidateCandidate, RestartIce, RecreateCandidatePairs, ReceivePacket, HandleTimeout, PollTransmit, PollTimeout, PollEvent, Done, Flag, Entry, Receives, Step}
 use Rattle.is_rules.specs.Timeouts.{timeout_begun, is_given_up, MaintainsPairs, ServesQueued}
 use Rattle.is_rules.proofs.EffectLaws.{path_law}
 use Rattle.is_rules.proofs.Enrolments.{by_waking}
@@ -33,6 +33,7 @@ use Rattle.is_rules.proofs.Frames.{either}
 use Rattle.is_rules.proofs.LogLaws.{runs_sound}
 use Rattle.is_rules.proofs.LogParts.{run-on}
 use Rattle.is_rules.proofs.RefusalLaws.{mtu_kept, local_kept, remote_kept, restart_kept, recreation_kept, enrolment_kept, storing_kept}
+use Rattle.is_rules.proofs.Removals.{local-leaves, remote-leaves}
 use Rattle.is_rules.proofs.Rising.{below-each, rising-each}
 use Rattle.is_rules.proofs.Stays.{Stands, Keeps, Keep, keeps-map, keep-same, keep-as, by-class, keep-serves, maintains_pairs-leaves}
 use Rattle.is_rules.proofs.Tells.{one_pair}
@@ -52,7 +53,7 @@ is-refused (Err e) error is wrong = absurd (cc)
 module _ {H P : Type 0} where
   -- ---- a candidate is not added, or is
 
-  none-entered : (answers : P → CandidateRecord → ℕ → ℕ → Type 0) (old new : AgentRecord H P) (c : CandidateRecord) → AddsLocal answers old c (Ok None) new → new ≡ old
+  pub none-entered : (answers : P → CandidateRecord → ℕ → ℕ → Type 0) (old new : AgentRecord H P) (c : CandidateRecord) → AddsLocal answers old c (Ok None) new → new ≡ old
   none-entered answers old new c h = either (is_too_high c) h
       (λ _ k. is-refused (Ok None) _ refl k.0)
       (λ _ k. either (is_unwanted old c) k
@@ -89,7 +90,7 @@ module _ {H P : Type 0} where
     discards None None found l_is r_is h = inl (keep-same old new h.1 p.number (p, has, refl))
 
   module _ (mac : H → List ℕ → List ℕ → List ℕ) (answers : P → CandidateRecord → ℕ → ℕ → Type 0) where
-    module _ (old new : AgentRecord H P) (s t : Stream) (e : Entry) (p : PairRecord) (has : Has old.pairs p) where
+    module _ (old new : AgentRecord H P) (s t : Stream) (e : Entry) (p : PairRecord) (sound : IsSound old) (has : Has old.pairs p) where
       -- ---- each call
 
       kept : Keep old new → Stands p.number new.pairs
@@ -133,6 +134,7 @@ module _ {H P : Type 0} where
       lasts (SetMaxStunRetransmits n) h = either (n == 0) h
           (λ _ k. inl (as-it-was k.1))
           (λ _ k. inl (becomes _ (λ n x. x) k.1))
+      lasts (SetLiteTimeout by) (is, made, drawn) = inl (becomes _ (λ n x. x) made)
       lasts (SetLocalPreference object) (is, made, drawn) = inl (becomes _ (λ n x. x) made)
       lasts (SetControlling controlling) (is, made, drawn) = inl (becomes _ (λ n x. x) made)
       lasts (SetLocalCredentials creds) (Ok _, is, h, drawn) = inl (becomes _ (λ n x. x) h.1)
@@ -140,10 +142,16 @@ module _ {H P : Type 0} where
       lasts (SetRemoteCredentials creds) (Ok _, is, h, drawn) = inl (becomes _ (λ n x. x) h.1)
       lasts (SetRemoteCredentials creds) (Err error, is, h, drawn) = inl (as-it-was (remote_kept old new creds error h))
       lasts (SkipPairIds n) (is, made, drawn) = inl (becomes _ (λ n x. x) made)
-      lasts (AddLocalCandidate c) (Ok (Some place), is, h, drawn) = inr (ap (λ (x : Entry). x.answer) is)
+      lasts (AddLocalCandidate c) (Ok (Some place), is, h, drawn) = elim (local-leaves answers old new c place p sound has h) [
+        | inl there ↦ inl (p, there, refl)
+        | inr ends ↦ inr (ap (λ (x : Entry). x.answer) is, ends)
+      ]
       lasts (AddLocalCandidate c) (Ok None, is, h, drawn) = inl (as-it-was (none-entered answers old new c h))
       lasts (AddLocalCandidate c) (Err error, is, h, drawn) = inl (as-it-was (enrolment_kept answers old new c error h))
-      lasts (AddRemoteCandidate c) (Ok _, is, h, drawn) = inr (ap (λ (x : Entry). x.answer) is)
+      lasts (AddRemoteCandidate c) (Ok _, is, h, drawn) = elim (remote-leaves old new c p sound has h) [
+        | inl there ↦ inl (p, there, refl)
+        | inr ends ↦ inr (ap (λ (x : Entry). x.answer) is, ends)
+      ]
       lasts (AddRemoteCandidate c) (Err error, is, h, drawn) = inl (as-it-was (storing_kept old new c error h))
       lasts (InvalidateCandidate c) (found, is, h, drawn) =
           elim (discards old new c p has (place_to_discard c old.local) (place_to_discard c old.remote) found refl refl h) [
@@ -185,7 +193,7 @@ module _ {H P : Type 0} where
     ]
 
     pub pairs-stay : PairsStay {H = H} {P = P} mac answers
-    pairs-stay old new s t call e p sound given step has = elim (lasts old new s t e p has call step) [
+    pairs-stay old new s t call e p sound given step has = elim (lasts old new s t e p sound has call step) [
       | inl stands ↦ inl (continued old new call e p sound (path_law mac answers old new s t call e sound given step).0 has stands)
       | inr ends ↦ inr ends
     ]

@@ -1,7 +1,7 @@
 -- The abstract state of an agent (RFC 8445): what contracts say of it.
 use Rattle.std.specs.Prelude.{◌≡◌, ℕ, ◌*◌, Bool, true, false, List, [], Option, None, Result, Ok, Err}
 use Rattle.is_proto.specs.Packets.{Packet}
-use Rattle.is_proto.specs.Moments.{MILLISECOND}
+use Rattle.is_proto.specs.Moments.{MILLISECOND, SECOND}
 use Rattle.is_stun.specs.declared.timing.StunTiming.{StunTiming}
 use Rattle.is_proto.specs.declared.error.IceError.{IceError}
 use Rattle.is_proto.specs.declared.error.IceError.TheVariants.{CredentialsTooLong}
@@ -63,9 +63,14 @@ no_stats = record {
   nomination_send_count = 0;
 }
 
--- an initial RTO of 250 ms, at most 9 retransmits, and an RTO of at most 3 s
+-- an initial RTO of 250 ms, at most 9 retransmits, an RTO of at most 3 s, and 15 s if ICE-lite
 abbrev pub default_timing : StunTiming
-default_timing = record { initial_rto = record { 0 = 250 * MILLISECOND }; max_retransmits = 9; max_rto = record { 0 = 3000 * MILLISECOND } }
+default_timing = record {
+  initial_rto = record { 0 = 250 * MILLISECOND };
+  max_retransmits = 9;
+  max_rto = record { 0 = 3000 * MILLISECOND };
+  lite_timeout = record { 0 = 15 * SECOND };
+}
 
 module _ {H P : Type 0} where
   -- the initial state of a newly created agent

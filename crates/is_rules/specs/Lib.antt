@@ -41,6 +41,7 @@ pub mod Points
 pub mod Effects
 pub mod Logs
 pub mod Runs
+pub mod Bounds
 pub mod Standing
 pub mod RoleView
 pub mod Progress
@@ -51,9 +52,11 @@ pub mod Conflicts
 pub mod Courses
 pub mod Asking
 pub mod AskedCourses
+pub mod Removing
 pub mod Staying
 pub mod Asked
 pub mod Reached
+pub mod BoundedRounds
 pub mod ReachedCourses
 pub mod Pending
 pub mod Carried

@@ -24,6 +24,10 @@ module _ {H P : Type 0} where
   abbrev pub with_retransmits : ℕ → AgentRecord H P → AgentRecord H P
   with_retransmits n a = record a { timing = record a.timing { max_retransmits = n } }
 
+  -- `set_lite_timeout`: how long an ICE-lite agent keeps a pair without a check from the peer
+  abbrev pub with_lite_timeout : ℕ → AgentRecord H P → AgentRecord H P
+  with_lite_timeout by a = record a { timing = record a.timing { lite_timeout = record { 0 = by } } }
+
   -- `skip_pair_ids`: the next number only increases, so no number is used twice.
   abbrev pub numbers_skipped : ℕ → AgentRecord H P → AgentRecord H P
   numbers_skipped n a = record a { next_number = max a.next_number n }

@@ -9,6 +9,7 @@ use Rattle.is_rules.specs.declared.emitted.Path.{Path}
 use Rattle.is_rules.specs.Discarding.{place_to_discard}
 use Rattle.is_rules.specs.Logs.{Logged}
 use Rattle.is_rules.specs.Queue.{request_at}
+use Rattle.is_rules.specs.Removing.{MayEndByLocal, MayEndByRemote}
 use Rattle.is_rules.specs.Rounds.{Part}
 use Rattle.is_rules.specs.Runs.{IsFresh, Point}
 use Rattle.is_rules.specs.Sending.{path_of}
@@ -31,11 +32,11 @@ module _ {H P : Type 0} where
   IsOfDiscarded old c p =
       (place_to_discard c old.local ≡ Some p.local) ⊎ ((place_to_discard c old.local ≡ None) × (place_to_discard c old.remote ≡ Some p.remote))
 
-  -- The transition may remove the pair: pairs of an added candidate are formed, which may replace or evict it; its candidate is
-  -- discarded; the pairs are cleared; or its checks were not answered in time (RFC 7675).
+  -- The transition may remove the pair: a pair of an added candidate replaces or evicts it; its candidate is discarded; the pairs
+  -- are cleared; or its checks were not answered in time (RFC 7675).
   abbrev pub MayEnd : AgentRecord H P → Call P → Entry → PairRecord → Type 0
-  MayEnd old (AddLocalCandidate c) e p = e.answer ≡ Added
-  MayEnd old (AddRemoteCandidate c) e p = e.answer ≡ Done
+  MayEnd old (AddLocalCandidate c) e p = (e.answer ≡ Added) × MayEndByLocal old c p
+  MayEnd old (AddRemoteCandidate c) e p = (e.answer ≡ Done) × MayEndByRemote old c p
   MayEnd old (InvalidateCandidate c) e p = (e.answer ≡ Flag true) × IsOfDiscarded old c p
   MayEnd old (RestartIce creds keep) e p = e.answer ≡ Done
   MayEnd old RecreateCandidatePairs e p = e.answer ≡ Done

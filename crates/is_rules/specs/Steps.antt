@@ -14,7 +14,7 @@ use Rattle.is_rules.specs.declared.emitted.Path.{Path}
 use Rattle.is_rules.specs.declared.emitted.Emitted.{Emitted}
 use Rattle.is_rules.specs.Emitted.{nothing_emitted}
 use Rattle.is_rules.specs.Agent.{AgentRecord}
-use Rattle.is_rules.specs.Settings.{SetsMtu, with_rtos, with_retransmits, numbers_skipped}
+use Rattle.is_rules.specs.Settings.{SetsMtu, with_rtos, with_retransmits, with_lite_timeout, numbers_skipped}
 use Rattle.is_rules.specs.Credentials.{SetsLocal, SetsRemote}
 use Rattle.is_rules.specs.Discarding.{Invalidates}
 use Rattle.is_rules.specs.Local.{AddsLocal}
@@ -37,6 +37,7 @@ pub data Call (P : Type 0) : Type 0 where
   SetInitialStunRto : ℕ → Call P
   SetMaxStunRto : ℕ → Call P
   SetMaxStunRetransmits : ℕ → Call P
+  SetLiteTimeout : ℕ → Call P
   SetLocalPreference : P → Call P
   SetControlling : Bool → Call P
   SetLocalCredentials : IceCreds → Call P
@@ -143,6 +144,7 @@ module _ {H P : Type 0} (mac : H → List ℕ → List ℕ → List ℕ) (answer
   Step old s (SetInitialStunRto rto) e new t = Becomes (with_rtos rto old.timing.max_rto.0 old) s e new t
   Step old s (SetMaxStunRto rto) e new t = Becomes (with_rtos old.timing.initial_rto.0 rto old) s e new t
   Step old s (SetMaxStunRetransmits n) e new t = SetsRetransmits n old s e new t
+  Step old s (SetLiteTimeout by) e new t = Becomes (with_lite_timeout by old) s e new t
   Step old s (SetLocalPreference object) e new t = Becomes (record old { preference = Some object }) s e new t
   Step old s (SetControlling controlling) e new t = Becomes (record old { controlling = controlling }) s e new t
   Step old s (SetLocalCredentials creds) e new t = MayDo (SetsLocal old creds) s e new t

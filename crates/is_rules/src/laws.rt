@@ -4,6 +4,8 @@
 ghost use Rattle.is_rules.specs.Sound.{FreshIsSound};
 ghost use Rattle.is_rules.specs.Effects.{PathLaw, TradeLaw, RefusalKeeps};
 ghost use Rattle.is_rules.specs.Runs.{EntriesArePoints, RunsAreSound, AnnouncedAreAnswered, AnnouncedAreAskedFor, PointsAreTop, TakersAreValid, AskedAreNominated, RepliesAreAmong, UnacceptedChangeNothing};
+ghost use Rattle.is_rules.specs.Bounds.{LimitsBound, LimitsPairs};
+ghost use Rattle.is_rules.specs.BoundedRounds.{LimitsReach};
 ghost use Rattle.is_rules.specs.Reporting.{QueuesLaw};
 ghost use Rattle.is_rules.specs.RoleView.{FreshIsNew, RoleLaw};
 ghost use Rattle.is_rules.specs.Progress.{AnsweredAnnounce, AnswersAnnounce, MomentsAnnounce, NoPairStarves, WakesAhead, WakesAreOfUse, WakesInTime};
@@ -51,6 +53,17 @@ pub fn trade_effect<H: Sha1HmacProvider, P: LocalPreference>()
 /// An execution from a newly created agent ends in a state that satisfies the invariant.
 pub fn runs_are_sound<H: Sha1HmacProvider, P: LocalPreference>()
     ensures { RunsAreSound H.mac P.answers }
+{}
+
+/// If a limit on what requests bring is set whenever a packet or a timeout comes, the list of remote candidates is never longer
+/// than the limit and the candidates that the caller added, and that of remembered sources is never longer than the limit.
+pub fn limits_bound<H: Sha1HmacProvider, P: LocalPreference>()
+    ensures { LimitsBound H.mac P.answers }
+{}
+
+/// There are never more pairs than the limit on pairs, and one for each local and each remote candidate.
+pub fn limits_pairs<H: Sha1HmacProvider, P: LocalPreference>()
+    ensures { LimitsPairs H.mac P.answers }
 {}
 
 /// Each entry of an execution's log is between two states, so what holds at each entry says something of each.
@@ -255,11 +268,20 @@ pub fn asked_are_announced<H: Sha1HmacProvider, P: LocalPreference>()
 {}
 
 /// From a newly created agent: one of n pairs is due. Then a check is sent on its path in one of 2n - 1 rounds, and one more for
-/// each pair that is added in them, unless a success response is received on the path in one of them. This holds in either role,
+/// each pair that is added in them, unless a success response is received on the path in one of them, or a candidate that is added in
+/// them may remove a pair of the path. Any candidates may be added in the rounds. This holds in either role,
 /// whatever the agent receives and nominates.
 pub fn pairs_are_reached<H: Sha1HmacProvider, P: LocalPreference>()
     ensures { PairsAreReached H.mac P.answers }
 {}
+
+/// With limits on pairs and on what requests bring, n pairs at most: a check is sent on the path of a pair that is due in one of
+/// 2n - 1 rounds, and one more for each pair that is added in them, whatever the agent receives and received before.
+pub fn limits_reach<H: Sha1HmacProvider, P: LocalPreference>()
+    ensures { LimitsReach H.mac P.answers }
+{
+    pairs_are_reached::<H, P>();
+}
 
 /// The same of an agent that shares its random source.
 pub fn courses_reach<H: Sha1HmacProvider, P: LocalPreference>()

@@ -1,6 +1,6 @@
 //! Accessors: the method, the class and the attributes of a message.
 
-ghost use Rattle.std.specs.Prelude.{◌≡◌, ◌↔◌, IsTrue};
+ghost use Rattle.std.specs.Prelude.{◌≡◌, ◌↔◌, IsTrue, is_some};
 ghost use Rattle.std.specs.Option.{option_copied, option_map};
 ghost use Rattle.is_stun.specs.declared.header.Class.TheVariants as classes;
 ghost use Rattle.is_stun.specs.declared.header.Method.TheVariants as methods;
@@ -215,5 +215,20 @@ impl<'a> StunMessage<'a> {
         ensures { option_copied result ≡ (message_view self.now).attributes.software }
     {
         self.attrs.software
+    }
+
+    /// FINGERPRINT (RFC 8489, section 14.7), which is read and not compared.
+    pub fn fingerprint(&self) -> Option<u32>
+        ensures { result ≡ (message_view self.now).attributes.fingerprint }
+    {
+        self.attrs.fingerprint
+    }
+
+    /// Whether the message was parsed and has MESSAGE-INTEGRITY (RFC 8489, section 14.5). `verify` says whether it is
+    /// the one of a password.
+    pub fn has_integrity(&self) -> bool
+        ensures { result ≡ is_some (message_view self.now).integrity }
+    {
+        self.integrity.is_some()
     }
 }

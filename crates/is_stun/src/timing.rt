@@ -2,7 +2,7 @@
 //! 8489, section 6.2.1).
 
 ghost use Rattle.std.specs.Prelude.{◌≡◌, ◌*◌, ◌^◌, ◌/◌, ◌-◌, ◌<◌, ◌≤◌, ℕ, min};
-ghost use Rattle.is_proto.specs.Moments.{MILLISECOND};
+ghost use Rattle.is_proto.specs.Moments.{MILLISECOND, SECOND};
 ghost use Rattle.is_stun.specs.Timing.{resend_delay, last_resend_delay, timeout_of};
 
 use is_proto::Duration;
@@ -10,8 +10,8 @@ use is_proto::Duration;
 /// How many checks are sent without a response, as in libwebrtc.
 pub const DEFAULT_MAX_RETRANSMITS: usize = 9;
 
-/// The retransmission timeouts (RTO) of checks, and how many checks may go without a response before a path fails. A
-/// pair requires at least one retransmit.
+/// The retransmission timeouts (RTO) of checks, how many checks may go without a response before a path fails, and how
+/// long an ICE-lite agent, which sends no checks, waits for those of its peer. A pair requires at least one retransmit.
 #[derive(Debug, Drop)]
 pub struct StunTiming {
     /// The delay after the first check; it doubles with each further check. Only whole milliseconds count.
@@ -20,17 +20,21 @@ pub struct StunTiming {
     pub max_retransmits: usize,
     /// The longest delay. Only whole milliseconds count.
     pub max_rto: Duration,
+    /// How long an ICE-lite agent keeps a pair after the peer's last check on it. Each nanosecond counts. With zero, no check
+    /// keeps a pair.
+    pub lite_timeout: Duration,
 }
 
-/// An initial RTO of 250 ms, 9 retransmits, and a longest RTO of 3 s.
+/// An initial RTO of 250 ms, 9 retransmits, a longest RTO of 3 s, and 15 s for an ICE-lite agent.
 impl Default for StunTiming {
-    ghost is_default = { λ t. t ≡ record { initial_rto = record { 0 = 250 * MILLISECOND }; max_retransmits = 9; max_rto = record { 0 = 3000 * MILLISECOND } } };
+    ghost is_default = { λ t. t ≡ record { initial_rto = record { 0 = 250 * MILLISECOND }; max_retransmits = 9; max_rto = record { 0 = 3000 * MILLISECOND }; lite_timeout = record { 0 = 15 * SECOND } } };
 
     fn default() -> StunTiming {
         StunTiming {
             initial_rto: Duration(250_000_000),
             max_retransmits: DEFAULT_MAX_RETRANSMITS,
             max_rto: Duration(3_000_000_000),
+            lite_timeout: Duration(15_000_000_000),
         }
     }
 }
@@ -98,6 +102,13 @@ impl StunTiming {
         ensures { result ≡ self.now.max_rto }
     {
         self.max_rto
+    }
+
+    /// Returns how long an ICE-lite agent keeps a pair after the peer's last check on it.
+    pub fn lite_timeout(&self) -> Duration
+        ensures { result ≡ self.now.lite_timeout }
+    {
+        self.lite_timeout
     }
 }
 

@@ -108,6 +108,12 @@ impl Player {
         true
     }
 
+    /// As a lite agent, keeps a pair for so many milliseconds without a check of the peer.
+    pub(super) fn keeps_if_lite(&mut self, ms: u64) -> bool {
+        self.agent.set_lite_timeout(Duration::from_millis(ms));
+        true
+    }
+
     /// Gives no pair a number below this one.
     pub(super) fn skips_to(&mut self, number: u64) -> bool {
         self.agent.skip_pair_ids(number);

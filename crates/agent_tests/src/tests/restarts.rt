@@ -16,6 +16,8 @@ impl Subject for Restarts {
         a_check_that_succeeded_is_seen(player)?;
         a_lite_agent_has_its_path_at_once(player)?;
         a_lite_agent_waits_15_seconds_for_its_peer(player)?;
+        a_cut_of_20_seconds_is_outlived_by_a_timeout_of_30(player)?;
+        a_lite_agent_without_patience_keeps_no_path(player)?;
         a_lite_pair_that_replaces_lives_on_the_requests_of_the_other(player)
     }
 }
@@ -132,6 +134,39 @@ fn a_lite_agent_waits_15_seconds_for_its_peer(player: &mut Player) -> Told {
         player.timeout(15000) && player.tells(b"x") && player.sends_nothing(),
         !is_viable(player),
         player.agent.state().is_disconnected(),
+    ])
+}
+
+/// The same cut ends the path with the default.
+fn a_cut_of_20_seconds_is_outlived_by_a_timeout_of_30(player: &mut Player) -> Told {
+    Story("a_cut_of_20_seconds_is_outlived_by_a_timeout_of_30").holds(&[
+        set_up_lite(player) && player.keeps_if_lite(30000),
+        player.checks(0) && player.timeout(50) && player.tells(b"DRcNC"),
+        player.timeout(18000) && player.emits_nothing(),
+        player.receive_request(20000, at(1, 1000)),
+        player.timeout(49999) && is_viable(player),
+        player.agent.state().is_connected(),
+        player.timeout(50000) && player.tells(b"x"),
+        !is_viable(player),
+        set_up_lite(player) && player.checks(0) && player.timeout(50),
+        player.timeout(18000) && !is_viable(player),
+        player.agent.state().is_disconnected(),
+    ])
+}
+
+/// With a timeout of 0, the next `handle_timeout` call after a check removes the pair. A new pair counts as checked at its
+/// first `handle_timeout` call.
+fn a_lite_agent_without_patience_keeps_no_path(player: &mut Player) -> Told {
+    Story("a_lite_agent_without_patience_keeps_no_path").holds(&[
+        player.set_up_credentials() && player.becomes_lite(),
+        player.keeps_if_lite(0) && player.hears(PEER),
+        player.timeout(0) && player.pair_with(PEER).is_some(),
+        player.receive_request(50, at(1, 1000)) && is_viable(player),
+        player.timeout(50) && player.pair_with(PEER).is_none(),
+        !is_viable(player),
+        player.hears(PEER) && player.timeout(100),
+        player.pair_with(PEER).is_some(),
+        player.timeout(150) && player.pair_with(PEER).is_none(),
     ])
 }
 

@@ -25,7 +25,7 @@ impl PairTest for GivenUp<'_> {
 
     fn passes(&self, pair: &CandidatePair) -> bool {
         if self.lite {
-            !pair.is_ice_lite_alive(self.now)
+            !pair.is_ice_lite_alive(self.now, self.timing)
         } else {
             !pair.is_still_possible(self.now, self.timing)
         }

@@ -77,6 +77,7 @@ impl CandidatePair {
         ensures { self.new ≡ once_sent timing_config.now.max_retransmits self.old }
     {
         attempts::keep_last(&mut self.binding_attempts, timing_config.max_retransmits);
+        self.checks_sent = self.checks_sent.saturating_add(1);
         self.nomination_state = self.nomination_state.once_sent();
         self.state = self.state.once_sent();
         self.cached_next_attempt_time = None;

@@ -6,6 +6,7 @@ ghost use Rattle.is_pair.specs.Pairs.{with_request, is_lite_alive, is_recent, va
 use super::CandidatePair;
 use super::states::CheckState;
 use is_proto::{Duration, Instant};
+use is_stun::stun::StunTiming;
 
 impl CandidatePair {
     /// Counts a check from the peer that arrived at `now`.
@@ -25,23 +26,23 @@ impl CandidatePair {
     }
 
     /// Whether the peer of an ICE-lite agent, which sends no checks, is still active: no check from the peer arrived
-    /// yet, or the last one arrived less than 15 s ago.
-    pub fn is_ice_lite_alive(&self, now: Instant) -> bool
-        ensures { result ≡ is_lite_alive now.0 self.now }
+    /// yet, or the last one arrived less than `lite_timeout` ago. With a timeout of zero, the first check ends the pair.
+    pub fn is_ice_lite_alive(&self, now: Instant, timing_config: &StunTiming) -> bool
+        ensures { result ≡ is_lite_alive now.0 timing_config.now self.now }
     {
         match self.remote_binding_request_time {
-            Some(at) => is_recent(now, at),
+            Some(at) => now - at < timing_config.lite_timeout(),
             None => true,
         }
     }
 }
 
-/// Whether a check from the peer that arrived at `at` is recent enough to keep its pair.
+/// Whether a check from the peer that arrived at `at` is recent enough for a full agent to keep its pair.
 pub(crate) fn is_recent(now: Instant, at: Instant) -> bool
     ensures { result ≡ is_recent now.0 at.0 }
 {
     now - at < RECENT_BINDING_REQUEST
 }
 
-/// How long a check from the peer is enough to keep its pair.
+/// How long a check from the peer is enough for a full agent to keep its pair.
 const RECENT_BINDING_REQUEST: Duration = Duration(15_000_000_000);

@@ -1,4 +1,4 @@
-//! Statistics of the responses.
+//! Statistics of the checks and their responses.
 
 ghost use Rattle.std.specs.Prelude.{◌≡◌, option_map};
 ghost use Rattle.is_pair.specs.Checks.{last_round_trip};
@@ -12,6 +12,21 @@ impl CandidatePair {
         ensures { option_map (λ took. took.0) result ≡ last_round_trip self.now.checks }
     {
         attempts::last_answered(&self.binding_attempts).and_then(|attempt| attempt.round_trip())
+    }
+
+    /// Returns how many checks were sent, also those that the pair no longer stores.
+    pub fn checks_sent(&self) -> u64
+        ensures { result ≡ self.now.checks_sent }
+    {
+        self.checks_sent
+    }
+
+    /// Returns how many checks of the peer arrived. On an ICE-lite agent, a pair that replaces another one begins with the
+    /// other's number, and a pair without any counts one at the next `handle_timeout`.
+    pub fn remote_binding_requests(&self) -> u64
+        ensures { result ≡ self.now.requests }
+    {
+        self.remote_binding_requests
     }
 
     /// Returns how many responses arrived, including repeated ones.

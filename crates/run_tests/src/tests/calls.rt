@@ -42,6 +42,7 @@ fn settings(alloc: Global) -> Option<Vec<Call>> {
             AgentCall::SetTimingAdvance(Duration(50_000_000)),
             AgentCall::SetInitialStunRto(Duration(250_000_000)),
             AgentCall::SetMaxStunRto(Duration(3_000_000_000)),
+            AgentCall::SetLiteTimeout(Duration(30_000_000_000)),
             AgentCall::SetMaxStunRetransmits(0),
             AgentCall::SetMaxStunRetransmits(9),
             AgentCall::SetControlling(true),
@@ -53,9 +54,10 @@ fn settings(alloc: Global) -> Option<Vec<Call>> {
 }
 
 /// A call that fails has its log entry as any other, and the run continues.
-const SETTINGS_ANSWERS: [Answer; 13] = [
+const SETTINGS_ANSWERS: [Answer; 14] = [
     Answer::Done,
     Answer::Refused(IceError::MtuTooSmall),
+    Answer::Done,
     Answer::Done,
     Answer::Done,
     Answer::Done,

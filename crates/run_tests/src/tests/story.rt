@@ -33,6 +33,14 @@ impl Story {
         }
         Ok(())
     }
+
+    /// This sentence does not hold.
+    pub(super) fn fails(self, sentence: usize) -> Told {
+        Err(Missed {
+            story: self.0,
+            sentence,
+        })
+    }
 }
 
 /// The stories of one subject.

@@ -5,6 +5,7 @@ mod granted;
 mod meet;
 mod mirror;
 mod premises;
+mod progress;
 mod repeats;
 mod roles;
 mod rounds;

@@ -45,5 +45,11 @@ returns-clause-issues g c = others_issue_none _ _ _ _ _
 pub returns-clause-replies : goal.returns-clause-replies
 returns-clause-replies g c = λ fresh. c.replies_are_among.ensures _ _ _ _ _ fresh (run_of _ _ _ _ _ _ c.args.calls.items c.run_calls.result c.run_calls.ensures)
 
+pub returns-clause-bounded : goal.returns-clause-bounded
+returns-clause-bounded g c = c.limits_bound.ensures _ _ _
+
+pub returns-clause-few : goal.returns-clause-few
+returns-clause-few g c = c.limits_pairs.ensures _ _ _
+
 pub returns-clause-order : goal.returns-clause-order
 returns-clause-order g c = queues_are_kept _ _ c.queues_are_kept.ensures _ _ _

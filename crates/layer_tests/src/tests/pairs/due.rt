@@ -3,6 +3,7 @@
 use super::{Path, at, host_pair};
 use is_pair::reset_next_binding_attempt;
 use is_proto::{Duration, Instant};
+use is_stun::stun::StunTiming;
 use std::test::Fail;
 
 #[test]
@@ -71,8 +72,40 @@ fn the_end_of_time_is_not_passed(rt: HostRuntime) -> Result<(), Fail> {
 #[test]
 fn an_ice_lite_pair_lives_on_the_checks_of_the_peer(rt: HostRuntime) {
     let mut pair = host_pair(rt.alloc(), 1);
-    assert!(rt; pair.is_ice_lite_alive(at(60000)));
+    let timing = StunTiming::default();
+    assert!(rt; pair.is_ice_lite_alive(at(60000), &timing));
     pair.increase_remote_binding_requests(at(60000));
-    assert!(rt; pair.is_ice_lite_alive(at(74999)));
-    assert!(rt; !pair.is_ice_lite_alive(at(75000)));
+    assert!(rt; pair.is_ice_lite_alive(at(74999), &timing));
+    assert!(rt; !pair.is_ice_lite_alive(at(75000), &timing));
+}
+
+/// An agent's timing, with another timeout of ICE-lite in milliseconds.
+fn lite_timing(millis: u64) -> StunTiming {
+    StunTiming {
+        lite_timeout: Duration::from_millis(millis),
+        ..StunTiming::default()
+    }
+}
+
+#[test]
+fn an_ice_lite_pair_lives_as_long_as_is_set(rt: HostRuntime) {
+    let mut pair = host_pair(rt.alloc(), 1);
+    assert!(rt; pair.is_ice_lite_alive(at(60000), &lite_timing(0)));
+    pair.increase_remote_binding_requests(at(60000));
+    assert!(rt; pair.is_ice_lite_alive(at(89999), &lite_timing(30000)));
+    assert!(rt; !pair.is_ice_lite_alive(at(90000), &lite_timing(30000)));
+    assert!(rt; !pair.is_ice_lite_alive(at(61000), &lite_timing(1000)));
+    assert!(rt; !pair.is_ice_lite_alive(at(60000), &lite_timing(0)));
+}
+
+/// The timeout of ICE-lite is not that of a full agent.
+#[test]
+fn a_full_pair_lives_15_seconds_on_a_check_of_the_peer(rt: HostRuntime) -> Result<(), Fail> {
+    let mut path = Path::impatient(rt.alloc());
+    path.timing.lite_timeout = Duration::from_millis(30000);
+    path.check(at(0))?;
+    path.pair.increase_remote_binding_requests(at(0));
+    assert!(rt; path.is_possible(at(14999)));
+    assert!(rt; !path.is_possible(at(15000)));
+    Ok(())
 }

@@ -18,6 +18,7 @@ fn by_default_the_delay_doubles_up_to_three_seconds(rt: HostRuntime) {
     assert!(rt; timing.timeout() == millis(21500));
     assert!(rt; timing.max_retransmits() == 9);
     assert!(rt; timing.max_rto() == millis(3000));
+    assert!(rt; timing.lite_timeout() == millis(15000));
 }
 
 /// The functions return at once; a sum with one term for each retransmission would not finish.

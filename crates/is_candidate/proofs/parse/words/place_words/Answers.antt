@@ -1,27 +1,30 @@
-use Rattle.std.proofs.Common.{ℕ, ◌<◌, length, take, List, [], ◌∷◌, ◌++◌, sym, ap, ◌∙◌, subst, arith}
+use Rattle.std.proofs.Common.{ℕ, ◌≡◌, ◌<◌, length, take, List, [], ◌∷◌, ◌++◌, sym, ap, ◌∙◌, subst, arith}
+use Rattle.std.proofs.lemmas.Bool.Decides.{nat_tests}
 use Rattle.std.proofs.lemmas.List.{take_more_set, length-set}
-use Rattle.std.specs.Str.Iter.{split_whitespace_rest}
 use Rattle.is_candidate.specs.Scanned.{texts}
 use Rattle.is_candidate.specs.Words.{HasWords}
+use Rattle.is_candidate.proofs.SpacedWords.{no_word}
 use Rattle.is_candidate.proofs.Texts.{texts-push, texts-end}
 use Rattle.is_candidate.proofs.parse.words.place_words.Goals as goal
 
-pub loop-word-preserved : goal.loop-word-preserved
-loop-word-preserved c =
-    let l = c.loop-word in
-    let w = c.in-Some.word in
-    let within : l.count < length l.room = omega (arith, l.invariant.0, l.invariant.1, c.if-count-eq-MANY_WORDS.false) in
+pub loop-rest-preserved : goal.loop-rest-preserved
+loop-rest-preserved c =
+    let l = c.loop-rest in
+    let w = c.in_ok-word.word in
+    let within : l.count < length l.room = omega (arith, l.invariant.1, l.invariant.2, c.if-count-eq-MANY_WORDS.false) in
     let P : List (List ℕ) → Type 0 = HasWords c.args.text.now in (
-      omega (arith, l.invariant.0, c.if-count-eq-MANY_WORDS.false),
-      length-set l.room l.count w ∙ l.invariant.1,
+      c.in_ok-word.ensures.1,
+      omega (arith, l.invariant.1, c.if-count-eq-MANY_WORDS.false),
+      length-set l.room l.count w ∙ l.invariant.2,
       λ ws h.
-          let s = c.in-Some.ensures.steps in
-          let all = l.invariant.2 (w.now ∷ ws) (s.0, split_whitespace_rest c.next.new.self, s.1, s.3, (s.2, s.4), s.5, h) in
+          let s = c.in_ok-word.ensures.0 in
+          let all = l.invariant.3 (w.now ∷ ws) (s.0, c.in_ok-word.after.now, s.1, s.2, s.3, s.4, h) in
           subst P (texts-push (take l.count l.room) w ws ∙ ap (λ xs. texts xs ++ ws) (sym (take_more_set l.room l.count w within))) all,
     )
 
 pub returns : goal.returns
 returns c =
-    let l = c.loop-word in
+    let l = c.loop-rest in
     let P : List (List ℕ) → Type 0 = HasWords c.args.text.now in
-    (omega (arith, l.invariant.0, l.invariant.1), subst P (texts-end (take l.count l.room)) (l.invariant.2 [] c.in-None.ensures.steps.1))
+    let none : length l.rest.now ≡ 0 = grind (arith, nat_tests, c.is_empty.ensures, c.loop-rest-test.false) in
+    (omega (arith, l.invariant.1, l.invariant.2), subst P (texts-end (take l.count l.room)) (l.invariant.3 [] (no_word l.rest.now none)))

@@ -1,0 +1,118 @@
+/* Tests candidates as texts and as JSON, without an agent: the lines of RFC 8839 and RFC 6544, and what browsers signal. */
+#include "is_ice.h"
+#include <stdio.h>
+#include <stdlib.h>
+#include <string.h>
+
+#define HOLD(fact) hold(__LINE__, #fact, fact)
+#define TEXT(text) (const uint8_t *)text, strlen(text)
+
+/* The example of RTCIceCandidate in MDN, and its line with an extension of RFC 8839, section 5.1. */
+static const char line[] = "candidate:4234997325 1 udp 2043278322 192.0.2.172 44323 typ host";
+static const char named[] = "candidate:4234997325 1 udp 2043278322 192.0.2.172 44323 typ host ufrag EsAw";
+/* RTCIceCandidateInit as browsers document it, in two orders and spacings; not captured from one. */
+static const char compact[] =
+    "{\"candidate\":\"candidate:4234997325 1 udp 2043278322 192.0.2.172 44323 typ host\",\"sdpMid\":\"0\",\"sdpMLineIndex\":0,"
+    "\"usernameFragment\":\"EsAw\"}";
+static const char spaced[] =
+    "{ \"candidate\": \"candidate:4234997325 1 UDP 2043278322 192.0.2.172 44323 typ host\", \"sdpMLineIndex\": 0, \"sdpMid\": \"0\","
+    " \"usernameFragment\": \"EsAw\" }";
+static const char without[] =
+    "{\"candidate\":\"candidate:4234997325 1 udp 2043278322 192.0.2.172 44323 typ host\",\"sdpMLineIndex\":0,\"sdpMid\":null,"
+    "\"usernameFragment\":null}";
+/* The end of candidates: an empty candidate. */
+static const char ended[] = "{\"candidate\":\"\",\"sdpMid\":\"0\",\"sdpMLineIndex\":0,\"usernameFragment\":\"EsAw\"}";
+
+static uint8_t buffer[256];
+static size_t length;
+
+static void hold(int at, const char *fact, bool holds)
+{
+    if (holds) return;
+    printf("line %d: %s\n", at, fact);
+    exit(1);
+}
+
+static bool holds_text(const char *text)
+{
+    return length == strlen(text) && memcmp(buffer, text, length) == 0;
+}
+
+static void json(void)
+{
+    HOLD(is_ice_line_to_json(TEXT(line), buffer, sizeof buffer, &length) == IS_ICE_OK && holds_text(without));
+    HOLD(is_ice_line_to_json(TEXT(line), buffer, length - 1, &length) == IS_ICE_BUFFER_TOO_SHORT && holds_text(without));
+    HOLD(is_ice_line_from_json(TEXT(without), buffer, sizeof buffer, &length) == IS_ICE_OK && holds_text(line));
+    HOLD(is_ice_line_from_json(TEXT(compact), buffer, sizeof buffer, &length) == IS_ICE_OK && holds_text(named));
+    HOLD(is_ice_line_from_json(TEXT(spaced), buffer, sizeof buffer, &length) == IS_ICE_OK && holds_text(named));
+    HOLD(is_ice_line_to_json(TEXT(named), buffer, sizeof buffer, &length) == IS_ICE_OK);
+    HOLD(is_ice_line_to_json(TEXT("\xff"), buffer, sizeof buffer, &length) == IS_ICE_NOT_UTF8);
+    HOLD(is_ice_line_to_json(TEXT(""), buffer, sizeof buffer, &length) == IS_ICE_BAD_CANDIDATE);
+}
+
+static void refusals(void)
+{
+    HOLD(is_ice_line_from_json(TEXT(ended), buffer, sizeof buffer, &length) == IS_ICE_BAD_CANDIDATE);
+    HOLD(is_ice_json_refusal(TEXT(ended), buffer, sizeof buffer, &length) == IS_ICE_OK);
+    HOLD(is_ice_json_refusal(TEXT("[]"), buffer, sizeof buffer, &length) == IS_ICE_OK);
+    HOLD(holds_text("candidate info is not an object"));
+    HOLD(is_ice_json_refusal(TEXT("{"), buffer, 3, &length) == IS_ICE_BUFFER_TOO_SHORT && length == 26);
+    HOLD(is_ice_json_refusal(TEXT(compact), buffer, sizeof buffer, &length) == IS_ICE_NOTHING);
+    HOLD(is_ice_json_refusal(TEXT("\xff"), buffer, sizeof buffer, &length) == IS_ICE_NOT_UTF8);
+}
+
+static void lines(void)
+{
+    /* RFC 8445, section 5.1.2.1: 126 * 2^24 + 65534 * 2^8 + 255 over UDP. */
+    static const is_ice_candidate host = {{4, {10, 0, 0, 1}, 1000, 0, 0}, {4, {10, 0, 0, 1}, 1000, 0, 0}, IS_ICE_HOST, IS_ICE_UDP, 0};
+    static const char rest[] = " 1 udp 2130706175 10.0.0.1 1000 typ host";
+    is_ice_candidate other = host;
+    HOLD(is_ice_candidate_line(&host, buffer, sizeof buffer, &length) == IS_ICE_OK && length > sizeof rest);
+    HOLD(memcmp(buffer + length + 1 - sizeof rest, rest, sizeof rest - 1) == 0);
+    other.tcptype = IS_ICE_TCP_ACTIVE;
+    HOLD(is_ice_candidate_line(&other, buffer, sizeof buffer, &length) == IS_ICE_BAD_ADDRESS);
+    other.protocol = IS_ICE_TCP;
+    HOLD(is_ice_candidate_line(&other, buffer, sizeof buffer, &length) == IS_ICE_OK);
+    HOLD(memcmp(buffer + length - 24, " typ host tcptype active", 24) == 0);
+    other.tcptype = 4;
+    HOLD(is_ice_candidate_line(&other, buffer, sizeof buffer, &length) == IS_ICE_BAD_ADDRESS);
+    HOLD(is_ice_line_with_ufrag(TEXT(line), TEXT("EsAw"), buffer, sizeof buffer, &length) == IS_ICE_OK && holds_text(named));
+    HOLD(is_ice_line_with_ufrag(TEXT(line), TEXT("\xff"), buffer, sizeof buffer, &length) == IS_ICE_NOT_UTF8 && holds_text(named));
+}
+
+static void preferences(void)
+{
+    static const is_ice_candidate v6 = {{6, {0x20, 1, 0xd, 0xb8}, 1, 0, 0}, {6, {0x20, 1, 0xd, 0xb8}, 1, 0, 0}, IS_ICE_HOST, 0, 0};
+    uint32_t preference = 7;
+    HOLD(is_ice_candidate_preference(&v6, 0, &preference) == IS_ICE_OK && preference == 65535);
+    HOLD(is_ice_line_preference(TEXT(line), 3, &preference) == IS_ICE_OK && preference == 65528);
+    HOLD(is_ice_line_preference(TEXT(""), 3, &preference) == IS_ICE_BAD_CANDIDATE && preference == 65528);
+    HOLD(is_ice_line_preference(TEXT(line), SIZE_MAX, &preference) == IS_ICE_OK && preference == 0);
+}
+
+static void pairs(void)
+{
+    static const is_ice_candidate host = {{4, {10, 0, 0, 1}, 1000, 0, 0}, {4, {10, 0, 0, 1}, 1000, 0, 0}, IS_ICE_HOST, IS_ICE_UDP, 0};
+    is_ice_agent agent = {false, NULL};
+    is_ice_pair pair;
+    size_t index;
+    memset(&pair, 0xaa, sizeof pair);
+    HOLD(is_ice_find_pair(&agent, TEXT(line), &pair) == IS_ICE_NO_AGENT);
+    HOLD(is_ice_agent_new(&agent, TEXT("near"), TEXT("nearpass"), 7) == IS_ICE_OK);
+    HOLD(is_ice_add_local(&agent, &host, &index) == IS_ICE_OK && is_ice_find_pair(&agent, TEXT(line), &pair) == IS_ICE_NOTHING);
+    HOLD(is_ice_add_remote(&agent, TEXT("candidate:1 1 udp 7 192.0.2.1 1 typ host"), &index) == IS_ICE_OK);
+    HOLD(is_ice_add_remote(&agent, TEXT(line), &index) == IS_ICE_OK && index == 1);
+    HOLD(is_ice_find_pair(&agent, TEXT(named), &pair) == IS_ICE_OK && pair.local == 0 && pair.remote == 1);
+    HOLD(pair.state == IS_ICE_PAIR_WAITING && !pair.nominated && !pair.selected && !pair.has_rtt && !pair.has_request);
+    is_ice_agent_free(&agent);
+}
+
+int main(void)
+{
+    json();
+    refusals();
+    lines();
+    preferences();
+    pairs();
+    return 0;
+}

@@ -1,0 +1,10 @@
+-- Limits as numbers: the greatest number means that there is none.
+use Rattle.std.specs.Prelude.{ℕ, ◌==◌, Option, Some, None, if◌then◌else◌}
+use Rattle.is_proto.specs.Moments.{MAX}
+
+abbrev pub limit_of : ℕ → Option ℕ
+limit_of number = if number == MAX then None else Some number
+
+-- the limit on remote candidates that requests bring, of a new agent
+abbrev pub DISCOVERED_LIMIT : ℕ
+DISCOVERED_LIMIT = 32

@@ -1,0 +1,60 @@
+-- Candidates that no agent has: their text, their username fragment and their default local preference.
+use Rattle.std.specs.Prelude.{◌≡◌, ◌⊎◌, ℕ, List, Some, None, MatchOption, Result, Ok, Err, ℤ}
+use Rattle.std.specs.Str.{IsUtf8}
+use Rattle.is_proto.specs.declared.error.IceError.{IceError}
+use Rattle.is_proto.specs.declared.error.IceError.TheVariants.{OutOfMemory}
+use Rattle.is_candidate.specs.Candidates.{CandidateRecord}
+use Rattle.is_candidate.specs.Faults.{ReadsLine}
+use Rattle.is_candidate.specs.Infos.{with_ufrag}
+use Rattle.is_candidate.specs.Preferences.{default_preference}
+use Rattle.is_c.specs.declared.candidate.LocalCandidate.{LocalCandidate}
+use Rattle.is_c.specs.Candidates.{Made, MakesCandidate, ReadsBytes}
+use Rattle.is_c.specs.Codes.{OK, BAD_ADDRESS, NOT_UTF8, code_of}
+use Rattle.is_c.specs.Questions.{PutsLine}
+
+-- the text of the candidate, or the code of why there is none
+abbrev pub PutsMade : ℤ → Made → List ℕ → ℤ → List ℕ → ℕ → Type 0
+PutsMade why None before code after count = (code ≡ why) × (after ≡ before)
+PutsMade why (Some (Err e)) before code after count = (code ≡ code_of e) × (after ≡ before)
+PutsMade why (Some (Ok c)) before code after count = PutsLine (Some c) before code after count
+
+-- `is_ice_candidate_line`
+abbrev pub TellsGiven : LocalCandidate → List ℕ → ℤ → List ℕ → ℕ → Type 0
+TellsGiven c before code after count =
+    (made : Made) × MakesCandidate c made × PutsMade BAD_ADDRESS made before code after count
+
+-- the candidate with this username fragment
+abbrev pub NamesAs : List ℕ → CandidateRecord → Result CandidateRecord IceError → Type 0
+NamesAs ufrag c r = (r ≡ Err OutOfMemory) ⊎ (r ≡ Ok (with_ufrag (Some ufrag) c))
+
+abbrev pub NamesRead : List ℕ → Result CandidateRecord IceError → Result CandidateRecord IceError → Type 0
+NamesRead ufrag (Err e) r = r ≡ Err e
+NamesRead ufrag (Ok c) r = NamesAs ufrag c r
+
+-- the candidate of a candidate attribute, with this username fragment, if both are UTF-8
+abbrev pub NamesBytes : List ℕ → List ℕ → Made → Type 0
+NamesBytes line ufrag made =
+    MatchOption made
+    (¬ IsUtf8 line ⊎ ¬ IsUtf8 ufrag)
+    (λ r. (read : Result CandidateRecord IceError) × ReadsLine line read × NamesRead ufrag read r)
+
+-- `is_ice_line_with_ufrag`
+abbrev pub TellsNamed : List ℕ → List ℕ → List ℕ → ℤ → List ℕ → ℕ → Type 0
+TellsNamed line ufrag before code after count =
+    (made : Made) × NamesBytes line ufrag made × PutsMade NOT_UTF8 made before code after count
+
+-- the default local preference of a candidate after so many of its kind and IP version
+abbrev pub PutsPreference : ℤ → Made → ℕ → ℕ → ℤ → ℕ → Type 0
+PutsPreference why None same_kind before code after = (code ≡ why) × (after ≡ before)
+PutsPreference why (Some (Err e)) same_kind before code after = (code ≡ code_of e) × (after ≡ before)
+PutsPreference why (Some (Ok c)) same_kind before code after = (code ≡ OK) × (after ≡ default_preference c same_kind)
+
+-- `is_ice_candidate_preference`
+abbrev pub PrefersGiven : LocalCandidate → ℕ → ℕ → ℤ → ℕ → Type 0
+PrefersGiven c same_kind before code after =
+    (made : Made) × MakesCandidate c made × PutsPreference BAD_ADDRESS made same_kind before code after
+
+-- `is_ice_line_preference`
+abbrev pub PrefersRead : List ℕ → ℕ → ℕ → ℤ → ℕ → Type 0
+PrefersRead line same_kind before code after =
+    (made : Made) × ReadsBytes line made × PutsPreference NOT_UTF8 made same_kind before code after

@@ -1,0 +1,92 @@
+//! Candidates as the JSON in which browsers signal them: the W3C's RTCIceCandidateInit.
+ghost use Rattle.std.specs.Prelude.{◌≡◌, IfOk, IsOkUnless, string_bytes};
+ghost use Rattle.serde_json.specs.Written.{compact_text};
+ghost use Rattle.is_candidate.specs.Infos.{info_of};
+ghost use Rattle.is_proto.specs.declared.error.IceError.TheVariants.{OutOfMemory};
+ghost use Rattle.is_c.specs.Infos.{ReadsInfoBytes, PutsInfo, TellsInfo, TellsLineOf, TellsOfInfo};
+
+use crate::candidate::line_candidate;
+use crate::codes;
+use crate::lines::put_made;
+use crate::refusals::put_refusal;
+use crate::text::put;
+use is_candidate::{Candidate, JsonScratch};
+use is_proto::IceError;
+use std::alloc::Global;
+
+fn info_text(alloc: Global, candidate: &Candidate) -> Result<String, IceError>
+    ensures text { IfOk result (λ text. string_bytes text ≡ compact_text (info_of candidate.now)) }
+    ensures refusal { IsOkUnless result OutOfMemory }
+{
+    let value = candidate.to_json(alloc)?;
+    Ok(value.to_string(alloc)?)
+}
+
+fn put_info(alloc: Global, candidate: &Candidate, buffer: &mut [u8], length: &mut usize) -> i32
+    ensures { PutsInfo candidate.now buffer.old result buffer.new length.new }
+{
+    match info_text(alloc, candidate) {
+        Ok(text) => put(text.as_bytes(), buffer, length),
+        Err(_) => codes::OUT_OF_MEMORY,
+    }
+}
+
+/// Writes the JSON of the candidate of a candidate attribute.
+#[unsafe(no_mangle)]
+pub extern "C" fn is_ice_line_to_json(
+    alloc: Global,
+    line: &[u8],
+    buffer: &mut [u8],
+    length: &mut usize,
+) -> i32
+    ensures { TellsInfo line.now buffer.old result buffer.new length.new }
+{
+    match line_candidate(alloc, line) {
+        Some(Ok(candidate)) => put_info(alloc, &candidate, buffer, length),
+        Some(Err(error)) => codes::code_of(&error),
+        None => codes::NOT_UTF8,
+    }
+}
+
+/// The candidate of a JSON text, if the bytes are UTF-8.
+fn info_candidate(alloc: Global, json: &[u8]) -> Option<Result<Candidate, IceError>>
+    ensures { ReadsInfoBytes json.now result }
+{
+    match std::str::from_utf8(json) {
+        Ok(text) => {
+            let mut scratch = JsonScratch::new(alloc);
+            Some(Candidate::from_json_str(alloc, text, &mut scratch))
+        }
+        Err(_) => None,
+    }
+}
+
+/// Writes the candidate attribute of the candidate of a JSON text.
+#[unsafe(no_mangle)]
+pub extern "C" fn is_ice_line_from_json(
+    alloc: Global,
+    json: &[u8],
+    buffer: &mut [u8],
+    length: &mut usize,
+) -> i32
+    ensures { TellsLineOf json.now buffer.old result buffer.new length.new }
+{
+    let made = info_candidate(alloc, json);
+    put_made(alloc, &made, codes::NOT_UTF8, buffer, length)
+}
+
+/// Writes why a JSON text is no candidate. NOTHING: it is one.
+#[unsafe(no_mangle)]
+pub extern "C" fn is_ice_json_refusal(
+    alloc: Global,
+    json: &[u8],
+    buffer: &mut [u8],
+    length: &mut usize,
+) -> i32
+    ensures { TellsOfInfo json.now buffer.old result buffer.new length.new }
+{
+    match info_candidate(alloc, json) {
+        Some(outcome) => put_refusal(&outcome, buffer, length),
+        None => codes::NOT_UTF8,
+    }
+}

@@ -1,0 +1,122 @@
+//! Candidates that no agent has: their text, their username fragment and their default local preference.
+ghost use Rattle.is_c.specs.Lines.{NamesAs, NamesBytes, PutsMade, TellsGiven, TellsNamed, PutsPreference, PrefersGiven, PrefersRead};
+
+use crate::candidate::{LocalCandidate, line_candidate, local_candidate};
+use crate::codes;
+use crate::questions::put_line;
+use is_candidate::{Candidate, default_local_preference};
+use is_proto::IceError;
+use std::alloc::Global;
+
+/// Writes the candidate attribute of the candidate, or returns the code of why there is none.
+pub(crate) fn put_made(
+    alloc: Global,
+    made: &Option<Result<Candidate, IceError>>,
+    why: i32,
+    buffer: &mut [u8],
+    length: &mut usize,
+) -> i32
+    ensures { PutsMade why made.now buffer.old result buffer.new length.new }
+{
+    match made {
+        Some(Ok(candidate)) => put_line(alloc, Some(candidate), buffer, length),
+        Some(Err(error)) => codes::code_of(error),
+        None => why,
+    }
+}
+
+/// Writes the candidate attribute that a gathered candidate has before an agent adds it: with the priority of the default local
+/// preference of the first candidate, and without a username fragment.
+#[unsafe(no_mangle)]
+pub extern "C" fn is_ice_candidate_line(
+    alloc: Global,
+    candidate: &LocalCandidate,
+    buffer: &mut [u8],
+    length: &mut usize,
+) -> i32
+    ensures { TellsGiven candidate.now buffer.old result buffer.new length.new }
+{
+    let made = local_candidate(alloc, candidate);
+    put_made(alloc, &made, codes::BAD_ADDRESS, buffer, length)
+}
+
+fn name(alloc: Global, mut candidate: Candidate, ufrag: &str) -> Result<Candidate, IceError>
+    ensures { NamesAs ufrag.now candidate result }
+{
+    candidate.set_ufrag(alloc, ufrag)?;
+    Ok(candidate)
+}
+
+/// The candidate of a candidate attribute with this username fragment, if both are UTF-8.
+fn named(alloc: Global, line: &[u8], ufrag: &[u8]) -> Option<Result<Candidate, IceError>>
+    ensures { NamesBytes line.now ufrag.now result }
+{
+    let Ok(ufrag) = std::str::from_utf8(ufrag) else {
+        return None;
+    };
+    match line_candidate(alloc, line)? {
+        Ok(candidate) => Some(name(alloc, candidate, ufrag)),
+        Err(error) => Some(Err(error)),
+    }
+}
+
+/// Writes the candidate attribute again, with this username fragment in place of its own.
+#[unsafe(no_mangle)]
+pub extern "C" fn is_ice_line_with_ufrag(
+    alloc: Global,
+    line: &[u8],
+    ufrag: &[u8],
+    buffer: &mut [u8],
+    length: &mut usize,
+) -> i32
+    ensures { TellsNamed line.now ufrag.now buffer.old result buffer.new length.new }
+{
+    let made = named(alloc, line, ufrag);
+    put_made(alloc, &made, codes::NOT_UTF8, buffer, length)
+}
+
+fn put_preference(
+    made: &Option<Result<Candidate, IceError>>,
+    why: i32,
+    same_kind: usize,
+    preference: &mut u32,
+) -> i32
+    ensures { PutsPreference why made.now same_kind preference.old result preference.new }
+{
+    match made {
+        Some(Ok(candidate)) => {
+            *preference = default_local_preference(candidate, same_kind);
+            codes::OK
+        }
+        Some(Err(error)) => codes::code_of(error),
+        None => why,
+    }
+}
+
+/// Writes the default local preference of a gathered candidate that comes after `same_kind` others of its kind and IP version.
+#[unsafe(no_mangle)]
+pub extern "C" fn is_ice_candidate_preference(
+    alloc: Global,
+    candidate: &LocalCandidate,
+    same_kind: usize,
+    preference: &mut u32,
+) -> i32
+    ensures { PrefersGiven candidate.now same_kind preference.old result preference.new }
+{
+    let made = local_candidate(alloc, candidate);
+    put_preference(&made, codes::BAD_ADDRESS, same_kind, preference)
+}
+
+/// Writes the same of the candidate of a candidate attribute.
+#[unsafe(no_mangle)]
+pub extern "C" fn is_ice_line_preference(
+    alloc: Global,
+    line: &[u8],
+    same_kind: usize,
+    preference: &mut u32,
+) -> i32
+    ensures { PrefersRead line.now same_kind preference.old result preference.new }
+{
+    let made = line_candidate(alloc, line);
+    put_preference(&made, codes::NOT_UTF8, same_kind, preference)
+}

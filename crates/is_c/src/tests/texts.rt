@@ -1,0 +1,219 @@
+//! Candidates as texts and as JSON, without an agent, and the pair of one.
+
+use super::{address, host};
+use crate::candidate::LocalCandidate;
+use crate::candidates::{is_ice_add_local, is_ice_add_remote};
+use crate::codes;
+use crate::infos::{is_ice_json_refusal, is_ice_line_from_json, is_ice_line_to_json};
+use crate::lines::{
+    is_ice_candidate_line, is_ice_candidate_preference, is_ice_line_preference,
+    is_ice_line_with_ufrag,
+};
+use crate::making::{is_ice_agent_free, is_ice_agent_new};
+use crate::pairs::{Pair, is_ice_find_pair};
+use crate::questions::is_ice_local_candidate;
+use crate::slot::Slot;
+
+// The example of the interface RTCIceCandidate in MDN, and its attribute with an RFC 8839 username fragment.
+const LINE: &[u8] = b"candidate:4234997325 1 udp 2043278322 192.0.2.172 44323 typ host";
+
+const NAMED: &[u8] = b"candidate:4234997325 1 udp 2043278322 192.0.2.172 44323 typ host ufrag EsAw";
+
+const INFO: &[u8] =
+    b"{\"candidate\":\"candidate:4234997325 1 udp 2043278322 192.0.2.172 44323 typ host\",\"sdpMLineIndex\":0,\"sdpMid\":null,\"usernameFragment\":null}";
+
+fn over_tcp(tcptype: u8) -> LocalCandidate {
+    let mut candidate = host(address(1, 9));
+    candidate.protocol = 1;
+    candidate.tcptype = tcptype;
+    candidate
+}
+
+fn no_pair() -> Pair {
+    Pair {
+        local: 9,
+        remote: 9,
+        priority: 0,
+        checks_sent: 9,
+        requests_received: 9,
+        responses: 0,
+        total_rtt: 0,
+        rtt: 0,
+        last_request: 0,
+        due: 0,
+        state: 9,
+        nominated: true,
+        selected: true,
+        has_rtt: true,
+        has_request: true,
+        has_due: true,
+    }
+}
+
+#[test]
+fn a_line_is_written_as_json(rt: HostRuntime) {
+    let alloc = rt.alloc();
+    let mut text = [0; 200];
+    let mut length = 0;
+    let told = is_ice_line_to_json(alloc, LINE, &mut text, &mut length);
+    assert!(rt; told == codes::OK);
+    assert!(rt; text[..length] == INFO[..]);
+    let short = is_ice_line_to_json(alloc, LINE, &mut text[..length - 1], &mut length);
+    assert!(rt; short == codes::BUFFER_TOO_SHORT);
+    let unread = is_ice_line_to_json(alloc, b"\xff", &mut text, &mut length);
+    assert!(rt; unread == codes::NOT_UTF8);
+    let bad = is_ice_line_to_json(alloc, b"candidate:1 x", &mut text, &mut length);
+    assert!(rt; bad == codes::BAD_CANDIDATE);
+}
+
+#[test]
+fn json_is_read_as_a_line(rt: HostRuntime) {
+    let alloc = rt.alloc();
+    let mut text = [0; 100];
+    let mut length = 0;
+    let told = is_ice_line_from_json(alloc, INFO, &mut text, &mut length);
+    assert!(rt; told == codes::OK);
+    assert!(rt; text[..length] == LINE[..]);
+    // An RTCIceCandidateInit has the fragment in a member of its own.
+    let init =
+        b"{\"candidate\":\"candidate:4234997325 1 udp 2043278322 192.0.2.172 44323 typ host\",\"sdpMid\":\"0\",\"sdpMLineIndex\":0,\"usernameFragment\":\"EsAw\"}";
+    let told = is_ice_line_from_json(alloc, init, &mut text, &mut length);
+    assert!(rt; told == codes::OK);
+    assert!(rt; text[..length] == NAMED[..]);
+}
+
+#[test]
+fn json_of_no_candidate_tells_its_fault(rt: HostRuntime) {
+    let alloc = rt.alloc();
+    let mut text = [0; 60];
+    let mut length = 0;
+    // The end of candidates: an empty candidate.
+    let ended = b"{\"candidate\":\"\",\"sdpMid\":\"0\",\"sdpMLineIndex\":0}";
+    let read = is_ice_line_from_json(alloc, ended, &mut text, &mut length);
+    assert!(rt; read == codes::BAD_CANDIDATE);
+    let told = is_ice_json_refusal(alloc, b"{}", &mut text, &mut length);
+    assert!(rt; told == codes::OK);
+    assert!(rt; text[..length] == b"candidate info lacks candidate"[..]);
+    let told = is_ice_json_refusal(alloc, b"candidate:1", &mut text, &mut length);
+    assert!(rt; told == codes::OK);
+    assert!(rt; text[..length] == b"candidate info is not JSON"[..]);
+    let unread = is_ice_json_refusal(alloc, b"\xff", &mut text, &mut length);
+    assert!(rt; unread == codes::NOT_UTF8);
+    let one = is_ice_json_refusal(alloc, INFO, &mut text, &mut length);
+    assert!(rt; one == codes::NOTHING);
+}
+
+#[test]
+fn a_line_gets_a_username_fragment(rt: HostRuntime) {
+    let alloc = rt.alloc();
+    let mut text = [0; 100];
+    let mut length = 0;
+    let named = is_ice_line_with_ufrag(alloc, LINE, b"EsAw", &mut text, &mut length);
+    assert!(rt; named == codes::OK);
+    assert!(rt; text[..length] == NAMED[..]);
+    let mut again = [0; 100];
+    let named = is_ice_line_with_ufrag(alloc, &text[..length], b"9uB6", &mut again, &mut length);
+    assert!(rt; named == codes::OK);
+    assert!(rt; again[length - 5..length] == b" 9uB6"[..]);
+    let unread = is_ice_line_with_ufrag(alloc, LINE, b"\xff", &mut text, &mut length);
+    assert!(rt; unread == codes::NOT_UTF8);
+    let bad = is_ice_line_with_ufrag(alloc, b"candidate:1 x", b"EsAw", &mut text, &mut length);
+    assert!(rt; bad == codes::BAD_CANDIDATE);
+}
+
+#[test]
+fn a_gathered_candidate_has_a_line(rt: HostRuntime) {
+    let alloc = rt.alloc();
+    let mut text = [0; 120];
+    let mut length = 0;
+    let told = is_ice_candidate_line(alloc, &over_tcp(2), &mut text, &mut length);
+    assert!(rt; told == codes::OK);
+    // RFC 8445, section 5.1.2.1, with the type preference 90 of a host over TCP: 90 * 2^24 + 65534 * 2^8 + 255.
+    assert!(rt;
+        text[length - 53..length] == b" 1 tcp 1526726399 10.0.0.1 9 typ host tcptype passive"[..]
+    );
+    let mut over_udp = over_tcp(2);
+    over_udp.protocol = 0;
+    let bad = is_ice_candidate_line(alloc, &over_udp, &mut text, &mut length);
+    assert!(rt; bad == codes::BAD_ADDRESS);
+    let bad = is_ice_candidate_line(alloc, &over_tcp(4), &mut text, &mut length);
+    assert!(rt; bad == codes::BAD_ADDRESS);
+    let none = is_ice_candidate_line(alloc, &host(address(0, 0)), &mut text, &mut length);
+    assert!(rt; none == codes::OK);
+    let mut nowhere = over_tcp(1);
+    nowhere.address.bytes = [0; 16];
+    let none = is_ice_candidate_line(alloc, &nowhere, &mut text, &mut length);
+    assert!(rt; none == codes::BAD_CANDIDATE);
+}
+
+#[test]
+fn an_agent_lists_the_tcp_type(rt: HostRuntime) {
+    let alloc = rt.alloc();
+    let mut slot = Slot::empty(alloc);
+    let mut text = [0; 120];
+    let mut length = 0;
+    let mut index = 9;
+    let made = is_ice_agent_new(alloc, &mut slot, b"AAAA", b"PPPP", 1);
+    assert!(rt; made == codes::OK);
+    for tcptype in [1, 3] {
+        let mut candidate = over_tcp(tcptype);
+        candidate.address.port = u16::from(tcptype);
+        let added = is_ice_add_local(alloc, &mut slot, &candidate, &mut index);
+        assert!(rt; added == codes::OK);
+    }
+    let told = is_ice_local_candidate(alloc, &mut slot, 0, &mut text, &mut length);
+    assert!(rt; told == codes::OK);
+    assert!(rt; text[length - 26..length] == b" tcptype active ufrag AAAA"[..]);
+    let told = is_ice_local_candidate(alloc, &mut slot, 1, &mut text, &mut length);
+    assert!(rt; told == codes::OK);
+    assert!(rt; text[length - 22..length] == b" tcptype so ufrag AAAA"[..]);
+    is_ice_agent_free(alloc, &mut slot);
+}
+
+#[test]
+fn the_default_preference_is_told(rt: HostRuntime) {
+    let alloc = rt.alloc();
+    let mut preference = 9;
+    let told = is_ice_candidate_preference(alloc, &host(address(1, 1)), 2, &mut preference);
+    assert!(rt; told == codes::OK);
+    assert!(rt; preference == 65535 - 1 - 2 * 2);
+    let unread = is_ice_line_preference(alloc, b"candidate:1 x", 0, &mut preference);
+    assert!(rt; unread == codes::BAD_CANDIDATE);
+    assert!(rt; preference == 65530);
+    let told = is_ice_line_preference(alloc, LINE, 0, &mut preference);
+    assert!(rt; told == codes::OK);
+    assert!(rt; preference == 65534);
+    let mut other = host(address(1, 1));
+    other.kind = 3;
+    let bad = is_ice_candidate_preference(alloc, &other, 0, &mut preference);
+    assert!(rt; bad == codes::BAD_ADDRESS);
+}
+
+#[test]
+fn the_pair_of_a_candidate_is_found(rt: HostRuntime) {
+    let alloc = rt.alloc();
+    let mut slot = Slot::empty(alloc);
+    let mut pair = no_pair();
+    let mut index = 9;
+    let none = is_ice_find_pair(alloc, &mut slot, LINE, &mut pair);
+    assert!(rt; none == codes::NO_AGENT);
+    let made = is_ice_agent_new(alloc, &mut slot, b"AAAA", b"PPPP", 1);
+    assert!(rt; made == codes::OK);
+    let none = is_ice_find_pair(alloc, &mut slot, LINE, &mut pair);
+    assert!(rt; none == codes::NOTHING);
+    assert!(rt; pair.local == 9);
+    let bad = is_ice_find_pair(alloc, &mut slot, b"candidate:1 x", &mut pair);
+    assert!(rt; bad == codes::BAD_CANDIDATE);
+    let added = is_ice_add_local(alloc, &mut slot, &host(address(1, 1000)), &mut index);
+    assert!(rt; added == codes::OK);
+    let first = b"candidate:1 1 udp 2130706175 10.0.0.2 2000 typ host";
+    let added = is_ice_add_remote(alloc, &mut slot, first, &mut index);
+    assert!(rt; added == codes::OK);
+    let added = is_ice_add_remote(alloc, &mut slot, LINE, &mut index);
+    assert!(rt; added == codes::OK);
+    let found = is_ice_find_pair(alloc, &mut slot, LINE, &mut pair);
+    assert!(rt; found == codes::OK);
+    assert!(rt; (pair.local, pair.remote) == (0, 1));
+    assert!(rt; pair.state == 0);
+    is_ice_agent_free(alloc, &mut slot);
+}

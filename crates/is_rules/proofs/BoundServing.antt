@@ -1,0 +1,172 @@
+-- How requests, packets and timeouts change the lists that a limit bounds.
+use Rattle.std.proofs.Common.{◌≡◌, ℕ, ◌+◌, ◌-◌, ◌<◌, ◌≤◌, ◌&&◌, Bool, true, false, List, [], ◌∷◌, ◌++◌, length, Option, Some, None, Result, Ok, Err, inl, inr, refl, sym, subst, ap, ◌∙◌, arith, if◌then◌else◌}
+use Rattle.std.specs.Prelude.{MatchOption}
+use Rattle.std.proofs.lemmas.Bool.{ltb-true}
+use Rattle.std.proofs.lemmas.List.{length-append, length-drop}
+use Rattle.rand_core.specs.Stream.{Stream}
+use Rattle.is_proto.specs.declared.error.IceError.{IceError}
+use Rattle.is_candidate.specs.Candidates.{CandidateRecord, candidate_at}
+use Rattle.is_pair.specs.Bag.{is_valid_at}
+use Rattle.is_pair.specs.Pairs.{PairRecord}
+use Rattle.is_stun.specs.declared.header.Class.{Class}
+use Rattle.is_stun.specs.declared.header.Class.TheVariants as class
+use Rattle.is_stun.specs.Message.{Message}
+use Rattle.is_rules.specs.declared.accepting.Source.{Source}
+use Rattle.is_rules.specs.declared.credentials.IceCreds.{IceCreds}
+use Rattle.is_rules.specs.declared.emitted.Emitted.{Emitted}
+use Rattle.is_rules.specs.declared.emitted.Path.{Path}
+use Rattle.is_rules.specs.declared.places.RemotePlace.{RemotePlace}
+use Rattle.is_rules.specs.declared.places.RemotePlace.TheVariants.{Known, Barred, Unknown, Vacant, Full}
+use Rattle.is_rules.specs.declared.roles.Conflict.{Conflict}
+use Rattle.is_rules.specs.declared.roles.Conflict.TheVariants.{Absent, Insists, Yields}
+use Rattle.is_rules.specs.Accepting.{Takes, HandlesPacket, discovered_emitted, is_passed_over}
+use Rattle.is_rules.specs.Agent.{AgentRecord}
+use Rattle.is_rules.specs.Bounds.{is_signaled}
+use Rattle.is_rules.specs.Forming.{formed, with_pair}
+use Rattle.is_rules.specs.Limit.{discovered_count, has_room, newest, IsPlaceOf, IsSenderPlace}
+use Rattle.is_rules.specs.Places.{local_place}
+use Rattle.is_rules.specs.Queue.{first_taken, request_at}
+use Rattle.is_rules.specs.Request.{RequestRecord, request_in}
+use Rattle.is_rules.specs.Roles.{conflict_of, switched}
+use Rattle.is_rules.specs.Serving.{is_misled, names_another, pair_served, request_counted, sender_candidate, with_sender, with_sender_at, Drops, Queues, RecordsAndResponds, FindsOrAddsPair, AddsUnknownSender, CountsAndServes, ResolvesRoleConflictBy, ResolvesRoleConflict, Serves}
+use Rattle.is_rules.specs.Steps.{Entry, Receives}
+use Rattle.is_rules.specs.Timeouts.{MaintainsPairs, TimesOut, timeout_begun}
+use Rattle.is_rules.proofs.Frames.{either}
+use Rattle.is_rules.proofs.Vacant.{length-put}
+use Rattle.is_rules.proofs.BoundLists.{Lists, Within, both-counts, appended-count, put-count}
+use Rattle.is_rules.proofs.BoundFrames.{lists_of, Same, same, where_same, maintains_pairs_same, success_same, failure_same}
+
+-- an unknown sender is appended only below the limit
+room-below : (most : ℕ) (q : RequestRecord) (remote : List CandidateRecord) (pairs : List PairRecord) → IsPlaceOf (Some most) remote pairs q Unknown → discovered_count remote < most
+room-below most q remote pairs (Known k, is, wrong) = absurd (let no : Unknown ≡ Known k = wrong in cc)
+room-below most q remote pairs (Barred, is, wrong) = absurd (let no : Unknown ≡ Barred = wrong in cc)
+room-below most q remote pairs (Vacant k, is, wrong) = absurd wrong
+room-below most q remote pairs (Full, is, wrong) = absurd wrong
+room-below most q remote pairs (Unknown, is, room) = either (has_room (Some most) remote) room
+    (λ e _. ltb-true (discovered_count remote) most e)
+    (λ _ wrong. absurd wrong)
+
+-- the sources that are kept
+newest-short : (most : ℕ) (sources : List Source) → length (newest (Some most) sources) ≤ most
+newest-short most sources = let e = length-drop (length sources - most) sources in omega (arith, e)
+
+module _ {H P : Type 0} where
+  -- ---- requests
+
+  module _ (most n : ℕ) where
+    abbrev pub Stays : AgentRecord H P → AgentRecord H P → Type 0
+    Stays old new = Within most n (lists_of old) → Within most n (lists_of new)
+
+    pub by_same : (old new : AgentRecord H P) → Same old new → Stays old new
+    by_same old new e within = subst (λ l. Within most n l) (sym e) within
+
+    -- the limit stays, and so do the bounds
+    abbrev Served : AgentRecord H P → AgentRecord H P → Type 0
+    Served s new = (new.max_discovered ≡ s.max_discovered) × (s.max_discovered ≡ Some most → Stays s new)
+
+    served_same : (s new : AgentRecord H P) → Same s new → Served s new
+    served_same s new e = (ap (λ (l : Lists). l.limit) e, λ _. by_same s new e)
+
+    module _ (mac : H → List ℕ → List ℕ → List ℕ) (q : RequestRecord) where
+      pair : (l r number : ℕ) (s new : AgentRecord H P) (emitted : Emitted) → RecordsAndResponds mac q l r number s emitted new → Same s new
+      pair l r number s new emitted (path, mid, nominates, (values, is, made)) =
+          ap (λ (a : AgentRecord H P). lists_of a) made ∙ where_same (s.controlling && is_valid_at number s.pairs) (pair_served q number s) mid path nominates
+
+      takes : (l r : ℕ) (number : Option ℕ) (s new : AgentRecord H P) (emitted : Emitted) → FindsOrAddsPair mac q l r number s emitted new → Same s new
+      takes l r (Some number) s new emitted h = pair l r number s new emitted h
+      takes l r None s new emitted h = either (candidate_at s.local l).discarded h (λ _ k. same s new k.1) (λ _ k. pair l r s.next_number (with_pair (formed s l r) s) new emitted k.1)
+
+      joins_at : (l : ℕ) (place : RemotePlace) (s new : AgentRecord H P) (emitted : Emitted) → IsSenderPlace s q place → AddsUnknownSender mac q l place s emitted new → Served s new
+      joins_at l (Known r) s new emitted is (number, between, h) = served_same s new (takes l r number s new emitted h)
+      joins_at l Barred s new emitted is h = served_same s new (same s new h.1)
+      joins_at l Full s new emitted is h = served_same s new (same s new h.1)
+      joins_at l Unknown s new emitted is (number, between, h) =
+          let e = takes l (length s.remote) number (with_sender q s) new emitted h in
+          let c : CandidateRecord = sender_candidate s q in (
+            ap (λ (l : Lists). l.limit) e,
+            λ limit within. by_same (with_sender q s) new e (record {
+              remote = (
+                  let lt = room-below most q s.remote s.pairs (subst (λ o. IsPlaceOf o s.remote s.pairs q Unknown) limit is) in
+                  let all = both-counts s.remote in
+                  let some = within.signaled in
+                  let long : length (s.remote ++ c ∷ []) ≡ length s.remote + 1 = length-append s.remote (c ∷ []) in
+                  omega (arith, lt, all, some, long));
+              signaled = (let k = appended-count is_signaled c false refl s.remote in let was = within.signaled in omega (arith, k, was));
+              sources = within.sources;
+            }),
+          )
+      joins_at l (Vacant r) s new emitted is (number, between, h) =
+          let e = takes l r number (with_sender_at r q s) new emitted h in
+          let c : CandidateRecord = sender_candidate s q in (
+            ap (λ (l : Lists). l.limit) e,
+            λ limit within. by_same (with_sender_at r q s) new e (record {
+              remote = subst (λ k. k ≤ most + n) (sym (length-put s.remote r c)) within.remote;
+              signaled = (let k = put-count is_signaled c false refl s.remote r in let was = within.signaled in omega (arith, k, was));
+              sources = within.sources;
+            }),
+          )
+
+      admitted : (l : ℕ) (s new : AgentRecord H P) (emitted : Emitted) → CountsAndServes mac q l s emitted new → Served s new
+      admitted l s new emitted h = either (is_misled s.controlling q) h (λ _ k. served_same s new (same s new k.1))
+          (λ _ k. (let j = joins_at l k.0 (request_counted s) new emitted k.1 k.2 in (j.0, λ limit within. j.1 limit (record { remote = within.remote; signaled = within.signaled; sources = within.sources }))))
+
+      resolves_by : (conflict : Conflict) (l : ℕ) (s new : AgentRecord H P) (emitted : Emitted) → ResolvesRoleConflictBy mac conflict q l s emitted new → Served s new
+      resolves_by Absent l s new emitted h = admitted l s new emitted h
+      resolves_by Insists l s new emitted (values, is, made) = served_same s new (ap (λ (a : AgentRecord H P). lists_of a) made)
+      resolves_by Yields l s new emitted h = (let j = admitted l (switched s) new emitted h in (j.0, λ limit within. j.1 limit (record { remote = within.remote; signaled = within.signaled; sources = within.sources })))
+
+      here : (place : Option ℕ) (s new : AgentRecord H P) (emitted : Emitted) → MatchOption place (Drops s emitted new) (λ l. ResolvesRoleConflict mac q l s emitted new) → Served s new
+      here None s new emitted h = served_same s new (same s new h.1)
+      here (Some l) s new emitted h = resolves_by (conflict_of s q) l s new emitted h
+
+      serves : (s new : AgentRecord H P) (emitted : Emitted) → Serves mac q s emitted new → Served s new
+      serves s new emitted h = either (names_another s q) h (λ _ k. served_same s new (same s new k.1)) (λ _ k. here (local_place s.local q) s new emitted k)
+
+      requested : (remote : Option IceCreds) (s new : AgentRecord H P) (emitted : Emitted) → MatchOption remote (Queues q s emitted new) (λ _. Serves mac q s emitted new) → Served s new
+      requested None s new emitted h = served_same s new (ap (λ (a : AgentRecord H P). lists_of a) h.1)
+      requested (Some peer) s new emitted h = serves s new emitted h
+
+    -- ---- packets
+
+    module _ (mac : H → List ℕ → List ℕ → List ℕ) where
+      by_class : (c : Class) (now : ℕ) (old mid : AgentRecord H P) (via : Path) (m : Message) (emitted : Emitted) → Takes mac c now old via m emitted mid → Served old mid
+      by_class class.Request now old mid via m emitted h = requested mac (request_in now via m) old.remote_creds old mid emitted h
+      by_class class.Success now old mid via m emitted h = served_same old mid (success_same now old mid via m emitted h)
+      by_class class.Failure now old mid via m emitted h = served_same old mid (failure_same old mid via m emitted h)
+      by_class class.Indication now old mid via m emitted h = absurd h
+      by_class class.Unknown now old mid via m emitted h = absurd h
+
+      discovered : (via : Path) (a : AgentRecord H P) → a.max_discovered ≡ Some most → Stays a (discovered_emitted via a)
+      discovered via a limit within = record {
+        remote = within.remote;
+        signaled = within.signaled;
+        sources = by (is_passed_over via a);
+      } where
+        more : List Source
+        more = a.discovered_sources ++ record { proto = via.proto; address = via.source } ∷ []
+
+        by : (b : Bool) → length (if b then a.discovered_sources else newest a.max_discovered more) ≤ most
+        by true = within.sources
+        by false = subst (λ o. length (newest o more) ≤ most) (sym limit) (newest-short most more)
+
+      handled : (now : ℕ) (old new : AgentRecord H P) (via : Path) (m : Message) (r : Result Bool IceError) (emitted : Emitted) → old.max_discovered ≡ Some most
+          → HandlesPacket mac now old via m r emitted new → Stays old new
+      handled now old new via m (Ok false) emitted limit (refused, is, made) = by_same old new (same old new made)
+      handled now old new via m (Ok true) emitted limit (accepted, (mid, takes_it, made)) =
+          let k = by_class m.class now old mid via m emitted takes_it in
+          λ within. by_same (discovered_emitted via mid) new (ap (λ (a : AgentRecord H P). lists_of a) made) (discovered via mid (k.0 ∙ limit) (k.1 limit within))
+      handled now old new via m (Err error) emitted limit (may, is, made) = by_same old new (same old new made)
+
+      pub received : (answers : P → CandidateRecord → ℕ → ℕ → Type 0) (now : ℕ) (old new : AgentRecord H P) (via : Path) (bytes : List ℕ) (e : Entry) → old.max_discovered ≡ Some most
+          → Receives mac answers now old via bytes e new → Stays old new
+      received answers now old new via bytes e limit (inl (fault, has, is, made)) = by_same old new (same old new made)
+      received answers now old new via bytes e limit (inr (m, reads, (r, emitted, is, handles))) = handled now old new via m r emitted limit handles
+
+      pub timed : (now : ℕ) (old new : AgentRecord H P) (s t : Stream) (r : Result (Unit {0}) IceError) (emitted : Emitted) → old.max_discovered ≡ Some most
+          → TimesOut mac now old s r emitted new t → Stays old new
+      timed now old new s t (Ok _) emitted limit h = by (request_at now old) h where
+        by : (q : Option RequestRecord) → MatchOption q (MaintainsPairs mac now (timeout_begun now old) s emitted new t) (λ q. Serves mac q (first_taken (timeout_begun now old)) emitted new × (t ≡ s)) → Stays old new
+        by None k = by_same old new (maintains_pairs_same mac now (timeout_begun now old) new s t emitted k)
+        by (Some q) (k, drawn) =
+            λ within. (serves mac q (first_taken (timeout_begun now old)) new emitted k).1 limit (record { remote = within.remote; signaled = within.signaled; sources = within.sources })
+      timed now old new s t (Err error) emitted limit (may, is, made, drawn) = by_same old new (same old new made)

@@ -1,0 +1,154 @@
+-- How calls and executions change the number of repeated cells, and so how many pairs there are.
+use Rattle.std.proofs.Common.{◌≡◌, ℕ, ◌+◌, ◌*◌, ◌≤◌, ◌==◌, ◌&&◌, not, Bool, true, false, if◌then◌else◌, List, [], ◌∷◌, length, map, Option, Some, None, Result, Ok, Err, inl, inr, ◌⊎◌, refl, sym, subst, ap, ◌∙◌, arith}
+use Rattle.std.proofs.lemmas.List.{length-map}
+use Rattle.rand_core.specs.Stream.{Stream}
+use Rattle.is_proto.specs.declared.error.IceError.{IceError}
+use Rattle.is_candidate.specs.Candidates.{CandidateRecord}
+use Rattle.is_pair.specs.Due.{asked}
+use Rattle.is_pair.specs.Pairs.{PairRecord, undue}
+use Rattle.is_rules.specs.declared.credentials.IceCreds.{IceCreds}
+use Rattle.is_rules.specs.Agent.{AgentRecord}
+use Rattle.is_rules.specs.Bounds.{FormsFew, LimitsPairs}
+use Rattle.is_rules.specs.Discarding.{is_local_at, is_remote_at, local_discarded, place_to_discard, remote_discarded, InvalidatesAt}
+use Rattle.is_rules.specs.Forming.{Combination}
+use Rattle.is_rules.specs.Local.{AddsLocal}
+use Rattle.is_rules.specs.Logs.{Logged}
+use Rattle.is_rules.specs.Remote.{AddsRemote}
+use Rattle.is_rules.specs.Restarting.{Restarts, Recreates, emptied}
+use Rattle.is_rules.specs.Credentials.{SetsLocal, SetsRemote}
+use Rattle.is_rules.specs.Settings.{SetsMtu}
+use Rattle.is_rules.specs.Runs.{IsFresh, Run, run_to}
+use Rattle.is_rules.specs.Sound.{IsSound}
+use Rattle.is_rules.specs.Steps.{Call, SetMtu, SetControlTieBreaker, SetMaxCandidatePairs, SetMaxDiscovered, SetIceLite, SetTimingAdvance, SetInitialStunRto, SetMaxStunRto, SetMaxStunRetransmits, SetLiteTimeout, SetLocalPreference, SetControlling, SetLocalCredentials, SetRemoteCredentials, SkipPairIds, AddLocalCandidate, AddRemoteCandidate, InvalidateCandidate, RestartIce, RecreateCandidatePairs, ReceivePacket, HandleTimeout, PollTransmit, PollTimeout, PollEvent, Entry, Step, MayDo}
+use Rattle.is_rules.proofs.Cells.{cell_of, cells, cells-map, pairs-in-grid, repeats, repeats-filter, repeats-length}
+use Rattle.is_rules.proofs.CellSteps.{Fewer, alike, made-as, unchanged, forms_few, received, timed}
+use Rattle.is_rules.proofs.EffectLaws.{path_law}
+use Rattle.is_rules.proofs.Enrolments.{by_adding_local, by_adding_remote, by_waking}
+use Rattle.is_rules.proofs.Frames.{either}
+use Rattle.is_rules.proofs.LogLaws.{runs_sound}
+use Rattle.is_rules.proofs.PartPoints.{deeper, later_point}
+use Rattle.is_rules.proofs.RefusalLaws.{mtu_kept, local_kept, remote_kept, restart_kept, recreation_kept, enrolment_kept, storing_kept}
+
+unless_undue : (b : Bool) (ps : List PairRecord) → cells (if b then ps else map undue ps) ≡ cells ps
+unless_undue true ps = refl
+unless_undue false ps = cells-map undue (λ p. refl) ps
+
+module _ {H P : Type 0} where
+  -- no more repeated cells, or the limit holds
+  abbrev Stays : AgentRecord H P → AgentRecord H P → Type 0
+  Stays old new = Fewer old new ⊎ (length new.pairs ≤ old.max_pairs)
+
+  -- ---- calls
+
+  module _ (mac : H → List ℕ → List ℕ → List ℕ) (answers : P → CandidateRecord → ℕ → ℕ → Type 0) (old new : AgentRecord H P) (s t : Stream) (e : Entry) where
+    kept : new ≡ old → Stays old new
+    kept made = inl (unchanged old new made)
+
+    placed : cells new.pairs ≡ cells old.pairs → Stays old new
+    placed is = inl (alike old new is)
+
+    cells_in : (wanted : AgentRecord H P) → new ≡ wanted → cells new.pairs ≡ cells wanted.pairs
+    cells_in wanted made = ap (λ (a : AgentRecord H P). cells a.pairs) made
+
+    may : (Does : Result (Unit {0}) IceError → AgentRecord H P → Type 0) → (Does (Ok _) new → Stays old new) → ((error : IceError) → Does (Err error) new → new ≡ old) → MayDo Does s e new t → Stays old new
+    may Does done failed (Ok _, is, h, drawn) = done h
+    may Does done failed (Err error, is, h, drawn) = kept (failed error h)
+
+    restarts : (creds : IceCreds) (keep : Bool) → MayDo (Restarts old creds keep) s e new t → Stays old new
+    restarts creds keep (Ok _, is, (fits, made), drawn) =
+        let none : cells new.pairs ≡ [] = ap (λ (a : AgentRecord H P). cells a.pairs) made in
+        inl (subst (λ (cs : List Combination). repeats cs ≤ repeats (cells old.pairs)) (sym none) (omega arith))
+    restarts creds keep (Err error, is, h, drawn) = kept (restart_kept old new creds keep error h)
+
+    discards : (l r : Option ℕ) (found : Bool) → InvalidatesAt l r old found new → Stays old new
+    discards (Some place) r found (is, made) =
+        inl (made-as old (local_discarded place old) new made (repeats-filter (λ p. not (is_local_at place p)) old.pairs))
+    discards None (Some place) found (is, made) =
+        inl (made-as old (remote_discarded place old) new made (repeats-filter (λ p. not (is_remote_at place p)) old.pairs))
+    discards None None found (is, made) = kept made
+
+    signals : (c : CandidateRecord) → MayDo (AddsRemote old c) s e new t → Stays old new
+    signals c (Ok _, is, h, drawn) = by_adding_remote old new c h
+        (λ made. kept made)
+        (λ f. inr (forms_few _ new _ f))
+        (λ k lt addr f. inr (forms_few _ new _ f))
+    signals c (Err error, is, h, drawn) = kept (storing_kept old new c error h)
+
+    recreates : MayDo (Recreates old) s e new t → Stays old new
+    recreates (Ok _, is, (enough, f), drawn) = inr (forms_few (emptied old) new _ f)
+    recreates (Err error, is, h, drawn) = kept (recreation_kept old new error h)
+
+    adds_local : (c : CandidateRecord) (r : Result (Option ℕ) IceError) → AddsLocal answers old c r new → Stays old new
+    adds_local c (Ok place) h = by_adding_local old new answers c place h
+        (λ made. kept made)
+        (λ x based f. inr (forms_few _ new _ f))
+        (λ k lt f. inr (forms_few _ new _ f))
+        (λ x based k f. inr (forms_few _ new _ f))
+    adds_local c (Err error) h = kept (enrolment_kept answers old new c error h)
+
+    pub steps : (call : Call P) → Step mac answers old s call e new t → Stays old new
+    steps (SetMtu target warn) h = may (SetsMtu old target warn) (λ k. placed (cells_in _ k.1)) (mtu_kept old new target warn) h
+    steps (SetControlTieBreaker tie) (is, made, drawn) = placed (cells_in _ made)
+    steps (SetMaxCandidatePairs k) (is, made, drawn) = placed (cells_in _ made)
+    steps (SetMaxDiscovered limit) (is, made, drawn) = placed (cells_in _ made)
+    steps (SetIceLite lite) (is, made, drawn) = placed (cells_in _ made)
+    steps (SetTimingAdvance by) (is, made, drawn) = placed (cells_in _ made)
+    steps (SetInitialStunRto rto) (is, made, drawn) = placed (cells_in _ made ∙ unless_undue (old.timing.initial_rto.0 == rto && old.timing.max_rto.0 == old.timing.max_rto.0) old.pairs)
+    steps (SetMaxStunRto rto) (is, made, drawn) = placed (cells_in _ made ∙ unless_undue (old.timing.initial_rto.0 == old.timing.initial_rto.0 && old.timing.max_rto.0 == rto) old.pairs)
+    steps (SetMaxStunRetransmits k) h = either (k == 0) h (λ _ x. kept x.1) (λ _ x. placed (cells_in _ x.1))
+    steps (SetLiteTimeout timeout) (is, made, drawn) = placed (cells_in _ made)
+    steps (SetLocalPreference object) (is, made, drawn) = placed (cells_in _ made)
+    steps (SetControlling controlling) (is, made, drawn) = placed (cells_in _ made)
+    steps (SetLocalCredentials creds) h = may (SetsLocal old creds) (λ k. placed (cells_in _ k.1)) (local_kept old new creds) h
+    steps (SetRemoteCredentials creds) h = may (SetsRemote old creds) (λ k. placed (cells_in _ k.1)) (remote_kept old new creds) h
+    steps (SkipPairIds k) (is, made, drawn) = placed (cells_in _ made)
+    steps (AddLocalCandidate c) (r, is, h, drawn) = adds_local c r h
+    steps (AddRemoteCandidate c) h = signals c h
+    steps (InvalidateCandidate c) (found, is, h, drawn) = discards (place_to_discard c old.local) (place_to_discard c old.remote) found h
+    steps (RestartIce creds keep) h = restarts creds keep h
+    steps RecreateCandidatePairs h = recreates h
+    steps (ReceivePacket now via bytes) (h, drawn) = inl (received mac answers now old new via bytes e h)
+    steps (HandleTimeout now) (r, emitted, is, h) = inl (timed mac now old new s t r emitted h)
+    steps PollTransmit (given, is, (polled, made), drawn) = placed (cells_in _ made)
+    steps PollTimeout (wake, is, h, drawn) = by_waking old new wake h
+        (λ made. kept made)
+        (λ at made. inl (made-as old (record old { pairs = map (asked at old.timing) old.pairs }) new made
+        (alike old (record old { pairs = map (asked at old.timing) old.pairs }) (cells-map (asked at old.timing) (λ p. refl) old.pairs))))
+    steps PollEvent (given, is, (polled, made), drawn) = placed (cells_in _ made)
+
+  -- ---- executions
+
+  module _ (mac : H → List ℕ → List ℕ → List ℕ) (answers : P → CandidateRecord → ℕ → ℕ → Type 0) where
+    few_repeats : (limit : ℕ) (first : AgentRecord H P) (s : Stream) (log : List (Logged P)) (last : AgentRecord H P) (t : Stream) → IsFresh first → FormsFew mac answers limit first s log
+        → Run mac answers first s log last t → repeats (cells last.pairs) ≤ limit
+    few_repeats limit first s [] last t (creds, tie, is) few (same, drawn) =
+        subst (λ (a : AgentRecord H P). repeats (cells a.pairs) ≤ limit) (sym same)
+        (subst (λ (a : AgentRecord H P). repeats (cells a.pairs) ≤ limit) (sym is) (omega arith))
+    few_repeats limit first s (x ∷ before) last t is_fresh few (mid, u, led, number, given, step) =
+        by (steps mac answers mid last u t x.entry x.call step)
+        (few_repeats limit first s before mid u is_fresh (λ b m a y p. few b m a y (later_point mac answers first s x before b m y a p)) led)
+        (few before mid last x (record { rest = []; split = refl; at = u; led = led; number = number; given = given; behind = t; step = step })) where
+          by : Stays mid last → repeats (cells mid.pairs) ≤ limit → mid.max_pairs ≤ limit → repeats (cells last.pairs) ≤ limit
+          by (inl fewer) was most = omega (arith, fewer, was)
+          by (inr formed) was most =
+              let all : length (cells last.pairs) ≡ length last.pairs = length-map last.pairs cell_of in
+              let some = repeats-length (cells last.pairs) in
+              omega (arith, formed, most, all, some)
+
+    pub few_pairs : (limit : ℕ) (first : AgentRecord H P) (s : Stream) (log : List (Logged P)) (last : AgentRecord H P) (t : Stream) → IsFresh first → FormsFew mac answers limit first s log
+        → Run mac answers first s log last t → length last.pairs ≤ limit + length last.local * length last.remote
+    few_pairs limit first s log last t is_fresh few run =
+        let le = few_repeats limit first s log last t is_fresh few run in
+        let sound : IsSound last = runs_sound mac answers (path_law mac answers) first last s t log is_fresh run in
+        let k = pairs-in-grid last.pairs (length last.local) (length last.remote) sound.placed in
+        along (length last.pairs) (repeats (cells last.pairs)) (length last.local * length last.remote) limit k le where
+          along : (a r g k : ℕ) → a ≤ r + g → r ≤ k → a ≤ k + g
+          along a r g k h le = omega (arith, h, le)
+
+    pub limits_pairs : LimitsPairs {H = H} mac answers
+    limits_pairs first s log is_fresh limit few before mid after x point =
+        let most : length after.pairs ≤ limit + length after.local * length after.remote =
+        few_pairs limit first s (x ∷ before) after point.behind is_fresh
+        (λ b m a y p. few b m a y (deeper mac answers first s log (x ∷ before) point.rest b m y a point.split p))
+        (run_to mac answers first s log before mid x after point) in
+        omega (arith, most)

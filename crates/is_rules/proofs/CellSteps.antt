@@ -1,0 +1,250 @@
+-- Which rules leave no more repeated cells than there were: all but forming, after which the limit on pairs holds.
+use Rattle.std.proofs.Common.{◌≡◌, ℕ, ◌≤◌, ◌==◌, ◌&&◌, ◌||◌, Bool, true, false, not, List, [], ◌∷◌, ◌++◌, length, Option, Some, None, Result, Ok, Err, inl, inr, refl, sym, subst, ap, ◌∙◌, arith, if◌then◌else◌}
+use Rattle.std.specs.Prelude.{MatchOption}
+use Rattle.std.specs.List.{list_any}
+use Rattle.rand_core.specs.Stream.{Stream}
+use Rattle.is_proto.specs.declared.error.IceError.{IceError}
+use Rattle.is_proto.specs.Lists.{NonePass}
+use Rattle.is_proto.specs.Lists as role
+use Rattle.is_candidate.specs.Candidates.{CandidateRecord, candidate_at}
+use Rattle.is_pair.specs.Bag.{change_at, is_between, is_numbered, is_valid_at, without, Drops as Evicted, IsPairBetween}
+use Rattle.is_pair.specs.Due.{asked}
+use Rattle.is_pair.specs.Pairs.{PairRecord, checked, heard, heard_at, is_nominated, nominated, validated, with_request}
+use Rattle.is_stun.specs.declared.header.Class.{Class}
+use Rattle.is_stun.specs.declared.header.Class.TheVariants as class
+use Rattle.is_stun.specs.Message.{Message}
+use Rattle.is_rules.specs.declared.credentials.IceCreds.{IceCreds}
+use Rattle.is_rules.specs.declared.emitted.Emitted.{Emitted}
+use Rattle.is_rules.specs.declared.emitted.Issued.{Issued}
+use Rattle.is_rules.specs.declared.emitted.Path.{Path}
+use Rattle.is_rules.specs.declared.places.RemotePlace.{RemotePlace}
+use Rattle.is_rules.specs.declared.places.RemotePlace.TheVariants.{Known, Barred, Unknown, Vacant, Full}
+use Rattle.is_rules.specs.declared.roles.Conflict.{Conflict}
+use Rattle.is_rules.specs.declared.roles.Conflict.TheVariants.{Absent, Insists, Yields}
+use Rattle.is_rules.specs.Accepting.{Takes, HandlesPacket, discovered_emitted}
+use Rattle.is_rules.specs.Agent.{AgentRecord}
+use Rattle.is_rules.specs.Answers.{is_role_conflict, TakesSuccess, TakesFailure, GivesUpRole}
+use Rattle.is_rules.specs.Checking.{MayCheck, ChecksTop, all_asked}
+use Rattle.is_rules.specs.Forming.{Combination, SidesRecord, FormsAll, formed, sides_of, with_pair}
+use Rattle.is_rules.specs.Nominating.{Selection, selection, Nominates, NominatesWhere, NamesTop, nominated_by_self, nominated_emitted, stands_at, with_selection}
+use Rattle.is_rules.specs.Places.{local_place}
+use Rattle.is_rules.specs.Queue.{first_taken, request_at}
+use Rattle.is_rules.specs.Request.{RequestRecord, request_in}
+use Rattle.is_rules.specs.Roles.{conflict_of, switched, switched_sides, with_priority_in}
+use Rattle.is_rules.specs.Serving.{is_misled, names_another, pair_served, request_counted, served, validated_by_peer, with_sender, with_sender_at, Drops, Queues, RecordsAndResponds, FindsOrAddsPair, AddsUnknownSender, CountsAndServes, ResolvesRoleConflictBy, ResolvesRoleConflict, Serves}
+use Rattle.is_rules.specs.States.{evaluated}
+use Rattle.is_rules.specs.Steps.{Entry, Receives}
+use Rattle.is_rules.specs.Timeouts.{GivesUp, MaintainsPairs, TimesOut, at_moment, given_up_gone, is_given_up, timeout_begun}
+use Rattle.is_rules.proofs.Cells.{cell_of, cells, cells-map, cells-set, is_cell, repeats, repeats-filter, repeats-new}
+use Rattle.is_rules.proofs.Frames.{either}
+use Rattle.is_rules.proofs.Names.{neither}
+use Rattle.is_rules.proofs.NumberLemmas.{none-any}
+
+-- ---- one pair
+
+nominated-cell : (l : Bool) (p : PairRecord) → cell_of (nominated l p) ≡ cell_of p
+nominated-cell true p = refl
+nominated-cell false p = refl
+
+unless-cell : (b l : Bool) (p : PairRecord) → cell_of (if b then nominated l p else p) ≡ cell_of p
+unless-cell true l p = nominated-cell l p
+unless-cell false l p = refl
+
+validated-cell : (b : Bool) (p : PairRecord) → cell_of (if b then validated p else p) ≡ cell_of p
+validated-cell true p = refl
+validated-cell false p = refl
+
+served-cell : (c l : Bool) (q : RequestRecord) (p : PairRecord) → cell_of (served c l q p) ≡ cell_of p
+served-cell c l q p =
+    let x : PairRecord = validated_by_peer c l (with_request q.moment p) in
+    unless-cell (not c && q.use_candidate && not (is_nominated x)) l x ∙ validated-cell (l && not c) (with_request q.moment p)
+
+heard-cell : (now : ℕ) (last : Option ℕ) (p : PairRecord) → cell_of (heard_at now last p) ≡ cell_of p
+heard-cell now None p = refl
+heard-cell now (Some at) p = refl
+
+at-cell : (n : ℕ) (f : PairRecord → PairRecord) (p : PairRecord) → cell_of (f p) ≡ cell_of p → cell_of (change_at n f p) ≡ cell_of p
+at-cell n f p h = by (p.number == n) where
+  by : (b : Bool) → cell_of (if b then f p else p) ≡ cell_of p
+  by true = h
+  by false = refl
+
+-- the pair is between the two of its cell
+none-between : (l r : ℕ) (ps : List PairRecord) → list_any (is_between l r) ps ≡ false → list_any (is_cell (l, r)) (cells ps) ≡ false
+none-between l r [] none = refl
+none-between l r (p ∷ ps) none =
+    let k = neither (is_between l r p) (list_any (is_between l r) ps) none in
+    ap (λ (b : Bool). b || list_any (is_cell (l, r)) (cells ps)) k.0 ∙ none-between l r ps k.1
+
+-- after forming the limit holds
+evicted-most : (limit : ℕ) (gone old new : List PairRecord) → Evicted limit gone old new → length new ≤ limit
+evicted-most limit [] old new (fits, same) = subst (λ (ps : List PairRecord). length ps ≤ limit) (sym same) fits
+evicted-most limit (p ∷ gone) old new (over, least, more) = evicted-most limit gone (without (is_numbered p.number) old) new more
+
+names-cells : (s : SidesRecord) (top : Option PairRecord) (old : Selection) (path : Option Path) (new : Selection) → NamesTop s top old path new → cells new.pairs ≡ cells old.pairs
+names-cells s None old path new (is, same) = ap (λ (x : Selection). cells x.pairs) same
+names-cells s (Some top) old path new h = either (stands_at old.selected_pair top.priority old.pairs) h
+    (λ _ k. ap (λ (x : Selection). cells x.pairs) k.1)
+    (λ _ k. ap (λ (x : Selection). cells x.pairs) k.1
+    ∙ cells-map (change_at top.number (nominated_by_self s.controlling s.lite))
+    (λ p. at-cell top.number (nominated_by_self s.controlling s.lite) p (unless-cell (not (is_nominated p) && (s.controlling || s.lite)) s.lite p)) old.pairs)
+
+module _ {H P : Type 0} where
+  abbrev pub Fewer : AgentRecord H P → AgentRecord H P → Type 0
+  Fewer old new = repeats (cells new.pairs) ≤ repeats (cells old.pairs)
+
+  pub alike : (old new : AgentRecord H P) → cells new.pairs ≡ cells old.pairs → Fewer old new
+  alike old new e = subst (λ (cs : List Combination). repeats cs ≤ repeats (cells old.pairs)) (sym e) (omega arith)
+
+  pub made-as : (old wanted new : AgentRecord H P) → new ≡ wanted → Fewer old wanted → Fewer old new
+  made-as old wanted new e f = subst (λ (a : AgentRecord H P). repeats (cells a.pairs) ≤ repeats (cells old.pairs)) (sym e) f
+
+  pub unchanged : (old new : AgentRecord H P) → new ≡ old → Fewer old new
+  unchanged old new e = alike old new (ap (λ (a : AgentRecord H P). cells a.pairs) e)
+
+  pub on : (x y z : AgentRecord H P) → Fewer x y → Fewer y z → Fewer x z
+  on x y z f g = omega (arith, f, g)
+
+  -- ---- nomination and removal
+
+  nominates_fewer : (old new : AgentRecord H P) (path : Option Path) → Nominates old path new → Fewer old new
+  nominates_fewer old new path (chosen, (top, greatest, names), made) =
+      alike old new (ap (λ (a : AgentRecord H P). cells a.pairs) made ∙ (emitted path (with_selection chosen old) ∙ names-cells (sides_of old) top (selection old.pairs old.selected_pair) path chosen names)) where
+        emitted : (path : Option Path) (a : AgentRecord H P) → cells (nominated_emitted path a).pairs ≡ cells a.pairs
+        emitted None a = refl
+        emitted (Some path) a = refl
+
+  where_fewer : (b : Bool) (old new : AgentRecord H P) (path : Option Path) → NominatesWhere b old path new → Fewer old new
+  where_fewer true old new path h = nominates_fewer old new path h
+  where_fewer false old new path h = unchanged old new h.1
+
+  evaluated_fewer : (now : ℕ) (old mid new : AgentRecord H P) → new ≡ evaluated now mid → Fewer old mid → Fewer old new
+  evaluated_fewer now old mid new e f = made-as old (evaluated now mid) new e f
+
+  gives_up_fewer : (now : ℕ) (old new : AgentRecord H P) (path : Option Path) → GivesUp now old path new → Fewer old new
+  gives_up_fewer now old new path h = either (list_any (is_given_up now old) old.pairs) h
+      (λ _ k. evaluated_fewer now old k.0 new k.2
+      (on old (given_up_gone now old) k.0 (repeats-filter (λ p. not (is_given_up now old p)) old.pairs) (nominates_fewer (given_up_gone now old) k.0 path k.1)))
+      (λ _ k. unchanged old new k.1)
+
+  -- ---- checks
+
+  asked_cells : (now : ℕ) (old : AgentRecord H P) → cells (all_asked now old).pairs ≡ cells old.pairs
+  asked_cells now old = cells-map (asked now old.timing) (λ p. refl) old.pairs
+
+  check_fewer : (mac : H → List ℕ → List ℕ → List ℕ) (now : ℕ) (remote : Option IceCreds) (old new : AgentRecord H P) (s t : Stream) (issued : Option Issued)
+      → MayCheck mac now remote old s issued new t → Fewer old new
+  check_fewer mac now None old new s t issued (is, made, drawn) = unchanged old new made
+  check_fewer mac now (Some remote) old new s t issued h = either old.lite h
+      (λ _ k. alike old new (ap (λ (a : AgentRecord H P). cells a.pairs) k.1 ∙ cells-map (heard now) (λ p. heard-cell now p.last_request p) old.pairs))
+      (λ _ k. next k.0 k.2) where
+        next : (top : Option PairRecord) → ChecksTop mac now remote top (all_asked now old) s issued new t → Fewer old new
+        next None (is, made, drawn) = alike old new (ap (λ (a : AgentRecord H P). cells a.pairs) made ∙ asked_cells now old)
+        next (Some p) (id, drawn, values, is, made) = alike old new (
+            ap (λ (a : AgentRecord H P). cells a.pairs) made
+            ∙ (cells-map (change_at p.number (checked now old.timing old.controlling id))
+            (λ x. at-cell p.number (checked now old.timing old.controlling id) x refl) (all_asked now old).pairs ∙ asked_cells now old)
+            )
+
+  maintains_pairs_fewer : (mac : H → List ℕ → List ℕ → List ℕ) (now : ℕ) (old new : AgentRecord H P) (s t : Stream) (emitted : Emitted) → MaintainsPairs mac now old s emitted new t → Fewer old new
+  maintains_pairs_fewer mac now old new s t emitted (first, second, issued, named, kept, nominating, giving, checking, is) =
+      on old named new (nominates_fewer (at_moment now old) named first nominating)
+      (on named kept new (gives_up_fewer now named kept second giving) (check_fewer mac now kept.remote_creds kept new s t issued checking))
+
+  -- ---- responses
+
+  success_fewer : (now : ℕ) (old new : AgentRecord H P) (via : Path) (m : Message) (emitted : Emitted) → TakesSuccess now old via m emitted new → Fewer old new
+  success_fewer now old new via m emitted (recorded, (i, p, after, found, keeps, (place, c, at, took), made), (path, mid, nominates, is, done)) =
+      evaluated_fewer now old mid new done (on old recorded mid
+      (alike old recorded (ap (λ (a : AgentRecord H P). cells a.pairs) made ∙ cells-set old.pairs i p after found (ap (λ (y : PairRecord). cell_of y) took)))
+      (nominates_fewer recorded mid path nominates))
+
+  switched_fewer : (a : AgentRecord H P) → Fewer a (switched a)
+  switched_fewer a = alike a (switched a) (cells-map (with_priority_in (switched_sides a)) (λ p. refl) a.pairs)
+
+  failure_fewer : (old new : AgentRecord H P) (via : Path) (m : Message) (emitted : Emitted) → TakesFailure old via m emitted new → Fewer old new
+  failure_fewer old new via m emitted h = either (is_role_conflict m) h (λ _ k. gives k) (λ _ k. unchanged old new k.1) where
+    gives : GivesUpRole old via m emitted new → Fewer old new
+    gives (p, c, has, on_it, keeps, id_is, h) = either (role.same c.controlling old.controlling) h
+        (λ _ k. made-as old (switched old) new k.1 (switched_fewer old)) (λ _ k. unchanged old new k.1)
+
+  -- ---- forming
+
+  pub forms_few : (old new : AgentRecord H P) (all : List Combination) → FormsAll old all new → length new.pairs ≤ old.max_pairs
+  forms_few old new all (f, (mid, each, (gone, evicts), number), made) =
+      subst (λ (a : AgentRecord H P). length a.pairs ≤ old.max_pairs) (sym made) (evicted-most old.max_pairs gone mid.pairs f.pairs evicts)
+
+  -- ---- requests
+
+  module _ (mac : H → List ℕ → List ℕ → List ℕ) (q : RequestRecord) where
+    pair : (l r number : ℕ) (s new : AgentRecord H P) (emitted : Emitted) → RecordsAndResponds mac q l r number s emitted new → Fewer s new
+    pair l r number s new emitted (path, mid, nominates, (values, is, made)) =
+        let f = where_fewer (s.controlling && is_valid_at number s.pairs) (pair_served q number s) mid path nominates in
+        let e : cells (pair_served q number s).pairs ≡ cells s.pairs =
+        cells-map (change_at number (served s.controlling s.lite q)) (λ p. at-cell number (served s.controlling s.lite q) p (served-cell s.controlling s.lite q p)) s.pairs in
+        on s (pair_served q number s) new (alike s (pair_served q number s) e)
+        (on (pair_served q number s) mid new f (alike mid new (ap (λ (a : AgentRecord H P). cells a.pairs) made)))
+
+    takes : (l r : ℕ) (number : Option ℕ) (s new : AgentRecord H P) (emitted : Emitted) → IsPairBetween s.pairs l r number → FindsOrAddsPair mac q l r number s emitted new → Fewer s new
+    takes l r (Some number) s new emitted between h = pair l r number s new emitted h
+    takes l r None s new emitted between h = either (candidate_at s.local l).discarded h (λ _ k. unchanged s new k.1)
+        (λ _ k. on s (with_pair (formed s l r) s) new (added (none-any (is_between l r) s.pairs between)) (pair l r s.next_number (with_pair (formed s l r) s) new emitted k.1)) where
+          added : list_any (is_between l r) s.pairs ≡ false → Fewer s (with_pair (formed s l r) s)
+          added none =
+              let e : repeats (cells (s.pairs ++ formed s l r ∷ [])) ≡ repeats (cells s.pairs) = repeats-new s.pairs (formed s l r) (none-between l r s.pairs none) in
+              omega (arith, e)
+
+    joins_at : (l : ℕ) (place : RemotePlace) (s new : AgentRecord H P) (emitted : Emitted) → AddsUnknownSender mac q l place s emitted new → Fewer s new
+    joins_at l (Known r) s new emitted (number, between, h) = takes l r number s new emitted between h
+    joins_at l Barred s new emitted h = unchanged s new h.1
+    joins_at l Full s new emitted h = unchanged s new h.1
+    joins_at l Unknown s new emitted (number, between, h) = takes l (length s.remote) number (with_sender q s) new emitted between h
+    joins_at l (Vacant r) s new emitted (number, between, h) = takes l r number (with_sender_at r q s) new emitted between h
+
+    admitted : (l : ℕ) (s new : AgentRecord H P) (emitted : Emitted) → CountsAndServes mac q l s emitted new → Fewer s new
+    admitted l s new emitted h = either (is_misled s.controlling q) h (λ _ k. unchanged s new k.1)
+        (λ _ k. joins_at l k.0 (request_counted s) new emitted k.2)
+
+    resolves_by : (conflict : Conflict) (l : ℕ) (s new : AgentRecord H P) (emitted : Emitted) → ResolvesRoleConflictBy mac conflict q l s emitted new → Fewer s new
+    resolves_by Absent l s new emitted h = admitted l s new emitted h
+    resolves_by Insists l s new emitted (values, is, made) = alike s new (ap (λ (a : AgentRecord H P). cells a.pairs) made)
+    resolves_by Yields l s new emitted h = on s (switched s) new (switched_fewer s) (admitted l (switched s) new emitted h)
+
+    here : (place : Option ℕ) (s new : AgentRecord H P) (emitted : Emitted) → MatchOption place (Drops s emitted new) (λ l. ResolvesRoleConflict mac q l s emitted new) → Fewer s new
+    here None s new emitted h = unchanged s new h.1
+    here (Some l) s new emitted h = resolves_by (conflict_of s q) l s new emitted h
+
+    serves : (s new : AgentRecord H P) (emitted : Emitted) → Serves mac q s emitted new → Fewer s new
+    serves s new emitted h = either (names_another s q) h (λ _ k. unchanged s new k.1) (λ _ k. here (local_place s.local q) s new emitted k)
+
+    requested : (remote : Option IceCreds) (s new : AgentRecord H P) (emitted : Emitted) → MatchOption remote (Queues q s emitted new) (λ _. Serves mac q s emitted new) → Fewer s new
+    requested None s new emitted h = alike s new (ap (λ (a : AgentRecord H P). cells a.pairs) h.1)
+    requested (Some peer) s new emitted h = serves s new emitted h
+
+  -- ---- packets and timeouts
+
+  module _ (mac : H → List ℕ → List ℕ → List ℕ) where
+    by_class : (c : Class) (now : ℕ) (old mid : AgentRecord H P) (via : Path) (m : Message) (emitted : Emitted) → Takes mac c now old via m emitted mid → Fewer old mid
+    by_class class.Request now old mid via m emitted h = requested mac (request_in now via m) old.remote_creds old mid emitted h
+    by_class class.Success now old mid via m emitted h = success_fewer now old mid via m emitted h
+    by_class class.Failure now old mid via m emitted h = failure_fewer old mid via m emitted h
+    by_class class.Indication now old mid via m emitted h = absurd h
+    by_class class.Unknown now old mid via m emitted h = absurd h
+
+    handled : (now : ℕ) (old new : AgentRecord H P) (via : Path) (m : Message) (r : Result Bool IceError) (emitted : Emitted) → HandlesPacket mac now old via m r emitted new → Fewer old new
+    handled now old new via m (Ok false) emitted (refused, is, made) = unchanged old new made
+    handled now old new via m (Ok true) emitted (accepted, (mid, takes_it, made)) =
+        made-as old (discovered_emitted via mid) new made (by_class m.class now old mid via m emitted takes_it)
+    handled now old new via m (Err error) emitted (may, is, made) = unchanged old new made
+
+    pub received : (answers : P → CandidateRecord → ℕ → ℕ → Type 0) (now : ℕ) (old new : AgentRecord H P) (via : Path) (bytes : List ℕ) (e : Entry)
+        → Receives mac answers now old via bytes e new → Fewer old new
+    received answers now old new via bytes e (inl (fault, has, is, made)) = unchanged old new made
+    received answers now old new via bytes e (inr (m, reads, (r, emitted, is, handles))) = handled now old new via m r emitted handles
+
+    pub timed : (now : ℕ) (old new : AgentRecord H P) (s t : Stream) (r : Result (Unit {0}) IceError) (emitted : Emitted) → TimesOut mac now old s r emitted new t → Fewer old new
+    timed now old new s t (Ok _) emitted h = by (request_at now old) h where
+      by : (q : Option RequestRecord) → MatchOption q (MaintainsPairs mac now (timeout_begun now old) s emitted new t) (λ q. Serves mac q (first_taken (timeout_begun now old)) emitted new × (t ≡ s)) → Fewer old new
+      by None k = maintains_pairs_fewer mac now (timeout_begun now old) new s t emitted k
+      by (Some q) (k, drawn) = serves mac q (first_taken (timeout_begun now old)) new emitted k
+    timed now old new s t (Err error) emitted (may, is, made, drawn) = unchanged old new made
