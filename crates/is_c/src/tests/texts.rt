@@ -114,7 +114,7 @@ fn a_line_gets_a_username_fragment(rt: HostRuntime) {
     let mut again = [0; 100];
     let named = is_ice_line_with_ufrag(alloc, &text[..length], b"9uB6", &mut again, &mut length);
     assert!(rt; named == codes::OK);
-    assert!(rt; again[length - 5..length] == b" 9uB6"[..]);
+    assert!(rt; again[..length].ends_with(b" 9uB6"));
     let unread = is_ice_line_with_ufrag(alloc, LINE, b"\xff", &mut text, &mut length);
     assert!(rt; unread == codes::NOT_UTF8);
     let bad = is_ice_line_with_ufrag(alloc, b"candidate:1 x", b"EsAw", &mut text, &mut length);
@@ -130,7 +130,7 @@ fn a_gathered_candidate_has_a_line(rt: HostRuntime) {
     assert!(rt; told == codes::OK);
     // RFC 8445, section 5.1.2.1, with the type preference 90 of a host over TCP: 90 * 2^24 + 65534 * 2^8 + 255.
     assert!(rt;
-        text[length - 53..length] == b" 1 tcp 1526726399 10.0.0.1 9 typ host tcptype passive"[..]
+        text[..length].ends_with(b" 1 tcp 1526726399 10.0.0.1 9 typ host tcptype passive")
     );
     let mut over_udp = over_tcp(2);
     over_udp.protocol = 0;
@@ -141,7 +141,9 @@ fn a_gathered_candidate_has_a_line(rt: HostRuntime) {
     let none = is_ice_candidate_line(alloc, &host(address(0, 0)), &mut text, &mut length);
     assert!(rt; none == codes::OK);
     let mut nowhere = over_tcp(1);
-    nowhere.address.bytes = [0; 16];
+    let mut zeros = nowhere.address;
+    zeros.bytes = [0; 16];
+    nowhere.address = zeros;
     let none = is_ice_candidate_line(alloc, &nowhere, &mut text, &mut length);
     assert!(rt; none == codes::BAD_CANDIDATE);
 }
@@ -163,10 +165,10 @@ fn an_agent_lists_the_tcp_type(rt: HostRuntime) {
     }
     let told = is_ice_local_candidate(alloc, &mut slot, 0, &mut text, &mut length);
     assert!(rt; told == codes::OK);
-    assert!(rt; text[length - 26..length] == b" tcptype active ufrag AAAA"[..]);
+    assert!(rt; text[..length].ends_with(b" tcptype active ufrag AAAA"));
     let told = is_ice_local_candidate(alloc, &mut slot, 1, &mut text, &mut length);
     assert!(rt; told == codes::OK);
-    assert!(rt; text[length - 22..length] == b" tcptype so ufrag AAAA"[..]);
+    assert!(rt; text[..length].ends_with(b" tcptype so ufrag AAAA"));
     is_ice_agent_free(alloc, &mut slot);
 }
 

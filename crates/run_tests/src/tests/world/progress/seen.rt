@@ -95,11 +95,13 @@ fn is_fixed(pair: &CandidatePair) -> Option<bool> {
         initial_rto: Duration(0),
         max_retransmits: 1,
         max_rto: Duration(0),
+        lite_timeout: Duration(0),
     };
     let hour = StunTiming {
         initial_rto: Duration(3_600_000_000_000),
         max_retransmits: 1,
         max_rto: Duration(3_600_000_000_000),
+        lite_timeout: Duration(3_600_000_000_000),
     };
     let (mut early, mut late) = (pair.try_clone().ok()?, pair.try_clone().ok()?);
     Some(early.next_binding_attempt(Instant(0), &at_once) == late.next_binding_attempt(LATE, &hour))
@@ -113,6 +115,7 @@ fn pair_seen(pair: &CandidatePair, now: Instant, limit: usize) -> Option<Awaited
         initial_rto: Duration(250_000_000),
         max_retransmits: limit,
         max_rto: Duration(3_000_000_000),
+        lite_timeout: Duration(15_000_000_000),
     };
     let mut copy = pair.try_clone().ok()?;
     Some(Awaited {
