@@ -2,6 +2,7 @@
 
 mod answered;
 mod calls;
+mod floods;
 mod nomination;
 mod order;
 mod replies;
@@ -178,6 +179,8 @@ enum Step {
     Lite,
     /// The limit of pairs.
     Pairs(usize),
+    /// The limit of remote candidates that requests bring.
+    Discovered(usize),
     /// The limit of checks of a pair.
     Checks(usize),
     /// The agent gets this username fragment.
@@ -256,6 +259,7 @@ fn call(alloc: Global, side: Side, step: Step) -> Option<Call> {
         Step::TieBreaker(number) => Some(AgentCall::SetControlTieBreaker(number)),
         Step::Lite => Some(AgentCall::SetIceLite(true)),
         Step::Pairs(limit) => Some(AgentCall::SetMaxCandidatePairs(limit)),
+        Step::Discovered(limit) => Some(AgentCall::SetMaxDiscovered(Some(limit))),
         Step::Checks(limit) => Some(AgentCall::SetMaxStunRetransmits(limit)),
         Step::Named(ufrag) => rename(alloc, side, ufrag),
         Step::Remote => remote(alloc, side, ufrag(other(side))),

@@ -129,9 +129,7 @@ fn a_gathered_candidate_has_a_line(rt: HostRuntime) {
     let told = is_ice_candidate_line(alloc, &over_tcp(2), &mut text, &mut length);
     assert!(rt; told == codes::OK);
     // RFC 8445, section 5.1.2.1, with the type preference 90 of a host over TCP: 90 * 2^24 + 65534 * 2^8 + 255.
-    assert!(rt;
-        text[..length].ends_with(b" 1 tcp 1526726399 10.0.0.1 9 typ host tcptype passive")
-    );
+    assert!(rt; text[..length].ends_with(b" 1 tcp 1526726399 10.0.0.1 9 typ host tcptype passive"));
     let mut over_udp = over_tcp(2);
     over_udp.protocol = 0;
     let bad = is_ice_candidate_line(alloc, &over_udp, &mut text, &mut length);

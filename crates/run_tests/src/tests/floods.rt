@@ -1,0 +1,75 @@
+//! Requests from many addresses: how many candidates and pairs the limits leave of them.
+
+use super::*;
+
+/// A request of B with this number comes from its port 2000 and as many more.
+fn asks(number: u8) -> Step {
+    Step::Packet {
+        ms: 10,
+        from: at(2, 2000_u16.saturating_add(u16::from(number))),
+        to: at(1, 1000),
+        said: Said::Request {
+            number,
+            controlling: true,
+        },
+    }
+}
+
+/// What a flood leaves.
+struct Floods;
+
+impl Subject for Floods {
+    fn play(&self, stage: &mut Stage) -> Told {
+        a_flood_brings_as_many_candidates_as_the_limit(stage)?;
+        a_flood_adds_pairs_past_their_limit(stage)
+    }
+}
+
+#[test]
+fn stories(rt: HostRuntime) -> Result<(), Fail> {
+    tell(rt.alloc(), &Floods)
+}
+
+/// So many remote candidates and pairs.
+fn has(stage: &Stage, candidates: usize, pairs: usize) -> bool {
+    let mut count: usize = 0;
+    for _ in stage.agent.remote_candidates() {
+        count = count.saturating_add(1);
+    }
+    count == candidates && stage.agent.candidate_pair_count() == pairs
+}
+
+fn a_flood_brings_as_many_candidates_as_the_limit(stage: &mut Stage) -> Told {
+    let flood = [asks(1), asks(2), asks(3), asks(4), asks(5)];
+    let steps = [Step::Remote, Step::Discovered(2), Step::Host(at(1, 1000))];
+    let without = [Step::Remote, Step::Host(at(1, 1000))];
+    Story("a_flood_brings_as_many_candidates_as_the_limit").holds(&[
+        stage.plays(&[&steps, &flood]),
+        takes(stage, 7, true),
+        has(stage, 2, 2),
+        // a signaled candidate needs no place
+        stage.plays(&[&steps, &flood, &[Step::Peer(at(3, 3000))]]),
+        has(stage, 3, 3),
+        stage.plays(&[&without, &flood]),
+        has(stage, 5, 5),
+    ])
+}
+
+fn a_flood_adds_pairs_past_their_limit(stage: &mut Stage) -> Told {
+    let flood = [asks(1), asks(2), asks(3), asks(4), asks(5)];
+    let steps = [
+        Step::Remote,
+        Step::Discovered(2),
+        Step::Pairs(1),
+        Step::Host(at(1, 1000)),
+        Step::Peer(at(3, 3000)),
+    ];
+    Story("a_flood_adds_pairs_past_their_limit").holds(&[
+        // 1 is the limit, and 1 * 3 one for the local candidate with each remote one
+        stage.plays(&[&steps, &flood]),
+        has(stage, 3, 3),
+        // the next added candidate removes all but the pair of greatest priority
+        stage.plays(&[&steps, &flood, &[Step::Peer(at(4, 4000))]]),
+        has(stage, 4, 1),
+    ])
+}
