@@ -79,7 +79,7 @@ enum {
     IS_ICE_NO_AGENT = -1,              /* the is_ice_agent holds no agent */
     IS_ICE_HAS_AGENT = -2,             /* the is_ice_agent holds one already */
     IS_ICE_NOT_UTF8 = -3,              /* a text is not UTF-8 */
-    IS_ICE_BAD_ADDRESS = -4,           /* a family other than 4 and 6, or an unknown number of a protocol, a kind or a TCP type */
+    IS_ICE_BAD_ADDRESS = -4,           /* an unknown family, protocol, kind or TCP type, or a TCP type over UDP */
     IS_ICE_UNPARSED = -5,              /* not a STUN message, or one without what ICE requires of it */
     IS_ICE_BUFFER_TOO_SHORT = -6,      /* the buffer is unchanged; of a text or packet the required length was returned */
     IS_ICE_OUT_OF_MEMORY = -7,         /* malloc or realloc failed */
@@ -462,13 +462,13 @@ IS_ICE_CALL int32_t is_ice_line_refusal(
 /* is_ice_candidate_refusal - says why is_ice_add_local fails with IS_ICE_BAD_CANDIDATE.
  *
  * IS_ICE_OK: it does, and the explanation is at the start of the buffer. IS_ICE_NOTHING: it is a candidate; the buffer
- * is unchanged. IS_ICE_BAD_ADDRESS: an unknown family, kind or protocol. IS_ICE_BUFFER_TOO_SHORT. IS_ICE_OUT_OF_MEMORY.
- * On any thread. */
+ * is unchanged. IS_ICE_BAD_ADDRESS: see is_ice_add_local. IS_ICE_BUFFER_TOO_SHORT. IS_ICE_OUT_OF_MEMORY. On any
+ * thread. */
 IS_ICE_CALL int32_t is_ice_candidate_refusal(
     const is_ice_candidate *candidate, uint8_t *buffer, size_t size, size_t *length);
 
-/* ---- candidates without an agent: their texts and their JSON. On any thread. After an error or IS_ICE_NOTHING the buffer is
- * unchanged. */
+/* ---- candidates without an agent: their texts and their JSON. On any thread. After an error or IS_ICE_NOTHING the
+ * buffer is unchanged; *length is then unspecified, except after IS_ICE_BUFFER_TOO_SHORT. */
 
 /* is_ice_candidate_line - returns the text of a candidate that no agent has: with the priority of a first candidate of its
  * kind (RFC 8445, section 5.1.2.1), and without a username fragment. An agent may list another priority.
