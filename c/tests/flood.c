@@ -205,7 +205,7 @@ static void pass(struct world *w)
 static void make(is_ice_agent *agent, bool is_controlling, const is_ice_address *at)
 {
     static const char *const ufrags[] = {"victim", "peer"}, *const passwords[] = {"password of the victim", "password of the peer"};
-    const is_ice_candidate host = {*at, *at, IS_ICE_HOST, IS_ICE_UDP};
+    const is_ice_candidate host = {*at, *at, IS_ICE_HOST, IS_ICE_UDP, IS_ICE_TCP_UNSTATED};
     const char *ufrag = ufrags[is_controlling], *pass = passwords[is_controlling];
     const char *other = ufrags[!is_controlling], *secret = passwords[!is_controlling];
     size_t index;
