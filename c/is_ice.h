@@ -79,7 +79,7 @@ enum {
     IS_ICE_NO_AGENT = -1,              /* the is_ice_agent holds no agent */
     IS_ICE_HAS_AGENT = -2,             /* the is_ice_agent holds one already */
     IS_ICE_NOT_UTF8 = -3,              /* a text is not UTF-8 */
-    IS_ICE_BAD_ADDRESS = -4,           /* a family other than 4 and 6, or an unknown number of a protocol, a kind or a TCP type */
+    IS_ICE_BAD_ADDRESS = -4,           /* an unknown family, protocol, kind or TCP type, or a TCP type over UDP */
     IS_ICE_UNPARSED = -5,              /* not a STUN message, or one without what ICE requires of it */
     IS_ICE_BUFFER_TOO_SHORT = -6,      /* the buffer is unchanged; of a text or packet the required length was returned */
     IS_ICE_OUT_OF_MEMORY = -7,         /* malloc or realloc failed */
@@ -308,9 +308,9 @@ IS_ICE_QUIET_CALL int32_t is_ice_set_controlling(is_ice_agent *agent, bool contr
  * never finds a path, and no call reports it. IS_ICE_OK. Value: false. */
 IS_ICE_QUIET_CALL int32_t is_ice_set_lite(is_ice_agent *agent, bool lite);
 
-/* is_ice_set_lite_timeout - sets how long a lite agent keeps a pair after the last check of the other agent on it. A pair
- * without any counts as checked at its first is_ice_handle_timeout call. With 0 the next such call after a check removes
- * the pair. A full agent does not use it. IS_ICE_OK. Value: 15 s. */
+/* is_ice_set_lite_timeout - sets how long a lite agent keeps a pair after the last check of the other agent on it. A
+ * pair without any counts as checked at its first is_ice_handle_timeout call. With 0 the next such call after a check
+ * removes the pair. A full agent does not use it. IS_ICE_OK. Value: 15 s. */
 IS_ICE_QUIET_CALL int32_t is_ice_set_lite_timeout(is_ice_agent *agent, uint64_t nanoseconds);
 
 /* is_ice_set_tie_breaker - sets the number that decides role conflicts: the greater one keeps its role. IS_ICE_OK.
@@ -324,20 +324,21 @@ IS_ICE_QUIET_CALL int32_t is_ice_set_max_pairs(is_ice_agent *agent, size_t limit
 /* No limit: see is_ice_set_max_discovered. */
 #define IS_ICE_NO_LIMIT ((size_t)-1)
 
-/* is_ice_set_max_discovered - limits how many remote candidates requests bring: the peer-reflexive ones (RFC 8445, section
- * 7.3.1.3), invalidated ones included.
+/* is_ice_set_max_discovered - limits how many remote candidates requests bring: the peer-reflexive ones (RFC 8445,
+ * section 7.3.1.3), invalidated ones included.
  *
  * It is against this attack: whoever sees one request of the other agent on the wire can send it again from other
  * addresses and ports, without a password. Each of them would become a candidate with a pair, whose checks cost memory,
  * time and turns of the pacing interval.
  *
- * At the limit an unknown sender takes the place of such a candidate whose pair was removed. If there is none, its request
- * is dropped without a response. Known senders are always served, and those that is_ice_add_remote added do not count. The
- * limit also bounds how many sources are remembered for IS_ICE_DISCOVERED_RECV; while as many events wait to be polled, no
- * further source is reported. With 0 no request brings a candidate.
+ * At the limit an unknown sender takes the place of such a candidate whose pair was removed. If there is none, its
+ * request is dropped without a response. A sender that is a candidate is always served, and candidates that
+ * is_ice_add_remote added do not count. The limit also bounds how many sources are remembered for
+ * IS_ICE_DISCOVERED_RECV; while as many events wait to be polled, no further source is reported. With 0 no request
+ * brings a candidate.
  *
- * IS_ICE_NO_LIMIT: each sender becomes a candidate. Set the limit before the first packet: a lower one removes no candidate.
- * IS_ICE_OK. Value: 32. */
+ * IS_ICE_NO_LIMIT: each sender becomes a candidate. Set the limit before the first packet: a lower one removes no
+ * candidate. IS_ICE_OK. Value: 32. */
 IS_ICE_QUIET_CALL int32_t is_ice_set_max_discovered(is_ice_agent *agent, size_t limit);
 
 /* is_ice_set_timing_advance - sets the pacing interval Ta (RFC 8445, section 14.2): the least time from the last
@@ -462,24 +463,25 @@ IS_ICE_CALL int32_t is_ice_line_refusal(
 /* is_ice_candidate_refusal - says why is_ice_add_local fails with IS_ICE_BAD_CANDIDATE.
  *
  * IS_ICE_OK: it does, and the explanation is at the start of the buffer. IS_ICE_NOTHING: it is a candidate; the buffer
- * is unchanged. IS_ICE_BAD_ADDRESS: an unknown family, kind or protocol. IS_ICE_BUFFER_TOO_SHORT. IS_ICE_OUT_OF_MEMORY.
- * On any thread. */
+ * is unchanged. IS_ICE_BAD_ADDRESS: see is_ice_add_local. IS_ICE_BUFFER_TOO_SHORT. IS_ICE_OUT_OF_MEMORY. On any
+ * thread. */
 IS_ICE_CALL int32_t is_ice_candidate_refusal(
     const is_ice_candidate *candidate, uint8_t *buffer, size_t size, size_t *length);
 
-/* ---- candidates without an agent: their texts and their JSON. On any thread. After an error or IS_ICE_NOTHING the buffer is
- * unchanged. */
+/* ---- candidates without an agent: their texts and their JSON. On any thread. After an error or IS_ICE_NOTHING the
+ * buffer is unchanged; *length is then unspecified, except after IS_ICE_BUFFER_TOO_SHORT. */
 
-/* is_ice_candidate_line - returns the text of a candidate that no agent has: with the priority of a first candidate of its
- * kind (RFC 8445, section 5.1.2.1), and without a username fragment. An agent may list another priority.
+/* is_ice_candidate_line - returns the text of a candidate that no agent has: with the priority of a first candidate of
+ * its kind (RFC 8445, section 5.1.2.1), and without a username fragment. An agent may list another priority.
  *
- * IS_ICE_OK. IS_ICE_BAD_ADDRESS, IS_ICE_BAD_CANDIDATE: see is_ice_add_local. IS_ICE_BUFFER_TOO_SHORT. IS_ICE_OUT_OF_MEMORY. */
+ * IS_ICE_OK. IS_ICE_BAD_ADDRESS, IS_ICE_BAD_CANDIDATE: see is_ice_add_local. IS_ICE_BUFFER_TOO_SHORT.
+ * IS_ICE_OUT_OF_MEMORY. */
 IS_ICE_CALL int32_t is_ice_candidate_line(
     const is_ice_candidate *candidate, uint8_t *buffer, size_t size, size_t *length);
 
-/* is_ice_line_with_ufrag - returns the text of a candidate again, with this username fragment in place of its own: so that
- * is_ice_add_remote can leave out candidates of an earlier session. The fragment has letters, digits, '+' and '/' (RFC 8839,
- * section 5.4), which the call does not check. Unknown extensions are left out.
+/* is_ice_line_with_ufrag - returns the text of a candidate again, with this username fragment in place of its own: so
+ * that is_ice_add_remote can leave out candidates of an earlier session. The fragment has letters, digits, '+' and '/'
+ * (RFC 8839, section 5.4), which the call does not check. Unknown extensions are left out.
  *
  * IS_ICE_OK. IS_ICE_NOT_UTF8. IS_ICE_BAD_CANDIDATE. IS_ICE_BUFFER_TOO_SHORT. IS_ICE_OUT_OF_MEMORY. */
 IS_ICE_CALL int32_t is_ice_line_with_ufrag(
@@ -494,12 +496,12 @@ IS_ICE_CALL int32_t is_ice_line_with_ufrag(
 IS_ICE_CALL int32_t is_ice_line_to_json(
     const uint8_t *line, size_t line_length, uint8_t *buffer, size_t size, size_t *length);
 
-/* is_ice_line_from_json - returns the text of the candidate in such JSON, for is_ice_add_remote. A usernameFragment that is
- * a string replaces that of the candidate. Other members are not read: with several media sections, compare sdpMid or
- * sdpMLineIndex yourself. The end of candidates, which has an empty `candidate`, is IS_ICE_BAD_CANDIDATE.
+/* is_ice_line_from_json - returns the text of the candidate in such JSON, for is_ice_add_remote. A usernameFragment that
+ * is a string replaces that of the candidate. Other members are not read: with several media sections, compare sdpMid
+ * or sdpMLineIndex yourself. The end of candidates, which has an empty `candidate`, is IS_ICE_BAD_CANDIDATE.
  *
- * IS_ICE_OK. IS_ICE_NOT_UTF8. IS_ICE_BAD_CANDIDATE: not JSON, no object, without a candidate, or with one that is not one
- * (is_ice_json_refusal says which). IS_ICE_BUFFER_TOO_SHORT. IS_ICE_OUT_OF_MEMORY. */
+ * IS_ICE_OK. IS_ICE_NOT_UTF8. IS_ICE_BAD_CANDIDATE: not JSON, no object, without a candidate, or with one that is not
+ * one (is_ice_json_refusal says which). IS_ICE_BUFFER_TOO_SHORT. IS_ICE_OUT_OF_MEMORY. */
 IS_ICE_CALL int32_t is_ice_line_from_json(
     const uint8_t *json, size_t json_length, uint8_t *buffer, size_t size, size_t *length);
 
@@ -510,8 +512,8 @@ IS_ICE_CALL int32_t is_ice_line_from_json(
 IS_ICE_CALL int32_t is_ice_json_refusal(
     const uint8_t *json, size_t json_length, uint8_t *buffer, size_t size, size_t *length);
 
-/* is_ice_candidate_preference, is_ice_line_preference - return the default local preference of a candidate that comes after
- * `same_kind` local candidates of its kind and IP version: for a table of your own that changes the default one.
+/* is_ice_candidate_preference, is_ice_line_preference - return the default local preference of a candidate that comes
+ * after `same_kind` local candidates of its kind and IP version: for a table of your own that changes the default one.
  *
  * IS_ICE_OK: 0 to 65535. Else *preference is unchanged. IS_ICE_BAD_ADDRESS (the first), IS_ICE_NOT_UTF8 (the second),
  * IS_ICE_BAD_CANDIDATE, IS_ICE_OUT_OF_MEMORY. */

@@ -103,14 +103,14 @@ static double processor_time(void)
     return (double)t.tv_sec * 1e9 + (double)t.tv_nsec;
 }
 
-/* Bytes of the process in memory. */
+/* Bytes of the process in memory, without those that are a file's: code is loaded when it first runs. */
 static long resident(void)
 {
-    long size, pages;
+    long size, pages, shared;
     FILE *file = fopen("/proc/self/statm", "r");
-    if (!file || fscanf(file, "%ld %ld", &size, &pages) != 2) fail("/proc/self/statm", "no sizes");
+    if (!file || fscanf(file, "%ld %ld %ld", &size, &pages, &shared) != 3) fail("/proc/self/statm", "no sizes");
     fclose(file);
-    return pages * sysconf(_SC_PAGESIZE);
+    return (pages - shared) * sysconf(_SC_PAGESIZE);
 }
 
 /* ---- the honest session */
@@ -205,7 +205,7 @@ static void pass(struct world *w)
 static void make(is_ice_agent *agent, bool is_controlling, const is_ice_address *at)
 {
     static const char *const ufrags[] = {"victim", "peer"}, *const passwords[] = {"password of the victim", "password of the peer"};
-    const is_ice_candidate host = {*at, *at, IS_ICE_HOST, IS_ICE_UDP};
+    const is_ice_candidate host = {*at, *at, IS_ICE_HOST, IS_ICE_UDP, IS_ICE_TCP_UNSTATED};
     const char *ufrag = ufrags[is_controlling], *pass = passwords[is_controlling];
     const char *other = ufrags[!is_controlling], *secret = passwords[!is_controlling];
     size_t index;
@@ -297,12 +297,12 @@ static int compare(const void *a, const void *b)
     return (x > y) - (x < y);
 }
 
-/* A thousand packets of the flood. Returns the median of their times. */
+/* A thousand packets of the flood. Returns a time that a tenth of them did not exceed: other programs add to the rest. */
 static double take_block(struct world *w, const struct flood *f, size_t first)
 {
     for (size_t i = 0; i < BLOCK; i++) w->took[i] = take_one(w, f, first + i);
     qsort(w->took, BLOCK, sizeof *w->took, compare);
-    return w->took[BLOCK / 2];
+    return w->took[BLOCK / 10];
 }
 
 static size_t remote_count(struct world *w)

@@ -136,6 +136,50 @@ static void introduce(struct story *s)
     CALL(s, IS_ICE_OK, is_ice_add_remote(&s->b, line, length, &index));
 }
 
+/* Candidates without an agent. */
+static void write_texts(struct story *s)
+{
+    static const uint8_t line[] = "candidate:1 1 udp 7 10.0.0.9 9 typ host";
+    const size_t size = sizeof line - 1;
+    uint8_t text[256], again[256];
+    size_t length, again_length;
+    uint32_t preference = 0;
+    CALL(s, IS_ICE_OK, is_ice_candidate_line(&host_a, text, sizeof text, &length));
+    add(s, text, length);
+    CALL(s, IS_ICE_OK, is_ice_line_with_ufrag(line, size, TEXT("AAAA"), text, sizeof text, &length));
+    add(s, text, length);
+    CALL(s, IS_ICE_OK, is_ice_line_to_json(line, size, text, sizeof text, &length));
+    add(s, text, length);
+    CALL(s, IS_ICE_OK, is_ice_line_from_json(text, length, again, sizeof again, &again_length));
+    add(s, again, again_length);
+    CALL(s, IS_ICE_OK, is_ice_json_refusal(TEXT("[]"), text, sizeof text, &length));
+    add(s, text, length);
+    CALL(s, IS_ICE_OK, is_ice_candidate_preference(&host_a, 1, &preference));
+    CALL(s, IS_ICE_OK, is_ice_line_preference(line, size, 1, &preference));
+    add(s, &preference, sizeof preference);
+}
+
+/* Messages: none of these calls allocates. */
+static void write_messages(void)
+{
+    static const is_ice_stun_transaction id = {{1, 2, 3}};
+    is_ice_stun_message message;
+    is_ice_stun_texts texts;
+    is_ice_stun_result result;
+    uint8_t bytes[128], text[16];
+    size_t length;
+    memset(&message, 0, sizeof message);
+    memset(&texts, 0, sizeof texts);
+    QUIET(IS_ICE_OK, is_ice_stun_request(&id, bytes, sizeof bytes, &length));
+    QUIET(IS_ICE_NOTHING, is_ice_stun_response(&id, bytes, length, &result));
+    QUIET(IS_ICE_OK, is_ice_stun_read(bytes, length, &message));
+    message.has_integrity = true;
+    texts.username.length = 3, texts.username.is_set = true;
+    QUIET(IS_ICE_OK, is_ice_stun_write(&message, &texts, TEXT("a:b"), TEXT("key"), bytes, sizeof bytes, &length));
+    QUIET(IS_ICE_OK, is_ice_stun_verify(bytes, length, TEXT("key")));
+    QUIET(IS_ICE_OK, is_ice_stun_text(IS_ICE_STUN_USERNAME, bytes, length, text, sizeof text, &length));
+}
+
 static int32_t next_packet(is_ice_agent *from, uint8_t *bytes, size_t size, is_ice_packet *packet)
 {
     const long before = asked;
@@ -202,9 +246,14 @@ static void end(struct story *s)
     is_ice_agent_stats stats;
     is_ice_nominated_pair nominated;
     is_ice_agent_status status;
+    is_ice_pair pair;
     uint8_t text[64];
-    size_t length;
+    size_t length, count;
     QUIET(IS_ICE_OK, is_ice_status(&s->a, &status));
+    QUIET(IS_ICE_OK, is_ice_pair_count(&s->a, &count));
+    QUIET(IS_ICE_OK, is_ice_pair_at(&s->a, 0, &pair));
+    CALL(s, IS_ICE_NOTHING, is_ice_find_pair(&s->a, TEXT("candidate:1 1 udp 7 10.0.0.9 9 typ host"), &pair));
+    add(s, &pair.responses, sizeof pair.responses);
     QUIET(IS_ICE_OK, is_ice_local_ufrag(&s->a, text, sizeof text, &length));
     QUIET(IS_ICE_OK, is_ice_local_pass(&s->a, text, sizeof text, &length));
     QUIET(IS_ICE_OK, is_ice_remote_ufrag(&s->a, text, sizeof text, &length));
@@ -231,6 +280,8 @@ static struct story played(long refused)
     left = refused;
     make(&s);
     introduce(&s);
+    write_texts(&s);
+    write_messages();
     connect(&s);
     end(&s);
     left = -1;

@@ -48,6 +48,9 @@ static void json(void)
     HOLD(is_ice_line_to_json(TEXT(named), buffer, sizeof buffer, &length) == IS_ICE_OK);
     HOLD(is_ice_line_to_json(TEXT("\xff"), buffer, sizeof buffer, &length) == IS_ICE_NOT_UTF8);
     HOLD(is_ice_line_to_json(TEXT(""), buffer, sizeof buffer, &length) == IS_ICE_BAD_CANDIDATE);
+    HOLD(is_ice_line_from_json(TEXT(compact), buffer, sizeof named - 2, &length) == IS_ICE_BUFFER_TOO_SHORT);
+    HOLD(length == sizeof named - 1);
+    HOLD(is_ice_line_from_json(TEXT("\xff"), buffer, sizeof buffer, &length) == IS_ICE_NOT_UTF8);
 }
 
 static void refusals(void)
@@ -74,8 +77,14 @@ static void lines(void)
     other.protocol = IS_ICE_TCP;
     HOLD(is_ice_candidate_line(&other, buffer, sizeof buffer, &length) == IS_ICE_OK);
     HOLD(memcmp(buffer + length - 24, " typ host tcptype active", 24) == 0);
+    HOLD(is_ice_candidate_line(&other, buffer, length - 1, &length) == IS_ICE_BUFFER_TOO_SHORT && length > 24);
     other.tcptype = 4;
     HOLD(is_ice_candidate_line(&other, buffer, sizeof buffer, &length) == IS_ICE_BAD_ADDRESS);
+    HOLD(is_ice_candidate_refusal(&other, buffer, sizeof buffer, &length) == IS_ICE_BAD_ADDRESS);
+    other = host, other.address.bytes[0] = 0, other.address.bytes[3] = 0;
+    HOLD(is_ice_candidate_line(&other, buffer, sizeof buffer, &length) == IS_ICE_BAD_CANDIDATE);
+    HOLD(is_ice_line_with_ufrag(TEXT(""), TEXT("EsAw"), buffer, sizeof buffer, &length) == IS_ICE_BAD_CANDIDATE);
+    HOLD(is_ice_line_with_ufrag(TEXT(line), TEXT("EsAw"), buffer, sizeof named - 2, &length) == IS_ICE_BUFFER_TOO_SHORT);
     HOLD(is_ice_line_with_ufrag(TEXT(line), TEXT("EsAw"), buffer, sizeof buffer, &length) == IS_ICE_OK && holds_text(named));
     HOLD(is_ice_line_with_ufrag(TEXT(line), TEXT("\xff"), buffer, sizeof buffer, &length) == IS_ICE_NOT_UTF8 && holds_text(named));
 }
@@ -87,7 +96,13 @@ static void preferences(void)
     HOLD(is_ice_candidate_preference(&v6, 0, &preference) == IS_ICE_OK && preference == 65535);
     HOLD(is_ice_line_preference(TEXT(line), 3, &preference) == IS_ICE_OK && preference == 65528);
     HOLD(is_ice_line_preference(TEXT(""), 3, &preference) == IS_ICE_BAD_CANDIDATE && preference == 65528);
+    HOLD(is_ice_line_preference(TEXT("\xff"), 3, &preference) == IS_ICE_NOT_UTF8 && preference == 65528);
     HOLD(is_ice_line_preference(TEXT(line), SIZE_MAX, &preference) == IS_ICE_OK && preference == 0);
+    is_ice_candidate other = v6;
+    other.kind = 3;
+    HOLD(is_ice_candidate_preference(&other, 0, &preference) == IS_ICE_BAD_ADDRESS && preference == 0);
+    other = v6, memset(other.address.bytes, 0, sizeof other.address.bytes);
+    HOLD(is_ice_candidate_preference(&other, 0, &preference) == IS_ICE_BAD_CANDIDATE && preference == 0);
 }
 
 static void pairs(void)
@@ -103,6 +118,8 @@ static void pairs(void)
     HOLD(is_ice_add_remote(&agent, TEXT("candidate:1 1 udp 7 192.0.2.1 1 typ host"), &index) == IS_ICE_OK);
     HOLD(is_ice_add_remote(&agent, TEXT(line), &index) == IS_ICE_OK && index == 1);
     HOLD(is_ice_find_pair(&agent, TEXT(named), &pair) == IS_ICE_OK && pair.local == 0 && pair.remote == 1);
+    HOLD(is_ice_find_pair(&agent, TEXT("\xff"), &pair) == IS_ICE_NOT_UTF8 && pair.remote == 1);
+    HOLD(is_ice_find_pair(&agent, TEXT(""), &pair) == IS_ICE_BAD_CANDIDATE && pair.remote == 1);
     HOLD(pair.state == IS_ICE_PAIR_WAITING && !pair.nominated && !pair.selected && !pair.has_rtt && !pair.has_request);
     is_ice_agent_free(&agent);
 }

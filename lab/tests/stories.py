@@ -70,6 +70,11 @@ class Story:
         for place in peer.local:
             self.remote(side, LINE.format(place.priority, place.address.ip, place.address.port, place.kind), time)
 
+    def limit(self, side: str, pairs: int, time: float = 0) -> None:
+        """The side limits its pairs, so that a further candidate may remove one."""
+        self.agents[side] = replace(self.agents[side], max_pairs=pairs)
+        self._log(time, side, "set_max_candidate_pairs", (pairs,))
+
     def remote(self, side: str, line: str, time: float = 0) -> None:
         """The side gets a remote candidate."""
         self.agents[side] = self.agents[side].add_remote(line)

@@ -50,7 +50,8 @@ class Meeting(unittest.TestCase):
     def test_no_call_removes_the_pair_before_the_487(self) -> None:
         story = Story(roles=(True, True))
         error = story.deliver(story.timeout("b", 0), "a", 5)
-        story.remote("b", LINE.format(99, "10.9.9.9", 9, "host"), 7)
+        story.limit("b", 1, 7)
+        story.remote("b", LINE.format(126 << 24 | 65535 << 8 | 255, A.ip, A.port, "srflx"), 7)  # on the same path
         story.deliver(error, "b", 9)
         self.assertEqual(verdict(story, "meet").failed, "a call may have removed a pair of the check's path")
         self.assertTrue(verdict(story, "meet", "ends").held)
@@ -117,7 +118,8 @@ class Granting(unittest.TestCase):
         story = Story()
         story.exchange("a", 0)
         story.exchange("b", 20)
-        story.remote("b", LINE.format(99, "10.9.9.9", 9, "host"), 40)
+        story.limit("b", 1, 40)
+        story.remote("b", LINE.format(126 << 24 | 65535 << 8 | 255, "10.9.9.9", 9, "host"), 40)
         story.exchange("a", 50)
         story.timeout("b", 70)
         self.assertEqual(verdict(story, "granted").failed, "a call may have removed the pair, as adding a candidate may")
@@ -207,7 +209,8 @@ class Connecting(unittest.TestCase):
 
     def test_other_calls_in_the_rounds(self) -> None:
         story = self.late(Story())
-        story.remote("b", LINE.format(99, "10.9.9.9", 9, "host"), 400)
+        story.limit("b", 1, 400)
+        story.remote("b", LINE.format(126 << 24 | 65535 << 8 | 255, "10.9.9.9", 9, "host"), 400)
         story.timeout("b", 500)
         story.timeout("b", 600)
         self.assertFalse(verdict(story, "connect").held)

@@ -52,7 +52,8 @@ from .events import (
 
 __all__ = [
     "AddResult", "BadAddress", "BadCandidate", "BadLimit", "BadMessage", "Candidate", "CandidateKind", "CandidatePair",
-    "CheckState", "CredentialsTooLong", "DiscoveredRecv", "HasAgent", "IceAgent", "IceAgentEvent", "IceAgentStats", "IceConnectionState", "IceConnectionStateChange",
+    "CheckState", "CredentialsTooLong", "DiscoveredRecv", "HasAgent", "IceAgent", "IceAgentEvent", "IceAgentStats",
+    "IceConnectionState", "IceConnectionStateChange",
     "IceCreds", "IceError", "IceRestart", "KindPreferences", "MessageTooLong", "MtuTooSmall", "NoAgent", "NominatedPair", "NominatedSend",
     "NotUtf8", "OutOfMemory", "PairIdsExhausted", "PriorityTooHigh", "Protocol", "SocketAddress", "TcpType",
     "TooFewRandomBytes", "Transmit", "Unparsed", "candidate_line", "default_local_preference", "has_mdns_name", "line_from_json",

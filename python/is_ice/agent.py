@@ -133,8 +133,8 @@ def default_local_preference(candidate: Candidate | str, same_kind: int) -> int:
 def _pair_of(pair: _abi.Pair) -> CandidatePair:
     return CandidatePair(
         pair.local, pair.remote, pair.priority, CheckState(pair.state), pair.nominated, pair.selected, pair.checks_sent,
-        pair.requests_received, pair.responses, pair.total_rtt, pair.rtt if pair.has_rtt else None, pair.last_request if pair.has_request else None,
-        pair.due if pair.has_due else None)
+        pair.requests_received, pair.responses, pair.total_rtt, pair.rtt if pair.has_rtt else None,
+        pair.last_request if pair.has_request else None, pair.due if pair.has_due else None)
 
 
 @one_call_at_a_time

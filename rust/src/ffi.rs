@@ -240,7 +240,7 @@ const _: () = {
 // ---- calls: `safe` if all arguments are numbers and references
 
 #[allow(unsafe_code)]
-// SAFETY: names, arguments and results are those of is_ice.h; `c/run names` compares that header with the library.
+// SAFETY: names, arguments and results are those of is_ice.h, as `c/run fronts` tests; `c/run names` compares that header with the library.
 unsafe extern "C" {
     pub(crate) safe fn is_ice_version() -> u32;
     pub(crate) safe fn is_ice_agent_free(agent: &mut Agent);
