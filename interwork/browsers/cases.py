@@ -70,15 +70,17 @@ RESTARTS = [
     _case("restart by the agent, agent lite", Setup(True, lite=True), _restart_by_agent, "connected again"),
 ]
 
-# A lite agent removes a pair 15 s after the last check of the peer, a full one after 11 unanswered checks, which takes about 26 s, or about
-# 20 s with 9 checks. What a controlled agent removed comes back only by an ICE restart: Chromium sends no more checks, and those of Firefox
-# do not nominate again. With a lite agent each check of Chromium nominates, and Firefox nominates only once.
+# A lite agent removes a pair 15 s after the last check of the peer, by default, a full one after 11 unanswered checks, which takes about
+# 26 s, or about 20 s with 9 checks. What a controlled agent removed comes back only by an ICE restart: Chromium sends no more checks, and
+# those of Firefox do not nominate again. With a lite agent each check of Chromium nominates, and Firefox nominates only once.
 CUTS = [
     _cut("cut for 8 s, agent controlled", 8, Setup(True), "kept"),
     _cut("cut for 8 s, agent controlling", 8, Setup(False), "kept"),
     _cut("cut for 8 s, agent lite", 8, Setup(True, lite=True), "kept"),
     _cut("cut for 16 s, agent lite", 16, Setup(True, lite=True), "came back", only="chromium"),
     _cut("cut for 16 s, agent lite", 16, Setup(True, lite=True), "no path", only="firefox"),
+    _cut("cut for 16 s, agent lite, timeout 30 s", 16, Setup(True, lite=True, lite_timeout=30), "kept"),
+    _cut("cut for 22.5 s, agent lite, timeout 30 s", 22.5, Setup(True, lite=True, lite_timeout=30), "kept"),
     _cut("cut for 22.5 s, agent controlled", 22.5, Setup(True), "kept"),
     _cut("cut for 22.5 s, agent controlled, 9 checks", 22.5, Setup(True, checks=9), "no path"),
     _cut("cut for 22.5 s, agent controlled, 9 checks, then restarted", 22.5, Setup(True, checks=9), "connected again",
