@@ -310,7 +310,9 @@ IS_ICE_QUIET_CALL int32_t is_ice_set_lite(is_ice_agent *agent, bool lite);
 
 /* is_ice_set_lite_timeout - sets how long a lite agent keeps a pair after the last check of the other agent on it. A
  * pair without any counts as checked at its first is_ice_handle_timeout call. With 0 the next such call after a check
- * removes the pair. A full agent does not use it. IS_ICE_OK. Value: 15 s. */
+ * removes the pair. Against Firefox set 30 s: it still sends checks after a cut of 20 s, and does not nominate again
+ * what was removed. Chromium sends none after 15 s without a response. A full agent does not use it. IS_ICE_OK.
+ * Value: 15 s. */
 IS_ICE_QUIET_CALL int32_t is_ice_set_lite_timeout(is_ice_agent *agent, uint64_t nanoseconds);
 
 /* is_ice_set_tie_breaker - sets the number that decides role conflicts: the greater one keeps its role. IS_ICE_OK.

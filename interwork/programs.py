@@ -4,6 +4,7 @@ Each reads and prints the lines of c/examples/peer.c: standard output is for the
 reports states, paths and what was heard.
 """
 import asyncio
+import contextlib
 import os
 import time
 
@@ -84,7 +85,8 @@ class Program:
             try:
                 await asyncio.wait_for(self.process.wait(), 3)
             except asyncio.TimeoutError:
-                self.process.kill()
+                with contextlib.suppress(ProcessLookupError):  # it ended meanwhile
+                    self.process.kill()
                 await self.process.wait()
         for task in self.tasks:
             task.cancel()

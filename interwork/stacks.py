@@ -2,6 +2,7 @@
 
 Ours are the C program c/examples/peer.c and the class Connection of Python. Files that are built go to interwork/out.
 """
+import contextlib
 import os
 import shutil
 import subprocess
@@ -39,6 +40,17 @@ def run(*words, what=None, **options):
     if ran.returncode != 0:
         raise Missing(what or f"{words[0]}: {(ran.stderr.strip().splitlines() or ['failed'])[-1]}")
     return ran.stdout.strip()
+
+
+@contextlib.contextmanager
+def built(name):
+    """Where to build a program. It then takes its place in `out` at once: another run may be starting it."""
+    file = out / f"{name}.{os.getpid()}"
+    try:
+        yield file
+        os.replace(file, out / name)
+    finally:
+        file.unlink(missing_ok=True)
 
 
 def package(name):
@@ -80,9 +92,9 @@ def our_version():
 
 
 def ours_in_c():
-    program = out / "peer"
-    run(os.environ.get("CC", "cc"), "-O2", f"-I{top / 'c'}", "-o", program, *PEER_SOURCES, archive(), kit_archive())
-    return Stack("peer", [str(program)], our_version())
+    with built("peer") as program:
+        run(os.environ.get("CC", "cc"), "-O2", f"-I{top / 'c'}", "-o", program, *PEER_SOURCES, archive(), kit_archive())
+    return Stack("peer", [str(out / "peer")], our_version())
 
 
 def ours_in_python():
@@ -104,10 +116,10 @@ def pion():
     sources = Path("/usr/share/gocode/src/github.com/pion/ice/v2")
     if not sources.exists():
         raise Missing("golang-github-pion-ice.v2-dev is not installed")
-    program = out / "pion"
     environment = {**os.environ, "GO111MODULE": "off", "GOPATH": "/usr/share/gocode", "GOCACHE": str(out / "go")}
-    run("go", "build", "-p", "2", "-o", program, ".", cwd=here / "peers" / "pion", env=environment)
-    return Stack("pion", [str(program)], package("golang-github-pion-ice.v2-dev"))
+    with built("pion") as program:
+        run("go", "build", "-p", "2", "-o", program, ".", cwd=here / "peers" / "pion", env=environment)
+    return Stack("pion", [str(out / "pion")], package("golang-github-pion-ice.v2-dev"))
 
 
 def aioice():
@@ -140,9 +152,9 @@ def find(names):
 def sender():
     """The program that sends forged datagrams (send.c)."""
     out.mkdir(exist_ok=True)
-    program = out / "send"
-    run(os.environ.get("CC", "cc"), "-O2", "-o", program, here / "send.c")
-    return program
+    with built("send") as program:
+        run(os.environ.get("CC", "cc"), "-O2", "-o", program, here / "send.c")
+    return out / "send"
 
 
 def tools():

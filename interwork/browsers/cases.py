@@ -70,15 +70,20 @@ RESTARTS = [
     _case("restart by the agent, agent lite", Setup(True, lite=True), _restart_by_agent, "connected again"),
 ]
 
-# A lite agent removes a pair 15 s after the last check of the peer, a full one after 11 unanswered checks, which takes about 26 s, or about
-# 20 s with 9 checks. What a controlled agent removed comes back only by an ICE restart: Chromium sends no more checks, and those of Firefox
-# do not nominate again. With a lite agent each check of Chromium nominates, and Firefox nominates only once.
+# A lite agent removes a pair 15 s after the last check of the peer, by default, a full one after 11 unanswered checks, which takes about
+# 26 s, or about 20 s with 9 checks. What a controlled agent removed comes back only by an ICE restart: Chromium sends no more checks, and
+# those of Firefox do not nominate again. With a lite agent each check of Chromium nominates, but it sends none any more after 15 s without a
+# response, and no check of the agent makes it begin again. Firefox nominates only once, and still sends checks after 20 s.
 CUTS = [
     _cut("cut for 8 s, agent controlled", 8, Setup(True), "kept"),
     _cut("cut for 8 s, agent controlling", 8, Setup(False), "kept"),
     _cut("cut for 8 s, agent lite", 8, Setup(True, lite=True), "kept"),
-    _cut("cut for 16 s, agent lite", 16, Setup(True, lite=True), "came back", only="chromium"),
-    _cut("cut for 16 s, agent lite", 16, Setup(True, lite=True), "no path", only="firefox"),
+    _cut("cut for 12 s, agent lite, timeout 6 s", 12, Setup(True, lite=True, lite_timeout=6), "came back", only="chromium"),
+    _cut("cut for 12 s, agent lite, timeout 6 s", 12, Setup(True, lite=True, lite_timeout=6), "no path", only="firefox"),
+    _cut("cut for 20 s, agent lite", 20, Setup(True, lite=True), "no path"),
+    _cut("cut for 20 s, agent lite, then restarted", 20, Setup(True, lite=True), "connected again", play=plays.cut_and_restart),
+    _cut("cut for 20 s, agent lite, timeout 30 s", 20, Setup(True, lite=True, lite_timeout=30), "no path", only="chromium"),
+    _cut("cut for 20 s, agent lite, timeout 30 s", 20, Setup(True, lite=True, lite_timeout=30), "kept", only="firefox"),
     _cut("cut for 22.5 s, agent controlled", 22.5, Setup(True), "kept"),
     _cut("cut for 22.5 s, agent controlled, 9 checks", 22.5, Setup(True, checks=9), "no path"),
     _cut("cut for 22.5 s, agent controlled, 9 checks, then restarted", 22.5, Setup(True, checks=9), "connected again",

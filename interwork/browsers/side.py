@@ -25,6 +25,7 @@ class Setup:
     conflict: bool = False  # the agent begins in the browser's role
     ipv6: bool = False
     checks: int | None = None  # unanswered checks before the agent removes a pair; None: the default
+    lite_timeout: int | None = None  # seconds without a check until a lite agent removes a pair; None: the default
 
     @property
     def controlling(self) -> bool:
@@ -58,6 +59,8 @@ class Side:
         self.agent.set_ice_lite(setup.lite)
         if setup.checks:
             self.agent.set_max_stun_retransmits(setup.checks)
+        if setup.lite_timeout:
+            self.agent.set_lite_timeout(setup.lite_timeout * 1_000_000_000)
         self.loop = CutLoop(self.agent, self._on_event, lambda *_: None, self._on_stun)
         self.states: list[tuple[float, str]] = []
         self.paths: list[tuple[float, NominatedSend]] = []
