@@ -1,10 +1,11 @@
-"""What calls cost from Python: nanoseconds of processor time, the least of many short rounds."""
+"""What calls cost from Python: nanoseconds of processor time, the least of many short rounds (300, or the number that is given)."""
 import gc
+import sys
 import time
 
 from is_ice import Candidate, IceAgent, IceCreds, SocketAddress, Unparsed
 
-ROUNDS, CALLS = 300, 300
+ROUNDS, CALLS = int(sys.argv[1]) if len(sys.argv) > 1 else 300, 300
 BEGINNING, MS = 60_000_000_000, 1_000_000
 OWN, PEER = SocketAddress("10.0.0.1", 1000), SocketAddress("10.0.0.2", 2000)
 REQUEST = bytes.fromhex(                                   # a check of the peer, which knows the password below

@@ -1,8 +1,8 @@
 """The calls that a loop makes all the time, with little work by ctypes.
 
 ctypes compares each argument with the type that `_abi` declares for it, which takes longer than most calls themselves. Here nothing is
-declared: a pointer is made once by `byref`, and a number is in an object of its C type. So whoever adds a call here passes what the
-header says. The interpreter's lock is held in these calls: they take a few microseconds, and taking it again may take longer.
+declared: a pointer is made once by `byref`, and a number is in an object of its C type. So whoever adds a call here has to pass what the
+header says. The interpreter's lock is held during these calls: they take a few microseconds, and to get it back may take longer.
 """
 
 from __future__ import annotations
@@ -18,18 +18,18 @@ from .address import PATHS, POINTERS, PROTOCOLS, Protocol, SocketAddress, in_ran
 from .errors import BUFFER_TOO_SHORT, NOTHING, OK, done, error_of
 from .events import Transmit
 
-# is_ice_packet as `unpack` reads it: both addresses in one, the length, the protocol.
+# is_ice_packet as bytes: source and destination, the length, the protocol.
 PACKET = struct.Struct("=56sQB7x")
 _PACKET_LENGTH = 2048
 _GREATEST_TIME = (1 << 64) - 1
-transmit_of = tuple.__new__
+_new_tuple = tuple.__new__  # of a NamedTuple, in half the time of its constructor
 
 
 class LoopCalls:
-    """These calls for one agent. Its owner makes one at a time."""
+    """These calls for one agent. Each holds its lock, except for `poll_event`, whose result is in `event`."""
 
     def __init__(self, library: ctypes.PyDLL, agent: object, lock: threading.RLock) -> None:
-        self._lock, self._acquire, self._release = lock, lock.acquire, lock.release
+        self._acquire, self._release = lock.acquire, lock.release  # a `with` statement takes twice as long
         self.event = _abi.Event()
         self._packet, self._due = _abi.Packet(), c_uint64()
         self._now, self._protocol, self._length = c_uint64(), c_uint8(), c_size_t()
@@ -38,7 +38,7 @@ class LoopCalls:
         self._poll_timeout = partial(library.is_ice_poll_timeout, agent, byref(self._due))
         self._poll_transmit = partial(library.is_ice_poll_transmit, agent)
         self._make_room(_PACKET_LENGTH)
-        self.poll_event = partial(library.is_ice_poll_event, agent, byref(self.event))  # returns its code, and fills `event`
+        self.poll_event = partial(library.is_ice_poll_event, agent, byref(self.event))  # it returns the code
 
     def _make_room(self, length: int) -> None:
         self._buffer = create_string_buffer(length)
@@ -60,10 +60,16 @@ class LoopCalls:
 
     def handle_timeout(self, now: int, random: bytes) -> None:
         """`IceAgent.handle_timeout`."""
-        random = bytes(memoryview(random))
-        with self._lock:
-            self._now.value, self._length.value = in_range(now, 64, "a time"), len(random)
+        if type(random) is not bytes:
+            random = bytes(memoryview(random))
+        if not 0 <= now <= _GREATEST_TIME:
+            in_range(now, 64, "a time")
+        self._acquire()
+        try:
+            self._now.value, self._length.value = now, len(random)
             done(self._handle_timeout(random, self._length))
+        finally:
+            self._release()
 
     def poll_timeout(self) -> int | None:
         """`IceAgent.poll_timeout`."""
@@ -88,4 +94,4 @@ class LoopCalls:
         finally:
             self._release()
         source, destination = PATHS[path]
-        return transmit_of(Transmit, (PROTOCOLS[protocol], source, destination, contents))
+        return _new_tuple(Transmit, (PROTOCOLS[protocol], source, destination, contents))

@@ -24,8 +24,8 @@ class Protocol(enum.IntEnum):
     TLS = 3
 
 
-PROTOCOLS = tuple(Protocol)  # by number, which takes less time than `Protocol(number)`
-_MOST = 1 << 14
+PROTOCOLS = tuple(Protocol)  # by number: a subscript takes less time than `Protocol(number)`
+_MOST = 1 << 14  # addresses whose conversion is kept
 
 
 class SocketAddress(NamedTuple):
