@@ -265,3 +265,8 @@ def load(path: Path | None = None) -> ctypes.CDLL:
         function = getattr(library, name)
         function.restype, function.argtypes = c_int32, arguments
     return library
+
+
+def undeclared(library: ctypes.CDLL) -> ctypes.PyDLL:
+    """Returns the same library without prototypes. Its calls hold the interpreter's lock; `_loop_calls` says how to call it."""
+    return ctypes.PyDLL(library._name, handle=library._handle)

@@ -8,6 +8,7 @@ from collections.abc import Callable
 from typing import Any, TypeVar
 
 C = TypeVar("C", bound=type)
+F = TypeVar("F", bound=Callable[..., Any])
 
 
 def _holding(method: Callable[..., Any]) -> Callable[..., Any]:
@@ -16,13 +17,25 @@ def _holding(method: Callable[..., Any]) -> Callable[..., Any]:
     def held(self: Any, *arguments: Any, **named: Any) -> Any:
         with self._lock:
             return method(self, *arguments, **named)
-    return held
+
+    @functools.wraps(method)
+    def held_alone(self: Any) -> Any:
+        with self._lock:
+            return method(self)
+
+    return held_alone if len(inspect.signature(method).parameters) == 1 else held  # passing no arguments on takes less time
+
+
+def holds_the_lock(method: F) -> F:
+    """Marks a method that takes the lock itself."""
+    method.holds_the_lock = True  # type: ignore[attr-defined]
+    return method
 
 
 def one_call_at_a_time(kind: C) -> C:
     """Makes each public method and property of a class hold the lock `_lock` of its object, a `threading.RLock`."""
     for name, member in list(vars(kind).items()):
-        if name.startswith("_"):
+        if name.startswith("_") or hasattr(member, "holds_the_lock"):
             continue
         if inspect.isfunction(member):
             setattr(kind, name, _holding(member))

@@ -2,12 +2,17 @@
 
 from __future__ import annotations
 
+import ctypes
 import enum
 import ipaddress
+from collections.abc import Callable
 from functools import lru_cache
-from typing import NamedTuple
+from typing import NamedTuple, TypeVar
 
 from . import _abi
+
+K = TypeVar("K")
+V = TypeVar("V")
 
 
 class Protocol(enum.IntEnum):
@@ -17,6 +22,10 @@ class Protocol(enum.IntEnum):
     TCP = 1
     SSL_TCP = 2
     TLS = 3
+
+
+PROTOCOLS = tuple(Protocol)  # by number: a subscript takes less time than `Protocol(number)`
+_MOST = 1 << 14  # addresses whose conversion is kept
 
 
 class SocketAddress(NamedTuple):
@@ -43,7 +52,7 @@ def in_range(value: int, bits: int, what: str) -> int:
     return value
 
 
-@lru_cache(maxsize=1 << 14)
+@lru_cache(maxsize=_MOST)
 def address_of(socket: SocketAddress) -> _abi.Address:
     """Converts to the library's struct, which is cached because no call writes it. ValueError if it is not an IP address."""
     ip = ipaddress.ip_address(socket.ip.split("%")[0])
@@ -61,10 +70,35 @@ def socket_of(address: _abi.Address) -> SocketAddress:
     return _socket_of_bytes(bytes(address))
 
 
-@lru_cache(maxsize=1 << 14)
+@lru_cache(maxsize=_MOST)
 def _socket_of_bytes(told: bytes) -> SocketAddress:
     address = _abi.Address.from_buffer_copy(told)
     packed = bytes(address.bytes)
     if address.family == 4:
         return SocketAddress(str(ipaddress.IPv4Address(packed[:4])), address.port)
     return SocketAddress(str(ipaddress.IPv6Address(packed)), address.port, address.flow, address.scope)
+
+
+class _Kept(dict[K, V]):
+    """What a function returned for a key: a subscript takes less time than `lru_cache`. It forgets all when it is full."""
+
+    def __init__(self, function: Callable[[K], V]) -> None:
+        super().__init__()
+        self._function = function
+
+    def __missing__(self, key: K) -> V:
+        if len(self) >= _MOST:
+            self.clear()
+        value = self[key] = self._function(key)
+        return value
+
+
+def _path_of(addresses: bytes) -> tuple[SocketAddress, SocketAddress]:
+    half = len(addresses) // 2
+    return _socket_of_bytes(addresses[:half]), _socket_of_bytes(addresses[half:])
+
+
+# A pointer to the library's struct of an address, for a call whose arguments ctypes does not convert.
+POINTERS: _Kept[SocketAddress, object] = _Kept(lambda socket: ctypes.byref(address_of(socket)))
+# A source and a destination by the bytes of their structs, one after the other.
+PATHS: _Kept[bytes, tuple[SocketAddress, SocketAddress]] = _Kept(_path_of)

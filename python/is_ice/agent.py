@@ -7,15 +7,16 @@ import os
 import threading
 from collections import deque
 from collections.abc import Callable
-from ctypes import byref, c_size_t, c_uint32, c_uint64, create_string_buffer, string_at
+from ctypes import byref, c_size_t, c_uint32, create_string_buffer, string_at
 from functools import cached_property
 from types import TracebackType
 
 from . import _abi
-from ._locked import one_call_at_a_time
-from .address import Protocol, SocketAddress, address_of, in_range, socket_of
+from ._locked import holds_the_lock, one_call_at_a_time
+from ._loop_calls import LoopCalls
+from .address import PROTOCOLS, Protocol, SocketAddress, address_of, in_range, socket_of
 from .candidate import AddResult, Candidate, KindPreferences, struct_of, table_of, ufrag_of
-from .errors import BUFFER_TOO_SHORT, BadCandidate, NoAgent, done, error_of
+from .errors import BUFFER_TOO_SHORT, NOTHING, BadCandidate, NoAgent, done, error_of
 from .events import (
     CandidatePair,
     CheckState,
@@ -45,6 +46,11 @@ class _Library:
     def calls(self) -> ctypes.CDLL:
         """The library with its prototypes."""
         return _abi.load()
+
+    @cached_property
+    def loop_calls(self) -> ctypes.PyDLL:
+        """The library for the calls that a loop makes all the time."""
+        return _abi.undeclared(self.calls)
 
 
 _library = _Library()
@@ -151,8 +157,7 @@ class IceAgent:
         self._at = byref(self._slot)
         self._lock = threading.RLock()
         self._c = _library.calls
-        self._buffer = create_string_buffer(2048)
-        self._packet, self._event, self._time = _abi.Packet(), _abi.Event(), c_uint64()
+        self._loop = LoopCalls(_library.loop_calls, self._at, self._lock)
         self._events: deque[IceAgentEvent] = deque()  # that `nominated_pair` read before `poll_event`
         self._selected: NominatedSend | None = None
         creds = creds or new_creds()
@@ -319,6 +324,7 @@ class IceAgent:
 
     # ---- packets, events and timeouts
 
+    @holds_the_lock
     def handle_packet(self, now: int, source: SocketAddress, destination: SocketAddress, contents: bytes,
                       protocol: Protocol = Protocol.UDP) -> bool:
         """Passes a datagram to the agent that arrived at the local address `destination`.
@@ -326,9 +332,7 @@ class IceAgent:
         Returns False if it is not for this agent, which is then unchanged. Unparsed: it is not a STUN message, or one
         without MESSAGE-INTEGRITY, as a STUN server's response.
         """
-        return done(self._c.is_ice_handle_packet(
-            self._at, in_range(now, 64, "a time"), protocol, address_of(source), address_of(destination), contents,
-            len(contents)))
+        return self._loop.handle_packet(now, source, destination, contents, protocol)
 
     def accepts_packet(self, source: SocketAddress, destination: SocketAddress, contents: bytes,
                        protocol: Protocol = Protocol.UDP) -> bool:
@@ -340,42 +344,39 @@ class IceAgent:
         """Returns whether it is a message for this agent, from any source, and changes nothing."""
         return done(self._c.is_ice_accepts_message(self._at, contents, len(contents)))
 
+    @holds_the_lock
     def handle_timeout(self, now: int, random: bytes | None = None) -> None:
         """Passes the current time to the agent; the first call starts the session. `random`: 12 new bytes, by default the system's."""
-        random = os.urandom(_abi.TIMEOUT_RANDOM) if random is None else random
-        done(self._c.is_ice_handle_timeout(self._at, in_range(now, 64, "a time"), random, len(random)))
+        self._loop.handle_timeout(now, os.urandom(_abi.TIMEOUT_RANDOM) if random is None else random)
 
+    @holds_the_lock
     def poll_timeout(self) -> int | None:
         """Returns the time at which to call `handle_timeout` next, or None before the session. Call it before packets are polled."""
-        return self._time.value if done(self._c.is_ice_poll_timeout(self._at, byref(self._time))) else None
+        return self._loop.poll_timeout()
 
+    @holds_the_lock
     def poll_transmit(self) -> Transmit | None:
         """Returns the next packet to send and removes it from the agent, or None if there is none."""
-        packet = self._packet
-        code = self._c.is_ice_poll_transmit(self._at, self._buffer, len(self._buffer), byref(packet))
-        if code == BUFFER_TOO_SHORT:
-            self._buffer = create_string_buffer(packet.length)
-            return self.poll_transmit()
-        if not done(code):
-            return None
-        return Transmit(Protocol(packet.protocol), socket_of(packet.source), socket_of(packet.destination),
-                        string_at(self._buffer, packet.length))
+        return self._loop.poll_transmit()
 
+    @holds_the_lock
     def poll_event(self) -> IceAgentEvent | None:
         """Returns the next event and removes it from the agent, or None if there is none."""
-        return self._events.popleft() if self._events else self._next_event()
+        with self._lock:
+            return self._events.popleft() if self._events else self._next_event()
 
     def _next_event(self) -> IceAgentEvent | None:
-        event = self._event
-        if not done(self._c.is_ice_poll_event(self._at, byref(event))):
+        if (code := self._loop.poll_event()) == NOTHING:
             return None
+        done(code)
+        event = self._loop.event
         if event.kind == 1:
             return IceRestart(self.local_credentials)
         if event.kind == 2:
             return IceConnectionStateChange(IceConnectionState(event.state))
         if event.kind == 3:
-            return DiscoveredRecv(Protocol(event.protocol), socket_of(event.source))
-        self._selected = NominatedSend(Protocol(event.protocol), socket_of(event.source), socket_of(event.destination))
+            return DiscoveredRecv(PROTOCOLS[event.protocol], socket_of(event.source))
+        self._selected = NominatedSend(PROTOCOLS[event.protocol], socket_of(event.source), socket_of(event.destination))
         return self._selected
 
     def ice_restart(self, creds: IceCreds, keep_local_candidates: bool) -> None:

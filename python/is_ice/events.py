@@ -4,7 +4,7 @@ from __future__ import annotations
 
 import enum
 from dataclasses import dataclass
-from typing import Union
+from typing import NamedTuple, Union
 
 from .address import Protocol, SocketAddress
 
@@ -80,8 +80,7 @@ class NominatedSend:
 IceAgentEvent = Union[IceRestart, IceConnectionStateChange, DiscoveredRecv, NominatedSend]
 
 
-@dataclass(frozen=True)
-class Transmit:
+class Transmit(NamedTuple):
     """A packet to send from `source`, which is the address of a local socket or a relayed address."""
 
     protocol: Protocol

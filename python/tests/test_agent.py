@@ -14,6 +14,8 @@ from unittest import mock
 
 import is_ice
 from is_ice import _abi
+from is_ice._loop_calls import PACKET
+from is_ice.address import PATHS, POINTERS, address_of
 from is_ice import (
     AddResult,
     BadAddress,
@@ -235,6 +237,17 @@ class Errors(unittest.TestCase):
         self.assertRaises(Unparsed, self.agent.handle_packet, BEGINNING, THERE, HERE, b"media")
         self.assertRaises(Unparsed, self.agent.handle_packet, BEGINNING, THERE, HERE, b"")
 
+    def test_contents_are_bytes(self) -> None:
+        self.assertRaises(TypeError, self.agent.handle_packet, BEGINNING, THERE, HERE, "a text")
+        self.assertRaises(TypeError, self.agent.handle_timeout, BEGINNING, "twelve wide letters")
+        self.assertRaises(Unparsed, self.agent.handle_packet, BEGINNING, THERE, HERE, bytearray(b"media"))
+
+    def test_times_have_64_bits(self) -> None:
+        for now in (-1, 1 << 64):
+            self.assertRaises(ValueError, self.agent.handle_packet, now, THERE, HERE, b"")
+            self.assertRaises(ValueError, self.agent.handle_timeout, now)
+        self.assertEqual(self.agent.state, IceConnectionState.NEW)
+
     def test_protocols_have_numbers(self) -> None:
         self.assertRaises(BadAddress, self.agent.handle_packet, BEGINNING, THERE, HERE, b"", 9)
 
@@ -343,6 +356,26 @@ class Values(unittest.TestCase):
     def test_structs_have_the_sizes_of_the_header(self) -> None:
         for struct, size in _abi.SIZES.items():
             self.assertEqual(ctypes.sizeof(struct), size, struct)
+
+    def test_a_packet_is_read_by_its_offsets(self) -> None:
+        packet = _abi.Packet(source=address_of(HERE), destination=address_of(THERE), length=3, protocol=2)
+        path, length, protocol = PACKET.unpack_from(packet)
+        self.assertEqual((PATHS[path], length, protocol), ((HERE, THERE), 3, 2))
+        self.assertEqual(PACKET.size, ctypes.sizeof(_abi.Packet))
+
+    def test_a_buffer_grows_to_a_packet(self) -> None:
+        a, b = two_agents()
+        a.handle_timeout(BEGINNING)
+        a._loop._make_room(8)
+        packet = a.poll_transmit()
+        assert packet is not None
+        self.assertTrue(b.handle_packet(BEGINNING, packet.source, packet.destination, packet.contents))
+
+    def test_few_addresses_are_kept(self) -> None:
+        for port in range(1 << 14):
+            POINTERS[SocketAddress("10.0.0.3", port)]
+        POINTERS[HERE]
+        self.assertLessEqual(len(POINTERS), 1 << 14)
 
     def test_the_header_declares_what_is_called(self) -> None:
         header = Path(__file__).resolve().parents[2] / "c" / "is_ice.h"

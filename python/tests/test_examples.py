@@ -11,8 +11,8 @@ from pathlib import Path
 EXAMPLES = Path(__file__).resolve().parent.parent / "examples"
 
 
-def output(name: str) -> str:
-    return subprocess.run([sys.executable, EXAMPLES / name], capture_output=True, text=True, check=True, timeout=120).stdout
+def output(name: str, *arguments: str) -> str:
+    return subprocess.run([sys.executable, EXAMPLES / name, *arguments], capture_output=True, text=True, check=True, timeout=120).stdout
 
 
 class Examples(unittest.TestCase):
@@ -24,6 +24,9 @@ class Examples(unittest.TestCase):
         before, after = (int(found) for found in re.findall(r"controlled (\d+) ms", output("order.py")))
         self.assertLess(before, 100)
         self.assertGreater(after, 200)
+
+    def test_calls_are_measured(self) -> None:
+        self.assertEqual(len(re.findall(r": \d+ ns$", output("calls.py", "1"), re.M)), 6)
 
 
 if __name__ == "__main__":
