@@ -1,5 +1,6 @@
 -- How many pairs requests add in a segment of a log in which no candidate is added.
 use Rattle.std.proofs.Common.{◌≡◌, ℕ, ◌+◌, ◌*◌, ◌<◌, ◌≤◌, Bool, true, false, List, [], ◌∷◌, ◌++◌, length, map, count_by, Option, Some, None, Result, Ok, Err, inl, inr, refl, ap, sym, ◌∙◌, subst, arith, cond}
+use Rattle.std.proofs.Math.Nat.{add-mul}
 use Rattle.std.proofs.lemmas.List.Sums.{sum_by-cons}
 use Rattle.rand_core.specs.Stream.{Stream}
 use Rattle.is_proto.specs.Lists.{Has}
@@ -60,3 +61,12 @@ module _ {H P : Type 0} (mac : H → List ℕ → List ℕ → List ℕ) (answer
         let one = call-spends x.call mid last v t x.entry sound (ap (λ (a : Held). a.lite) so_far.0 ∙ full) (ap (λ (a : Held). a.timing.max_retransmits) so_far.0 ∙ most) (steady x (inl refl)) step in
         subst (λ k. Spends m k start last) (sym (sum_by-cons (λ (y : Logged P). cond (is_timeout y.call) 1 0) x part))
         (spends-on m (timeout_count part) (cond (is_timeout x.call) 1 0) start mid last so_far one)
+
+module _ {H P : Type 0} (mac : H → List ℕ → List ℕ → List ℕ) (answers : P → CandidateRecord → ℕ → ℕ → Type 0) where
+  pub requests-add-few : RequestsAddFew {H = H} {P = P} mac answers
+  requests-add-few first s log fresh before part start last found full steady =
+      let k = part-spends mac answers start.timing.max_retransmits first s fresh before start found.at found.led full refl part last found.behind steady found.run in
+      let less = k.2 in
+      let most = unspents-most start.timing.max_retransmits last.pairs in
+      let sum = add-mul start.next_number (length last.pairs) start.timing.max_retransmits in
+      omega (arith, less, most, sum)

@@ -1,6 +1,6 @@
 -- How the rules change the number of checks that pairs still send before they may be removed after timeout. A request that adds
 -- a pair adds as many as a pair may have, and a `handle_timeout` call takes at most one.
-use Rattle.std.proofs.Common.{◌≡◌, ℕ, ◌+◌, ◌*◌, ◌<◌, ◌≤◌, ◌&&◌, ◌||◌, Bool, true, false, not, List, [], ◌∷◌, ◌++◌, length, map, Option, Some, None, Result, Ok, Err, inl, inr, ◌⊎◌, refl, ap, sym, ◌∙◌, subst, arith, if◌then◌else◌}
+use Rattle.std.proofs.Common.{◌≡◌, ℕ, ◌+◌, ◌-◌, ◌*◌, ◌<◌, ◌≤◌, ◌&&◌, ◌||◌, Bool, true, false, not, List, [], ◌∷◌, ◌++◌, length, map, Option, Some, None, Result, Ok, Err, inl, inr, ◌⊎◌, refl, ap, sym, ◌∙◌, subst, arith, if◌then◌else◌}
 use Rattle.std.specs.Prelude.{MatchOption}
 use Rattle.std.specs.List.{list_any}
 use Rattle.std.specs.declared.net.socket_addr.SocketAddr.{SocketAddr}
@@ -20,7 +20,7 @@ use Rattle.is_stun.specs.declared.timing.StunTiming.{StunTiming}
 use Rattle.is_stun.specs.Message.{Message}
 use Rattle.is_rules.specs.Accepting.{discovered_emitted, HandlesPacket, Takes}
 use Rattle.is_rules.specs.Agent.{AgentRecord}
-use Rattle.is_rules.specs.Answers.{is_known_address, is_role_conflict, local_with, mapped_candidate, TakesSuccess, GivesUpRole, TakesFailure}
+use Rattle.is_rules.specs.Answers.{is_known_address, is_role_conflict, local_with, mapped_candidate, success_counted, TakesSuccess, GivesUpRole, TakesFailure}
 use Rattle.is_rules.specs.Checking.{all_asked, ChecksTop, MayCheck}
 use Rattle.is_rules.specs.declared.credentials.IceCreds.{IceCreds}
 use Rattle.is_rules.specs.declared.places.RemotePlace.{RemotePlace}
@@ -44,7 +44,7 @@ use Rattle.is_rules.proofs.Frames.{either}
 use Rattle.is_rules.proofs.Mild.{Mild, self-mild, served-mild, at-mild}
 use Rattle.is_rules.proofs.Nominations.{Announces, announces}
 use Rattle.is_rules.proofs.Rising.{rising-each}
-use Rattle.is_laws.proofs.Unspent.{unspent-alike, unspent-answered, unspent-checked, all-spent, unspents, unspents-map, unspents-push, unspents-filter, unspents-set, unspents-change}
+use Rattle.is_laws.proofs.Unspent.{unspent, unspent-alike, unspent-answered, unspent-checked, all-spent, unspents, unspents-map, unspents-push, unspents-filter, unspents-set, unspents-change}
 
 -- what stays of the agent
 pub record Held : Type 0 where
@@ -54,6 +54,10 @@ pub record Held : Type 0 where
 -- one more pair
 one-more : (n m : ℕ) → (n + 1) * m ≡ n * m + m
 one-more n m = ap (λ (k : ℕ). k * m) (omega arith) ∙ suc-mul n m
+
+-- the pairs are changed each by itself, and keep their checks
+each : (m : ℕ) (f : PairRecord → PairRecord) (xs : List PairRecord) (n : ℕ) → ((p : PairRecord) → Mild p (f p)) → unspents m xs + n ≤ unspents m (map f xs) + n + 0
+each m f xs n mild = let le = unspents-map m f xs (λ p. unspent-alike m p (f p) (mild p).checks) in omega (arith, le)
 
 module _ {H P : Type 0} where
   abbrev pub held_of : AgentRecord H P → Held
@@ -78,10 +82,6 @@ module _ {H P : Type 0} where
           counted : (a b c d e f : ℕ) → a + e ≤ b + d + i → b + f ≤ c + e + k → a + f ≤ c + d + (k + i)
           counted a b c d e f h l = omega (arith, h, l)
 
-    -- the pairs are changed each by itself, and keep their checks
-    each : (f : PairRecord → PairRecord) (xs : List PairRecord) (n : ℕ) → ((p : PairRecord) → Mild p (f p)) → unspents m xs + n ≤ unspents m (map f xs) + n + 0
-    each f xs n mild = let le = unspents-map m f xs (λ p. unspent-alike m p (f p) (mild p).checks) in omega (arith, le)
-
     -- ---- nomination
 
     pub nominates-spends : (old new : AgentRecord H P) (path : Option Path) → Nominates old path new → Spends 0 old new
@@ -93,7 +93,7 @@ module _ {H P : Type 0} where
           (λ _ l. spends-to 0 old _ new (
             refl,
             omega arith,
-            each (change_at top.number (nominated_by_self old.controlling old.lite)) old.pairs (old.next_number * m)
+            each m (change_at top.number (nominated_by_self old.controlling old.lite)) old.pairs (old.next_number * m)
                 (λ p. at-mild top.number (nominated_by_self old.controlling old.lite) p (self-mild (old.controlling || old.lite) old.lite (is_nominated p) p refl)),
           ) l.1)
 
@@ -113,7 +113,7 @@ module _ {H P : Type 0} where
     switches s = (
       refl,
       omega arith,
-      each (with_priority_in (switched_sides s)) s.pairs (s.next_number * m) (λ p. record { number = refl; due = refl; checks = refl; nomination = inl refl }),
+      each m (with_priority_in (switched_sides s)) s.pairs (s.next_number * m) (λ p. record { number = refl; due = refl; checks = refl; nomination = inl refl }),
     )
 
     failure : (old new : AgentRecord H P) (via : Path) (message : Message) (emitted : Emitted) → TakesFailure old via message emitted new → Spends 0 old new
@@ -137,12 +137,10 @@ module _ {H P : Type 0} where
         spends-on 0 0 old recorded new
         (spends-to 0 old _ recorded (
           refl,
-          mapped-grows old p message.attributes.xor_mapped_address,
-          (let le = unspents-set m old.pairs place p after at (subst (λ (x : PairRecord). unspent-le p x) (sym is) (unspent-answered m now i c p)) in omega (arith, le)),
+          mapped-grows (success_counted old) p message.attributes.xor_mapped_address,
+          (let le = unspents-set m old.pairs place p after at (subst (λ (x : PairRecord). unspent m p ≤ unspent m x) (sym is) (unspent-answered m now i c p)) in omega (arith, le)),
         ) made)
-        (spends-to 0 recorded (evaluated now mid) new (let k = nominates-spends recorded mid named nominates in (k.0, k.1, k.2)) done) where
-          abbrev unspent-le : PairRecord → PairRecord → Type 0
-          unspent-le p q = (m - length p.checks) ≤ (m - length q.checks)
+        (spends-to 0 recorded (evaluated now mid) new (let k = nominates-spends recorded mid named nominates in (k.0, k.1, k.2)) done)
 
     -- ---- requests
 
@@ -154,7 +152,7 @@ module _ {H P : Type 0} where
             (let k = spends-on 0 0 s (pair_served q number s) mid (
               refl,
               omega arith,
-              each (change_at number (served s.controlling s.lite q)) s.pairs (s.next_number * m) (λ p. at-mild number (served s.controlling s.lite q) p (served-mild s.controlling s.lite q p)),
+              each m (change_at number (served s.controlling s.lite q)) s.pairs (s.next_number * m) (λ p. at-mild number (served s.controlling s.lite q) p (served-mild s.controlling s.lite q p)),
             )
             (either (s.controlling && is_valid_at number s.pairs) nominates
             (λ _ k. nominates-spends (pair_served q number s) mid path k)

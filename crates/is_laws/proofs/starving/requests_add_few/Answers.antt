@@ -1,4 +1,4 @@
-use Rattle.is_laws.proofs.NotStarved.{requests-add-few}
+use Rattle.is_laws.proofs.Spending.{requests-add-few}
 use Rattle.is_laws.proofs.starving.requests_add_few.Goals as goal
 
 pub returns : goal.returns
