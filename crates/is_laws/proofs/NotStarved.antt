@@ -7,7 +7,6 @@ use Rattle.is_proto.specs.Lists.{Has}
 use Rattle.is_candidate.specs.Candidates.{CandidateRecord}
 use Rattle.is_pair.specs.Pairs.{PairRecord}
 use Rattle.is_rules.specs.Agent.{AgentRecord}
-use Rattle.is_rules.specs.BoundedRounds.{pair_bound}
 use Rattle.is_rules.specs.Bounds.{is_signal, signal_count}
 use Rattle.is_rules.specs.Logs.{Logged}
 use Rattle.is_rules.specs.Reached.{IsEndedIn, IsPassing, PairsAreReached, is_in_round}
@@ -124,7 +123,7 @@ module _ {H P : Type 0} (mac : H → List ℕ → List ℕ → List ℕ) (answer
         grown : length start.local ≤ length last.local
         grown = (part-spends mac answers start.timing.max_retransmits first s fresh before start part.at part.led f.line.checking.full refl (entries_of rounds) last part.behind f.steady part.run).1
 
-        was : length start.pairs ≤ pair_bound limit (length last.local) most (signal_count before)
+        was : length start.pairs ≤ limit + length last.local * (most + signal_count before)
         was =
             let pairs : length start.pairs ≤ limit + length start.local * length start.remote =
             few_pairs mac answers limit first s before start part.at fresh
@@ -134,7 +133,7 @@ module _ {H P : Type 0} (mac : H → List ℕ → List ℕ → List ℕ) (answer
             let wider : length start.local * length start.remote ≤ length last.local * (most + signal_count before) = mul-le-mul grown l.remote in
             omega (arith, pairs, wider)
 
-        now : length last.pairs ≤ pair_bound limit (length last.local) most (signal_count before)
+        now : length last.pairs ≤ limit + length last.local * (most + signal_count before)
         now =
             let pairs : length last.pairs ≤ limit + length last.local * length last.remote =
             few_pairs mac answers limit first s (entries_of rounds ++ before) last part.behind fresh
@@ -150,6 +149,7 @@ module _ {H P : Type 0} (mac : H → List ℕ → List ℕ → List ℕ) (answer
             let added = requests-add-few mac answers first s log fresh before (entries_of rounds) start last part f.line.checking.full f.steady in
             let timeouts = few-timeouts by rounds f.passing in
             let sound : IsSound start = runs_sound mac answers (path_law mac answers) first start s part.at before fresh part.led in
+            let all = f.enough in
             enough-rounds (length start.pairs) (length last.pairs) start.next_number last.next_number (length rounds)
-            (pair_bound limit (length last.local) most (signal_count before)) start.timing.max_retransmits was now sound.checks
-            (omega (arith, added, timeouts)) f.enough
+            (limit + length last.local * (most + signal_count before)) start.timing.max_retransmits was now sound.checks
+            (omega (arith, added, timeouts)) (omega (arith, all))
