@@ -1,15 +1,13 @@
 -- How many pairs requests add in a segment of a log in which no candidate is added.
-use Rattle.std.proofs.Common.{◌≡◌, ℕ, ◌+◌, ◌*◌, ◌<◌, ◌≤◌, Bool, true, false, List, [], ◌∷◌, ◌++◌, length, map, count_by, Option, Some, None, Result, Ok, Err, inl, inr, refl, ap, sym, ◌∙◌, subst, arith, cond}
+use Rattle.std.proofs.Common.{◌≡◌, ℕ, true, false, List, [], ◌∷◌, ◌++◌, length, map, Ok, Err, inl, inr, refl, ap, sym, ◌∙◌, subst, arith, cond}
 use Rattle.std.proofs.Math.Nat.{add-mul}
 use Rattle.std.proofs.lemmas.List.Sums.{sum_by-cons}
 use Rattle.rand_core.specs.Stream.{Stream}
-use Rattle.is_proto.specs.Lists.{Has}
 use Rattle.is_candidate.specs.Candidates.{CandidateRecord}
 use Rattle.is_pair.specs.Due.{asked}
-use Rattle.is_pair.specs.Pairs.{PairRecord}
 use Rattle.is_rules.specs.Agent.{AgentRecord}
 use Rattle.is_rules.specs.Logs.{Logged}
-use Rattle.is_rules.specs.Rounds.{Part, RunsOn}
+use Rattle.is_rules.specs.Rounds.{RunsOn}
 use Rattle.is_rules.specs.Runs.{IsFresh, Run}
 use Rattle.is_rules.specs.Sound.{IsSound}
 use Rattle.is_rules.specs.Steps.{Call, SetMtu, SetControlTieBreaker, SetMaxCandidatePairs, SetMaxDiscovered, SetTimingAdvance, SetLocalPreference, SetControlling, SetLocalCredentials, ReceivePacket, HandleTimeout, PollTransmit, PollTimeout, PollEvent, Entry, Step}
@@ -20,7 +18,7 @@ use Rattle.is_rules.proofs.LogParts.{no-case, run-on}
 use Rattle.is_rules.proofs.RefusalLaws.{mtu_kept, local_kept}
 use Rattle.is_laws.specs.NotStarved.{AreSteady, RequestsAddFew, is_steady, is_timeout, timeout_count}
 use Rattle.is_laws.proofs.Spends.{Held, Spends, spends-to, spends-none, spends-on, receives-spends, times-out-spends}
-use Rattle.is_laws.proofs.Unspent.{unspent-alike, unspents, unspents-map, unspents-most}
+use Rattle.is_laws.proofs.Unspent.{unspent-alike, unspents-map, unspents-most}
 
 module _ {H P : Type 0} (mac : H → List ℕ → List ℕ → List ℕ) (answers : P → CandidateRecord → ℕ → ℕ → Type 0) (m : ℕ) where
   asks-spends : (at : ℕ) (old new : AgentRecord H P) → new ≡ record old { pairs = map (asked at old.timing) old.pairs } → Spends m 0 old new

@@ -1,6 +1,6 @@
 -- How the rules change the number of checks that pairs still send before they may be removed after timeout. A request that adds
 -- a pair adds as many as a pair may have, and a `handle_timeout` call takes at most one.
-use Rattle.std.proofs.Common.{◌≡◌, ℕ, ◌+◌, ◌-◌, ◌*◌, ◌<◌, ◌≤◌, ◌&&◌, ◌||◌, Bool, true, false, not, List, [], ◌∷◌, ◌++◌, length, map, Option, Some, None, Result, Ok, Err, inl, inr, ◌⊎◌, refl, ap, sym, ◌∙◌, subst, arith, if◌then◌else◌}
+use Rattle.std.proofs.Common.{◌≡◌, ℕ, ◌+◌, ◌-◌, ◌*◌, ◌≤◌, ◌&&◌, ◌||◌, Bool, true, false, not, List, [], ◌∷◌, ◌++◌, length, map, Option, Some, None, Result, Ok, Err, inl, inr, refl, ap, sym, ◌∙◌, subst, arith, if◌then◌else◌}
 use Rattle.std.specs.Prelude.{MatchOption}
 use Rattle.std.specs.List.{list_any}
 use Rattle.std.specs.declared.net.socket_addr.SocketAddr.{SocketAddr}
@@ -18,7 +18,7 @@ use Rattle.is_stun.specs.declared.header.Class.{Class}
 use Rattle.is_stun.specs.declared.header.Class.TheVariants as class
 use Rattle.is_stun.specs.declared.timing.StunTiming.{StunTiming}
 use Rattle.is_stun.specs.Message.{Message}
-use Rattle.is_rules.specs.Accepting.{discovered_emitted, HandlesPacket, Takes}
+use Rattle.is_rules.specs.Accepting.{discovered_emitted, Takes}
 use Rattle.is_rules.specs.Agent.{AgentRecord}
 use Rattle.is_rules.specs.Answers.{is_known_address, is_role_conflict, local_with, mapped_candidate, success_counted, TakesSuccess, GivesUpRole, TakesFailure}
 use Rattle.is_rules.specs.Checking.{all_asked, ChecksTop, MayCheck}
