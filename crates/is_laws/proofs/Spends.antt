@@ -55,7 +55,7 @@ pub record Held : Type 0 where
 one-more : (n m : ℕ) → (n + 1) * m ≡ n * m + m
 one-more n m = ap (λ (k : ℕ). k * m) (omega arith) ∙ suc-mul n m
 
--- the pairs are changed each by itself, and keep their checks
+-- the pairs are changed each by itself, and store the same checks
 each : (m : ℕ) (f : PairRecord → PairRecord) (xs : List PairRecord) (n : ℕ) → ((p : PairRecord) → Mild p (f p)) → unspents m xs + n ≤ unspents m (map f xs) + n + 0
 each m f xs n mild = let le = unspents-map m f xs (λ p. unspent-alike m p (f p) (mild p).checks) in omega (arith, le)
 

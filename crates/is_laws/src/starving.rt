@@ -1,4 +1,4 @@
-//! No pair starves, whatever the agent receives.
+//! Starvation freedom, whatever the agent receives.
 
 ghost use Rattle.is_laws.specs.NotStarved.{NoneStarves, RequestsAddFew};
 
