@@ -1,0 +1,4 @@
+pub mod Unspent
+pub mod Spends
+pub mod Spending
+pub mod NotStarved
