@@ -214,6 +214,9 @@ impl<H: Sha1HmacProvider + Drop, P: LocalPreference> Agent<H, P> {
             controlling: self.controlling,
             lite: self.lite,
         };
+        if !self.controlling && request.use_candidate {
+            self.last_nominated = Some(number);
+        }
         serve_pair(&mut self.pairs, number, request, standing);
     }
 
