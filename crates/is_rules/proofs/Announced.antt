@@ -10,13 +10,14 @@ use Rattle.is_pair.specs.Pairs.{PairRecord, is_valid}
 use Rattle.is_pair.specs.Bag.{is_numbered, pair_numbered}
 use Rattle.is_rules.specs.declared.emitted.Path.{Path}
 use Rattle.is_rules.specs.Agent.{AgentRecord}
-use Rattle.is_rules.specs.Nominating.{is_eligible, stands_at}
+use Rattle.is_rules.specs.Nominating.{is_eligible, stands_at, followed, remains, selection_of}
 use Rattle.is_rules.specs.Sound.{IsSound}
 use Rattle.is_rules.specs.Points.{IsTopAnnounced}
 use Rattle.is_rules.specs.Effects.{last_of, PathEffect}
 use Rattle.is_rules.specs.Logs.{Logged}
 use Rattle.is_rules.specs.Runs.{IsFresh, Run, Point}
 use Rattle.is_rules.specs.Rounds.{BringsSuccess, AnnouncesIn}
+use Rattle.is_rules.proofs.Choosing.{chosen-able, chosen-none, named-by}
 use Rattle.is_rules.proofs.PathLaws.{below_is}
 use Rattle.is_rules.proofs.EffectLaws.{path_law}
 use Rattle.is_rules.proofs.LogLaws.{none_pass, runs_sound}
@@ -48,8 +49,16 @@ module _ {H P : Type 0} where
   -- if a pair is eligible, `selected_pair` names one
   pub one-named : (a : AgentRecord H P) (q : PairRecord) → Has a.pairs q → is_eligible a.controlling q ≡ true → IsTopAnnounced a
       → (p : PairRecord) × Has a.pairs p × (a.selected_pair ≡ Some p.number)
-  one-named a q has able (None, none, stands) = absurd (none_pass (is_eligible a.controlling) a.pairs q none has able)
-  one-named a q has able (Some best, greatest, stands) = named-at a.selected_pair best.priority a.pairs stands
+  one-named a q has able (None, none, stands) =
+      absurd (none_pass (is_eligible a.controlling) a.pairs q (chosen-none a.controlling (followed a) (selection_of a) none) has able)
+  one-named a q has able (Some best, chosen, stands) = by (followed a) refl where
+    by : (o : Option ℕ) → followed a ≡ o → (p : PairRecord) × Has a.pairs p × (a.selected_pair ≡ Some p.number)
+    by None none = named-at a.selected_pair best.priority a.pairs (subst (λ f. remains f best (selection_of a) ≡ true) none stands)
+    by (Some n) follows = (
+      best,
+      (chosen-able a.controlling (followed a) (selection_of a) best chosen).0,
+      named-by a.selected_pair best (subst (λ f. remains f best (selection_of a) ≡ true) follows stands),
+    )
 
   module _ (mac : H → List ℕ → List ℕ → List ℕ) (answers : P → CandidateRecord → ℕ → ℕ → Type 0) where
     module _ (first : AgentRecord H P) (s : Stream) (log : List (Logged P)) (fresh : IsFresh first) where
