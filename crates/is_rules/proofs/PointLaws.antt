@@ -1,9 +1,9 @@
 -- If nomination is evaluated at the end of a step, the selected pair is a greatest one, and the pair that takes a
 -- response is valid.
 use Rattle.std.proofs.Common.{◌≡◌, ℕ, zero, suc, ◌<◌, ◌≤◌, ◌==◌, ◌&&◌, ◌||◌, Bool, true, false, not, List, [], ◌∷◌, map, filter, Option, Some, None, Result, Ok, Err, inl, inr, refl, ap, sym, ◌∙◌, subst, arith, cond, if◌then◌else◌}
-use Rattle.std.specs.Prelude.{find, slice_get, slice_set, MatchOption, IfSome}
+use Rattle.std.specs.Prelude.{find, option_map, slice_get, slice_set, MatchOption, IfSome}
 use Rattle.std.specs.List.{list_any}
-use Rattle.std.specs.Option.{option_map_or, option_and_then}
+use Rattle.std.specs.Option.{option_map_or, option_and_then, option_or}
 use Rattle.std.proofs.lemmas.Bool.{eq-eqb}
 use Rattle.rand_core.specs.Stream.{Stream}
 use Rattle.is_proto.specs.Lists.{Has, NonePass}
@@ -29,7 +29,7 @@ use Rattle.is_rules.specs.Steps.{answer_by, done, Done, Flag, Unparsed, Refused,
 use Rattle.is_rules.specs.Agent.{AgentRecord}
 use Rattle.is_pair.specs.Bag.{is_numbered, change_at, pair_numbered, IsGreatest, keeps_check}
 use Rattle.is_rules.specs.Sending.{path_of}
-use Rattle.is_rules.specs.Nominating.{is_eligible, nominated_by_self, Nominates, followed, remains, selection, selection_of, favored, if_eligible, eligible_numbered, IsChosen}
+use Rattle.is_rules.specs.Nominating.{is_eligible, is_named_by, nominated_by_self, Nominates, followed, remains, selection, selection_of, favored, if_eligible, eligible_numbered, IsChosen}
 use Rattle.is_rules.specs.Queue.{request_at}
 use Rattle.is_rules.specs.Answers.{goes_back, keeps_check_on, TakesSuccess}
 use Rattle.is_rules.specs.Accepting.{Takes}

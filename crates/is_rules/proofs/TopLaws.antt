@@ -9,7 +9,7 @@ use Rattle.is_rules.specs.declared.emitted.Path.{Path}
 use Rattle.is_rules.specs.Agent.{AgentRecord}
 use Rattle.is_pair.specs.Bag.{is_numbered, change_at, change_pair, IsGreatest}
 use Rattle.is_rules.proofs.Rising.{AreRising}
-use Rattle.is_rules.specs.Nominating.{is_eligible, nominated_by_self, Nominates, followed, remains, selection, selection_of, if_eligible, eligible_numbered, IsChosen}
+use Rattle.is_rules.specs.Nominating.{is_eligible, nominated_by_self, stands_at, Nominates, followed, remains, selection, selection_of, if_eligible, eligible_numbered, IsChosen}
 use Rattle.is_rules.specs.Points.{IsTopAnnounced}
 use Rattle.is_rules.proofs.Choosing.{chosen-able, no-some}
 use Rattle.is_rules.proofs.Frames.{either}
