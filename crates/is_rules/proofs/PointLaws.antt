@@ -130,10 +130,11 @@ numbered_mapped : (n : ℕ) (f : PairRecord → PairRecord) (ps : List PairRecor
     → pair_numbered n (map f ps) ≡ option_map f (pair_numbered n ps)
 numbered_mapped n f [] number = refl
 numbered_mapped n f (x ∷ xs) number =
-    ap (λ b. cond b (Some (f x)) (find (is_numbered n) (map f xs))) (ap (λ k. k == n) (number x)) ∙ by (is_numbered n x) where
-      by : (b : Bool) → cond b (Some (f x)) (find (is_numbered n) (map f xs)) ≡ option_map f (cond b (Some x) (find (is_numbered n) xs))
-      by true = refl
-      by false = numbered_mapped n f xs number
+    ap (λ b. cond b (Some (f x)) (find (is_numbered n) (map f xs))) (ap (λ k. k == n) (number x)) ∙ by (is_numbered n x) (numbered_mapped n f xs number) where
+      by : (b : Bool) → find (is_numbered n) (map f xs) ≡ option_map f (find (is_numbered n) xs)
+          → cond b (Some (f x)) (find (is_numbered n) (map f xs)) ≡ option_map f (cond b (Some x) (find (is_numbered n) xs))
+      by true rest = refl
+      by false rest = rest
 
 able_mapped : (c : Bool) (f : PairRecord → PairRecord) (o : Option PairRecord) → ((p : PairRecord) → Alike c p (f p))
     → option_and_then (if_eligible c) (option_map f o) ≡ option_map f (option_and_then (if_eligible c) o)
