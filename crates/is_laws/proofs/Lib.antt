@@ -1,0 +1,2 @@
+pub mod FirstMoment
+pub mod FirstRound

@@ -3,3 +3,5 @@
 //!
 //! They stand above `is_rules` so that a theorem can be added or changed without proving the agent, `is_agent`, anew.
 #![tactic(auto)]
+
+pub mod reaching;
