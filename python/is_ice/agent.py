@@ -205,11 +205,14 @@ class IceAgent:
         done(self._c.is_ice_set_max_pairs(self._at, in_range(limit, 64, "a limit")))
 
     def set_max_discovered(self, limit: int | None) -> None:
-        """Limits how many remote candidates requests may bring, invalidated ones included. Default: 32. None: no limit, as in the original.
+        """Limits how many peer-reflexive candidates packets bring of each side, invalidated ones included. Default: 32.
+
+        Requests bring remote ones, responses local ones. None: no limit, as in the original.
 
         Whoever sees one request can replay it from other ports, and each port would become a candidate. At the limit an unknown
         sender replaces one without a pair, or its request is dropped without a response. Known and signaled senders are always
-        served. Set the limit before the first packet.
+        served. A response counts as ever at the limit, and its mapped address is not listed. Set the limit before the first
+        packet.
         """
         most = (1 << 64) - 1 if limit is None else in_range(limit, 64, "a limit")
         done(self._c.is_ice_set_max_discovered(self._at, most))

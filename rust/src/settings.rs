@@ -37,12 +37,12 @@ impl IceAgent {
         self.tell("limit", |agent| ffi::is_ice_set_max_pairs(agent, max));
     }
 
-    /// Limits how many remote candidates requests may bring, invalidated ones included. Default: 32. `None`: no limit, as in the
-    /// original.
+    /// Limits how many peer-reflexive candidates packets bring of each side, invalidated ones included: requests remote ones,
+    /// responses local ones. Default: 32. `None`: no limit, as in the original.
     ///
     /// Whoever sees one request can replay it from other ports, and each port would become a candidate. At the limit an unknown
     /// sender replaces one without a pair, or its request is dropped without a response. Known and signaled senders are always
-    /// served. Set the limit before the first packet.
+    /// served. A response counts as ever at the limit, and its mapped address is not listed. Set the limit before the first packet.
     pub fn set_max_discovered(&mut self, max: Option<usize>) {
         self.tell("limit", |agent| ffi::is_ice_set_max_discovered(agent, max.unwrap_or(usize::MAX)));
     }

@@ -18,5 +18,6 @@ mod Granted
 mod Connecting
 mod Selected
 mod Meeting
+mod Connects
 mod Mirrored
 mod MarkLemmas

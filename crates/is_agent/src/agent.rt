@@ -5,6 +5,7 @@ ghost use Rattle.is_rules.specs.Fitting.{are_too_long};
 ghost use Rattle.is_rules.specs.Kept.{NoneTooHigh};
 ghost use Rattle.is_pair.specs.Bag.{are_below};
 ghost use Rattle.is_pair.specs.Checklists.{bag_of};
+ghost use Rattle.is_agent.specs.Keys.{IsKeyOf, peer_pass};
 
 use is_candidate::{Candidate, LocalPreference};
 use is_pair::checklist::Checklist;
@@ -39,7 +40,7 @@ pub struct Agent<H, P> {
     pub(crate) preference: Option<P>,
     /// The greatest number of pairs after forming.
     pub(crate) max_pairs: usize,
-    /// The greatest number of remote candidates that requests bring.
+    /// The greatest number of candidates that packets bring of each side.
     pub(crate) max_discovered: Option<usize>,
     pub(crate) timing: StunTiming,
     pub(crate) timing_advance: Duration,
@@ -51,7 +52,7 @@ pub struct Agent<H, P> {
     pub(crate) mtu_warn: usize,
     pub(crate) local_creds: IceCreds,
     pub(crate) remote_creds: Option<IceCreds>,
-    /// The prepared key of the agent's own password. No invariant ties it to the password: it is verified at each use.
+    /// The prepared key of the agent's own password.
     pub(crate) local_key: HmacKey,
     /// The same for the peer's password, or for an empty one if there is none.
     pub(crate) remote_key: HmacKey,
@@ -85,6 +86,9 @@ pub struct Agent<H, P> {
     ghost none_too_high: { NoneTooHigh local.items },
     // a pair stores at least one check
     ghost retransmits: { 0 < timing.max_retransmits },
+    // a kept key is that of the password in use, so that no use computes it again
+    ghost local_key_kept: { IsKeyOf local_key local_creds.pass },
+    ghost remote_key_kept: { IsKeyOf remote_key (peer_pass remote_creds) },
     // no pair has the next number
     ghost numbered: { are_below next_number (bag_of pairs) ≡ true },
 }

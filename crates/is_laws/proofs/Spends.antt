@@ -20,7 +20,7 @@ use Rattle.is_stun.specs.declared.timing.StunTiming.{StunTiming}
 use Rattle.is_stun.specs.Message.{Message}
 use Rattle.is_rules.specs.Accepting.{discovered_emitted, Takes}
 use Rattle.is_rules.specs.Agent.{AgentRecord}
-use Rattle.is_rules.specs.Answers.{is_known_address, is_role_conflict, local_with, mapped_candidate, success_counted, TakesSuccess, GivesUpRole, TakesFailure}
+use Rattle.is_rules.specs.Answers.{is_left_out, is_role_conflict, local_with, mapped_candidate, success_counted, TakesSuccess, GivesUpRole, TakesFailure}
 use Rattle.is_rules.specs.Checking.{all_asked, ChecksTop, MayCheck}
 use Rattle.is_rules.specs.declared.credentials.IceCreds.{IceCreds}
 use Rattle.is_rules.specs.declared.places.RemotePlace.{RemotePlace}
@@ -127,7 +127,7 @@ module _ {H P : Type 0} where
 
     mapped-grows : (a : AgentRecord H P) (p : PairRecord) (mapped : Option SocketAddr) → length a.local ≤ length (local_with p mapped a)
     mapped-grows a p None = omega arith
-    mapped-grows a p (Some mapped) = by (is_known_address a.local mapped) where
+    mapped-grows a p (Some mapped) = by (is_left_out a.max_discovered a.local mapped) where
       by : (b : Bool) → length a.local ≤ length (if b then a.local else a.local ++ mapped_candidate a p mapped ∷ [])
       by true = omega arith
       by false = let long : length (a.local ++ mapped_candidate a p mapped ∷ []) ≡ length a.local + 1 = length-append a.local (mapped_candidate a p mapped ∷ []) in omega (arith, long)

@@ -4,4 +4,7 @@
 //! They are above `is_rules`, in a crate of their own, so that one can be added or changed without proving `is_agent` again.
 #![tactic(auto)]
 
+pub mod announcing;
+pub mod flooding;
+pub mod reaching;
 pub mod starving;

@@ -62,7 +62,7 @@ module _ {H P : Type 0} where
 
     module _ (path : Path) where
       next : (test : PairRecord → Bool) (old new : AgentRecord H P) (s t : Stream) (call : Call P) (e : Entry) → ((p : PairRecord) (k : Stays old p new) → test p ≡ true → test k.pair ≡ true)
-          → IsSound old → GivesBased call → Step mac answers old s call e new t → Marked path test old → Marked path test new ⊎ Ends old call e path
+          → IsSound old → GivesBased call → Step mac answers old s call e new t → Marked path test old → Marked path test new ⊎ Ends answers old call e path
       next test old new s t call e keeps sound based step (p, has, is, joins) = elim (pairs-stay mac answers old new s t call e p sound based step has) [
         | inl k ↦ inl (k.pair, k.there, keeps p k is, (ap (λ (w : Path). w.source) k.path ∙ joins.0, ap (λ (w : Path). w.destination) k.path ∙ joins.1))
         | inr ends ↦ inr (p, has, joins, ends)
@@ -119,7 +119,7 @@ module _ {H P : Type 0} where
         (course_on xs ((HandleTimeout now, moment) ∷ []) start near last course (last, s, t, tt, step, refl)) in
         by sound_first sound_near whole (granted path xs start near sound_start course asks) (answered path xs start near sound_start course y has is) where
           Said : Type 0
-          Said = (AnnouncesAlong (before ++ (xs ++ (HandleTimeout now, moment) ∷ [])) × HasAnnounced last) ⊎ (EndsAlong mac answers xs start near course path ⊎ Ends near (HandleTimeout now) moment path)
+          Said = (AnnouncesAlong (before ++ (xs ++ (HandleTimeout now, moment) ∷ [])) × HasAnnounced last) ⊎ (EndsAlong mac answers xs start near course path ⊎ Ends answers near (HandleTimeout now) moment path)
 
           at_last : IsSound first → IsSound near → Course mac answers (before ++ (xs ++ (HandleTimeout now, moment) ∷ [])) first last → Marked path is_nominated last → Marked path is_valid last → Said
           at_last sound_first sound_near whole n w =

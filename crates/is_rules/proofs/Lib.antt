@@ -78,6 +78,7 @@ pub mod Mild
 pub mod MildSteps
 pub mod Reaching
 pub mod ReachLaws
+pub mod BoundPairs
 pub mod BoundedReach
 pub mod ReachedCourses
 pub mod SamePath

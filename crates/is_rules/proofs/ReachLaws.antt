@@ -178,7 +178,7 @@ module _ {H P : Type 0} where
 
     between-goes : (at : ℕ) → by < at → at < MAX → (x : Logged P) (call : Call P) → x.call ≡ call → (old new : AgentRecord H P) (s t : Stream) → is_some old.remote_creds ≡ true → old.last_moment ≡ Some at
         → (p : PairRecord) → IsSound old → Has old.pairs p → p.number ≡ n → path_of old p ≡ path → is_in_round call ≡ true → Step mac answers old s call x.entry new t
-        → IsAnsweredOn x path ⊎ (MayEnd old call x.entry p ⊎ Goes n by old new)
+        → IsAnsweredOn x path ⊎ (MayEnd answers old call x.entry p ⊎ Goes n by old new)
     between-goes at behind early x (ReceivePacket now via bytes) called old new s t known last p sound has number on is (h, drawn) =
         elim (receives-goes n by mac answers now old new via path bytes x.entry known
         (λ q there same. (let one : q ≡ p = one_pair old.pairs q p (rising-each old.pairs sound.rising) there has (same ∙ sym number) in ap (λ (y : PairRecord). path_of old y) one ∙ on)) h) [
@@ -227,7 +227,7 @@ module _ {H P : Type 0} where
                 (let here = run-on mac answers first start mid s u v before xs led run in
                 let sound = sound-at (xs ++ before) mid v here in
                 let sound_last = sound-at (x ∷ (xs ++ before)) last t (mid, v, here, number, given, step) in
-                let ends-here : MayEnd mid x.call x.entry m.pair → Ends mid x.call x.entry path = λ ends. (m.pair, m.there, (ap (λ (w : Path). w.source) m.on, ap (λ (w : Path). w.destination) m.on), ends) in
+                let ends-here : MayEnd answers mid x.call x.entry m.pair → Ends answers mid x.call x.entry path = λ ends. (m.pair, m.there, (ap (λ (w : Path). w.source) m.on, ap (λ (w : Path). w.destination) m.on), ends) in
                 elim (between-goes at behind early x x.call refl mid last v t m.checking.peer m.last m.pair sound m.there m.number m.on (fits x (inl refl)) step) [
                   | inl answered ↦ inl (x, inl refl, answered)
                   | inr (inl ends) ↦ inr (inl (inl (fits x (inl refl), ends-here ends)))

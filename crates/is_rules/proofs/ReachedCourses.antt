@@ -136,7 +136,7 @@ module _ {P : Type 0} where
 module _ {H P : Type 0} (mac : H → List ℕ → List ℕ → List ℕ) (answers : P → CandidateRecord → ℕ → ℕ → Type 0) where
   -- ---- packets and polls remove no pair
 
-  plain_stays : (old : AgentRecord H P) (c : Call P) (e : Entry) (p : PairRecord) → is_between c ≡ true → MayEnd old c e p → ⊥
+  plain_stays : (old : AgentRecord H P) (c : Call P) (e : Entry) (p : PairRecord) → is_between c ≡ true → MayEnd answers old c e p → ⊥
   plain_stays old (ReceivePacket now via bytes) e p is ends = ends
   plain_stays old PollTransmit e p is ends = ends
   plain_stays old PollTimeout e p is ends = ends

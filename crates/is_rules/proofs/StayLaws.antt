@@ -117,7 +117,7 @@ module _ {H P : Type 0} where
       ]
       moment-by now emitted (Some q) is is_done (h, drawn) = inl (kept (keep-serves mac q (first_taken (timeout_begun now old)) new emitted h))
 
-      lasts : (call : Call P) → Step mac answers old s call e new t → Stands p.number new.pairs ⊎ MayEnd old call e p
+      lasts : (call : Call P) → Step mac answers old s call e new t → Stands p.number new.pairs ⊎ MayEnd answers old call e p
       lasts (SetMtu target warn) (Ok _, is, h, drawn) = inl (becomes _ (λ n x. x) h.1)
       lasts (SetMtu target warn) (Err error, is, h, drawn) = inl (as-it-was (mtu_kept old new target warn error h))
       lasts (SetControlTieBreaker tie) (is, made, drawn) = inl (becomes _ (λ n x. x) made)

@@ -21,7 +21,7 @@ pub record AgentRecord (H P : Type 0) : Type 0 where
   pub provider : H
   pub preference : Option P
   pub max_pairs : ℕ
-  -- the limit on remote candidates that requests bring
+  -- the limit on candidates that packets bring, of each side
   pub max_discovered : Option ℕ
   pub timing : StunTiming
   pub timing_advance : ℕ

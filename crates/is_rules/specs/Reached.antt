@@ -82,7 +82,7 @@ module _ {H P : Type 0} where
         → RunsOn mac answers before start s part last t → Path → Type 0
     IsEndedIn before start s [] last t run path = ⊥
     IsEndedIn before start s (x ∷ part) last t run path =
-        ((is_in_round x.call ≡ true) × Ends run.0 x.call x.entry path) ⊎ IsEndedIn before start s part run.0 run.1 run.2 path
+        ((is_in_round x.call ≡ true) × Ends answers run.0 x.call x.entry path) ⊎ IsEndedIn before start s part run.0 run.1 run.2 path
 
     -- If rounds in the log suffice for a pair, a check is sent on its path in one of them, unless a success response is received
     -- on the path in one of them, or a candidate that is added in them may remove a pair of the path. This holds in either role,
