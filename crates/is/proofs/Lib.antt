@@ -20,3 +20,5 @@ mod Selected
 mod Meeting
 mod Mirrored
 mod MarkLemmas
+mod OwnLogs
+mod Flooded

@@ -1,1 +1,4 @@
 pub mod NotStarved
+pub mod Shared
+pub mod Waiting
+pub mod Limited
