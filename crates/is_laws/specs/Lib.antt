@@ -1,1 +1,3 @@
+pub mod Matching
 pub mod NotStarved
+pub mod Renominating

@@ -19,7 +19,7 @@ use Rattle.is_rules.specs.Credentials.{SetsLocal, SetsRemote}
 use Rattle.is_rules.specs.Settings.{SetsMtu}
 use Rattle.is_rules.specs.Runs.{IsFresh, Run, run_to}
 use Rattle.is_rules.specs.Sound.{IsSound}
-use Rattle.is_rules.specs.Steps.{Call, SetMtu, SetControlTieBreaker, SetMaxCandidatePairs, SetMaxDiscovered, SetIceLite, SetTimingAdvance, SetInitialStunRto, SetMaxStunRto, SetMaxStunRetransmits, SetLiteTimeout, SetLocalPreference, SetControlling, SetLocalCredentials, SetRemoteCredentials, SkipPairIds, AddLocalCandidate, AddRemoteCandidate, InvalidateCandidate, RestartIce, RecreateCandidatePairs, ReceivePacket, HandleTimeout, PollTransmit, PollTimeout, PollEvent, Entry, Step, MayDo}
+use Rattle.is_rules.specs.Steps.{Call, SetMtu, SetControlTieBreaker, SetMaxCandidatePairs, SetMaxDiscovered, SetIceLite, SetRenomination, SetTimingAdvance, SetInitialStunRto, SetMaxStunRto, SetMaxStunRetransmits, SetLiteTimeout, SetLocalPreference, SetControlling, SetLocalCredentials, SetRemoteCredentials, SkipPairIds, AddLocalCandidate, AddRemoteCandidate, InvalidateCandidate, RestartIce, RecreateCandidatePairs, ReceivePacket, HandleTimeout, PollTransmit, PollTimeout, PollEvent, Entry, Step, MayDo}
 use Rattle.is_rules.proofs.Cells.{cell_of, cells, cells-map, pairs-in-grid, repeats, repeats-filter, repeats-length}
 use Rattle.is_rules.proofs.CellSteps.{Fewer, alike, made-as, unchanged, forms_few, received, timed}
 use Rattle.is_rules.proofs.EffectLaws.{path_law}
@@ -92,6 +92,7 @@ module _ {H P : Type 0} where
     steps (SetMaxCandidatePairs k) (is, made, drawn) = placed (cells_in _ made)
     steps (SetMaxDiscovered limit) (is, made, drawn) = placed (cells_in _ made)
     steps (SetIceLite lite) (is, made, drawn) = placed (cells_in _ made)
+    steps (SetRenomination on) (is, made, drawn) = placed (cells_in _ made)
     steps (SetTimingAdvance by) (is, made, drawn) = placed (cells_in _ made)
     steps (SetInitialStunRto rto) (is, made, drawn) = placed (cells_in _ made ∙ unless_undue (old.timing.initial_rto.0 == rto && old.timing.max_rto.0 == old.timing.max_rto.0) old.pairs)
     steps (SetMaxStunRto rto) (is, made, drawn) = placed (cells_in _ made ∙ unless_undue (old.timing.initial_rto.0 == old.timing.initial_rto.0 && old.timing.max_rto.0 == rto) old.pairs)
