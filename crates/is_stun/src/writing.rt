@@ -44,7 +44,11 @@ fn put_padding(buf: &mut [u8], at: usize, len: usize) -> usize
     requires short { len < 2 ^ 16 }
     ensures { Puts buf.old buf.new at result (replicate (padded_len len - len) 0) }
 {
-    put(buf, at, &[0; 3][..(len + 3) / 4 * 4 - len])
+    let padding = (len + 3) / 4 * 4 - len;
+    if padding == 0 {
+        return at;
+    }
+    put(buf, at, &[0; 3][..padding])
 }
 
 /// Writes an attribute and its padding. It is a separate function so that the loops over the rows are unrolled, and an
