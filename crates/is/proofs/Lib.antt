@@ -18,5 +18,7 @@ mod Granted
 mod Connecting
 mod Selected
 mod Meeting
+mod Nominated
+mod Connects
 mod Mirrored
 mod MarkLemmas

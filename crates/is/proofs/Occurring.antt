@@ -16,16 +16,18 @@ use Rattle.is_rules.specs.Effects.{PathLaw}
 use Rattle.is_rules.specs.Exchange.{AreBetween, Course}
 use Rattle.is_rules.specs.Issuing.{via_out}
 use Rattle.is_rules.specs.Pending.{is_check_on, checks_on, KeepsAlong}
+use Rattle.is_rules.specs.Reached.{is_in_round}
 use Rattle.is_rules.specs.Steps as agent
 use Rattle.is_rules.specs.Steps.{Answer, Entry, Refused, Step}
 use Rattle.is.specs.declared.world.Side.{Side}
 use Rattle.is.specs.declared.world.Side.TheVariants.{A, B}
-use Rattle.is.specs.Deliveries.{MakesPolls, Hands}
+use Rattle.is.specs.Deliveries.{MakesPolls, MakesInRound, Hands}
 use Rattle.is.specs.Grantings.{is_of, check_count, Occurrence, HandedCheck, checks_of, IsReturned, MayEndAt, occurrences_in}
+use Rattle.is.specs.Selections.{state_after}
 use Rattle.is.specs.World as world
 use Rattle.is.specs.World.{WorldRecord, InFlightRecord, Event, Outcome, Logged, Turns, Stands, Happens, Run, at, other, in_world}
 use Rattle.is.proofs.Following.{Has-front, Has-rear, AreSound}
-use Rattle.is.proofs.Owning.{either_has, only, only_none, handed_as, polled_as, between_both, acts, acts_between, course_on, turn_step, acts_course, sound_on}
+use Rattle.is.proofs.Owning.{either_has, only, only_none, handed_as, polled_as, acts, acts_between, acts_in_round, course_on, turn_step, acts_course, sound_on}
 use Rattle.is.proofs.Connected.{rewritten, delivered}
 
 pub middle : {X : Type 0} (xs ys : List X) (x : X) → Has (xs ++ x ∷ ys) x
@@ -50,6 +52,10 @@ module _ {H P : Type 0} (mac : H → List ℕ → List ℕ → List ℕ) (answer
   pub cut : (xs ys : List (Occurrence H P)) (w last : WorldRecord H P) → Follow w (xs ++ ys) last → (mid : WorldRecord H P) × Follow w xs mid × Follow mid ys last
   cut [] ys w last more = (w, refl, more)
   cut (x ∷ xs) ys w last (from, s, t, happens, more) = let k = cut xs ys x.behind last more in (k.0, (from, s, t, happens, k.1), k.2)
+
+  pub state_is : (xs : List (Occurrence H P)) (w last : WorldRecord H P) → Follow w xs last → state_after w xs ≡ last
+  state_is [] w last is = sym is
+  state_is (x ∷ rest) w last (from, s, t, happens, more) = state_is rest x.behind last more
 
   -- one of them, what leads to it and what follows it
   pub record Met (w last : WorldRecord H P) (xs : List (Occurrence H P)) (x : Occurrence H P) (ys : List (Occurrence H P)) : Type 0 where
@@ -86,11 +92,20 @@ module _ {H P : Type 0} (mac : H → List ℕ → List ℕ → List ℕ) (answer
       (course_on mac answers (acts_at side x) (own side rest) (at side x.before) (at side x.behind) (at side last)
       (acts_course mac answers x.before x.behind s t side x.entry happens) (own_course side rest x.behind last more))
 
+  -- a call of the side occurs in one of the events
+  pub own_from : (side : Side) (xs : List (Occurrence H P)) (y : agent.Call P × Entry) → Has (own side xs) y → (x : Occurrence H P) × Has xs x × Has (acts_at side x) y
+  own_from side [] y has = absurd has
+  own_from side (x ∷ rest) y has = elim (either_has (acts_at side x) (own side rest) y has) [
+    | inl k ↦ (x, inl refl, k)
+    | inr k ↦ (let o = own_from side rest y k in (o.0, inr o.1, o.2))
+  ]
+
   pub own_between : (side : Side) (xs : List (Occurrence H P)) → ((x : Occurrence H P) → Has xs x → MakesPolls side x.entry.event) → AreBetween (own side xs)
-  own_between side [] polls y has = absurd has
-  own_between side (x ∷ rest) polls y has =
-      between_both (acts_at side x) (own side rest) (acts_between side x.before x.entry.event x.entry.outcome.entry (polls x (inl refl)))
-      (own_between side rest (λ z there. polls z (inr there))) y has
+  own_between side xs polls y has = let o = own_from side xs y has in acts_between side o.0.before o.0.entry.event o.0.entry.outcome.entry (polls o.0 o.1) y o.2
+
+  pub own_in_round : (side : Side) (xs : List (Occurrence H P)) → ((x : Occurrence H P) → Has xs x → MakesInRound side x.entry.event)
+      → (y : agent.Call P × Entry) → Has (own side xs) y → is_in_round y.0 ≡ true
+  own_in_round side xs calls y has = let o = own_from side xs y has in acts_in_round side o.0.before o.0.entry.event o.0.entry.outcome.entry (calls o.0 o.1) y o.2
 
   pub own_has : (side : Side) (xs : List (Occurrence H P)) (x : Occurrence H P) (y : agent.Call P × Entry) → Has xs x → Has (acts_at side x) y → Has (own side xs) y
   own_has side [] x y has there = absurd has

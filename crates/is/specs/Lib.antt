@@ -13,6 +13,7 @@ pub mod Grantings
 pub mod Selections
 pub mod Connections
 pub mod Meetings
+pub mod Connects
 pub mod Mirrors
 pub mod WorldLaws
 pub use Rattle.is_proto.specs.Moments

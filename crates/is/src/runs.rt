@@ -5,7 +5,9 @@ ghost use Rattle.is_rules.specs.Bounds.{ListsAreBounded, PairsAreFew};
 ghost use Rattle.is_rules.specs.Owed.{AreAmong};
 ghost use Rattle.is_rules.specs.Runs.{IsFresh, PathsAreAnswered, PathsAreAskedFor, LastPathsAreTop, SuccessesMakeValid, RequestsNominate};
 ghost use Rattle.is_rules.specs.Progress.{SuccessesAnnounce, NominationsAnnounce};
-ghost use Rattle.is_rules.specs.Rounds.{MomentsAreOfUse, PartsStand, RoundsAnnounce};
+ghost use Rattle.is_rules.specs.Rounds.{MomentsAreOfUse, PartsStand};
+ghost use Rattle.is_laws.specs.DueRounds.{DueRoundsAnnounce};
+ghost use Rattle.is_laws.specs.OpenRounds.{OpenRoundsAnnounce};
 ghost use Rattle.is.specs.Log.{IsRunLog, log_of, EntriesStand};
 ghost use Rattle.is.specs.Accepted.{PacketsAreSettled};
 ghost use Rattle.is.specs.Queues.{OthersIssueNone, QueuesAreKept};
@@ -14,6 +16,7 @@ use crate::calls::{AgentCall, Entry};
 use crate::steps::step;
 use is_agent::Agent;
 use is_candidate::LocalPreference;
+use is_laws::announcing::{due_rounds_announce, open_rounds_announce};
 use is_proto::Sha1HmacProvider;
 use is_rules::laws;
 use rand_core::Rng;
@@ -106,8 +109,16 @@ pub fn run<H: Sha1HmacProvider + Drop, P: LocalPreference, R: Rng>(
     // Progress: n pairs are due by an earlier time at a `handle_timeout` call. In each of the n rounds from this call on in which
     // a check is sent on the path of one of these pairs, an accepted success response is received. Then a controlling agent
     // selects a path in one of the rounds. This holds whatever else is received, and whether or not `poll_timeout` is called.
+    // Candidates may be added between the `handle_timeout` calls, if there are 2n - 1 rounds for n pairs in all, and one more for
+    // each pair that is added, unless an added candidate may remove a pair of the path.
     ensures rounds { IsFresh (record_of agent.old)
-        → RoundsAnnounce H.mac P.answers (record_of agent.old) (R.stream rng.old) (log_of calls.items result) }
+        → OpenRoundsAnnounce H.mac P.answers (record_of agent.old) (R.stream rng.old) (log_of calls.items result) }
+
+    // Progress from the first timeout on: the same for a pair that is due by the first `handle_timeout` call of the rounds, maybe not
+    // before it. For a single pair one round suffices. Otherwise 2m - 1 rounds after it do, for m pairs when the second call comes,
+    // and one more for each pair that is added in these.
+    ensures due_rounds { IsFresh (record_of agent.old)
+        → DueRoundsAnnounce H.mac P.answers (record_of agent.old) (R.stream rng.old) (log_of calls.items result) }
 
     // After an accepted success response a pair with its pending transaction, on its path, is valid.
     ensures takers { IsFresh (record_of agent.old)
@@ -150,7 +161,8 @@ pub fn run<H: Sha1HmacProvider + Drop, P: LocalPreference, R: Rng>(
     laws::moments_announce::<H, P>();
     laws::parts_are_runs::<H, P>();
     laws::turns_are_of_use::<H, P>();
-    laws::answered_rounds_announce::<H, P>();
+    open_rounds_announce::<H, P>();
+    due_rounds_announce::<H, P>();
     laws::takers_are_valid::<H, P>();
     laws::asked_are_nominated::<H, P>();
     laws::replies_are_among::<H, P>();

@@ -2,3 +2,8 @@ pub mod Unspent
 pub mod Spends
 pub mod Spending
 pub mod NotStarved
+pub mod FirstMoment
+pub mod FirstRound
+pub mod OpenCourses
+pub mod OpenRounds
+pub mod FirstChecks

@@ -1,1 +1,5 @@
 pub mod NotStarved
+pub mod FirstTimeouts
+pub mod FirstChecks
+pub mod OpenRounds
+pub mod DueRounds

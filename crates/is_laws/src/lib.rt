@@ -4,4 +4,6 @@
 //! They are above `is_rules`, in a crate of their own, so that one can be added or changed without proving `is_agent` again.
 #![tactic(auto)]
 
+pub mod announcing;
+pub mod reaching;
 pub mod starving;

@@ -31,7 +31,10 @@ pub returns-clause-of_use : goal.returns-clause-of_use
 returns-clause-of_use g c = c.turns_are_of_use.ensures _ _ _
 
 pub returns-clause-rounds : goal.returns-clause-rounds
-returns-clause-rounds g c = c.answered_rounds_announce.ensures _ _ _
+returns-clause-rounds g c = c.open_rounds_announce.ensures _ _ _
+
+pub returns-clause-due_rounds : goal.returns-clause-due_rounds
+returns-clause-due_rounds g c = c.due_rounds_announce.ensures _ _ _
 
 pub returns-clause-takers : goal.returns-clause-takers
 returns-clause-takers g c = c.takers_are_valid.ensures _ _ _

@@ -26,3 +26,6 @@ returns-clause-connect g c = c.both_connect.ensures _ _ _
 
 pub returns-clause-mirror : goal.returns-clause-mirror
 returns-clause-mirror g c = c.lone_paths_mirror.ensures _ _ _
+
+pub returns-clause-both : goal.returns-clause-both
+returns-clause-both g c = c.both_select.ensures _ _ _
