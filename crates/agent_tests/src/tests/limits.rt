@@ -184,7 +184,7 @@ fn a_peer_reflexive_candidate_of_the_caller_counts(player: &mut Player) -> Told 
     ])
 }
 
-/// With a limit of 0 no source is told of either.
+/// With a limit of 0 no source is reported either.
 fn a_pair_is_selected_all_the_same(player: &mut Player) -> Told {
     Story("a_pair_is_selected_all_the_same").holds(&[
         player.set_up_pair() && is_limited(player, 0),
