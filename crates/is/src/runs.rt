@@ -130,7 +130,7 @@ pub fn run<H: Sha1HmacProvider + Drop, P: LocalPreference, R: Rng>(
     ensures bounded { IsFresh (record_of agent.old)
         → ListsAreBounded H.mac P.answers (record_of agent.old) (R.stream rng.old) (log_of calls.items result) }
 
-    // After each call there are at most as many pairs as the limit on pairs, and one for each local and each remote candidate,
+    // After each call there are at most as many pairs as the limit on pairs, plus the local candidates times the remote ones,
     // whatever was received.
     ensures few { IsFresh (record_of agent.old)
         → PairsAreFew H.mac P.answers (record_of agent.old) (R.stream rng.old) (log_of calls.items result) }
