@@ -1,5 +1,5 @@
 -- With a limit on what requests bring, the remote candidates and the remembered sources stay bounded, whatever the agent receives.
--- So do the pairs.
+-- The pairs are bounded by the limit on pairs and by both lists of candidates.
 use Rattle.std.specs.Prelude.{◌≡◌, ℕ, ◌+◌, ◌*◌, ◌≤◌, Bool, true, false, not, List, ◌∷◌, length, count_by, Some}
 use Rattle.rand_core.specs.Stream.{Stream}
 use Rattle.is_candidate.specs.Candidates.{CandidateRecord}
@@ -54,7 +54,7 @@ module _ {H P : Type 0} where
     FormsFew limit first s log = AtEach mac answers first s log (λ before mid x after. mid.max_pairs ≤ limit)
 
     -- Forming leaves at most that many pairs. Then a request adds a pair only of two candidates that have none. So there are at most
-    -- as many pairs as the limit, and one for each local and each remote candidate.
+    -- as many pairs as the limit plus the number of local candidates times that of remote ones.
     abbrev pub PairsAreFew : AgentRecord H P → Stream → List (Logged P) → Type 0
     PairsAreFew first s log =
         (limit : ℕ) → FormsFew limit first s log

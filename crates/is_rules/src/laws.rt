@@ -61,7 +61,7 @@ pub fn limits_bound<H: Sha1HmacProvider, P: LocalPreference>()
     ensures { LimitsBound H.mac P.answers }
 {}
 
-/// There are never more pairs than the limit on pairs, and one for each local and each remote candidate.
+/// There are never more pairs than the limit on pairs plus the number of local candidates times that of remote ones.
 pub fn limits_pairs<H: Sha1HmacProvider, P: LocalPreference>()
     ensures { LimitsPairs H.mac P.answers }
 {}
