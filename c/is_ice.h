@@ -308,6 +308,14 @@ IS_ICE_QUIET_CALL int32_t is_ice_set_controlling(is_ice_agent *agent, bool contr
  * never finds a path, and no call reports it. IS_ICE_OK. Value: false. */
 IS_ICE_QUIET_CALL int32_t is_ice_set_lite(is_ice_agent *agent, bool lite);
 
+/* is_ice_set_renomination - lets each nomination replace the ones before, so that both agents select the same path
+ * whatever priorities each has. Set it at both agents or at none, before the first packet: agree on it in signaling, by
+ * `a=ice-options:renomination`. A controlling agent then puts USE-CANDIDATE only on checks of the pair that it selected
+ * last. A controlled one selects the pair on which it received the last request with USE-CANDIDATE, once a check of its
+ * own was answered on it; until then it keeps its path. If only the controlled agent has it, its path may change at each
+ * check of the other. IS_ICE_OK. Value: false. */
+IS_ICE_QUIET_CALL int32_t is_ice_set_renomination(is_ice_agent *agent, bool enabled);
+
 /* is_ice_set_lite_timeout - sets how long a lite agent keeps a pair after the last check of the other agent on it. A
  * pair without any counts as checked at its first is_ice_handle_timeout call. With 0 the next such call after a check
  * removes the pair. Against Firefox set 30 s: it still sends checks after a cut of 20 s, and does not nominate again
@@ -326,21 +334,24 @@ IS_ICE_QUIET_CALL int32_t is_ice_set_max_pairs(is_ice_agent *agent, size_t limit
 /* No limit: see is_ice_set_max_discovered. */
 #define IS_ICE_NO_LIMIT ((size_t)-1)
 
-/* is_ice_set_max_discovered - limits how many remote candidates requests bring: the peer-reflexive ones (RFC 8445,
- * section 7.3.1.3), invalidated ones included.
+/* is_ice_set_max_discovered - limits how many peer-reflexive candidates packets bring of each side: requests remote
+ * ones, responses local ones (RFC 8445, sections 7.3.1.3 and 7.2.5.3.1). Invalidated ones count.
  *
  * It is against this attack: whoever sees one request of the other agent on the wire can send it again from other
  * addresses and ports, without a password. Each of them would become a candidate with a pair, whose checks cost memory,
  * time and turns of the pacing interval.
  *
  * At the limit an unknown sender takes the place of such a candidate whose pair was removed. If there is none, its
- * request is dropped without a response. A sender that is a candidate is always served, and candidates that
- * is_ice_add_remote added do not count. The limit also bounds how many sources are remembered for
- * IS_ICE_DISCOVERED_RECV; while as many events wait to be polled, no further source is reported. With 0 no request
- * brings a candidate.
+ * request is dropped without a response. A sender that is a candidate is always served. Candidates that
+ * is_ice_add_remote added do not count, unless they are peer-reflexive with the foundation tmp_prflx. The limit also
+ * bounds how many sources are remembered for IS_ICE_DISCOVERED_RECV; while as many events wait to be polled, no further
+ * source is reported.
  *
- * IS_ICE_NO_LIMIT: each sender becomes a candidate. Set the limit before the first packet: a lower one removes no
- * candidate. IS_ICE_OK. Value: 32. */
+ * The other agent can name a new mapped address in each response. At the limit such an address is not listed by
+ * is_ice_local_candidate, and the response counts as ever. Peer-reflexive candidates that is_ice_add_local added count.
+ *
+ * With 0 no packet brings a candidate. IS_ICE_NO_LIMIT: each sender and each mapped address becomes one. Set the
+ * limit before the first packet: a lower one removes no candidate. IS_ICE_OK. Value: 32. */
 IS_ICE_QUIET_CALL int32_t is_ice_set_max_discovered(is_ice_agent *agent, size_t limit);
 
 /* is_ice_set_timing_advance - sets the pacing interval Ta (RFC 8445, section 14.2): the least time from the last
@@ -448,8 +459,8 @@ IS_ICE_CALL int32_t is_ice_invalidate(is_ice_agent *agent, const uint8_t *line, 
  * The index counts from 0, without the candidates that were removed, so it may mean another candidate after a change.
  * Peer-reflexive candidates, which the agent discovered, are included.
  *
- * IS_ICE_OK. IS_ICE_NOTHING: the index is past the last one; *length is unspecified. IS_ICE_BUFFER_TOO_SHORT.
- * IS_ICE_OUT_OF_MEMORY. */
+ * IS_ICE_OK. IS_ICE_NOTHING: the index is past the last one. IS_ICE_BUFFER_TOO_SHORT. IS_ICE_OUT_OF_MEMORY. After the
+ * first and the last of these the buffer and *length are unchanged. */
 IS_ICE_CALL int32_t is_ice_local_candidate(
     is_ice_agent *agent, size_t index, uint8_t *buffer, size_t size, size_t *length);
 IS_ICE_CALL int32_t is_ice_remote_candidate(
@@ -457,21 +468,22 @@ IS_ICE_CALL int32_t is_ice_remote_candidate(
 
 /* is_ice_line_refusal - says why a text is not a candidate: "TEXT: FAULT".
  *
- * IS_ICE_OK: it is not, and the explanation is at the start of the buffer. IS_ICE_NOTHING: it is a candidate; the
- * buffer is unchanged. IS_ICE_NOT_UTF8. IS_ICE_BUFFER_TOO_SHORT. IS_ICE_OUT_OF_MEMORY. On any thread. */
+ * IS_ICE_OK: it is not, and the explanation is at the start of the buffer. IS_ICE_NOTHING: it is a candidate.
+ * IS_ICE_NOT_UTF8. IS_ICE_OUT_OF_MEMORY. After these three the buffer and *length are unchanged.
+ * IS_ICE_BUFFER_TOO_SHORT. On any thread. */
 IS_ICE_CALL int32_t is_ice_line_refusal(
     const uint8_t *line, size_t line_length, uint8_t *buffer, size_t size, size_t *length);
 
 /* is_ice_candidate_refusal - says why is_ice_add_local fails with IS_ICE_BAD_CANDIDATE.
  *
- * IS_ICE_OK: it does, and the explanation is at the start of the buffer. IS_ICE_NOTHING: it is a candidate; the buffer
- * is unchanged. IS_ICE_BAD_ADDRESS: see is_ice_add_local. IS_ICE_BUFFER_TOO_SHORT. IS_ICE_OUT_OF_MEMORY. On any
- * thread. */
+ * IS_ICE_OK: it does, and the explanation is at the start of the buffer. IS_ICE_NOTHING: it is a candidate.
+ * IS_ICE_BAD_ADDRESS: see is_ice_add_local. IS_ICE_OUT_OF_MEMORY. After these three the buffer and *length are
+ * unchanged. IS_ICE_BUFFER_TOO_SHORT. On any thread. */
 IS_ICE_CALL int32_t is_ice_candidate_refusal(
     const is_ice_candidate *candidate, uint8_t *buffer, size_t size, size_t *length);
 
 /* ---- candidates without an agent: their texts and their JSON. On any thread. After an error or IS_ICE_NOTHING the
- * buffer is unchanged; *length is then unspecified, except after IS_ICE_BUFFER_TOO_SHORT. */
+ * buffer is unchanged, and so is *length, except after IS_ICE_BUFFER_TOO_SHORT. */
 
 /* is_ice_candidate_line - returns the text of a candidate that no agent has: with the priority of a first candidate of
  * its kind (RFC 8445, section 5.1.2.1), and without a username fragment. An agent may list another priority.
@@ -645,7 +657,7 @@ IS_ICE_CALL int32_t is_ice_local_ufrag(is_ice_agent *agent, uint8_t *buffer, siz
 IS_ICE_CALL int32_t is_ice_local_pass(is_ice_agent *agent, uint8_t *buffer, size_t size, size_t *length);
 
 /* is_ice_remote_ufrag, is_ice_remote_pass - return the other agent's credentials. IS_ICE_OK. IS_ICE_NOTHING: they are
- * not known; *length is unspecified. IS_ICE_BUFFER_TOO_SHORT. */
+ * not known; the buffer and *length are unchanged. IS_ICE_BUFFER_TOO_SHORT. */
 IS_ICE_CALL int32_t is_ice_remote_ufrag(is_ice_agent *agent, uint8_t *buffer, size_t size, size_t *length);
 IS_ICE_CALL int32_t is_ice_remote_pass(is_ice_agent *agent, uint8_t *buffer, size_t size, size_t *length);
 

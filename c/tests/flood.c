@@ -5,23 +5,11 @@
  * a transaction ID of its own, which need the password. They come from as many addresses, or from one fewer than the limit
  * allows. A last flood, without a limit, shows that these measurements see what grows. */
 #define _GNU_SOURCE
-#include "is_ice.h"
-#include <stdio.h>
-#include <stdlib.h>
-#include <string.h>
-#include <time.h>
-#include <unistd.h>
-
-#define MS UINT64_C(1000000) /* times are nanoseconds */
-#define SECOND (1000 * MS)
-#define TEXT(text) (const uint8_t *)(text), strlen(text)
+#include "measuring.h"
 
 enum {
-    PACKETS = 100000, BLOCK = 1000,
-    LIMIT = 32,        /* of a new agent */
-    PAIRS = LIMIT + 3, /* with those of the peer, of a signaled address and of a new one */
-    FLAT = 64 * 1024,  /* bytes that memory may grow: below one byte a packet */
-    LONGEST = 600      /* a packet: none of the agent's is longer than 588 bytes */
+    PACKETS = 100000,
+    PAIRS = LIMIT + 3 /* with those of the peer, of a signaled address and of a new one */
 };
 
 /* How long the agent that is flooded may leave its path unchecked: the longest RTO, and a pacing interval for each pair
@@ -48,11 +36,6 @@ static const struct flood floods[] = {
 static const is_ice_address victim_at = {4, {10, 0, 0, 1}, 1000, 0, 0}, peer_at = {4, {10, 0, 0, 2}, 2000, 0, 0};
 static const is_ice_address writer_at = {4, {10, 0, 0, 3}, 3000, 0, 0};
 
-struct message {
-    uint8_t bytes[LONGEST];
-    size_t length;
-};
-
 /* The victim is controlled; the peer is its honest controlling one. The writer has the peer's credentials, and the twin the
  * victim's: the twin responds to the writer, so that the writer has a path and writes checks as long as they are needed. */
 struct world {
@@ -65,17 +48,6 @@ struct world {
     bool is_lost;                     /* victim or peer had no path */
     double took[BLOCK];
 };
-
-static void fail(const char *what, const char *why)
-{
-    printf("%s: %s\n", what, why);
-    exit(1);
-}
-
-static void must(const char *what, int32_t code, int32_t wanted)
-{
-    if (code != wanted) fail(what, is_ice_code_text(code));
-}
 
 static bool is_equal(const is_ice_address *a, const is_ice_address *b)
 {
@@ -96,47 +68,7 @@ static is_ice_address flood_at(size_t index)
     return at;
 }
 
-static double processor_time(void)
-{
-    struct timespec t;
-    if (clock_gettime(CLOCK_PROCESS_CPUTIME_ID, &t) != 0) exit(2);
-    return (double)t.tv_sec * 1e9 + (double)t.tv_nsec;
-}
-
-/* Bytes of the process in memory, without those that are a file's: code is loaded when it first runs. */
-static long resident(void)
-{
-    long size, pages, shared;
-    FILE *file = fopen("/proc/self/statm", "r");
-    if (!file || fscanf(file, "%ld %ld %ld", &size, &pages, &shared) != 3) fail("/proc/self/statm", "no sizes");
-    fclose(file);
-    return (pages - shared) * sysconf(_SC_PAGESIZE);
-}
-
 /* ---- the honest session */
-
-static void timeout(struct world *w, is_ice_agent *agent, uint64_t now)
-{
-    uint8_t random[IS_ICE_TIMEOUT_RANDOM];
-    for (size_t i = 0; i < sizeof random; i++) {
-        w->random = w->random * UINT64_C(6364136223846793005) + UINT64_C(1442695040888963407);
-        random[i] = (uint8_t)(w->random >> 56);
-    }
-    must("timeout", is_ice_handle_timeout(agent, now, random, sizeof random), IS_ICE_OK);
-}
-
-static bool transmit(is_ice_agent *agent, struct message *m, is_ice_packet *packet)
-{
-    if (is_ice_poll_transmit(agent, m->bytes, sizeof m->bytes, packet) != IS_ICE_OK) return false;
-    m->length = packet->length;
-    return true;
-}
-
-/* The agent takes a message, and accepts it. */
-static void receive(is_ice_agent *agent, uint64_t now, const is_ice_address *from, const is_ice_address *to, const struct message *m)
-{
-    must("packet", is_ice_handle_packet(agent, now, IS_ICE_UDP, from, to, m->bytes, m->length), IS_ICE_OK);
-}
 
 static void take_events(struct world *w, is_ice_agent *agent)
 {
@@ -189,7 +121,7 @@ static void deliver(struct world *w)
 static void timeout_if_due(struct world *w, is_ice_agent *agent)
 {
     uint64_t at = 0;
-    if (is_ice_poll_timeout(agent, &at) != IS_ICE_OK || w->now >= at) timeout(w, agent, w->now);
+    if (is_ice_poll_timeout(agent, &at) != IS_ICE_OK || w->now >= at) timeout(&w->random, agent, w->now);
 }
 
 /* A millisecond passes: what is due is done, and what is sent arrives. */
@@ -259,7 +191,7 @@ static void write_request(struct world *w, struct message *request)
     do {
         uint64_t at = w->writer_now;
         if (is_ice_poll_timeout(&w->writer, &at) == IS_ICE_OK && at > w->writer_now) w->writer_now = at;
-        timeout(w, &w->writer, w->writer_now);
+        timeout(&w->random, &w->writer, w->writer_now);
         take_events(w, &w->writer);
     } while (!transmit(&w->writer, request, &packet));
     receive(&w->twin, w->writer_now, &writer_at, &victim_at, request);
@@ -291,18 +223,11 @@ static double take_one(struct world *w, const struct flood *f, size_t number)
     return took;
 }
 
-static int compare(const void *a, const void *b)
-{
-    double x = *(const double *)a, y = *(const double *)b;
-    return (x > y) - (x < y);
-}
-
-/* A thousand packets of the flood. Returns a time that a tenth of them did not exceed: other programs add to the rest. */
+/* A thousand packets of the flood. Returns a time that a tenth of them did not exceed. */
 static double take_block(struct world *w, const struct flood *f, size_t first)
 {
     for (size_t i = 0; i < BLOCK; i++) w->took[i] = take_one(w, f, first + i);
-    qsort(w->took, BLOCK, sizeof *w->took, compare);
-    return w->took[BLOCK / 10];
+    return quick_tenth(w->took);
 }
 
 static size_t remote_count(struct world *w)

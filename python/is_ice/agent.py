@@ -196,6 +196,16 @@ class IceAgent:
         """
         done(self._c.is_ice_set_lite(self._at, enabled))
 
+    def set_renomination(self, enabled: bool) -> None:
+        """Lets each nomination replace the ones before, so that both agents select the same path whatever priorities each has. Default: False.
+
+        Set it at both agents or at none, and before the first packet: agree on it in signaling, by `a=ice-options:renomination`. A
+        controlling agent then puts USE-CANDIDATE only on checks of the pair that it selected last. A controlled agent selects the
+        pair on which it received the last request with USE-CANDIDATE, once a check of its own was answered on it; until then it
+        keeps its path. If only the controlled agent has it, its path may change at each check of the peer.
+        """
+        done(self._c.is_ice_set_renomination(self._at, enabled))
+
     def set_control_tie_breaker(self, tie_breaker: int) -> None:
         """Sets the number that decides role conflicts: the agent with the greater one keeps its role."""
         done(self._c.is_ice_set_tie_breaker(self._at, in_range(tie_breaker, 64, "a tie-breaker")))
@@ -205,11 +215,14 @@ class IceAgent:
         done(self._c.is_ice_set_max_pairs(self._at, in_range(limit, 64, "a limit")))
 
     def set_max_discovered(self, limit: int | None) -> None:
-        """Limits how many remote candidates requests may bring, invalidated ones included. Default: 32. None: no limit, as in the original.
+        """Limits how many peer-reflexive candidates packets bring of each side, invalidated ones included. Default: 32.
+
+        Requests bring remote ones, responses local ones. None: no limit, as in the original.
 
         Whoever sees one request can replay it from other ports, and each port would become a candidate. At the limit an unknown
         sender replaces one without a pair, or its request is dropped without a response. Known and signaled senders are always
-        served. Set the limit before the first packet.
+        served. A response counts as ever at the limit, and its mapped address is not listed. Set the limit before the first
+        packet.
         """
         most = (1 << 64) - 1 if limit is None else in_range(limit, 64, "a limit")
         done(self._c.is_ice_set_max_discovered(self._at, most))

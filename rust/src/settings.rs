@@ -37,12 +37,12 @@ impl IceAgent {
         self.tell("limit", |agent| ffi::is_ice_set_max_pairs(agent, max));
     }
 
-    /// Limits how many remote candidates requests may bring, invalidated ones included. Default: 32. `None`: no limit, as in the
-    /// original.
+    /// Limits how many peer-reflexive candidates packets bring of each side, invalidated ones included: requests remote ones,
+    /// responses local ones. Default: 32. `None`: no limit, as in the original.
     ///
     /// Whoever sees one request can replay it from other ports, and each port would become a candidate. At the limit an unknown
     /// sender replaces one without a pair, or its request is dropped without a response. Known and signaled senders are always
-    /// served. Set the limit before the first packet.
+    /// served. A response counts as ever at the limit, and its mapped address is not listed. Set the limit before the first packet.
     pub fn set_max_discovered(&mut self, max: Option<usize>) {
         self.tell("limit", |agent| ffi::is_ice_set_max_discovered(agent, max.unwrap_or(usize::MAX)));
     }
@@ -58,6 +58,17 @@ impl IceAgent {
     /// reports it.
     pub fn set_ice_lite(&mut self, enabled: bool) {
         self.tell("lite", |agent| ffi::is_ice_set_lite(agent, enabled));
+    }
+
+    /// Lets each nomination replace the ones before, so that both agents select the same path whatever priorities each has.
+    /// Default: false, as in the original.
+    ///
+    /// Set it at both agents or at none, and before the first packet: agree on it in signaling, by `a=ice-options:renomination`.
+    /// A controlling agent then puts USE-CANDIDATE only on checks of the pair that it selected last. A controlled agent selects the
+    /// pair on which it received the last request with USE-CANDIDATE, once a check of its own was answered on it; until then it
+    /// keeps its path. If only the controlled agent has it, its path may change at each check of the peer.
+    pub fn set_renomination(&mut self, enabled: bool) {
+        self.tell("renomination", |agent| ffi::is_ice_set_renomination(agent, enabled));
     }
 
     /// Sets the pacing interval Ta: the least time between two timeouts, each of which sends at most one packet. Default: 50 ms.

@@ -1,33 +1,41 @@
 -- Both of two agents select a path in rounds in which the network delivers. The preconditions that refused/laws
 -- changes are read by tactics.
-use Rattle.std.proofs.Common.{◌≡◌, ℕ, suc, Bool, true, false, List, [], ◌∷◌, ◌++◌, length, Option, Some, None, inl, inr, ◌⊎◌, refl, ap, sym, ◌∙◌, subst, arith, if◌then◌else◌, append_assoc}
+use Rattle.std.proofs.Common.{◌≡◌, ℕ, suc, ◌<◌, Bool, true, false, List, [], ◌∷◌, ◌++◌, length, Option, Some, None, inl, inr, ◌⊎◌, refl, ap, sym, ◌∙◌, subst, arith, if◌then◌else◌}
 use Rattle.std.specs.Prelude.{slice_get}
 use Rattle.rand_core.specs.Stream.{Stream}
 use Rattle.is_proto.specs.Lists.{Has}
 use Rattle.is_proto.specs.Packets.{Packet}
 use Rattle.is_candidate.specs.Candidates.{CandidateRecord}
+use Rattle.is_pair.specs.Pairs.{PairRecord}
 use Rattle.is_rules.specs.declared.emitted.Path.{Path}
-use Rattle.is_rules.specs.Agent.{fresh}
+use Rattle.is_rules.specs.Agent.{AgentRecord, fresh}
 use Rattle.is_rules.specs.Asked.{IsAlone}
 use Rattle.is_rules.specs.AskedCourses.{AcceptsSuccessOn, IsAnsweredAlong, GrantedAreAnnounced}
 use Rattle.is_rules.specs.Carried.{CarriedAsk, CarriedSucceedLater}
 use Rattle.is_rules.specs.Courses.{CourseRound}
 use Rattle.is_rules.specs.Effects.{PathLaw}
 use Rattle.is_rules.specs.Queue.{request_at}
-use Rattle.is_rules.specs.ReachedCourses.{IsPassed, ChecksAmong, IsAnsweredAmong, PassRounds, CoursesReach}
+use Rattle.is_rules.specs.Exchange.{AreBetween, Course}
+use Rattle.is_rules.specs.Reached.{IsInLine}
+use Rattle.is_rules.specs.ReachedCourses.{IsPassed, PassRounds}
+use Rattle.is_rules.specs.Sending.{path_of}
+use Rattle.is_laws.specs.FirstChecks.{times_of}
+use Rattle.is_laws.specs.FirstTimeouts.{AreInRound, IsOpenRound, EndsAmong, Suffices, CoursesReachFromDue}
 use Rattle.is_rules.specs.Sound.{FreshIsSound}
 use Rattle.is_rules.specs.Steps as agent
 use Rattle.is_rules.specs.Steps.{Answer, Entry, Done, Refused, quiet, Step}
 use Rattle.is.specs.declared.world.Side.{Side}
 use Rattle.is.specs.Connections.{HasRounds, Succeeds, BothConnect}
 use Rattle.is.specs.Grantings.{Occurrence, IsAskedOver}
-use Rattle.is.specs.Selections.{Round, all_of, IsKept, Checks}
+use Rattle.is.specs.Deliveries.{MakesPolls}
+use Rattle.is.specs.Selections.{Round, all_of, times_in, state_after, IsKept, AreKept, MayEndInRounds, AreEnough, AreEachPolled, Checks}
+use Rattle.is.specs.Sides.{only, polled_as, received_as, acts}
 use Rattle.is.specs.World as world
 use Rattle.is.specs.World.{WorldRecord, InFlightRecord, Event, Logged, Happens, at, other, in_world}
 use Rattle.is.specs.WorldRoles.{IsNewAgent}
 use Rattle.is.proofs.Following.{Has-front, Has-rear, AreSound}
-use Rattle.is.proofs.Owning.{either_has, acts, only, only_own, handed_as, polled_as, course_on, turn_step}
-use Rattle.is.proofs.Occurring.{Follow, follows, cut, acts_at, own, own_course, own_between, Found}
+use Rattle.is.proofs.Owning.{only_own, course_on, turn_step}
+use Rattle.is.proofs.Occurring.{Follow, follows, cut, state_is, meet, acts_at, own, own_course, own_from, own_between, own_in_round, own_has, owned, Found}
 use Rattle.is.proofs.Granted.{apart_at, answered, announced_where}
 
 module _ {H P : Type 0} (mac : H → List ℕ → List ℕ → List ℕ) (answers : P → CandidateRecord → ℕ → ℕ → Type 0) where
@@ -53,33 +61,60 @@ module _ {H P : Type 0} (mac : H → List ℕ → List ℕ → List ℕ) (answer
       turn_step mac answers r.moment.before r.moment.behind s t side (agent.HandleTimeout r.now) r.moment.entry.outcome
       (subst (λ (v : Event P). Happens mac answers r.moment.before s v r.moment.entry.outcome r.moment.behind t) comes happens)
 
-  passes : (side : Side) (rounds : List (Round H P)) (w last : WorldRecord H P) → Follow mac answers w (all_of rounds) last → ((r : Round H P) → Has rounds r → Moves side r)
-      → PassRounds mac answers (rounds_of side rounds) (at side w) (at side last)
-  passes side [] w last is comes = ap (λ (v : WorldRecord H P). at side v) is
-  passes side (r ∷ later) w last (from, s, t, happens, more) comes =
+  -- the rounds of the side as those of a per-agent execution: what may remove a pair of the path there may do so here
+  abbrev Passing : Side → Path → List (Round H P) → AgentRecord H P → AgentRecord H P → Type 0
+  Passing side path rounds a b =
+      (run : PassRounds mac answers (rounds_of side rounds) a b) × (EndsAmong mac answers (rounds_of side rounds) a b run path → MayEndInRounds answers side path rounds)
+
+  passes : (side : Side) (path : Path) (rounds : List (Round H P)) (w last : WorldRecord H P) → Follow mac answers w (all_of rounds) last → ((r : Round H P) → Has rounds r → Moves side r)
+      → Passing side path rounds (at side w) (at side last)
+  passes side path [] w last is comes = (ap (λ (v : WorldRecord H P). at side v) is, λ none. absurd none)
+  passes side path (r ∷ later) w last (from, s, t, happens, more) comes =
       let c = cut mac answers r.behind (all_of later) r.moment.behind last more in
-      subst (λ (v : WorldRecord H P). PassRounds mac answers (rounds_of side (r ∷ later)) (at side v) (at side last)) from (
-        at side r.moment.behind,
-        at side c.0,
-        s,
-        t,
-        moved side r s t (comes r (inl refl)) happens,
-        own_course mac answers side r.behind r.moment.behind c.0 c.1,
-        passes side later c.0 last c.2 (λ y has. comes y (inr has)),
+      let o = owned mac answers side path r.behind r.behind r.moment.behind c.0 c.1 (λ x has. has) in
+      let k = passes side path later c.0 last c.2 (λ y has. comes y (inr has)) in
+      subst (λ (v : WorldRecord H P). Passing side path (r ∷ later) (at side v) (at side last)) from (
+        (at side r.moment.behind, at side c.0, s, t, moved side r s t (comes r (inl refl)) happens, o.0, k.0),
+        λ ends. elim ends [ inl here ↦ (r, inl refl, o.1 here) | inr others ↦ (let m = k.1 others in (m.0, inr m.1, m.2)) ],
       )
 
-  is_passed : (side : Side) (by : ℕ) (r : Round H P) → IsKept side by r → IsPassed by (round_of side r)
-  is_passed side by r kept = record {
+  abbrev are_all : (CourseRound P → Type 0) → Side → List (Round H P) → Type 0
+  are_all Q side rounds = (c : CourseRound P) → Has (rounds_of side rounds) c → Q c
+
+  each_round : (Q : CourseRound P → Type 0) (side : Side) (rounds : List (Round H P)) → ((r : Round H P) → Has rounds r → Q (round_of side r)) → are_all Q side rounds
+  each_round Q side [] each c has = absurd has
+  each_round Q side (r ∷ later) each c (inl is) = subst (λ (z : CourseRound P). Q z) is (each r (inl refl))
+  each_round Q side (r ∷ later) each c (inr has) = each_round Q side later (λ y there. each y (inr there)) c has
+
+  is_passed : (side : Side) (by : ℕ) (r : Round H P) → by < r.now → IsKept side r → ((x : Occurrence H P) → Has r.behind x → MakesPolls side x.entry.event) → IsPassed by (round_of side r)
+  is_passed side by r later kept polls = record {
     done = kept.done;
-    late = (let late = kept.late in omega (arith, late));
+    late = omega (arith, later);
     early = kept.early;
-    between = own_between mac answers side r.behind (λ x has. search (kept.polls x has));
+    between = own_between mac answers side r.behind (λ x has. search (polls x has));
   }
 
-  pub are_passed : (side : Side) (by : ℕ) (rounds : List (Round H P)) → ((r : Round H P) → Has rounds r → IsKept side by r) → (c : CourseRound P) → Has (rounds_of side rounds) c → IsPassed by c
-  are_passed side by [] kept c has = absurd has
-  are_passed side by (r ∷ later) kept c (inl is) = subst (λ (z : CourseRound P). IsPassed by z) is (is_passed side by r (kept r (inl refl)))
-  are_passed side by (r ∷ later) kept c (inr has) = are_passed side by later (λ y there. kept y (inr there)) c has
+  pub are_passed : (side : Side) (by : ℕ) (r : Round H P) (later : List (Round H P)) → AreKept side by r later → AreEachPolled side by r later → are_all (λ c. IsPassed by c) side later
+  are_passed side by r later kept each =
+      each_round (λ c. IsPassed by c) side later (λ x has. is_passed side by x (let late = kept.late x has in omega (arith, late)) (kept.kept x (inr has)) (each.polls x (inr has)))
+
+  pub only_polls : (side : Side) (by : ℕ) (r : Round H P) (later : List (Round H P)) → AreEachPolled side by r later → AreBetween (own mac answers side r.behind)
+  only_polls side by r later each = own_between mac answers side r.behind (λ x has. search (each.polls r (inl refl) x has))
+
+  pub same_times : (side : Side) (rounds : List (Round H P)) → times_of (rounds_of side rounds) ≡ times_in rounds
+  same_times side [] = refl
+  same_times side (r ∷ later) = ap (λ ns. r.now ∷ ns) (same_times side later)
+
+  is_open : (side : Side) (r : Round H P) → IsKept side r → AreInRound (own mac answers side r.behind)
+  is_open side r kept = own_in_round mac answers side r.behind (λ x has. search (kept.between x has))
+
+  are_open : (side : Side) (by : ℕ) (r : Round H P) (later : List (Round H P)) → AreKept side by r later → are_all (λ c. IsOpenRound by c) side later
+  are_open side by r later kept = each_round (λ c. IsOpenRound by c) side later (λ x has. (let k = kept.kept x (inr has) in record {
+    done = k.done;
+    late = (let late = kept.late x has in omega (arith, late));
+    early = k.early;
+    between = is_open side x k;
+  }))
 
   -- a round of the per-agent execution is one of the two-agent network model
   pub back : (side : Side) (rounds : List (Round H P)) (c : CourseRound P) → Has (rounds_of side rounds) c → (r : Round H P) × Has rounds r × (round_of side r ≡ c)
@@ -95,46 +130,54 @@ module _ {H P : Type 0} (mac : H → List ℕ → List ℕ → List ℕ) (answer
   abbrev Answers : Side → Path → List (Round H P) → Type 0
   Answers side path rounds = (r : Round H P) × Has rounds r × IsAnsweredAlong (own mac answers side r.behind) path
 
-  reached : CoursesReach {H = H} {P = P} mac answers → (side : Side) (path : Path) (first start last : WorldRecord H P) (s : Stream) (before part : List (Occurrence H P))
-      → IsNewAgent (at side first) → Follow mac answers first before start → Follow mac answers start part last → (k : HasRounds side path part last)
-      → SomeChecks path (k.first ∷ k.later) ⊎ Answers side path (k.first ∷ k.later)
-  reached reach side path first start last s before part n led on k =
+  -- a check is sent on the path in the rounds, or it is answered in one, or a candidate that is added in one may remove a pair of it
+  abbrev pub Reaches : Side → Path → List (Round H P) → Type 0
+  Reaches side path rounds = SomeChecks path rounds ⊎ (Answers side path rounds ⊎ MayEndInRounds answers side path rounds)
+
+  pub reached : CoursesReachFromDue {H = H} {P = P} mac answers → (side : Side) (first last : WorldRecord H P) (s : Stream) (xs : List (agent.Call P × Entry)) (r : Round H P) (later : List (Round H P)) (p : PairRecord) (by : ℕ)
+      → IsNewAgent (at side first) → Course mac answers xs (at side first) (at side r.moment.before) → Follow mac answers r.moment.before (all_of (r ∷ later)) last
+      → IsInLine r.now by (at side r.moment.before) p → AreKept side by r later → AreEnough side by r later last
+      → Reaches side (path_of (at side r.moment.before) p) (r ∷ later)
+  reached reach side first last s xs r later p by n led (same, u, v, happens, more) line kept enough =
+      let path : Path = path_of (at side r.moment.before) p in
+      let own_first : IsKept side r = kept.kept r (inl refl) in
+      let c = cut mac answers r.behind (all_of later) r.moment.behind last more in
+      let o = owned mac answers side path r.behind r.behind r.moment.behind c.0 c.1 (λ x has. has) in
+      let k = passes side path later c.0 last c.2 (λ x has. (kept.kept x (inr has)).comes) in
+      let many = as_many side later in
+      let second : state_after r.moment.behind r.behind ≡ c.0 = state_is mac answers r.behind r.moment.behind c.0 c.1 in
+      let so_many : Suffices by r.now (at side r.moment.before) (at side c.0) (at side last) (length (rounds_of side later)) =
+      subst (λ i. Suffices by r.now (at side r.moment.before) (at side c.0) (at side last) i) (sym many)
+      (subst (λ (w : WorldRecord H P). Suffices by r.now (at side r.moment.before) (at side w) (at side last) (length later)) second (search enough)) in
+      elim (reach (fresh (at side first).provider n.0 n.1) (at side r.moment.before) (at side last) ((agent.SetControlling n.2, quiet Done) ∷ xs) (round_of side r) (rounds_of side later) p by
+      (n.0, n.1, refl) (at side first, s, s, tt, (refl, n.3, refl), led) line (let from = kept.from in omega (arith, from)) own_first.done own_first.early (is_open side r own_first)
+      (at side r.moment.behind, at side c.0, u, v, moved side r u v own_first.comes happens, o.0, k.0) (are_open side by r later kept) so_many) [
+        | inl (x, id, has, out) ↦ (let z = back side (r ∷ later) x has in inl (z.0, z.1, (id, ap (λ (y : CourseRound P). y.moment.emitted.issued) z.2 ∙ out)))
+        | inr (inl (x, has, is)) ↦ (let z = back side (r ∷ later) x has in inr (inl (z.0, z.1, subst (λ (y : CourseRound P). IsAnsweredAlong y.behind path) (sym z.2) is)))
+        | inr (inr (inl here)) ↦ inr (inr (r, inl refl, o.1 here))
+        | inr (inr (inr others)) ↦ inr (inr (let m = k.1 others in (m.0, inr m.1, m.2)))
+      ]
+
+  -- the rounds of a segment
+  reached_in : CoursesReachFromDue {H = H} {P = P} mac answers → (side : Side) (path : Path) (first start last : WorldRecord H P) (s : Stream) (before part : List (Occurrence H P))
+      → IsNewAgent (at side first) → Follow mac answers first before start → Follow mac answers start part last → (k : HasRounds side path part last) → Reaches side path (k.first ∷ k.later)
+  reached_in reach side path first start last s before part n led on k =
       let rounds : List (Round H P) = k.first ∷ k.later in
       let c = cut mac answers k.ahead (all_of rounds) start last (subst (λ xs. Follow mac answers start xs last) k.split on) in
       let begin : WorldRecord H P = k.first.moment.before in
       let to : Follow mac answers start k.ahead begin = subst (λ (w : WorldRecord H P). Follow mac answers start k.ahead w) (sym c.2.0) c.1 in
       let rest : Follow mac answers begin (all_of rounds) last = subst (λ (w : WorldRecord H P). Follow mac answers w (all_of rounds) last) (sym c.2.0) c.2 in
-      let many = as_many side k.later in
-      let enough = k.enough in
-      let found = subst (λ via. ChecksAmong (rounds_of side rounds) via ⊎ IsAnsweredAmong (rounds_of side rounds) via) k.on
-      (reach (fresh (at side first).provider n.0 n.1) (at side begin) (at side last)
-      ((agent.SetControlling n.2, quiet Done) ∷ (own mac answers side before ++ own mac answers side k.ahead)) (round_of side k.first) (rounds_of side k.later) k.pair k.by (n.0, n.1, refl) (
-        at side first,
-        s,
-        s,
-        tt,
-        (refl, n.3, refl),
-        course_on mac answers (own mac answers side before) (own mac answers side k.ahead) (at side first) (at side start) (at side begin)
-            (own_course mac answers side before first start led) (own_course mac answers side k.ahead start begin to),
-      )
-      k.line (passes side rounds begin last rest (λ r has. (k.kept r has).comes)) (are_passed side k.by rounds k.kept) (omega (arith, many, enough))) in
-      elim found [
-        | inl (x, id, has, out) ↦ (let r = back side rounds x has in inl (r.0, r.1, (id, ap (λ (z : CourseRound P). z.moment.emitted.issued) r.2 ∙ out)))
-        | inr (x, has, is) ↦ (let r = back side rounds x has in inr (r.0, r.1, subst (λ (z : CourseRound P). IsAnsweredAlong z.behind path) (sym r.2) is))
-      ]
+      subst (λ via. Reaches side via rounds) k.on
+      (reached reach side first last s (own mac answers side before ++ own mac answers side k.ahead) k.first k.later k.pair k.by n
+      (course_on mac answers (own mac answers side before) (own mac answers side k.ahead) (at side first) (at side start) (at side begin)
+      (own_course mac answers side before first start led) (own_course mac answers side k.ahead start begin to))
+      rest k.line k.kept k.enough)
 
-  -- ---- a round in an execution segment
-
-  place : (rounds : List (Round H P)) (r : Round H P) → Has rounds r → (xs ys : List (Occurrence H P)) × (all_of rounds ≡ xs ++ r.moment ∷ (r.behind ++ ys))
-  place [] r has = absurd has
-  place (z ∷ later) r (inl is) =
-      subst (λ (y : Round H P). (xs ys : List (Occurrence H P)) × (all_of (z ∷ later) ≡ xs ++ y.moment ∷ (y.behind ++ ys))) is ([], all_of later, refl)
-  place (z ∷ later) r (inr has) =
-      let k = place later r has in (
-        z.moment ∷ (z.behind ++ k.0),
-        k.1,
-        ap (λ xs. z.moment ∷ (z.behind ++ xs)) k.2 ∙ ap (λ xs. z.moment ∷ xs) (sym (append_assoc z.behind k.0 (r.moment ∷ (r.behind ++ k.1)))),
-      )
+  -- what follows a `handle_timeout` call is in the rounds
+  pub in_rounds : (rounds : List (Round H P)) (r : Round H P) (x : Occurrence H P) → Has rounds r → Has r.behind x → Has (all_of rounds) x
+  in_rounds [] r x has there = absurd has
+  in_rounds (z ∷ later) r x (inl is) there = inr (Has-front z.behind (all_of later) x (subst (λ (y : Round H P). Has y.behind x) (sym is) there))
+  in_rounds (z ∷ later) r x (inr has) there = inr (Has-rear z.behind (all_of later) x (in_rounds later r x has there))
 
   -- ---- a success response in the rounds
 
@@ -161,7 +204,7 @@ module _ {H P : Type 0} (mac : H → List ℕ → List ℕ → List ℕ) (answer
         absurd (poll_accepts x.entry.outcome.entry.answer (at side x.before).packets path y
         (only_own side s (polled_as x.entry.outcome.entry.answer (at side x.before).packets) y there).0 accepts)
     by (world.Deliver n now via) is there = in_flight (slice_get x.before.bag n) refl there where
-      in_flight : (o : Option InFlightRecord) → slice_get x.before.bag n ≡ o → Has (handed_as side now via x.entry.outcome.entry o) y → Succeeds side path x
+      in_flight : (o : Option InFlightRecord) → slice_get x.before.bag n ≡ o → Has (received_as side now via x.entry.outcome.entry o) y → Succeeds side path x
       in_flight None sent here = absurd here
       in_flight (Some l) sent here = let o = only_own side (other l.sender) ((agent.ReceivePacket now via l.packet.contents, x.entry.outcome.entry) ∷ []) y here in elim o.0 [
         | inl same ↦ record {
@@ -177,55 +220,57 @@ module _ {H P : Type 0} (mac : H → List ℕ → List ℕ → List ℕ) (answer
         | inr none ↦ absurd none
       ]
 
-  succeeds_in : (side : Side) (path : Path) (xs : List (Occurrence H P)) → IsAnsweredAlong (own mac answers side xs) path → (x : Occurrence H P) × Has xs x × Succeeds side path x
-  succeeds_in side path [] (y, has, accepts) = absurd has
-  succeeds_in side path (x ∷ rest) (y, has, accepts) = elim (either_has (acts_at mac answers side x) (own mac answers side rest) y has) [
-    | inl h ↦ (x, inl refl, succeeds_at side path x y h accepts)
-    | inr h ↦ (let k = succeeds_in side path rest (y, h, accepts) in (k.0, inr k.1, k.2))
-  ]
+  pub succeeds_in : (side : Side) (path : Path) (xs : List (Occurrence H P)) → IsAnsweredAlong (own mac answers side xs) path → (x : Occurrence H P) × Has xs x × Succeeds side path x
+  succeeds_in side path xs (y, has, accepts) = let o = own_from mac answers side xs y has in (o.0, o.1, succeeds_at side path o.0 y o.2 accepts)
 
   -- ---- both
 
   pub both_connect : PathLaw {H = H} {P = P} mac answers → FreshIsSound H P → CarriedAsk {H = H} {P = P} mac answers → CarriedSucceedLater {H = H} {P = P} mac answers
-      → GrantedAreAnnounced {H = H} {P = P} mac answers → CoursesReach {H = H} {P = P} mac answers → (first : WorldRecord H P) (s : Stream) (log : List (Logged P)) → BothConnect mac answers first s log
+      → GrantedAreAnnounced {H = H} {P = P} mac answers → CoursesReachFromDue {H = H} {P = P} mac answers → (first : WorldRecord H P) (s : Stream) (log : List (Logged P)) → BothConnect mac answers first s log
   both_connect paths new_sound asks succeeds announce reach first s log last t run before part rest moment now side path its new split roles asking asks_so asked answered_so comes done none alone =
-      let idle : request_at now (at side moment.before) ≡ None = search none in
-      let lone : IsAlone (at side moment.behind) path = search alone in
-      announced_where mac answers paths new_sound asks succeeds announce first last s before part rest moment now side path new
-      (subst (λ xs. Follow mac answers first xs last) split (follows mac answers first last s t 0 log run)) (λ x has. apart_at mac answers side (part ++ moment ∷ []) x roles has)
-      (λ start led sound follow. (ask start led sound follow, answer start led sound follow)) comes done idle lone where
+      elim ask [
+        | inl over ↦
+            elim (announced_where mac answers paths new_sound asks succeeds announce first last s before part rest moment now side path new follow (λ x has. apart_at mac answers side (part ++ moment ∷ []) x roles has)
+            (λ start led sound on. (over, answer start led sound on)) comes done idle lone) [
+              | inl announced ↦ inl announced
+              | inr found ↦ inr (inl found)
+            ]
+        | inr ended ↦ inr (inr (search ended))
+      ] where
+        idle : request_at now (at side moment.before) ≡ None
+        idle = search none
+
+        lone : IsAlone (at side moment.behind) path
+        lone = search alone
+
+        follow : Follow mac answers first (before ++ ((part ++ moment ∷ []) ++ rest)) last
+        follow = subst (λ xs. Follow mac answers first xs last) split (follows mac answers first last s t 0 log run)
+
         part_roles : (x : Occurrence H P) → Has part x → ((at side x.before).controlling ≡ false) × ((at (other side) x.before).controlling ≡ true)
         part_roles x has = apart_at mac answers side (part ++ moment ∷ []) x roles (Has-front part (moment ∷ []) x has)
 
-        ask : (start : WorldRecord H P) → Follow mac answers first before start → AreSound start → Follow mac answers start part moment.before → IsAskedOver mac side path part
-        ask start led sound follow = by (reached reach (other side) its first start moment.before s before part (new (other side)) led follow asking) where
-          by : SomeChecks its (asking.first ∷ asking.later) ⊎ Answers (other side) its (asking.first ∷ asking.later) → IsAskedOver mac side path part
-          by (inl (r, has, sent)) = (let so = asks_so r has in search (so.asked sent))
-          by (inr (r, has, is)) = (let x = succeeds_in (other side) its r.behind is in let so = asks_so r has in search (so.early x.0 x.1 x.2))
+        ask : IsAskedOver mac side path part ⊎ MayEndInRounds answers (other side) its (asking.first ∷ asking.later)
+        ask =
+            let led = cut mac answers before ((part ++ moment ∷ []) ++ rest) first last follow in
+            let on = cut mac answers (part ++ moment ∷ []) rest led.0 last led.2 in
+            by (reached_in reach (other side) its first led.0 moment.before s before part (new (other side)) led.1 (meet mac answers part [] moment led.0 on.0 on.1).led asking) where
+              by : Reaches (other side) its (asking.first ∷ asking.later) → IsAskedOver mac side path part ⊎ MayEndInRounds answers (other side) its (asking.first ∷ asking.later)
+              by (inl (r, has, sent)) = inl (let so = asks_so r has in search (so.asked sent))
+              by (inr (inl (r, has, is))) = inl (let x = succeeds_in (other side) its r.behind is in let so = asks_so r has in search (so.early x.0 x.1 x.2))
+              by (inr (inr ended)) = inr ended
+
+        within : (x : Occurrence H P) → Has (all_of (asked.first ∷ asked.later)) x → Has part x
+        within x has = subst (λ xs. Has xs x) (sym asked.split) (Has-rear asked.ahead (all_of (asked.first ∷ asked.later)) x has)
 
         answer : (start : WorldRecord H P) → Follow mac answers first before start → AreSound start → Follow mac answers start part moment.before
             → IsAnsweredAlong (own mac answers side part) path ⊎ Found mac answers side path (part ++ moment ∷ [])
-        answer start led sound follow = by (reached reach side path first start moment.before s before part (new side) led follow asked) where
-          by : SomeChecks path (asked.first ∷ asked.later) ⊎ Answers side path (asked.first ∷ asked.later) → IsAnsweredAlong (own mac answers side part) path ⊎ Found mac answers side path (part ++ moment ∷ [])
+        answer start led sound on = by (reached_in reach side path first start moment.before s before part (new side) led on asked) where
+          by : Reaches side path (asked.first ∷ asked.later) → IsAnsweredAlong (own mac answers side part) path ⊎ Found mac answers side path (part ++ moment ∷ [])
           by (inl (r, has, sent)) =
-              answered mac answers paths asks succeeds part (part ++ moment ∷ []) start moment.before sound follow (λ x there. Has-front part (moment ∷ []) x there) side path part_roles
+              answered mac answers paths asks succeeds part (part ++ moment ∷ []) start moment.before sound on (λ x there. Has-front part (moment ∷ []) x there) side path part_roles
               (search (answered_so r has sent))
-          by (inr (r, has, (y, in_round, accepts))) =
-              let p = place (asked.first ∷ asked.later) r has in
-              inl (y, subst (λ xs. Has (own mac answers side xs) y) (sym (asked.split ∙ ap (λ xs. asked.ahead ++ xs) p.2)) (among asked.ahead p.0 r p.1 y in_round), accepts) where
-                own_rear : (xs ys : List (Occurrence H P)) (y : agent.Call P × Entry) → Has (own mac answers side ys) y → Has (own mac answers side (xs ++ ys)) y
-                own_rear [] ys y there = there
-                own_rear (x ∷ xs) ys y there = Has-rear (acts_at mac answers side x) (own mac answers side (xs ++ ys)) y (own_rear xs ys y there)
-
-                own_front : (xs ys : List (Occurrence H P)) (y : agent.Call P × Entry) → Has (own mac answers side xs) y → Has (own mac answers side (xs ++ ys)) y
-                own_front [] ys y there = absurd there
-                own_front (x ∷ xs) ys y there = elim (either_has (acts_at mac answers side x) (own mac answers side xs) y there) [
-                  | inl h ↦ Has-front (acts_at mac answers side x) (own mac answers side (xs ++ ys)) y h
-                  | inr h ↦ Has-rear (acts_at mac answers side x) (own mac answers side (xs ++ ys)) y (own_front xs ys y h)
-                ]
-
-                among : (ahead xs : List (Occurrence H P)) (r : Round H P) (ys : List (Occurrence H P)) (y : agent.Call P × Entry) → Has (own mac answers side r.behind) y
-                    → Has (own mac answers side (ahead ++ (xs ++ r.moment ∷ (r.behind ++ ys)))) y
-                among ahead xs r ys y there =
-                    own_rear ahead (xs ++ r.moment ∷ (r.behind ++ ys)) y (own_rear xs (r.moment ∷ (r.behind ++ ys)) y
-                    (Has-rear (acts_at mac answers side r.moment) (own mac answers side (r.behind ++ ys)) y (own_front r.behind ys y there)))
+          by (inr (inl (r, has, (y, in_round, accepts)))) =
+              let o = own_from mac answers side r.behind y in_round in
+              inl (y, own_has mac answers side part o.0 y (within o.0 (in_rounds (asked.first ∷ asked.later) r o.0 has o.1)) o.2, accepts)
+          by (inr (inr (r, has, (x, in_round, ends)))) =
+              inr (x, Has-front part (moment ∷ []) x (within x (in_rounds (asked.first ∷ asked.later) r x has in_round)), ends)

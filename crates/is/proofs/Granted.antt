@@ -188,7 +188,7 @@ module _ {H P : Type 0} (mac : H → List ℕ → List ℕ → List ℕ) (answer
       → moment.entry.event ≡ world.Call side (agent.HandleTimeout now) → moment.entry.outcome.entry.answer ≡ Done → request_at now (at side moment.before) ≡ None
       → IsAlone (at side moment.behind) path
       → (((x : Occurrence H P) × Has (before ++ (part ++ moment ∷ [])) x × Announces side x.entry) × HasAnnounced (at side moment.behind))
-      ⊎ ((x : Occurrence H P) × Has (part ++ moment ∷ []) x × MayEndAt side path x)
+      ⊎ ((x : Occurrence H P) × Has (part ++ moment ∷ []) x × MayEndAt answers side path x)
   announced_where paths new_sound asks succeeds announce first last s before part rest moment now side path new follow roles happened comes done none alone =
       let led = cut mac answers before ((part ++ moment ∷ []) ++ rest) first last follow in
       let start : WorldRecord H P = led.0 in

@@ -18,5 +18,8 @@ mod Granted
 mod Connecting
 mod Selected
 mod Meeting
+mod Connects
 mod Mirrored
 mod MarkLemmas
+mod OwnLogs
+mod Flooded

@@ -22,11 +22,13 @@ use Rattle.is.specs.declared.world.Side.{Side}
 use Rattle.is.specs.declared.world.Side.TheVariants.{A, B}
 use Rattle.is.specs.Deliveries.{Hands}
 use Rattle.is.specs.Grantings.{Occurrence, HandedCheck, IsReturned, IsReturnedInTime, occurrences_in}
+use Rattle.is.specs.Connects.{AgreeOnRoles}
 use Rattle.is.specs.Meetings.{AreOpposite, StayOpposite, RolesMeet}
+use Rattle.is.specs.Selections.{state_after}
 use Rattle.is.specs.World.{WorldRecord, Event, Logged, Happens, Run, at, other}
 use Rattle.is.specs.WorldRoles.{IsFairWorld, Makes, Meets, role_in}
 use Rattle.is.proofs.Connected.{rewritten, delivered}
-use Rattle.is.proofs.Occurring.{Follow, follows, cut, meet, own, Checked, checked, Awaited, awaits, removed}
+use Rattle.is.proofs.Occurring.{Follow, follows, cut, state_is, meet, own, Checked, checked, Awaited, awaits, removed}
 use Rattle.is.proofs.Following.{seen_of, emitted_at, AreSound, event}
 use Rattle.is.proofs.Owning.{twice, role_behind}
 use Rattle.is.proofs.Seen as seen
@@ -60,6 +62,10 @@ module _ {H P : Type 0} where
   apart_if : (side : Side) (w : WorldRecord H P) → (at (other side) w).controlling ≡ not (at side w).controlling → Apart w
   apart_if A w is both = not_same w.a.controlling (sym is ∙ sym both)
   apart_if B w is both = not_same w.b.controlling (sym is ∙ both)
+
+  apart_of : (side : Side) (w : WorldRecord H P) → Apart w → (at (other side) w).controlling ≡ not (at side w).controlling
+  apart_of A w apart = elim (one_or_other w.b.controlling w.a.controlling) [ inl same ↦ absurd (apart (sym same)) | inr is ↦ is ]
+  apart_of B w apart = elim (one_or_other w.a.controlling w.b.controlling) [ inl same ↦ absurd (apart same) | inr is ↦ is ]
 
   tie_of : (side : Side) (w : WorldRecord H P) → (seen.at side (seen_of w)).tie_breaker ≡ (at side w).tie_breaker
   tie_of A w = refl
@@ -147,6 +153,34 @@ module _ {H P : Type 0} where
           let k_x = comes_at xs ys x left w last k follow in
           (apart_along ys left x.behind last (comes_on x.before x.behind m.s m.t x.entry (entries ys ++ left) k_x m.happens) m.rest (differs k_x m.s m.t m.happens)).0
 
+      -- ---- the roles of both, once they are different
+
+      abbrev Settled : WorldRecord H P → Type 0
+      Settled w = ((at greater w).controlling ≡ (at greater first).controlling) × ((at (other greater) w).controlling ≡ not (at greater first).controlling)
+
+      settled : (w : WorldRecord H P) (left : List (Logged P)) → Comes w left → Apart w → Settled w
+      settled w left k differs = let role = role_kept w left k in (role, apart_of greater w differs ∙ ap not role)
+
+      settled_along : (xs : List (Occurrence H P)) (left : List (Logged P)) (w last : WorldRecord H P) → Comes w (entries xs ++ left) → Follow mac answers w xs last → Apart w
+          → (x : Occurrence H P) → Has xs x → Settled x.before × Settled x.behind
+      settled_along [] left w last k is differs x has = absurd has
+      settled_along (y ∷ xs) left w last k (from, s, t, happens, more) differs x has =
+          let k_y = comes_first y (entries xs ++ left) w from k in
+          let here : Apart y.before = subst (λ (v : WorldRecord H P). Apart v) (sym from) differs in
+          let now : Apart y.behind = apart_on y.before y.behind s t y.entry (entries xs ++ left) k_y happens here in
+          let next = comes_on y.before y.behind s t y.entry (entries xs ++ left) k_y happens in
+          elim has [
+            | inl is ↦ subst (λ (z : Occurrence H P). Settled z.before × Settled z.behind) is (settled y.before (y.entry ∷ (entries xs ++ left)) k_y here, settled y.behind (entries xs ++ left) next now)
+            | inr there ↦ settled_along xs left y.behind last next more now x there
+          ]
+
+      -- so each agent keeps its role
+      same_role : (side : Side) (v w : WorldRecord H P) → Settled v → Settled w → (at side v).controlling ≡ (at side w).controlling
+      same_role side v w one two = elim (sides side greater) [
+        | inl is ↦ subst (λ y. (at y v).controlling ≡ (at y w).controlling) (sym is) (one.0 ∙ sym two.0)
+        | inr is ↦ subst (λ y. (at y v).controlling ≡ (at y w).controlling) (sym is) (one.1 ∙ sym two.1)
+      ]
+
       -- ---- the check of a side, and its 487
 
       module _ (resolves : CarriedSettle {H = H} {P = P} mac answers) (side : Side) (path over : Path) (part : List (Occurrence H P)) (left : List (Logged P)) (last : WorldRecord H P)
@@ -177,7 +211,7 @@ module _ {H P : Type 0} where
         -- the 487 comes back to the agent with the lesser tie-breaker
         refused : side ≡ other greater
             → (i : IsConflictCarried mac answers (at side k.sent.before) (at side k.sent.behind) (at (other side) handed.before) (at (other side) handed.behind) k.check came k.id handed.entry.outcome.entry)
-            → IsReturnedInTime mac side path over part k i.refusal → Apart last
+            → IsReturnedInTime mac answers side path over part k i.refusal → Apart last
         refused lesser i e = by (i.returns (at side again.before) (at side again.behind) (rewritten r.via i.refusal) (own mac answers side between) r.comes.hands.now r.pending.limit
             again.entry.outcome.entry z.course.0 z.course.2 z.few z.know refl z.goes z.comes) where
               r : IsReturned mac side path over part k i.refusal
@@ -212,7 +246,7 @@ module _ {H P : Type 0} where
 
         -- equal roles when the check is sent
         alike : (at side k.sent.before).controlling ≡ (at greater first).controlling
-            → ((error : Packet) → Sends (at (other side) handed.before) handed.entry.outcome.entry Failure k.id error (at (other side) handed.behind) → IsReturnedInTime mac side path over part k error)
+            → ((error : Packet) → Sends (at (other side) handed.before) handed.entry.outcome.entry Failure k.id error (at (other side) handed.behind) → IsReturnedInTime mac answers side path over part k error)
             → Apart last
         alike role back = by (sides side greater) where
           k_sent : Comes k.sent.before (k.sent.entry ∷ (entries k.behind ++ left))
@@ -252,7 +286,7 @@ module _ {H P : Type 0} where
               ]
 
         -- in any roles
-        differs : ((error : Packet) → Sends (at (other side) handed.before) handed.entry.outcome.entry Failure k.id error (at (other side) handed.behind) → IsReturnedInTime mac side path over part k error)
+        differs : ((error : Packet) → Sends (at (other side) handed.before) handed.entry.outcome.entry Failure k.id error (at (other side) handed.behind) → IsReturnedInTime mac answers side path over part k error)
             → Apart last
         differs back = by (one_or_other (at (other greater) start).controlling (at greater start).controlling) where
           start : WorldRecord H P
@@ -295,3 +329,47 @@ module _ {H P : Type 0} (mac : H → List ℕ → List ℕ → List ℕ) (answer
       let behind : Comes first greater on.0 (entries rest) = comes_behind first greater mac answers paths roles part (entries rest) first on.0 from on.1 in
       let after = apart_along first greater mac answers paths roles rest [] on.0 last (subst (λ (l : List (Logged P)). Comes first greater on.0 l) (sym (append-nil (entries rest))) behind) on.2 differ in
       let stays : (x : Occurrence H P) → Has rest x → StayOpposite x = after.1 in (after.0, search stays)
+
+  -- once the roles are different, each agent keeps its role
+  pub roles_stay : (first : WorldRecord H P) (s : Stream) (log : List (Logged P)) (greater side : Side) (last : WorldRecord H P) (t : Stream) (run : Run mac answers first s 0 log last t)
+      (part rest : List (Occurrence H P)) → IsFairWorld first greater log → occurrences_in mac answers first s 0 log last t run ≡ part ++ rest → AgreeOnRoles mac answers first part
+      → (at side (state_after first part)).controlling ≡ false → (x : Occurrence H P) → Has rest x
+      → (((at side x.before).controlling ≡ false) × ((at (other side) x.before).controlling ≡ true))
+      × (((at side x.behind).controlling ≡ false) × ((at (other side) x.behind).controlling ≡ true))
+  roles_stay first s log greater side last t run part rest fair split agree controlled x has = (roles_in x.before k.0, roles_in x.behind k.1) where
+    whole : List (Logged P)
+    whole = entries part ++ entries rest
+
+    fair_whole : IsFairWorld first greater whole
+    fair_whole = subst (λ (l : List (Logged P)). IsFairWorld first greater l)
+        (sym (entries_in first last s t 0 log run) ∙ (ap (λ (xs : List (Occurrence H P)). entries xs) split ∙ map-append (λ (x : Occurrence H P). x.entry) part rest)) fair
+
+    from : Comes first greater first whole
+    from = record { front = []; led = refl; fair = premises_seen first greater whole (map emitted_at whole) refl fair_whole; sound = sound_first new_sound first greater whole fair_whole }
+
+    on : (mid : WorldRecord H P) × Follow mac answers first part mid × Follow mac answers mid rest last
+    on = cut mac answers part rest first last (subst (λ xs. Follow mac answers first xs last) split (follows mac answers first last s t 0 log run))
+
+    differ : Apart on.0
+    differ = elim agree [
+      | inl apart ↦ (apart_along first greater mac answers paths roles part (entries rest) first on.0 from on.1 apart).0
+      | inr (z, path, (over, h, back)) ↦
+          differs first greater mac answers paths roles resolves z path over part (entries rest) on.0 fair_whole.tie from on.1 h
+          (checked mac answers paths z path over part first on.0 h from.sound on.1) (λ error sends. search (back error sends))
+    ]
+
+    behind : Comes first greater on.0 (entries rest)
+    behind = comes_behind first greater mac answers paths roles part (entries rest) first on.0 from on.1
+
+    k : Settled first greater mac answers paths roles x.before × Settled first greater mac answers paths roles x.behind
+    k = settled_along first greater mac answers paths roles rest [] on.0 last (subst (λ (l : List (Logged P)). Comes first greater on.0 l) (sym (append-nil (entries rest))) behind) on.2 differ x has
+
+    begins : (at side on.0).controlling ≡ false
+    begins = subst (λ (w : WorldRecord H P). (at side w).controlling ≡ false) (state_is mac answers part first on.0 on.1) controlled
+
+    roles_in : (w : WorldRecord H P) → Settled first greater mac answers paths roles w → ((at side w).controlling ≡ false) × ((at (other side) w).controlling ≡ true)
+    roles_in w is =
+        let now = settled first greater mac answers paths roles on.0 (entries rest) behind differ in (
+          same_role first greater mac answers paths roles side w on.0 is now ∙ begins,
+          same_role first greater mac answers paths roles (other side) w on.0 is now ∙ (apart_of side on.0 differ ∙ ap not begins),
+        )

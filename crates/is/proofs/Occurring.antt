@@ -16,16 +16,19 @@ use Rattle.is_rules.specs.Effects.{PathLaw}
 use Rattle.is_rules.specs.Exchange.{AreBetween, Course}
 use Rattle.is_rules.specs.Issuing.{via_out}
 use Rattle.is_rules.specs.Pending.{is_check_on, checks_on, KeepsAlong}
+use Rattle.is_rules.specs.Reached.{is_in_round}
 use Rattle.is_rules.specs.Steps as agent
 use Rattle.is_rules.specs.Steps.{Answer, Entry, Refused, Step}
 use Rattle.is.specs.declared.world.Side.{Side}
 use Rattle.is.specs.declared.world.Side.TheVariants.{A, B}
-use Rattle.is.specs.Deliveries.{MakesPolls, Hands}
+use Rattle.is.specs.Deliveries.{MakesPolls, MakesInRound, Hands}
 use Rattle.is.specs.Grantings.{is_of, check_count, Occurrence, HandedCheck, checks_of, IsReturned, MayEndAt, occurrences_in}
+use Rattle.is.specs.Selections.{state_after}
+use Rattle.is.specs.Sides.{only, polled_as, received_as, acts}
 use Rattle.is.specs.World as world
 use Rattle.is.specs.World.{WorldRecord, InFlightRecord, Event, Outcome, Logged, Turns, Stands, Happens, Run, at, other, in_world}
 use Rattle.is.proofs.Following.{Has-front, Has-rear, AreSound}
-use Rattle.is.proofs.Owning.{either_has, only, only_none, handed_as, polled_as, between_both, acts, acts_between, course_on, turn_step, acts_course, sound_on}
+use Rattle.is.proofs.Owning.{either_has, only_none, acts_between, acts_in_round, course_on, turn_step, acts_course, sound_on}
 use Rattle.is.proofs.Connected.{rewritten, delivered}
 
 pub middle : {X : Type 0} (xs ys : List X) (x : X) → Has (xs ++ x ∷ ys) x
@@ -50,6 +53,10 @@ module _ {H P : Type 0} (mac : H → List ℕ → List ℕ → List ℕ) (answer
   pub cut : (xs ys : List (Occurrence H P)) (w last : WorldRecord H P) → Follow w (xs ++ ys) last → (mid : WorldRecord H P) × Follow w xs mid × Follow mid ys last
   cut [] ys w last more = (w, refl, more)
   cut (x ∷ xs) ys w last (from, s, t, happens, more) = let k = cut xs ys x.behind last more in (k.0, (from, s, t, happens, k.1), k.2)
+
+  pub state_is : (xs : List (Occurrence H P)) (w last : WorldRecord H P) → Follow w xs last → state_after w xs ≡ last
+  state_is [] w last is = sym is
+  state_is (x ∷ rest) w last (from, s, t, happens, more) = state_is rest x.behind last more
 
   -- one of them, what leads to it and what follows it
   pub record Met (w last : WorldRecord H P) (xs : List (Occurrence H P)) (x : Occurrence H P) (ys : List (Occurrence H P)) : Type 0 where
@@ -86,11 +93,20 @@ module _ {H P : Type 0} (mac : H → List ℕ → List ℕ → List ℕ) (answer
       (course_on mac answers (acts_at side x) (own side rest) (at side x.before) (at side x.behind) (at side last)
       (acts_course mac answers x.before x.behind s t side x.entry happens) (own_course side rest x.behind last more))
 
+  -- a call of the side occurs in one of the events
+  pub own_from : (side : Side) (xs : List (Occurrence H P)) (y : agent.Call P × Entry) → Has (own side xs) y → (x : Occurrence H P) × Has xs x × Has (acts_at side x) y
+  own_from side [] y has = absurd has
+  own_from side (x ∷ rest) y has = elim (either_has (acts_at side x) (own side rest) y has) [
+    | inl k ↦ (x, inl refl, k)
+    | inr k ↦ (let o = own_from side rest y k in (o.0, inr o.1, o.2))
+  ]
+
   pub own_between : (side : Side) (xs : List (Occurrence H P)) → ((x : Occurrence H P) → Has xs x → MakesPolls side x.entry.event) → AreBetween (own side xs)
-  own_between side [] polls y has = absurd has
-  own_between side (x ∷ rest) polls y has =
-      between_both (acts_at side x) (own side rest) (acts_between side x.before x.entry.event x.entry.outcome.entry (polls x (inl refl)))
-      (own_between side rest (λ z there. polls z (inr there))) y has
+  own_between side xs polls y has = let o = own_from side xs y has in acts_between side o.0.before o.0.entry.event o.0.entry.outcome.entry (polls o.0 o.1) y o.2
+
+  pub own_in_round : (side : Side) (xs : List (Occurrence H P)) → ((x : Occurrence H P) → Has xs x → MakesInRound side x.entry.event)
+      → (y : agent.Call P × Entry) → Has (own side xs) y → is_in_round y.0 ≡ true
+  own_in_round side xs calls y has = let o = own_from side xs y has in acts_in_round side o.0.before o.0.entry.event o.0.entry.outcome.entry (calls o.0 o.1) y o.2
 
   pub own_has : (side : Side) (xs : List (Occurrence H P)) (x : Occurrence H P) (y : agent.Call P × Entry) → Has xs x → Has (acts_at side x) y → Has (own side xs) y
   own_has side [] x y has there = absurd has
@@ -102,7 +118,7 @@ module _ {H P : Type 0} (mac : H → List ℕ → List ℕ → List ℕ) (answer
       → acts side w x.event x.outcome.entry ≡ (agent.ReceivePacket h.now via packet.contents, x.outcome.entry) ∷ []
   handed_is side via packet w x h =
       subst (λ (v : Event P). acts side w v x.outcome.entry ≡ (agent.ReceivePacket h.now via packet.contents, x.outcome.entry) ∷ []) (sym h.event)
-      (subst (λ o. handed_as {P = P} side h.now via x.outcome.entry o ≡ (agent.ReceivePacket h.now via packet.contents, x.outcome.entry) ∷ []) (sym h.sent)
+      (subst (λ o. received_as {P = P} side h.now via x.outcome.entry o ≡ (agent.ReceivePacket h.now via packet.contents, x.outcome.entry) ∷ []) (sym h.sent)
       (only_one side (agent.ReceivePacket h.now via packet.contents, x.outcome.entry)))
 
   -- ---- a check
@@ -197,7 +213,7 @@ module _ {H P : Type 0} (mac : H → List ℕ → List ℕ → List ℕ) (answer
     by false k = counts_none side z path (check_count side path e)
   counts_at side path w w' s t (world.Poll z) e k = counts_polled side z path e.entry.answer (at side w).packets (check_count side path e)
   counts_at side path w w' s t (world.Deliver place now via) e h = by (slice_get w.bag place) h where
-    by : (o : Option InFlightRecord) → world.Delivers mac answers w s o now via e w' t → checks_on {P = P} path (handed_as side now via e.entry o) ≤ check_count side path e
+    by : (o : Option InFlightRecord) → world.Delivers mac answers w s o now via e w' t → checks_on {P = P} path (received_as side now via e.entry o) ≤ check_count side path e
     by None k = omega arith
     by (Some l) k = counts_turn side (other l.sender) path (agent.ReceivePacket now via l.packet.contents) e k.side_is
 
@@ -212,7 +228,7 @@ module _ {H P : Type 0} (mac : H → List ℕ → List ℕ → List ℕ) (answer
 
   module _ (side : Side) (path : Path) (whole : List (Occurrence H P)) where
     abbrev pub Found : Type 0
-    Found = (x : Occurrence H P) × Has whole x × MayEndAt side path x
+    Found = (x : Occurrence H P) × Has whole x × MayEndAt answers side path x
 
     abbrev pub Owned : List (agent.Call P × Entry) → AgentRecord H P → AgentRecord H P → Type 0
     Owned xs a b = (course : Course mac answers xs a b) × (EndsAlong mac answers xs a b course path → Found)
@@ -236,10 +252,10 @@ module _ {H P : Type 0} (mac : H → List ℕ → List ℕ → List ℕ) (answer
     ends_polled _ ps a b course (inr none) = none
 
     ends_at : (w : WorldRecord H P) (v : Event P) (e : Entry) (b : AgentRecord H P) → (course : Course mac answers (acts side w v e) (at side w) b)
-        → EndsAlong mac answers (acts side w v e) (at side w) b course path → (c : agent.Call P) × (v ≡ world.Call side c) × Ends (at side w) c e path
+        → EndsAlong mac answers (acts side w v e) (at side w) b course path → (c : agent.Call P) × (v ≡ world.Call side c) × Ends answers (at side w) c e path
     ends_at w (world.Call s c) e b course ends = by (in_world c) course ends where
       by : (within : Bool) (on : Course mac answers (only side s (if within then (c, e) ∷ [] else [])) (at side w) b)
-          → EndsAlong mac answers (only side s (if within then (c, e) ∷ [] else [])) (at side w) b on path → (d : agent.Call P) × (world.Call s c ≡ world.Call side d) × Ends (at side w) d e path
+          → EndsAlong mac answers (only side s (if within then (c, e) ∷ [] else [])) (at side w) b on path → (d : agent.Call P) × (world.Call s c ≡ world.Call side d) × Ends answers (at side w) d e path
       by true on there = let k = ends_only side s ((c, e) ∷ []) (at side w) b on there in elim k.1.1 [
         | inl here ↦ (c, ap (λ z. world.Call z c) k.0, here)
         | inr none ↦ absurd none
@@ -248,8 +264,8 @@ module _ {H P : Type 0} (mac : H → List ℕ → List ℕ → List ℕ) (answer
     ends_at w (world.Poll s) e b course ends =
         let k = ends_only side s (polled_as e.answer (at side w).packets) (at side w) b course ends in absurd (ends_polled e.answer (at side w).packets (at side w) b k.1.0 k.1.1)
     ends_at w (world.Deliver place now via) e b course ends = by (slice_get w.bag place) course ends where
-      by : (o : Option InFlightRecord) (on : Course mac answers (handed_as side now via e o) (at side w) b)
-          → EndsAlong mac answers (handed_as side now via e o) (at side w) b on path → (d : agent.Call P) × (world.Deliver place now via ≡ world.Call side d) × Ends (at side w) d e path
+      by : (o : Option InFlightRecord) (on : Course mac answers (received_as side now via e o) (at side w) b)
+          → EndsAlong mac answers (received_as side now via e o) (at side w) b on path → (d : agent.Call P) × (world.Deliver place now via ≡ world.Call side d) × Ends answers (at side w) d e path
       by None on there = absurd there
       by (Some l) on there = elim (ends_only side (other l.sender) ((agent.ReceivePacket now via l.packet.contents, e) ∷ []) (at side w) b on there).1.1 [
         | inl here ↦ absurd here.3
@@ -309,7 +325,7 @@ module _ {H P : Type 0} (mac : H → List ℕ → List ℕ → List ℕ) (answer
       by false on = keeps_none limit side z (at side w) b on
     keeps_at limit w (world.Poll z) e b least course = keeps_polled limit side z e.answer (at side w).packets (at side w) b least course
     keeps_at limit w (world.Deliver place now via) e b least course = by (slice_get w.bag place) course where
-      by : (o : Option InFlightRecord) (on : Course mac answers (handed_as side now via e o) (at side w) b) → KeepsAlong mac answers limit (handed_as side now via e o) (at side w) b on
+      by : (o : Option InFlightRecord) (on : Course mac answers (received_as side now via e o) (at side w) b) → KeepsAlong mac answers limit (received_as side now via e o) (at side w) b on
       by None on = tt
       by (Some l) on = keeps_one limit side (other l.sender) (agent.ReceivePacket now via l.packet.contents, e) (at side w) b least on
 

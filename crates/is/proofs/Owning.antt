@@ -11,15 +11,17 @@ use Rattle.is_rules.specs.Courses.{ControlsAlong}
 use Rattle.is_rules.specs.Effects.{PathLaw, last_of}
 use Rattle.is_rules.specs.Exchange.{AreBetween, Course}
 use Rattle.is_rules.specs.Polls.{PollsTransmit, IsPolled}
+use Rattle.is_rules.specs.Reached.{is_in_round}
 use Rattle.is_rules.specs.Rounds.{is_between, is_poll}
 use Rattle.is_rules.specs.Sound.{IsSound}
 use Rattle.is_rules.specs.Steps as agent
 use Rattle.is_rules.specs.Steps.{Answer, Entry, Polled, Refused, quiet, Step}
 use Rattle.is.specs.declared.world.Side.{Side}
 use Rattle.is.specs.declared.world.Side.TheVariants.{A, B}
-use Rattle.is.specs.Deliveries.{MakesPolls, Announces}
+use Rattle.is.specs.Deliveries.{MakesPolls, MakesInRound, Announces}
+use Rattle.is.specs.Sides.{only, first_packet, polled_as, received_as, acts}
 use Rattle.is.specs.World as world
-use Rattle.is.specs.World.{WorldRecord, InFlightRecord, Event, Outcome, Logged, PolledInto, Turns, Stands, Happens, Run, at, other, in_world, roles_of}
+use Rattle.is.specs.World.{WorldRecord, InFlightRecord, Event, Outcome, Logged, PolledInto, Turns, Stands, Happens, at, other, in_world, roles_of}
 use Rattle.is.specs.WorldRoles.{role_at, role_in}
 use Rattle.is.proofs.Following.{AreSound}
 
@@ -31,12 +33,6 @@ either_has (y ∷ xs) ys x (inl e) = inl (inl e)
 either_has (y ∷ xs) ys x (inr h) = elim (either_has xs ys x h) [ inl k ↦ inl (inr k) | inr k ↦ inr k ]
 
 -- ---- sides
-
-abbrev pub only : {X : Type 0} → Side → Side → List X → List X
-only A A xs = xs
-only B B xs = xs
-only A B xs = []
-only B A xs = []
 
 pub only_none : {X : Type 0} (side s : Side) → only {X = X} side s [] ≡ []
 only_none A A = refl
@@ -60,55 +56,58 @@ poll_between : {P : Type 0} (c : agent.Call P) → is_poll c ≡ true → is_bet
 poll_between (agent.ReceivePacket now path bytes) is = refl
 poll_between _ is = is
 
-pub between_both : {P : Type 0} (xs ys : List (agent.Call P × Entry)) → AreBetween xs → AreBetween ys → AreBetween (xs ++ ys)
-between_both xs ys one two y has = elim (either_has xs ys y has) [ inl k ↦ one y k | inr k ↦ two y k ]
+-- of a side's calls only those that pass the test are made
+abbrev Passes : {P : Type 0} → (agent.Call P → Bool) → Side → Event P → Type 0
+Passes test side (world.Call s c) = s ≡ side → test c ≡ true
+Passes test side _ = Unit {0}
+
+polls_pass : {P : Type 0} (side : Side) (v : Event P) → MakesPolls side v → Passes is_between side v
+polls_pass side (world.Call s c) polls = λ is. poll_between c (polls is)
+polls_pass side (world.Poll s) polls = tt
+polls_pass side (world.Deliver place now path) polls = tt
+
+in_round_passes : {P : Type 0} (side : Side) (v : Event P) → MakesInRound side v → Passes is_in_round side v
+in_round_passes side (world.Call s c) calls = calls
+in_round_passes side (world.Poll s) calls = tt
+in_round_passes side (world.Deliver place now path) calls = tt
 
 -- ---- what a side does at an event
-
-abbrev first_of : List Packet → Option Packet
-first_of [] = None
-first_of (p ∷ ps) = Some p
-
-abbrev pub polled_as : {P : Type 0} → Answer → List Packet → List (agent.Call P × Entry)
-polled_as (Refused error) ps = []
-polled_as _ ps = (agent.PollTransmit, quiet (Polled (first_of ps))) ∷ []
-
-abbrev pub handed_as : {P : Type 0} → Side → ℕ → Path → Entry → Option InFlightRecord → List (agent.Call P × Entry)
-handed_as side now path e None = []
-handed_as side now path e (Some l) = only side (other l.sender) ((agent.ReceivePacket now path l.packet.contents, e) ∷ [])
 
 poll_emitted : {P : Type 0} (answer : Answer) (ps : List Packet) (y : agent.Call P × Entry) → Has (polled_as answer ps) y → is_some (last_of y.1.emitted.announced) ≡ true → ⊥
 poll_emitted (Refused error) ps y has emitted = has
 poll_emitted _ ps y (inl is) emitted = let no : false ≡ true = ap (λ (z : agent.Call _ × Entry). is_some (last_of z.1.emitted.announced)) is ∙ emitted in cc
 poll_emitted _ ps y (inr none) emitted = none
 
-polled_between : {P : Type 0} (answer : Answer) (ps : List Packet) → AreBetween {P = P} (polled_as answer ps)
-polled_between (Refused error) ps y has = absurd has
-polled_between _ ps y (inl is) = ap (λ (z : agent.Call _ × Entry). is_between z.0) (sym is)
-polled_between _ ps y (inr none) = absurd none
+polled_passes : {P : Type 0} (test : agent.Call P → Bool) → test agent.PollTransmit ≡ true → (answer : Answer) (ps : List Packet) (y : agent.Call P × Entry) → Has (polled_as answer ps) y → test y.0 ≡ true
+polled_passes test polls (Refused error) ps y has = absurd has
+polled_passes test polls _ ps y (inl is) = ap (λ (z : agent.Call _ × Entry). test z.0) (sym is) ∙ polls
+polled_passes test polls _ ps y (inr none) = absurd none
 
 module _ {H P : Type 0} where
-  abbrev pub acts : Side → WorldRecord H P → Event P → Entry → List (agent.Call P × Entry)
-  acts side w (world.Call s c) e = only side s (if in_world c then (c, e) ∷ [] else [])
-  acts side w (world.Poll s) e = only side s (polled_as e.answer (at side w).packets)
-  acts side w (world.Deliver place now path) e = handed_as side now path e (slice_get w.bag place)
-
-  pub acts_between : (side : Side) (w : WorldRecord H P) (v : Event P) (e : Entry) → MakesPolls side v → AreBetween (acts side w v e)
-  acts_between side w (world.Call s c) e polls y has = by (in_world c) has where
-    by : (b : Bool) → Has (only side s (if b then (c, e) ∷ [] else [])) y → is_between y.0 ≡ true
+  acts_pass : (test : agent.Call P → Bool) → ((now : ℕ) (via : Path) (bytes : List ℕ) → test (agent.ReceivePacket now via bytes) ≡ true) → test agent.PollTransmit ≡ true
+      → (side : Side) (w : WorldRecord H P) (v : Event P) (e : Entry) → Passes test side v → (y : agent.Call P × Entry) → Has (acts side w v e) y → test y.0 ≡ true
+  acts_pass test packets polled side w (world.Call s c) e passes y has = by (in_world c) has where
+    by : (b : Bool) → Has (only side s (if b then (c, e) ∷ [] else [])) y → test y.0 ≡ true
     by true k = let o = only_own side s ((c, e) ∷ []) y k in elim o.0 [
-      | inl is ↦ ap (λ (z : agent.Call P × Entry). is_between z.0) (sym is) ∙ poll_between c (polls o.1)
+      | inl is ↦ ap (λ (z : agent.Call P × Entry). test z.0) (sym is) ∙ passes o.1
       | inr none ↦ absurd none
     ]
     by false k = absurd (only_own side s [] y k).0
-  acts_between side w (world.Poll s) e polls y has = polled_between e.answer (at side w).packets y (only_own side s (polled_as e.answer (at side w).packets) y has).0
-  acts_between side w (world.Deliver place now path) e polls y has = by (slice_get w.bag place) has where
-    by : (o : Option InFlightRecord) → Has (handed_as side now path e o) y → is_between y.0 ≡ true
+  acts_pass test packets polled side w (world.Poll s) e passes y has =
+      polled_passes test polled e.answer (at side w).packets y (only_own side s (polled_as e.answer (at side w).packets) y has).0
+  acts_pass test packets polled side w (world.Deliver place now path) e passes y has = by (slice_get w.bag place) has where
+    by : (o : Option InFlightRecord) → Has (received_as side now path e o) y → test y.0 ≡ true
     by None k = absurd k
     by (Some l) k = elim (only_own side (other l.sender) ((agent.ReceivePacket now path l.packet.contents, e) ∷ []) y k).0 [
-      | inl is ↦ ap (λ (z : agent.Call P × Entry). is_between z.0) (sym is)
+      | inl is ↦ ap (λ (z : agent.Call P × Entry). test z.0) (sym is) ∙ packets now path l.packet.contents
       | inr none ↦ absurd none
     ]
+
+  pub acts_between : (side : Side) (w : WorldRecord H P) (v : Event P) (e : Entry) → MakesPolls side v → AreBetween (acts side w v e)
+  acts_between side w v e polls = acts_pass is_between (λ now via bytes. refl) refl side w v e (polls_pass side v polls)
+
+  pub acts_in_round : (side : Side) (w : WorldRecord H P) (v : Event P) (e : Entry) → MakesInRound side v → (y : agent.Call P × Entry) → Has (acts side w v e) y → is_in_round y.0 ≡ true
+  acts_in_round side w v e calls = acts_pass is_in_round (λ now via bytes. refl) refl side w v e (in_round_passes side v calls)
 
   module _ (mac : H → List ℕ → List ℕ → List ℕ) (answers : P → CandidateRecord → ℕ → ℕ → Type 0) where
     -- ---- per-agent executions
@@ -160,12 +159,12 @@ module _ {H P : Type 0} where
     still : (w w' : WorldRecord H P) (side : Side) → w' ≡ w → Acts [] (at side w) (at side w')
     still w w' side is = (ap (λ (v : WorldRecord H P). at side v) is, λ role. tt)
 
-    first_is : (given : Option Packet) (old new : List Packet) → IsPolled old given new → first_of old ≡ given
-    first_is None old new h = ap first_of h.0
-    first_is (Some p) old new h = ap first_of h
+    first_is : (given : Option Packet) (old new : List Packet) → IsPolled old given new → first_packet old ≡ given
+    first_is None old new h = ap first_packet h.0
+    first_is (Some p) old new h = ap first_packet h
 
     hands_out : (old new : AgentRecord H P) (given : Option Packet) (s : Stream) → PollsTransmit old given new
-        → Acts ((agent.PollTransmit, quiet (Polled (first_of old.packets))) ∷ []) old new
+        → Acts ((agent.PollTransmit, quiet (Polled (first_packet old.packets))) ∷ []) old new
     hands_out old new given s polled =
         ((new, s, s, tt, (given, ap (λ o. quiet (Polled o)) (first_is given old.packets new.packets polled.0), polled, refl), refl), λ role. (role, tt))
 
@@ -193,7 +192,7 @@ module _ {H P : Type 0} where
       by false k = subst (λ xs. Acts xs (at side w) (at side w')) (sym (only_none side z)) (still w w' side k.0)
     act w w' s t side (world.Poll z) e k = poll w w' s t side z e k
     act w w' s t side (world.Deliver place now path) e h = by (slice_get w.bag place) h where
-      by : (o : Option InFlightRecord) → world.Delivers mac answers w s o now path e w' t → Acts (handed_as side now path e.entry o) (at side w) (at side w')
+      by : (o : Option InFlightRecord) → world.Delivers mac answers w s o now path e w' t → Acts (received_as side now path e.entry o) (at side w) (at side w')
       by None k = still w w' side k.0
       by (Some l) k = turn w w' s t side (other l.sender) (agent.ReceivePacket now path l.packet.contents) e k
 
@@ -216,7 +215,7 @@ module _ {H P : Type 0} where
     acts_emitted w w' s t side x y (world.Poll z) k has emitted =
         absurd (poll_emitted x.outcome.entry.answer (at side w).packets y (only_own side z (polled_as x.outcome.entry.answer (at side w).packets) y has).0 emitted)
     acts_emitted w w' s t side x y (world.Deliver place now path) h has emitted = by (slice_get w.bag place) h has where
-      by : (o : Option InFlightRecord) → world.Delivers mac answers w s o now path x.outcome w' t → Has (handed_as side now path x.outcome.entry o) y → Announces side x
+      by : (o : Option InFlightRecord) → world.Delivers mac answers w s o now path x.outcome w' t → Has (received_as side now path x.outcome.entry o) y → Announces side x
       by None k there = absurd there
       by (Some l) k there = turn_emitted w w' s t side (other l.sender) (agent.ReceivePacket now path l.packet.contents) x y k there emitted
 

@@ -1,5 +1,5 @@
--- In rounds that suffice for one of its pairs, a controlling side sends a check on the pair's path, or selects a path. If a check is
--- answered while it is pending, it selects one. The preconditions that refused/laws changes are read by tactics where they are used:
+-- In rounds that suffice for one of its pairs, a controlling side sends a check on the pair's path, or selects a path, unless a
+-- candidate that it adds may remove the pair. If a check is answered while it is pending, it selects one. The preconditions that refused/laws changes are read by tactics where they are used:
 -- if one of them is weaker, that goal stays unproved.
 use Rattle.std.proofs.Common.{◌≡◌, ℕ, ◌≤◌, ◌⊎◌, Bool, true, false, not, List, [], ◌∷◌, ◌++◌, length, is_some, inl, inr, refl, ap, sym, ◌∙◌, subst, arith, append_assoc}
 use Rattle.rand_core.specs.Stream.{Stream}
@@ -7,10 +7,9 @@ use Rattle.is_proto.specs.Lists.{Has}
 use Rattle.is_proto.specs.Packets.{Packet}
 use Rattle.is_candidate.specs.Candidates.{CandidateRecord}
 use Rattle.is_pair.specs.Pairs.{PairRecord, is_valid}
-use Rattle.is_pair.specs.Turns.{due_by}
 use Rattle.is_stun.specs.declared.header.Class.TheVariants.{Success}
 use Rattle.is_rules.specs.declared.emitted.Path.{Path}
-use Rattle.is_rules.specs.Agent.{fresh}
+use Rattle.is_rules.specs.Agent.{AgentRecord, fresh}
 use Rattle.is_rules.specs.AskedCourses.{EndsAlong, SuccessesSelect}
 use Rattle.is_rules.specs.Carried.{CarriedSucceedLater}
 use Rattle.is_rules.specs.Courses.{CourseRound, AnnouncesAmong, CourseRounds}
@@ -19,24 +18,28 @@ use Rattle.is_rules.specs.Effects.{PathLaw, last_of}
 use Rattle.is_rules.specs.Issuing.{via_out}
 use Rattle.is_rules.specs.Pending.{IsValidBy}
 use Rattle.is_rules.specs.Progress.{Awaits, IsUnanswered}
-use Rattle.is_rules.specs.ReachedCourses.{CoursesCheck}
+use Rattle.is_rules.specs.Reached.{IsInLine}
 use Rattle.is_rules.specs.Sending.{path_of}
 use Rattle.is_rules.specs.Sound.{FreshIsSound}
 use Rattle.is_rules.specs.Steps as agent
 use Rattle.is_rules.specs.Steps.{Entry, Done, quiet}
+use Rattle.is_laws.specs.FirstChecks.{SufficeForDue, CoursesCheckFromDue, times_of}
+use Rattle.is_laws.specs.FirstTimeouts.{CoursesReachFromDue}
 use Rattle.is.specs.declared.world.Side.{Side}
+use Rattle.is.specs.Connections.{Succeeds}
 use Rattle.is.specs.Deliveries.{Announces}
 use Rattle.is.specs.Grantings.{Occurrence, HandedCheck, IsReturned, IsReturnedInTime, MayEndAt}
-use Rattle.is.specs.Selections.{Round, all_of, IsKept, IsControlling, IsAnsweredInTime, DeliveredRoundsAnnounce}
-use Rattle.is.specs.World.{WorldRecord, Logged, Turns, at, other}
+use Rattle.is.specs.Selections.{Round, all_of, times_in, state_after, IsKept, AreKept, AreEnough, AreEachPolled, IsControlling, IsAnsweredInTime, DeliveredRoundsAnnounce}
+use Rattle.is.specs.World as world
+use Rattle.is.specs.World.{WorldRecord, Event, Logged, Turns, Happens, at, other}
 use Rattle.is.specs.WorldRoles.{IsNewAgent}
 use Rattle.is.proofs.Following.{Has-front, Has-rear, AreSound}
 use Rattle.is.proofs.Settled.{sound_new}
 use Rattle.is.proofs.Owning.{either_has, turn_step, Steered, steered_on, acts_steered}
 use Rattle.is.proofs.Connected.{rewritten, handed, delivered}
-use Rattle.is.proofs.Occurring.{middle, Follow, follows, cut, meet, sound_along, acts_at, own, own_course, checked, sent_in, after_in, Awaited, awaits, removed}
+use Rattle.is.proofs.Occurring.{middle, Follow, follows, cut, state_is, meet, sound_along, acts_at, own, own_course, checked, sent_in, after_in, Awaited, awaits, removed}
 use Rattle.is.proofs.Granted.{own_emitted}
-use Rattle.is.proofs.Connecting.{round_of, rounds_of, as_many, Moves, moved, are_passed, back, SomeChecks}
+use Rattle.is.proofs.Connecting.{round_of, rounds_of, Moves, moved, are_passed, only_polls, same_times, back, SomeChecks, reached, in_rounds, succeeds_in}
 
 module _ {H P : Type 0} (mac : H → List ℕ → List ℕ → List ℕ) (answers : P → CandidateRecord → ℕ → ℕ → Type 0) where
   module _ (side : Side) where
@@ -96,6 +99,20 @@ module _ {H P : Type 0} (mac : H → List ℕ → List ℕ → List ℕ) (answer
         let m = announced_in later k.0 last k.2 (c, has, rest) in
         (m.0, inr (Has-rear r.behind (all_of later) m.0 m.1), m.2)
 
+    -- ---- a success response of the path
+
+    parted : (xs : List (Occurrence H P)) (x : Occurrence H P) → Has xs x → (ahead rest : List (Occurrence H P)) × (xs ≡ ahead ++ x ∷ rest)
+    parted [] x has = absurd has
+    parted (y ∷ xs) x (inl is) = ([], xs, ap (λ z. z ∷ xs) is)
+    parted (y ∷ xs) x (inr has) = let k = parted xs x has in (y ∷ k.0, k.1, ap (λ zs. y ∷ zs) k.2)
+
+    succeeded : (x : Occurrence H P) (s t : Stream) (path : Path) → (z : Succeeds side path x) → Happens mac answers x.before s x.entry.event x.entry.outcome x.behind t
+        → Turns mac answers x.before s side (agent.ReceivePacket z.now z.via z.in_flight.packet.contents) x.entry.outcome x.behind t
+    succeeded x s t path z happens =
+        subst (λ y. Turns mac answers x.before s y (agent.ReceivePacket z.now z.via z.in_flight.packet.contents) x.entry.outcome x.behind t) z.its
+        (subst (λ o. world.Delivers mac answers x.before s o z.now z.via x.entry.outcome x.behind t) z.sent
+        (subst (λ (v : Event P). Happens mac answers x.before s v x.entry.outcome x.behind t) z.event happens))
+
     -- ---- a check that is answered
 
     module _ (paths : PathLaw {H = H} {P = P} mac answers) (succeeds : CarriedSucceedLater {H = H} {P = P} mac answers) (selects : SuccessesSelect {H = H} {P = P} mac answers) where
@@ -123,7 +140,15 @@ module _ {H P : Type 0} (mac : H → List ℕ → List ℕ → List ℕ) (answer
               | inr (inr none) ↦ absurd none
             ]
 
-        answered : (path : Path) → IsAnsweredInTime mac side path part → (x : Occurrence H P) × Has part x × Announces side x.entry
+        -- a success response of the path that is accepted in the segment selects
+        accepted : (path : Path) (x : Occurrence H P) → Has part x → Succeeds side path x → (y : Occurrence H P) × Has part y × Announces side y.entry
+        accepted path x has z =
+            let sp = parted part x has in
+            let m = meet mac answers sp.0 sp.1 x start last (subst (λ xs. Follow mac answers start xs last) sp.2 follow) in
+            selected sp.0 sp.1 x z.in_flight.packet z.via z.now m.s m.t sp.2 m.led (succeeded x m.s m.t path z m.happens)
+            (z.accepts.2, (refl, refl, z.accepts.3.2, z.accepts.3.3), z.accepts.4)
+
+        answered : (path : Path) → IsAnsweredInTime mac answers side path part → (x : Occurrence H P) × Has part x × Announces side x.entry
         answered path (over, k, returns) =
             let c = checked mac answers paths side path over part start last k sound follow in
             let handing = k.comes.handed in
@@ -138,7 +163,7 @@ module _ {H P : Type 0} (mac : H → List ℕ → List ℕ → List ℕ) (answer
             k.check (rewritten over k.check) k.id k.sent.entry.outcome.entry handing.entry.outcome.entry (c.sound_sent side) (c.sound (other side)) c.step k.sends c.know
             (controlled ∙ sym (ap not steers)) refl c.reached (delivered mac answers (other side) over k.check handing.before handing.behind c.u c.v handing.entry k.comes.hands c.happens) in
             let reply : Packet = there.1.0 in
-            let in_time : IsReturnedInTime mac side path over part k reply = search (returns reply there.1.2) in
+            let in_time : IsReturnedInTime mac answers side path over part k reply = search (returns reply there.1.2) in
             let r = in_time.returned in
             let again = r.comes.handed in
             let between : List (Occurrence H P) = k.comes.between ++ handing ∷ r.comes.between in
@@ -147,7 +172,7 @@ module _ {H P : Type 0} (mac : H → List ℕ → List ℕ → List ℕ) (answer
             (there.1.3 (at side again.before) (at side again.behind) (rewritten r.via reply) (own mac answers side between) r.comes.hands.now r.pending.limit
             again.entry.outcome.entry z.course.0 z.course.2 z.few z.know refl z.goes z.comes) where
               by : (k : HandedCheck mac side path over part) (reply : Packet) (r : IsReturned mac side path over part k reply)
-                  → ((x : Occurrence H P) → Has (k.comes.between ++ k.comes.handed ∷ r.comes.between) x → MayEndAt side path x → ⊥)
+                  → ((x : Occurrence H P) → Has (k.comes.between ++ k.comes.handed ∷ r.comes.between) x → MayEndAt answers side path x → ⊥)
                   → (z : Awaited mac answers side path (k.comes.between ++ k.comes.handed ∷ r.comes.between) over part last k reply r)
                   → (IsTaken mac answers (rewritten r.via reply) r.comes.hands.now r.comes.handed.entry.outcome.entry Success × IsValidBy mac answers (at side r.comes.handed.behind) r.via)
                   ⊎ EndsAlong mac answers (own mac answers side (k.comes.between ++ k.comes.handed ∷ r.comes.between)) (at side k.sent.behind) (at side r.comes.handed.before) z.course.0 (via_out k.check)
@@ -166,35 +191,95 @@ module _ {H P : Type 0} (mac : H → List ℕ → List ℕ → List ℕ) (answer
 
     -- ---- a check is sent in one of the rounds, or a path is selected
 
-    reached : CoursesCheck {H = H} {P = P} mac answers → (first start last : WorldRecord H P) (s : Stream) (before : List (Occurrence H P)) (r : Round H P) (rounds : List (Round H P)) (p : PairRecord) (by : ℕ)
-        → IsNewAgent (at side first) → Follow mac answers first before start → Follow mac answers start (all_of (r ∷ rounds)) last → (at side start).controlling ≡ true
-        → ((x : Occurrence H P) → Has (all_of (r ∷ rounds)) x → (at side x.behind).controlling ≡ true) → Awaits r.now by (at side start) p → IsUnanswered (at side start) p
-        → ((x : Round H P) → Has (r ∷ rounds) x → IsKept side by x) → length (due_by by r.now (at side start).timing (at side start).pairs) ≤ length (r ∷ rounds)
-        → SomeChecks mac answers (path_of (at side start) p) (r ∷ rounds) ⊎ ((x : Occurrence H P) × Has (all_of (r ∷ rounds)) x × Announces side x.entry)
-    reached checks first start last s before r rounds p by n led follow role roles waits unanswered kept enough =
-        let many = as_many mac answers side rounds in
-        elim (checks (fresh (at side first).provider n.0 n.1) (at side start) (at side last) ((agent.SetControlling n.2, quiet Done) ∷ own mac answers side before)
-        (round_of mac answers side r) (rounds_of mac answers side rounds) p by (n.0, n.1, refl) (at side first, s, s, tt, (refl, n.3, refl), own_course mac answers side before first start led)
-        role waits unanswered (courses (r ∷ rounds) start last follow (λ x has. (kept x has).comes) roles) (are_passed mac answers side by (r ∷ rounds) kept) (omega (arith, many, enough))) [
-          | inl (c, id, has, out) ↦
-              (let x = back mac answers side (r ∷ rounds) c has in inl (x.0, x.1, (id, ap (λ (z : CourseRound P). z.moment.emitted.issued) x.2 ∙ out)))
-          | inr among ↦ inr (announced_in (r ∷ rounds) start last follow among)
+    polled : CoursesCheckFromDue {H = H} {P = P} mac answers → (first last : WorldRecord H P) (s : Stream) (before : List (Occurrence H P)) (r : Round H P) (rounds : List (Round H P)) (p : PairRecord) (by : ℕ)
+        → IsNewAgent (at side first) → Follow mac answers first before r.moment.before → Follow mac answers r.moment.before (all_of (r ∷ rounds)) last → (at side r.moment.before).controlling ≡ true
+        → ((x : Occurrence H P) → Has (all_of (r ∷ rounds)) x → (at side x.behind).controlling ≡ true) → Awaits r.now by (at side r.moment.before) p → IsUnanswered (at side r.moment.before) p
+        → AreKept side by r rounds → AreEachPolled side by r rounds
+        → SomeChecks mac answers (path_of (at side r.moment.before) p) (r ∷ rounds) ⊎ ((x : Occurrence H P) × Has (all_of (r ∷ rounds)) x × Announces side x.entry)
+    polled checks first last s before r rounds p by n led (same, u, v, happens, more) role roles waits unanswered kept each =
+        let own_first : IsKept side r = kept.kept r (inl refl) in
+        let c = cut mac answers r.behind (all_of rounds) r.moment.behind last more in
+        let k = steered r.behind r.moment.behind c.0 c.1 (λ x has. roles x (inr (Has-front r.behind (all_of rounds) x has))) in
+        let second : state_after r.moment.behind r.behind ≡ c.0 = state_is mac answers r.behind r.moment.behind c.0 c.1 in
+        let enough : SufficeForDue by r.now (at side r.moment.before) (at side c.0) (times_of (rounds_of mac answers side rounds)) =
+        subst (λ ns. SufficeForDue by r.now (at side r.moment.before) (at side c.0) ns) (sym (same_times mac answers side rounds))
+        (subst (λ (w : WorldRecord H P). SufficeForDue by r.now (at side r.moment.before) (at side w) (times_in rounds)) second (search each.few)) in
+        elim (checks (fresh (at side first).provider n.0 n.1) (at side r.moment.before) (at side last) ((agent.SetControlling n.2, quiet Done) ∷ own mac answers side before)
+        (round_of mac answers side r) (rounds_of mac answers side rounds) p by (n.0, n.1, refl)
+        (at side first, s, s, tt, (refl, n.3, refl), own_course mac answers side before first r.moment.before led)
+        role waits unanswered (let from = kept.from in omega (arith, from)) own_first.done own_first.early (only_polls mac answers side by r rounds each) (
+          at side r.moment.behind,
+          at side c.0,
+          u,
+          v,
+          moved mac answers side r u v own_first.comes happens,
+          roles r.moment (inl refl),
+          k.0,
+          k.1,
+          courses rounds c.0 last c.2 (λ x has. (kept.kept x (inr has)).comes) (λ x has. roles x (inr (Has-rear r.behind (all_of rounds) x has))),
+        )
+        (are_passed mac answers side by r rounds kept each) enough) [
+          | inl (z, id, has, out) ↦
+              (let x = back mac answers side (r ∷ rounds) z has in inl (x.0, x.1, (id, ap (λ (y : CourseRound P). y.moment.emitted.issued) x.2 ∙ out)))
+          | inr among ↦ inr (announced_in (r ∷ rounds) r.moment.before last (same, u, v, happens, more) among)
         ]
 
-  pub rounds_announce : PathLaw {H = H} {P = P} mac answers → FreshIsSound H P → CarriedSucceedLater {H = H} {P = P} mac answers → CoursesCheck {H = H} {P = P} mac answers
-      → SuccessesSelect {H = H} {P = P} mac answers → (first : WorldRecord H P) (s : Stream) (log : List (Logged P)) → DeliveredRoundsAnnounce mac answers first s log
-  rounds_announce paths new_sound succeeds checks selects first s log last t run before more rest side r rounds p by new split role roles waits unanswered kept enough answers_so =
-      let part : List (Occurrence H P) = all_of (r ∷ rounds) ++ more in
-      let led = cut mac answers before (part ++ rest) first last (subst (λ xs. Follow mac answers first xs last) split (follows mac answers first last s t 0 log run)) in
-      let start : WorldRecord H P = r.moment.before in
-      let to : Follow mac answers first before start = subst (λ (w : WorldRecord H P). Follow mac answers first before w) (sym led.2.0) led.1 in
-      let on = cut mac answers part rest start last (subst (λ (w : WorldRecord H P). Follow mac answers w (part ++ rest) last) (sym led.2.0) led.2) in
-      let begun = cut mac answers (all_of (r ∷ rounds)) more start on.0 on.1 in
-      let sound : AreSound start = sound_along mac answers paths before first start to (λ z. sound_new new_sound (at z first) (new z)) in
-      let steady = λ (x : Occurrence H P) (has : Has part x). leads_at side part x roles has in
-      elim (reached side checks first start begun.0 s before r rounds p by (new side) to begun.1 role
-      (λ x has. (steady x (Has-front (all_of (r ∷ rounds)) more x has)).0) waits unanswered kept (omega (arith, enough))) [
-        | inl (x, has, sent) ↦
-            answered side paths succeeds selects first start on.0 s before part (new side) sound to on.1 role steady unanswered.invalid (path_of (at side start) p) (search (answers_so x has sent))
-        | inr (x, has, announced) ↦ (x, Has-front (all_of (r ∷ rounds)) more x has, announced)
-      ]
+    -- no pair is valid yet, so one that is due waits for its check in any rounds
+    in_line : (now by : ℕ) (a : AgentRecord H P) (p : PairRecord) → Awaits now by a p → IsUnanswered a p → IsInLine now by a p
+    in_line now by a p waits unanswered = record {
+      checking = waits.checking;
+      queue = waits.queue;
+      there = waits.there;
+      due = (let due = waits.due in omega (arith, due));
+      settled = inl (unanswered.invalid p waits.there);
+      young = (let young = unanswered.young in omega (arith, young));
+    }
+
+  pub rounds_announce : PathLaw {H = H} {P = P} mac answers → FreshIsSound H P → CarriedSucceedLater {H = H} {P = P} mac answers → CoursesCheckFromDue {H = H} {P = P} mac answers
+      → CoursesReachFromDue {H = H} {P = P} mac answers → SuccessesSelect {H = H} {P = P} mac answers → (first : WorldRecord H P) (s : Stream) (log : List (Logged P)) → DeliveredRoundsAnnounce mac answers first s log
+  rounds_announce paths new_sound succeeds checks reach selects first s log last t run before more rest side r rounds p by new split role roles waits unanswered kept enough answers_so =
+      elim enough [
+        | inl each ↦ inl (elim (polled side checks first begun.0 s before r rounds p by (new side) to begun.1 role
+            (λ x has. (steady x (Has-front (all_of (r ∷ rounds)) more x has)).0) waits unanswered kept each) [
+              | inl sent ↦ sends sent
+              | inr (x, has, announced) ↦ (x, Has-front (all_of (r ∷ rounds)) more x has, announced)
+            ])
+        | inr many ↦ elim (reached mac answers reach side first begun.0 s (own mac answers side before) r rounds p by (new side) (own_course mac answers side before first start to) begun.1
+            (in_line side r.now by (at side start) p waits unanswered) kept
+            (subst (λ (w : WorldRecord H P). AreEnough side by r rounds w) (state_is mac answers (all_of (r ∷ rounds)) start begun.0 begun.1) many)) [
+              | inl sent ↦ inl (sends sent)
+              | inr (inl (x, has, is)) ↦ inl (let y = succeeds_in mac answers side path x.behind is in
+                  accepted side paths succeeds selects first start on.0 s before part (new side) sound to on.1 role steady unanswered.invalid path y.0
+                  (Has-front (all_of (r ∷ rounds)) more y.0 (in_rounds mac answers (r ∷ rounds) x y.0 has y.1)) y.2)
+              | inr (inr ended) ↦ inr (search ended)
+            ]
+      ] where
+        part : List (Occurrence H P)
+        part = all_of (r ∷ rounds) ++ more
+
+        start : WorldRecord H P
+        start = r.moment.before
+
+        path : Path
+        path = path_of (at side start) p
+
+        led : (mid : WorldRecord H P) × Follow mac answers first before mid × Follow mac answers mid (part ++ rest) last
+        led = cut mac answers before (part ++ rest) first last (subst (λ xs. Follow mac answers first xs last) split (follows mac answers first last s t 0 log run))
+
+        to : Follow mac answers first before start
+        to = subst (λ (w : WorldRecord H P). Follow mac answers first before w) (sym led.2.0) led.1
+
+        on : (mid : WorldRecord H P) × Follow mac answers start part mid × Follow mac answers mid rest last
+        on = cut mac answers part rest start last (subst (λ (w : WorldRecord H P). Follow mac answers w (part ++ rest) last) (sym led.2.0) led.2)
+
+        begun : (mid : WorldRecord H P) × Follow mac answers start (all_of (r ∷ rounds)) mid × Follow mac answers mid more on.0
+        begun = cut mac answers (all_of (r ∷ rounds)) more start on.0 on.1
+
+        sound : AreSound start
+        sound = sound_along mac answers paths before first start to (λ z. sound_new new_sound (at z first) (new z))
+
+        steady : (x : Occurrence H P) → Has part x → Leads side x.behind
+        steady x has = leads_at side part x roles has
+
+        sends : SomeChecks mac answers path (r ∷ rounds) → (x : Occurrence H P) × Has part x × Announces side x.entry
+        sends (x, has, sent) = answered side paths succeeds selects first start on.0 s before part (new side) sound to on.1 role steady unanswered.invalid path (search (answers_so x has sent))

@@ -1,6 +1,6 @@
 -- How both of two agents select a path, if each has rounds in which the network delivers (RFC 8445, sections 6.1.4.2, 7.2.5.3 and
 -- 7.3.1.5).
-use Rattle.std.specs.Prelude.{◌≡◌, ℕ, ◌+◌, ◌*◌, ◌≤◌, List, [], ◌∷◌, ◌++◌, length, Some, None, ◌⊎◌, slice_get}
+use Rattle.std.specs.Prelude.{◌≡◌, ℕ, List, [], ◌∷◌, ◌++◌, Some, None, ◌⊎◌, slice_get}
 use Rattle.rand_core.specs.Stream.{Stream}
 use Rattle.is_proto.specs.Lists.{Has}
 use Rattle.is_candidate.specs.Candidates.{CandidateRecord}
@@ -16,14 +16,14 @@ use Rattle.is_rules.specs.Steps as agent
 use Rattle.is.specs.declared.world.Side.{Side}
 use Rattle.is.specs.Deliveries.{Announces}
 use Rattle.is.specs.Grantings.{Occurrence, IsControlled, IsAskedOver, IsExchangedOver, MayEndAt, occurrences_in}
-use Rattle.is.specs.Selections.{Round, all_of, IsKept, Checks}
+use Rattle.is.specs.Selections.{Round, all_of, AreKept, MayEndInRounds, AreEnough, Checks}
 use Rattle.is.specs.World.{WorldRecord, InFlightRecord, Call, Deliver, Logged, Run, at, other}
 use Rattle.is.specs.WorldRoles.{IsNewAgent}
 
 module _ {H P : Type 0} where
-  -- The side has rounds in the segment that suffice for a pair on the path, which is due by the time `by` when they begin: the
-  -- rounds are later than `by`. If the side has n pairs, there are at least 2n - 1 rounds, and one more for each pair that it
-  -- adds in them.
+  -- The side has rounds in the segment that suffice for a pair on the path, which is due by the time `by` when they begin. If the side
+  -- has n pairs, there are 2n - 1 rounds, and one more for each pair that is added in them, also by candidates that the side adds
+  -- (`AreEnough`).
   pub record HasRounds (side : Side) (path : Path) (part : List (Occurrence H P)) (last : WorldRecord H P) : Type 0 where
     pub ahead : List (Occurrence H P)
     pub first : Round H P
@@ -33,9 +33,8 @@ module _ {H P : Type 0} where
     pub pair : PairRecord
     pub line : IsInLine first.now by (at side first.moment.before) pair
     pub on : path_of (at side first.moment.before) pair ≡ path
-    pub kept : (r : Round H P) → Has (first ∷ later) r → IsKept side by r
-    pub enough : 2 * length (at side first.moment.before).pairs + (at side last).next_number
-        ≤ length (first ∷ later) + 1 + (at side first.moment.before).next_number
+    pub kept : AreKept side by first later
+    pub enough : AreEnough side by first later last
 
   -- A success response that is received on the reverse path is accepted.
   pub record Succeeds (side : Side) (path : Path) (x : Occurrence H P) : Type 0 where
@@ -65,7 +64,8 @@ module _ {H P : Type 0} where
     -- controlled side has rounds that suffice for a pair on its path. If it sends checks on it in them, one is answered. Both may
     -- happen at any time in the segment, and through NATs. A `handle_timeout` call of the controlled side that serves no early
     -- request follows. By then the controlled side selected a path, if only one of its pairs uses this path's addresses, unless one
-    -- of its calls may have removed such a pair. This holds whatever else happens.
+    -- of its calls may have removed such a pair, or a candidate that the controlling side adds in its rounds one of `its`. This
+    -- holds whatever else happens.
     abbrev pub BothConnect : WorldRecord H P → Stream → List (Logged P) → Type 0
     BothConnect first s log =
         (last : WorldRecord H P) (t : Stream) (run : Run mac answers first s 0 log last t) (before part rest : List (Occurrence H P)) (moment : Occurrence H P)
@@ -79,4 +79,5 @@ module _ {H P : Type 0} where
         → moment.entry.event ≡ Call side (agent.HandleTimeout now) → moment.entry.outcome.entry.answer ≡ agent.Done → request_at now (at side moment.before) ≡ None
         → IsAlone (at side moment.behind) path
         → (((x : Occurrence H P) × Has (before ++ (part ++ moment ∷ [])) x × Announces side x.entry) × HasAnnounced (at side moment.behind))
-        ⊎ ((x : Occurrence H P) × Has (part ++ moment ∷ []) x × MayEndAt side path x)
+        ⊎ (((x : Occurrence H P) × Has (part ++ moment ∷ []) x × MayEndAt answers side path x)
+        ⊎ MayEndInRounds answers (other side) its (asking.first ∷ asking.later))

@@ -3,6 +3,7 @@ use Rattle.std.specs.Prelude.{◌≡◌, ℕ, true, false, Some, is_some, slice_
 use Rattle.is_proto.specs.Packets.{Packet}
 use Rattle.is_rules.specs.declared.emitted.Path.{Path}
 use Rattle.is_rules.specs.Effects.{last_of}
+use Rattle.is_rules.specs.Reached.{is_in_round}
 use Rattle.is_rules.specs.Rounds.{is_poll}
 use Rattle.is_rules.specs.Steps.{is_refusal}
 use Rattle.is.specs.declared.world.Side.{Side}
@@ -12,6 +13,12 @@ use Rattle.is.specs.World.{WorldRecord, Event, Call, Deliver, Logged, other}
 abbrev pub MakesPolls : {P : Type 0} → Side → Event P → Type 0
 MakesPolls side (Call s c) = s ≡ side → is_poll c ≡ true
 MakesPolls side _ = Unit {0}
+
+-- The side makes only calls that may come between two `handle_timeout` calls of a round (`is_in_round`): polls, candidates that are
+-- added, and settings that change neither pairs nor the timing of their checks. Whatever it receives and whatever the other side does.
+abbrev pub MakesInRound : {P : Type 0} → Side → Event P → Type 0
+MakesInRound side (Call s c) = s ≡ side → is_in_round c ≡ true
+MakesInRound side _ = Unit {0}
 
 -- The side selected a path.
 abbrev pub Announces : {P : Type 0} → Side → Logged P → Type 0

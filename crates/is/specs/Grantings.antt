@@ -96,13 +96,13 @@ module _ {H P : Type 0} where
     pub pending : StaysPending side path (k.comes.between ++ k.comes.handed ∷ comes.between)
 
   -- A call of the side may remove a pair of the path.
-  abbrev pub MayEndAt : Side → Path → Occurrence H P → Type 0
-  MayEndAt side path x = (c : agent.Call P) × (x.entry.event ≡ Call side c) × Ends (at side x.before) c x.entry.outcome.entry path
+  abbrev pub MayEndAt : (P → CandidateRecord → ℕ → ℕ → Type 0) → Side → Path → Occurrence H P → Type 0
+  MayEndAt answers side path x = (c : agent.Call P) × (x.entry.event ≡ Call side c) × Ends answers (at side x.before) c x.entry.outcome.entry path
 
   -- Until the response is delivered back, no call of the side may remove a pair of the path.
-  pub record IsReturnedInTime (mac : H → List ℕ → List ℕ → List ℕ) (side : Side) (path over : Path) (all : List (Occurrence H P)) (k : HandedCheck mac side path over all) (reply : Packet) : Type 0 where
+  pub record IsReturnedInTime (mac : H → List ℕ → List ℕ → List ℕ) (answers : P → CandidateRecord → ℕ → ℕ → Type 0) (side : Side) (path over : Path) (all : List (Occurrence H P)) (k : HandedCheck mac side path over all) (reply : Packet) : Type 0 where
     pub returned : IsReturned mac side path over all k reply
-    pub stays : (x : Occurrence H P) → Has (k.comes.between ++ k.comes.handed ∷ returned.comes.between) x → MayEndAt side path x → ⊥
+    pub stays : (x : Occurrence H P) → Has (k.comes.between ++ k.comes.handed ∷ returned.comes.between) x → MayEndAt answers side path x → ⊥
 
   -- The side checks the path, and receives the success response while the check is pending.
   abbrev pub IsExchangedOver : (H → List ℕ → List ℕ → List ℕ) → Side → Path → List (Occurrence H P) → Type 0
@@ -131,4 +131,4 @@ module _ {H P : Type 0} where
         → moment.entry.event ≡ Call side (agent.HandleTimeout now) → moment.entry.outcome.entry.answer ≡ agent.Done → request_at now (at side moment.before) ≡ None
         → IsAlone (at side moment.behind) path
         → (((x : Occurrence H P) × Has (before ++ (part ++ moment ∷ [])) x × Announces side x.entry) × HasAnnounced (at side moment.behind))
-        ⊎ ((x : Occurrence H P) × Has (part ++ moment ∷ []) x × MayEndAt side path x)
+        ⊎ ((x : Occurrence H P) × Has (part ++ moment ∷ []) x × MayEndAt answers side path x)

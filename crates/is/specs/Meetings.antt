@@ -25,11 +25,11 @@ module _ {H P : Type 0} where
 
   -- The side sends a check on the path, which is delivered to the other side at any time (`HandedCheck`). If the check gets a 487,
   -- that is delivered back while the check is pending.
-  abbrev pub IsMeeting : (H → List ℕ → List ℕ → List ℕ) → Side → Path → List (Occurrence H P) → Type 0
-  IsMeeting mac side path all =
+  abbrev pub IsMeeting : (H → List ℕ → List ℕ → List ℕ) → (P → CandidateRecord → ℕ → ℕ → Type 0) → Side → Path → List (Occurrence H P) → Type 0
+  IsMeeting mac answers side path all =
       (over : Path) × (k : HandedCheck mac side path over all)
       × ((error : Packet) → Sends (at (other side) k.comes.handed.before) k.comes.handed.entry.outcome.entry Failure k.id error (at (other side) k.comes.handed.behind)
-      → IsReturnedInTime mac side path over all k error)
+      → IsReturnedInTime mac answers side path over all k error)
 
   -- Two agents are newly created, with different tie-breakers, in any roles. In a segment of the log a check of either agent is
   -- delivered to the other one, and its 487 if it gets one, at any time, also through NATs. Then their roles are different after
@@ -37,5 +37,5 @@ module _ {H P : Type 0} where
   abbrev pub RolesMeet : (mac : H → List ℕ → List ℕ → List ℕ) (answers : P → CandidateRecord → ℕ → ℕ → Type 0) → WorldRecord H P → Stream → List (Logged P) → Type 0
   RolesMeet mac answers first s log =
       (greater side : Side) (last : WorldRecord H P) (t : Stream) (run : Run mac answers first s 0 log last t) (part rest : List (Occurrence H P)) (path : Path)
-      → IsFairWorld first greater log → occurrences_in mac answers first s 0 log last t run ≡ part ++ rest → IsMeeting mac side path part
+      → IsFairWorld first greater log → occurrences_in mac answers first s 0 log last t run ≡ part ++ rest → IsMeeting mac answers side path part
       → (last.a.controlling ≢ last.b.controlling) × ((x : Occurrence H P) → Has rest x → StayOpposite x)

@@ -1,13 +1,12 @@
 -- How the controlling one of two agents selects a path: rounds that suffice for one of its pairs, and a check that is answered while
 -- it is pending (RFC 8445, sections 6.1.4.2, 7.2.5.3 and 8.1.1).
-use Rattle.std.specs.Prelude.{◌≡◌, ℕ, ◌<◌, ◌≤◌, true, false, List, [], ◌∷◌, ◌++◌, length, Some}
+use Rattle.std.specs.Prelude.{◌≡◌, ℕ, ◌<◌, ◌≤◌, ◌⊎◌, true, false, List, [], ◌∷◌, ◌++◌, length, Some}
 use Rattle.rand_core.specs.Stream.{Stream}
 use Rattle.is_proto.specs.Lists.{Has}
 use Rattle.is_proto.specs.Moments.{MAX}
 use Rattle.is_proto.specs.Packets.{Packet}
 use Rattle.is_candidate.specs.Candidates.{CandidateRecord}
 use Rattle.is_pair.specs.Pairs.{PairRecord}
-use Rattle.is_pair.specs.Turns.{due_by}
 use Rattle.is_stun.specs.declared.header.Class.TheVariants.{Request, Success}
 use Rattle.is_rules.specs.declared.emitted.Path.{Path}
 use Rattle.is_rules.specs.Delivery.{Sends}
@@ -15,9 +14,11 @@ use Rattle.is_rules.specs.Emitted.{issued_as}
 use Rattle.is_rules.specs.Progress.{Awaits, IsUnanswered}
 use Rattle.is_rules.specs.Sending.{path_of}
 use Rattle.is_rules.specs.Steps as agent
+use Rattle.is_laws.specs.FirstChecks.{SufficeForDue}
+use Rattle.is_laws.specs.FirstTimeouts.{Suffices}
 use Rattle.is.specs.declared.world.Side.{Side}
-use Rattle.is.specs.Deliveries.{MakesPolls, Announces}
-use Rattle.is.specs.Grantings.{Occurrence, HandedCheck, IsReturnedInTime, occurrences_in}
+use Rattle.is.specs.Deliveries.{MakesPolls, MakesInRound, Announces}
+use Rattle.is.specs.Grantings.{Occurrence, HandedCheck, IsReturnedInTime, MayEndAt, occurrences_in}
 use Rattle.is.specs.World.{WorldRecord, Call, Logged, Run, at, other}
 use Rattle.is.specs.WorldRoles.{IsNewAgent}
 
@@ -31,15 +32,52 @@ abbrev pub all_of : {H P : Type 0} → List (Round H P) → List (Occurrence H P
 all_of [] = []
 all_of (r ∷ later) = r.moment ∷ (r.behind ++ all_of later)
 
+-- when the rounds begin
+abbrev pub times_in : {H P : Type 0} → List (Round H P) → List ℕ
+times_in [] = []
+times_in (r ∷ later) = r.now ∷ times_in later
+
+-- the state of the network model after these entries
+abbrev pub state_after : {H P : Type 0} → WorldRecord H P → List (Occurrence H P) → WorldRecord H P
+state_after w [] = w
+state_after w (x ∷ rest) = state_after x.behind rest
+
 module _ {H P : Type 0} where
-  -- The `handle_timeout` call is later than `by` and returns Ok. After it the side makes only polls, whatever it receives and
-  -- whatever the other side does.
-  pub record IsKept (side : Side) (by : ℕ) (r : Round H P) : Type 0 where
+  -- The `handle_timeout` call returns Ok. After it the side makes only calls that may come in a round (`MakesInRound`), so it may add
+  -- candidates, whatever it receives and whatever the other side does.
+  pub record IsKept (side : Side) (r : Round H P) : Type 0 where
     pub comes : r.moment.entry.event ≡ Call side (agent.HandleTimeout r.now)
     pub done : r.moment.entry.outcome.entry.answer ≡ agent.Done
-    pub late : by < r.now
     pub early : r.now < MAX
-    pub polls : (x : Occurrence H P) → Has r.behind x → MakesPolls side x.entry.event
+    pub between : (x : Occurrence H P) → Has r.behind x → MakesInRound side x.entry.event
+
+  -- Such rounds. The first `handle_timeout` call is no earlier than `by`, and the others are later.
+  pub record AreKept (side : Side) (by : ℕ) (first : Round H P) (later : List (Round H P)) : Type 0 where
+    pub from : by ≤ first.now
+    pub late : (r : Round H P) → Has later r → by < r.now
+    pub kept : (r : Round H P) → Has (first ∷ later) r → IsKept side r
+
+  -- In the rounds the side makes only polls besides its `handle_timeout` calls.
+  abbrev pub MakesPollsIn : Side → List (Round H P) → Type 0
+  MakesPollsIn side rounds = (r : Round H P) → Has rounds r → (x : Occurrence H P) → Has r.behind x → MakesPolls side x.entry.event
+
+  -- Between the `handle_timeout` calls of the rounds a call of the side may remove a pair of the path. Of the calls that may come
+  -- there only the addition of a candidate may.
+  abbrev pub MayEndInRounds : (P → CandidateRecord → ℕ → ℕ → Type 0) → Side → Path → List (Round H P) → Type 0
+  MayEndInRounds answers side path rounds = (r : Round H P) × Has rounds r × ((x : Occurrence H P) × Has r.behind x × MayEndAt answers side path x)
+
+  -- The rounds suffice for a pair of the side that is due by the time `by` (`Suffices`): 2n - 1 rounds for n pairs, and one more for
+  -- each pair that is added in them, also by candidates that the side adds.
+  abbrev pub AreEnough : Side → ℕ → Round H P → List (Round H P) → WorldRecord H P → Type 0
+  AreEnough side by first later last =
+      Suffices by first.now (at side first.moment.before) (at side (state_after first.moment.behind first.behind)) (at side last) (length later)
+
+  -- In the rounds the side makes only polls, and there are enough of them (`SufficeForDue`): n rounds, if n pairs of the side are due
+  -- by the time `by` when they begin, and this time is earlier. If it is not, one round suffices for a single pair, and otherwise n
+  -- rounds after the first one, if n pairs are due by then when the second `handle_timeout` call comes.
+  pub record AreEachPolled (side : Side) (by : ℕ) (first : Round H P) (later : List (Round H P)) : Type 0 where
+    pub few : SufficeForDue by first.now (at side first.moment.before) (at side (state_after first.moment.behind first.behind)) (times_in later)
+    pub polls : MakesPollsIn side (first ∷ later)
 
   -- The `handle_timeout` call sends a check on the path.
   abbrev pub Checks : Path → Round H P → Type 0
@@ -51,17 +89,20 @@ module _ {H P : Type 0} where
 
   -- The side sends a check on the path, which is delivered to the other side at any time (`HandedCheck`). Its success response is
   -- delivered back while the check is pending.
-  abbrev pub IsAnsweredInTime : (H → List ℕ → List ℕ → List ℕ) → Side → Path → List (Occurrence H P) → Type 0
-  IsAnsweredInTime mac side path all =
+  abbrev pub IsAnsweredInTime : (H → List ℕ → List ℕ → List ℕ) → (P → CandidateRecord → ℕ → ℕ → Type 0) → Side → Path → List (Occurrence H P) → Type 0
+  IsAnsweredInTime mac answers side path all =
       (over : Path) × (k : HandedCheck mac side path over all)
       × ((reply : Packet) → Sends (at (other side) k.comes.handed.before) k.comes.handed.entry.outcome.entry Success k.id reply (at (other side) k.comes.handed.behind)
-      → IsReturnedInTime mac side path over all k reply)
+      → IsReturnedInTime mac answers side path over all k reply)
 
   -- Two agents are newly created. A segment of the log begins with rounds of the controlling side. When they begin, no pair of the
-  -- side is valid, and n pairs are due by an earlier time `by`, one of them on the path, with due times computed at the time of the
-  -- first round. There are at least n rounds. If the side sends a check on the path in them, a check on it in the segment is
-  -- answered. That may happen at any time while the check is pending, and through NATs. Then the side selects a path in the
-  -- segment, whatever else happens.
+  -- side is valid, and one on the path is due by the time `by`, with due times computed at the time of the first round. The rounds
+  -- suffice: if n pairs are due by then, n rounds in which the side makes only polls, or one more if the time is not earlier than
+  -- the first one (`AreEachPolled`); or else 2n - 1 rounds for n
+  -- pairs in all, and one more for each pair that is added in them (`AreEnough`), also by candidates that the side adds. If the side
+  -- sends a check on the path in them, a check on it in the segment is answered. That may happen at any time while the check is
+  -- pending, and through NATs. Then the side selects a path in the segment, unless a candidate that it adds in the rounds may remove
+  -- a pair of the path. This holds whatever else happens.
   abbrev pub DeliveredRoundsAnnounce : (mac : H → List ℕ → List ℕ → List ℕ) (answers : P → CandidateRecord → ℕ → ℕ → Type 0) → WorldRecord H P → Stream → List (Logged P) → Type 0
   DeliveredRoundsAnnounce mac answers first s log =
       (last : WorldRecord H P) (t : Stream) (run : Run mac answers first s 0 log last t) (before more rest : List (Occurrence H P)) (side : Side)
@@ -69,8 +110,9 @@ module _ {H P : Type 0} where
       → ((x : Side) → IsNewAgent (at x first)) → occurrences_in mac answers first s 0 log last t run ≡ before ++ ((all_of (r ∷ rounds) ++ more) ++ rest)
       → (at side r.moment.before).controlling ≡ true → IsControlling side (all_of (r ∷ rounds) ++ more)
       → Awaits r.now by (at side r.moment.before) p → IsUnanswered (at side r.moment.before) p
-      → ((x : Round H P) → Has (r ∷ rounds) x → IsKept side by x)
-      → length (due_by by r.now (at side r.moment.before).timing (at side r.moment.before).pairs) ≤ length (r ∷ rounds)
+      → AreKept side by r rounds
+      → AreEachPolled side by r rounds ⊎ AreEnough side by r rounds (state_after r.moment.before (all_of (r ∷ rounds)))
       → ((x : Round H P) → Has (r ∷ rounds) x → Checks (path_of (at side r.moment.before) p) x
-      → IsAnsweredInTime mac side (path_of (at side r.moment.before) p) (all_of (r ∷ rounds) ++ more))
-      → (x : Occurrence H P) × Has (all_of (r ∷ rounds) ++ more) x × Announces side x.entry
+      → IsAnsweredInTime mac answers side (path_of (at side r.moment.before) p) (all_of (r ∷ rounds) ++ more))
+      → ((x : Occurrence H P) × Has (all_of (r ∷ rounds) ++ more) x × Announces side x.entry)
+      ⊎ MayEndInRounds answers side (path_of (at side r.moment.before) p) (r ∷ rounds)

@@ -10,6 +10,7 @@ use Rattle.is.specs.Traces.{AnnouncedAreTraced}
 use Rattle.is.specs.Selections.{DeliveredRoundsAnnounce}
 use Rattle.is.specs.Grantings.{GrantedPathsAnnounce}
 use Rattle.is.specs.Connections.{BothConnect}
+use Rattle.is.specs.Connects.{BothSelect}
 use Rattle.is.specs.Meetings.{RolesMeet}
 use Rattle.is.specs.Mirrors.{LonePathsMirror}
 
@@ -43,6 +44,9 @@ module _ {H P : Type 0} (mac : H → List ℕ → List ℕ → List ℕ) (answer
 
   abbrev pub ConnectionsLaw : Type 0
   ConnectionsLaw = (first : WorldRecord H P) (s : Stream) (log : List (Logged P)) → BothConnect mac answers first s log
+
+  abbrev pub ConnectsLaw : Type 0
+  ConnectsLaw = (first : WorldRecord H P) (s : Stream) (log : List (Logged P)) → BothSelect mac answers first s log
 
   abbrev pub MeetingsLaw : Type 0
   MeetingsLaw = (first : WorldRecord H P) (s : Stream) (log : List (Logged P)) → RolesMeet mac answers first s log

@@ -1,19 +1,24 @@
 //! Executions: calls on an agent, with a log of their results.
 ghost use Rattle.is_agent.specs.View.{record_of};
 ghost use Rattle.is_rules.specs.Logs.{NeverLite, replies, requests};
-ghost use Rattle.is_rules.specs.Bounds.{ListsAreBounded, PairsAreFew};
+ghost use Rattle.is_rules.specs.Bounds.{ListsAreBounded, PairsAreBounded, PairsAreFew};
 ghost use Rattle.is_rules.specs.Owed.{AreAmong};
 ghost use Rattle.is_rules.specs.Runs.{IsFresh, PathsAreAnswered, PathsAreAskedFor, LastPathsAreTop, SuccessesMakeValid, RequestsNominate};
 ghost use Rattle.is_rules.specs.Progress.{SuccessesAnnounce, NominationsAnnounce};
-ghost use Rattle.is_rules.specs.Rounds.{MomentsAreOfUse, PartsStand, RoundsAnnounce};
+ghost use Rattle.is_rules.specs.Rounds.{MomentsAreOfUse, PartsStand};
+ghost use Rattle.is_laws.specs.DueRounds.{DueRoundsAnnounce};
+ghost use Rattle.is_laws.specs.OpenRounds.{OpenRoundsAnnounce};
 ghost use Rattle.is.specs.Log.{IsRunLog, log_of, EntriesStand};
 ghost use Rattle.is.specs.Accepted.{PacketsAreSettled};
 ghost use Rattle.is.specs.Queues.{OthersIssueNone, QueuesAreKept};
+ghost use Rattle.is.specs.Floods.{QueuesStayShort, DiscoveriesAreFew};
 
 use crate::calls::{AgentCall, Entry};
 use crate::steps::step;
 use is_agent::Agent;
 use is_candidate::LocalPreference;
+use is_laws::announcing::{due_rounds_announce, open_rounds_announce};
+use is_laws::flooding::{discoveries_stay_few, queues_are_short};
 use is_proto::Sha1HmacProvider;
 use is_rules::laws;
 use rand_core::Rng;
@@ -106,8 +111,16 @@ pub fn run<H: Sha1HmacProvider + Drop, P: LocalPreference, R: Rng>(
     // Progress: n pairs are due by an earlier time at a `handle_timeout` call. In each of the n rounds from this call on in which
     // a check is sent on the path of one of these pairs, an accepted success response is received. Then a controlling agent
     // selects a path in one of the rounds. This holds whatever else is received, and whether or not `poll_timeout` is called.
+    // Candidates may be added between the `handle_timeout` calls, if there are 2n - 1 rounds for n pairs in all, and one more for
+    // each pair that is added, unless an added candidate may remove a pair of the path.
     ensures rounds { IsFresh (record_of agent.old)
-        → RoundsAnnounce H.mac P.answers (record_of agent.old) (R.stream rng.old) (log_of calls.items result) }
+        → OpenRoundsAnnounce H.mac P.answers (record_of agent.old) (R.stream rng.old) (log_of calls.items result) }
+
+    // Progress from the first timeout on: the same for a pair that is due by the first `handle_timeout` call of the rounds, maybe not
+    // before it. For a single pair one round suffices. Otherwise 2m - 1 rounds after it do, for m pairs when the second call comes,
+    // and one more for each pair that is added in these.
+    ensures due_rounds { IsFresh (record_of agent.old)
+        → DueRoundsAnnounce H.mac P.answers (record_of agent.old) (R.stream rng.old) (log_of calls.items result) }
 
     // After an accepted success response a pair with its pending transaction, on its path, is valid.
     ensures takers { IsFresh (record_of agent.old)
@@ -124,9 +137,9 @@ pub fn run<H: Sha1HmacProvider + Drop, P: LocalPreference, R: Rng>(
     // The responses are, as a multiset, among the accepted Binding requests, each with its ID and on its reverse path.
     ensures replies { IsFresh (record_of agent.old) → AreAmong (replies (log_of calls.items result)) (requests (log_of calls.items result)) }
 
-    // With a limit on what requests bring, set whenever a packet or a timeout comes: after each call there are at most as many
-    // remote candidates as the limit and the caller's `add_remote_candidate` calls together, and at most as many remembered sources
-    // as the limit, whatever was received.
+    // With a limit on what packets bring, whenever a packet or a timeout comes: after each call there are at most as many local
+    // candidates as the limit and the caller's `add_local_candidate` calls together, as many remote ones as the limit and its
+    // `add_remote_candidate` calls, and as many remembered sources as the limit, whatever was received.
     ensures bounded { IsFresh (record_of agent.old)
         → ListsAreBounded H.mac P.answers (record_of agent.old) (R.stream rng.old) (log_of calls.items result) }
 
@@ -134,6 +147,21 @@ pub fn run<H: Sha1HmacProvider + Drop, P: LocalPreference, R: Rng>(
     // whatever was received.
     ensures few { IsFresh (record_of agent.old)
         → PairsAreFew H.mac P.answers (record_of agent.old) (R.stream rng.old) (log_of calls.items result) }
+
+    // With both limits, a bound on the pairs that depends on the caller's settings and additions only, whatever was received.
+    ensures limited { IsFresh (record_of agent.old)
+        → PairsAreBounded H.mac P.answers (record_of agent.old) (R.stream rng.old) (log_of calls.items result) }
+
+    // After each call, whatever was received: at most as many packets wait to be polled as packets were accepted and
+    // `handle_timeout` was called since none waited. Events wait likewise, `DiscoveredRecv` aside: at most two for each of these
+    // packets, five for each of these calls, and those of a clear. At most 100 early requests wait.
+    ensures waiting { IsFresh (record_of agent.old)
+        → QueuesStayShort H.mac P.answers (record_of agent.old) (R.stream rng.old) (log_of calls.items result) }
+
+    // With a limit on what packets bring, whenever a packet or a timeout comes: after each call at most as many `DiscoveredRecv`
+    // events wait, whatever was received, and however seldom events are polled.
+    ensures discovered { IsFresh (record_of agent.old)
+        → DiscoveriesAreFew H.mac P.answers (record_of agent.old) (R.stream rng.old) (log_of calls.items result) }
 
     // Packets and events are polled in the order in which they were issued, and an ICE restart empties both queues before its own
     // events.
@@ -146,11 +174,14 @@ pub fn run<H: Sha1HmacProvider + Drop, P: LocalPreference, R: Rng>(
     laws::points_are_top::<H, P>();
     laws::limits_bound::<H, P>();
     laws::limits_pairs::<H, P>();
+    queues_are_short::<H, P>();
+    discoveries_stay_few::<H, P>();
     laws::answers_announce::<H, P>();
     laws::moments_announce::<H, P>();
     laws::parts_are_runs::<H, P>();
     laws::turns_are_of_use::<H, P>();
-    laws::answered_rounds_announce::<H, P>();
+    open_rounds_announce::<H, P>();
+    due_rounds_announce::<H, P>();
     laws::takers_are_valid::<H, P>();
     laws::asked_are_nominated::<H, P>();
     laws::replies_are_among::<H, P>();

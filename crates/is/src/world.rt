@@ -18,17 +18,23 @@ ghost use Rattle.is.specs.Traces.{AnnouncedAreTraced};
 ghost use Rattle.is.specs.Selections.{DeliveredRoundsAnnounce};
 ghost use Rattle.is.specs.Connections.{BothConnect};
 ghost use Rattle.is.specs.Grantings.{GrantedPathsAnnounce};
+ghost use Rattle.is.specs.Connects.{BothSelect};
 ghost use Rattle.is.specs.Meetings.{RolesMeet};
 ghost use Rattle.is.specs.Mirrors.{LonePathsMirror};
+ghost use Rattle.is.specs.Floods.{BothAreBounded, BothHaveFewPairs, BothAreShort, BothDiscoverFew};
 
 use crate::calls::{AgentCall, Answer, Entry};
 use crate::steps::{quiet, step, take_packet};
 use crate::world_laws::{
-    announced_are_traced, both_connect, delivered_rounds_announce, granted_paths_announce,
-    greater_keeps, lesser_yields_once, lone_paths_mirror, roles_differ_once_met, roles_meet,
+    announced_are_traced, both_connect, both_select, delivered_rounds_announce,
+    granted_paths_announce, greater_keeps, lesser_yields_once, lone_paths_mirror,
+    roles_differ_once_met, roles_meet,
 };
 use is_agent::{Agent, IceCreds};
 use is_candidate::LocalPreference;
+use is_laws::flooding::{
+    discoveries_stay_few, lists_stay_bounded, pairs_stay_few, queues_are_short,
+};
 use is_proto::{IceError, Instant, Protocol, Sha1HmacProvider, Transmit};
 use is_rules::emitted::{Issued, Path};
 use is_stun::stun::{Class, StunMessage, TransId};
@@ -448,6 +454,8 @@ impl<H: Sha1HmacProvider + Drop, P: LocalPreference> TwoAgents<H, P> {
         // check on the path of one of these pairs in the n rounds from this call on, the network delivers such a check, and its
         // success response at any time while the check is pending, also through NATs. Both agents know each other, their roles
         // differ, and the check reaches the other agent. Then the controlling agent selects a path by then, whatever else happens.
+        // Candidates may be added in the rounds, if there are 2n - 1 for n pairs in all, and one more for each pair that is added,
+        // unless an added candidate may remove a pair of the path.
         ensures rounds { DeliveredRoundsAnnounce H.mac P.answers (world_of self.old) (R.stream rng.old) (logged events.items result.entries.items) }
 
         // Progress of the controlled agent: the controlling agent checks a path whose pairs it nominated, and the check arrives on
@@ -458,14 +466,32 @@ impl<H: Sha1HmacProvider + Drop, P: LocalPreference> TwoAgents<H, P> {
         ensures granted { GrantedPathsAnnounce H.mac P.answers (world_of self.old) (R.stream rng.old) (logged events.items result.entries.items) }
 
         // Progress of both: the controlling agent has a nominated pair, and the controlled agent a pair. Each has rounds that
-        // suffice: 2n - 1 if it has n pairs, and one more for each pair that it adds. If checks are sent on the two paths in these
+        // suffice: 2n - 1 if it has n pairs, and one more for each pair that is added. If checks are sent on the two paths in these
         // rounds, one of each agent is delivered, and so is the success response to the controlled agent, as above. Then the
         // controlled agent selected a path by its next `handle_timeout` call, as above.
         ensures connect { BothConnect H.mac P.answers (world_of self.old) (R.stream rng.old) (logged events.items result.entries.items) }
 
+        // Together, for two new agents with different tie-breakers, in whatever roles they begin: one check of either is delivered,
+        // and its 487 if it gets one. If then the network delivers on one path of each, in both directions and while checks are
+        // pending, the controlling agent selects a path in its rounds, as in `rounds`. If its pairs on this path are nominated from
+        // then on, the controlled agent selects one in its own rounds, as in `connect`.
+        ensures both { BothSelect H.mac P.answers (world_of self.old) (R.stream rng.old) (logged events.items result.entries.items) }
+
         // And on the same path: while neither is lite, all pairs of one are on a path, and all pairs of the other on the reverse
         // path, any two paths that they selected are the reverse of each other.
         ensures mirror { LonePathsMirror H.mac P.answers (world_of self.old) (R.stream rng.old) (logged events.items result.entries.items) }
+
+        // Each agent stores what `run` bounds, whatever the network delivers. With a limit on what packets bring, whenever it receives
+        // one or a timeout comes: at most as many local candidates as the limit and its own `add_local_candidate` calls together, as
+        // many remote ones as the limit and its `add_remote_candidate` calls, and as many sources as the limit.
+        ensures bounded { BothAreBounded H.mac P.answers (world_of self.old) (R.stream rng.old) (logged events.items result.entries.items) }
+
+        // Of pairs at most as many as its limit on pairs, plus its local candidates times its remote ones.
+        ensures few { BothHaveFewPairs H.mac P.answers (world_of self.old) (R.stream rng.old) (logged events.items result.entries.items) }
+
+        // Packets, events and early requests wait in it as in `run`, and with the limit at most as many `DiscoveredRecv` events.
+        ensures waiting { BothAreShort H.mac P.answers (world_of self.old) (R.stream rng.old) (logged events.items result.entries.items) }
+        ensures discovered { BothDiscoverFew H.mac P.answers (world_of self.old) (R.stream rng.old) (logged events.items result.entries.items) }
     {
         greater_keeps::<H, P>();
         lesser_yields_once::<H, P>();
@@ -474,8 +500,13 @@ impl<H: Sha1HmacProvider + Drop, P: LocalPreference> TwoAgents<H, P> {
         delivered_rounds_announce::<H, P>();
         granted_paths_announce::<H, P>();
         both_connect::<H, P>();
+        both_select::<H, P>();
         lone_paths_mirror::<H, P>();
         roles_meet::<H, P>();
+        lists_stay_bounded::<H, P>();
+        pairs_stay_few::<H, P>();
+        queues_are_short::<H, P>();
+        discoveries_stay_few::<H, P>();
         self.run_events(events, rng)
     }
 }

@@ -1,12 +1,13 @@
 //! The theorems of each execution of the two-agent network model. Each is the contract of a function that does nothing.
 
-ghost use Rattle.is.specs.WorldLaws.{KeepsLaw, YieldsLaw, DiffersLaw, TracedLaw, DeliveriesLaw, GrantingsLaw, ConnectionsLaw, MeetingsLaw, MirrorsLaw};
+ghost use Rattle.is.specs.WorldLaws.{KeepsLaw, YieldsLaw, DiffersLaw, TracedLaw, DeliveriesLaw, GrantingsLaw, ConnectionsLaw, ConnectsLaw, MeetingsLaw, MirrorsLaw};
 
 use is_candidate::LocalPreference;
+use is_laws::reaching::{courses_check_from_due, courses_reach_from_due};
 use is_proto::Sha1HmacProvider;
 use is_rules::laws::{
-    checks_ask, conflicts_settle, courses_check, courses_reach, exchanges_succeed_later,
-    fresh_is_sound, granted_are_announced, path_effect, role_effect, successes_select,
+    checks_ask, conflicts_settle, exchanges_succeed_later, fresh_is_sound, granted_are_announced,
+    path_effect, role_effect, successes_select,
 };
 
 /// Of two agents over any network, the one with the greater tie-breaker keeps its role.
@@ -46,14 +47,16 @@ pub(crate) fn announced_are_traced<H: Sha1HmacProvider, P: LocalPreference>()
 }
 
 /// A controlling agent sends a check on the path of one of its pairs, or selects a path, within as many rounds as there are pairs that
-/// are due no later. If the check is answered while it is pending, the agent selects a path.
+/// are due no later, or, if candidates are added in the rounds, 2n - 1 and one more for each pair that is added. If the check is
+/// answered while it is pending, the agent selects a path, unless an added candidate may remove the pair.
 pub(crate) fn delivered_rounds_announce<H: Sha1HmacProvider, P: LocalPreference>()
     ensures { DeliveriesLaw H.mac P.answers }
 {
     path_effect::<H, P>();
     fresh_is_sound::<H, P>();
     exchanges_succeed_later::<H, P>();
-    courses_check::<H, P>();
+    courses_check_from_due::<H, P>();
+    courses_reach_from_due::<H, P>();
     successes_select::<H, P>();
 }
 
@@ -79,7 +82,23 @@ pub(crate) fn both_connect<H: Sha1HmacProvider, P: LocalPreference>()
     exchanges_succeed_later::<H, P>();
     checks_ask::<H, P>();
     granted_are_announced::<H, P>();
-    courses_reach::<H, P>();
+    courses_reach_from_due::<H, P>();
+}
+
+/// In whatever roles two new agents begin: if the network delivers on one path of each, both select a path, each in its rounds.
+pub(crate) fn both_select<H: Sha1HmacProvider, P: LocalPreference>()
+    ensures { ConnectsLaw H.mac P.answers }
+{
+    path_effect::<H, P>();
+    role_effect::<H, P>();
+    fresh_is_sound::<H, P>();
+    conflicts_settle::<H, P>();
+    checks_ask::<H, P>();
+    exchanges_succeed_later::<H, P>();
+    granted_are_announced::<H, P>();
+    courses_check_from_due::<H, P>();
+    courses_reach_from_due::<H, P>();
+    successes_select::<H, P>();
 }
 
 /// One delivered check, and its 487 if it gets one, makes the roles different.

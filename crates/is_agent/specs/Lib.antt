@@ -5,3 +5,4 @@ pub mod Pairs
 pub mod Listed
 pub mod Ready
 pub mod Room
+pub mod Keys

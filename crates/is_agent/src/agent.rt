@@ -5,6 +5,7 @@ ghost use Rattle.is_rules.specs.Fitting.{are_too_long};
 ghost use Rattle.is_rules.specs.Kept.{NoneTooHigh};
 ghost use Rattle.is_pair.specs.Bag.{are_below};
 ghost use Rattle.is_pair.specs.Checklists.{bag_of};
+ghost use Rattle.is_agent.specs.Keys.{IsKeyOf, peer_pass};
 
 use is_candidate::{Candidate, LocalPreference};
 use is_pair::checklist::Checklist;
@@ -39,19 +40,21 @@ pub struct Agent<H, P> {
     pub(crate) preference: Option<P>,
     /// The greatest number of pairs after forming.
     pub(crate) max_pairs: usize,
-    /// The greatest number of remote candidates that requests bring.
+    /// The greatest number of candidates that packets bring of each side.
     pub(crate) max_discovered: Option<usize>,
     pub(crate) timing: StunTiming,
     pub(crate) timing_advance: Duration,
     /// The agent has only host candidates, and responds to checks without sending any (RFC 8445, section 2.5).
     pub(crate) lite: bool,
+    /// Each nomination replaces the ones before.
+    pub(crate) renominates: bool,
     /// The greatest length of a packet in bytes.
     pub(crate) mtu: usize,
     /// The length in bytes from which packets cause a warning.
     pub(crate) mtu_warn: usize,
     pub(crate) local_creds: IceCreds,
     pub(crate) remote_creds: Option<IceCreds>,
-    /// The prepared key of the agent's own password. No invariant ties it to the password: it is verified at each use.
+    /// The prepared key of the agent's own password.
     pub(crate) local_key: HmacKey,
     /// The same for the peer's password, or for an empty one if there is none.
     pub(crate) remote_key: HmacKey,
@@ -68,6 +71,8 @@ pub struct Agent<H, P> {
     pub(crate) next_number: u64,
     /// The number of the pair that was selected last.
     pub(crate) selected_pair: Option<u64>,
+    /// The number of the pair that the peer nominated last.
+    pub(crate) last_nominated: Option<u64>,
     /// The early requests: received before the remote credentials.
     pub(crate) queue: VecDeque<Waiting>,
     pub(crate) state: IceConnectionState,
@@ -85,6 +90,9 @@ pub struct Agent<H, P> {
     ghost none_too_high: { NoneTooHigh local.items },
     // a pair stores at least one check
     ghost retransmits: { 0 < timing.max_retransmits },
+    // a kept key is that of the password in use, so that no use computes it again
+    ghost local_key_kept: { IsKeyOf local_key local_creds.pass },
+    ghost remote_key_kept: { IsKeyOf remote_key (peer_pass remote_creds) },
     // no pair has the next number
     ghost numbered: { are_below next_number (bag_of pairs) ≡ true },
 }
@@ -143,6 +151,7 @@ impl<H: Sha1HmacProvider + Drop, P: LocalPreference> Agent<H, P> {
             timing: StunTiming::default(),
             timing_advance: Duration(50_000_000),
             lite: false,
+            renominates: false,
             mtu: DEFAULT_MTU,
             mtu_warn: DEFAULT_MTU_WARN,
             local_creds: creds,
@@ -158,6 +167,7 @@ impl<H: Sha1HmacProvider + Drop, P: LocalPreference> Agent<H, P> {
             contents: Vec::new(alloc),
             next_number: 0,
             selected_pair: None,
+            last_nominated: None,
             queue: VecDeque::new(alloc),
             state: IceConnectionState::New,
             last_moment: None,

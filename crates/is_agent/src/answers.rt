@@ -15,14 +15,14 @@ ghost use Rattle.is_agent.specs.View.{record_of};
 ghost use Rattle.is_agent.specs.Room.{HasEventRoom, HasNewsRoom, UsesNews};
 ghost use Rattle.is_rules.specs.Due.{KeepsCheckOn, IsRecorded, IsSentUnder};
 ghost use Rattle.is_rules.specs.Accepting.{IsAwaited};
-ghost use Rattle.is_rules.specs.Answers.{is_known_address, is_role_conflict, keeps_check_on, joined_by, local_with, mapped_candidate};
+ghost use Rattle.is_rules.specs.Answers.{is_left_out, is_role_conflict, keeps_check_on, joined_by, local_with, mapped_candidate};
 ghost use Rattle.is_rules.specs.Answers.{success_counted, Concludes, GivesUpRole, TakesSuccess, TakesFailure};
 
 use crate::agent::Agent;
 use is_candidate::candidate::making::peer_reflexive;
 use is_candidate::{Candidate, LocalPreference};
 use is_proto::{Instant, Sha1HmacProvider};
-use is_rules::answers::{is_known_address, is_of_role, is_role_conflict, join, pair_awaiting};
+use is_rules::answers::{is_left_out, is_of_role, is_role_conflict, join, pair_awaiting};
 use is_rules::emitted::{Emitted, Path};
 use is_rules::places::{base_at, check_priority_at, proto_at};
 use is_rules::sides::Sides;
@@ -89,7 +89,7 @@ impl<H: Sha1HmacProvider + Drop, P: LocalPreference> Agent<H, P> {
         }
     }
 
-    /// The candidate that an unknown mapped address becomes. It has the protocol and the base of the pair's local candidate,
+    /// The candidate that a mapped address becomes. It has the protocol and the base of the pair's local candidate,
     /// which is at this index, and the priority in that candidate's checks (RFC 8445, section 7.2.5.3.1).
     fn mapped_candidate(&self, l: usize, mapped: SocketAddr) -> Result<Candidate, AllocError>
         ensures made { (p : PairRecord) → l ≡ p.local → IfOk result (λ c. c ≡ mapped_candidate (record_of self.now) p mapped) }
@@ -106,7 +106,7 @@ impl<H: Sha1HmacProvider + Drop, P: LocalPreference> Agent<H, P> {
         ))
     }
 
-    /// The candidate that the mapped address adds, if no local candidate has that address.
+    /// The candidate that the mapped address adds, if no local candidate has that address and the limit allows one more.
     fn learnt(&self, l: usize, mapped: Option<SocketAddr>) -> Result<Option<Candidate>, AllocError>
         ensures learnt { (p : PairRecord) → l ≡ p.local → IfOk result (λ c. joined_by c self.now.local.items
             ≡ local_with p mapped (success_counted (record_of self.now))) }
@@ -115,7 +115,7 @@ impl<H: Sha1HmacProvider + Drop, P: LocalPreference> Agent<H, P> {
         let Some(mapped) = mapped else {
             return Ok(None);
         };
-        if is_known_address(&self.local, mapped) {
+        if is_left_out(self.max_discovered, &self.local, mapped) {
             return Ok(None);
         }
         Ok(Some(self.mapped_candidate(l, mapped)?))
@@ -157,8 +157,8 @@ impl<H: Sha1HmacProvider + Drop, P: LocalPreference> Agent<H, P> {
         Emitted::announced_only(path)
     }
 
-    /// The pair with this number records the success response, the mapped address is added as a candidate if it is unknown,
-    /// and nomination and state are evaluated.
+    /// The pair with this number records the success response, the mapped address is added as a candidate if it is unknown
+    /// and the limit allows it, and nomination and state are evaluated.
     pub(crate) fn take_success(
         &mut self,
         number: u64,

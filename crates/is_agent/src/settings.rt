@@ -62,13 +62,13 @@ impl<H: Sha1HmacProvider + Drop, P: LocalPreference> Agent<H, P> {
         self.max_pairs = limit;
     }
 
-    /// Sets how many remote candidates requests may bring, discarded ones included: peer-reflexive ones (RFC 8445, section
-    /// 7.3.1.3). None until it is set, which means no limit.
+    /// Sets how many peer-reflexive candidates packets may bring of each side, discarded ones included: remote ones by requests,
+    /// local ones by responses (RFC 8445, sections 7.3.1.3 and 7.2.5.3.1). None until it is set, which means no limit.
     ///
     /// At the limit an unknown sender replaces the first such candidate that has no pair. If each has one, its request is
-    /// dropped without a response. A known sender is always served. At most as many sources are remembered for
-    /// `DiscoveredRecv`: the newest ones. No such event is emitted while as many events wait to be polled. Set it before
-    /// the first packet: what is there already stays.
+    /// dropped without a response. A known sender is always served. A response counts as ever at the limit, and its mapped
+    /// address is left out. At most as many sources are remembered for `DiscoveredRecv`: the newest ones. No such event is
+    /// emitted while as many events wait to be polled. Set it before the first packet: what is there already stays.
     pub fn set_max_discovered(&mut self, limit: Option<usize>)
         ensures { record_of self.new ≡ record (record_of self.old) { max_discovered = limit } }
     {
@@ -87,6 +87,26 @@ impl<H: Sha1HmacProvider + Drop, P: LocalPreference> Agent<H, P> {
         ensures { record_of self.new ≡ record (record_of self.old) { lite = lite } }
     {
         self.lite = lite;
+    }
+
+    /// Whether each nomination replaces the ones before.
+    pub fn renomination(&self) -> bool
+        ensures { result ≡ (record_of self.now).renominates }
+    {
+        self.renominates
+    }
+
+    /// Sets whether each nomination replaces the ones before, so that both agents select the same path whatever priorities each
+    /// has: false until it is set. Set it at both agents or at none, and before the first packet.
+    ///
+    /// A controlling agent then puts USE-CANDIDATE only on checks of the pair that it selected last. A controlled agent selects
+    /// the pair on which it received the last request with USE-CANDIDATE, once a check of its own was answered on it. Until
+    /// then it keeps the pair that it selected last. With a controlling peer that nominates several pairs and repeats
+    /// USE-CANDIDATE on each, a controlled agent would change its path at each of these checks.
+    pub fn set_renomination(&mut self, renominates: bool)
+        ensures { record_of self.new ≡ record (record_of self.old) { renominates = renominates } }
+    {
+        self.renominates = renominates;
     }
 
     /// Sets the pacing interval of what the agent sends, Ta in RFC 8445, section 14.2: 50 ms until it is set.

@@ -5,6 +5,6 @@ use Rattle.is_proto.specs.Moments.{MAX}
 abbrev pub limit_of : ℕ → Option ℕ
 limit_of number = if number == MAX then None else Some number
 
--- the limit on remote candidates that requests bring, of a new agent
+-- the limit on candidates that packets bring, of a new agent
 abbrev pub DISCOVERED_LIMIT : ℕ
 DISCOVERED_LIMIT = 32

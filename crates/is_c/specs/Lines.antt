@@ -11,17 +11,18 @@ use Rattle.is_c.specs.declared.candidate.LocalCandidate.{LocalCandidate}
 use Rattle.is_c.specs.Candidates.{Made, MakesCandidate, ReadsBytes}
 use Rattle.is_c.specs.Codes.{OK, BAD_ADDRESS, NOT_UTF8, code_of}
 use Rattle.is_c.specs.Questions.{PutsLine}
+use Rattle.is_c.specs.Texts.{PutsNone}
 
 -- the text of the candidate, or the code of why there is none
-abbrev pub PutsMade : ℤ → Made → List ℕ → ℤ → List ℕ → ℕ → Type 0
-PutsMade why None before code after count = (code ≡ why) × (after ≡ before)
-PutsMade why (Some (Err e)) before code after count = (code ≡ code_of e) × (after ≡ before)
-PutsMade why (Some (Ok c)) before code after count = PutsLine (Some c) before code after count
+abbrev pub PutsMade : ℤ → Made → List ℕ → ℕ → ℤ → List ℕ → ℕ → Type 0
+PutsMade why None before was code after count = PutsNone why before was code after count
+PutsMade why (Some (Err e)) before was code after count = PutsNone (code_of e) before was code after count
+PutsMade why (Some (Ok c)) before was code after count = PutsLine (Some c) before was code after count
 
 -- `is_ice_candidate_line`
-abbrev pub TellsGiven : LocalCandidate → List ℕ → ℤ → List ℕ → ℕ → Type 0
-TellsGiven c before code after count =
-    (made : Made) × MakesCandidate c made × PutsMade BAD_ADDRESS made before code after count
+abbrev pub TellsGiven : LocalCandidate → List ℕ → ℕ → ℤ → List ℕ → ℕ → Type 0
+TellsGiven c before was code after count =
+    (made : Made) × MakesCandidate c made × PutsMade BAD_ADDRESS made before was code after count
 
 -- the candidate with this username fragment
 abbrev pub NamesAs : List ℕ → CandidateRecord → Result CandidateRecord IceError → Type 0
@@ -39,9 +40,9 @@ NamesBytes line ufrag made =
     (λ r. (read : Result CandidateRecord IceError) × ReadsLine line read × NamesRead ufrag read r)
 
 -- `is_ice_line_with_ufrag`
-abbrev pub TellsNamed : List ℕ → List ℕ → List ℕ → ℤ → List ℕ → ℕ → Type 0
-TellsNamed line ufrag before code after count =
-    (made : Made) × NamesBytes line ufrag made × PutsMade NOT_UTF8 made before code after count
+abbrev pub TellsNamed : List ℕ → List ℕ → List ℕ → ℕ → ℤ → List ℕ → ℕ → Type 0
+TellsNamed line ufrag before was code after count =
+    (made : Made) × NamesBytes line ufrag made × PutsMade NOT_UTF8 made before was code after count
 
 -- the default local preference of a candidate after so many of its kind and IP version
 abbrev pub PutsPreference : ℤ → Made → ℕ → ℕ → ℤ → ℕ → Type 0

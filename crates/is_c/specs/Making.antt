@@ -8,7 +8,7 @@ use Rattle.is_c.specs.Credentials.{MakesCreds}
 use Rattle.is_c.specs.Held.{HomeRecord}
 use Rattle.is_c.specs.Limits.{DISCOVERED_LIMIT}
 
--- a newly created agent, with the limit on remote candidates that requests bring
+-- a newly created agent, with the limit on candidates that packets bring
 abbrev pub fresh_home : IceCreds → ℕ → HomeRecord
 fresh_home creds tie_breaker = record {
   agent = record (fresh (record {}) creds tie_breaker) { max_discovered = Some DISCOVERED_LIMIT };

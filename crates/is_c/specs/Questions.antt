@@ -13,7 +13,7 @@ use Rattle.is_c.specs.Addresses.{socket_of}
 use Rattle.is_c.specs.Codes.{OK, NOTHING, BAD_ADDRESS, OUT_OF_MEMORY, found_code}
 use Rattle.is_c.specs.Events.{state_number}
 use Rattle.is_c.specs.Held.{Held, HomeRecord}
-use Rattle.is_c.specs.Texts.{Puts}
+use Rattle.is_c.specs.Texts.{Puts, PutsNone}
 
 -- `is_ice_status`
 abbrev pub IsStatus : Held → Status → Type 0
@@ -51,15 +51,15 @@ TellsNominated before after old code new =
     × (new ≡ old)
 
 -- the candidate attribute of a candidate, in the caller's buffer
-abbrev pub PutsLine : Option CandidateRecord → List ℕ → ℤ → List ℕ → ℕ → Type 0
-PutsLine None before code after count = (code ≡ NOTHING) × (after ≡ before)
-PutsLine (Some c) before code after count = ((code ≡ OUT_OF_MEMORY) × (after ≡ before)) ⊎ Puts (sdp_text c) before code after count
+abbrev pub PutsLine : Option CandidateRecord → List ℕ → ℕ → ℤ → List ℕ → ℕ → Type 0
+PutsLine None before was code after count = PutsNone NOTHING before was code after count
+PutsLine (Some c) before was code after count = PutsNone OUT_OF_MEMORY before was code after count ⊎ Puts (sdp_text c) before code after count
 
 -- `is_ice_local_candidate` and `is_ice_remote_candidate`: candidates are counted from 0 in the order in which they were
 -- added, without the discarded ones
-abbrev pub TellsLine : (Held → List CandidateRecord) → ℕ → List ℕ → List ℕ → ℕ → HomeRecord → ℤ → HomeRecord → Type 0
-TellsLine candidates index before after count old code new =
-    PutsLine (slice_get (live (candidates old.agent)) index) before code after count × (new ≡ old)
+abbrev pub TellsLine : (Held → List CandidateRecord) → ℕ → List ℕ → ℕ → List ℕ → ℕ → HomeRecord → ℤ → HomeRecord → Type 0
+TellsLine candidates index before was after count old code new =
+    PutsLine (slice_get (live (candidates old.agent)) index) before was code after count × (new ≡ old)
 
 -- `is_ice_has_viable_remote`
 abbrev pub AnswersViable : Address → Held → ℤ → Type 0
@@ -70,9 +70,9 @@ abbrev pub TellsViable : Address → HomeRecord → ℤ → HomeRecord → Type 
 TellsViable address old code new = AnswersViable address old.agent code × (new ≡ old)
 
 -- a text of the remote credentials, if they are known
-abbrev pub PutsOf : (IceCreds → List ℕ) → Option IceCreds → List ℕ → ℤ → List ℕ → ℕ → Type 0
-PutsOf text None before code after count = (code ≡ NOTHING) × (after ≡ before)
-PutsOf text (Some creds) before code after count = Puts (text creds) before code after count
+abbrev pub PutsOf : (IceCreds → List ℕ) → Option IceCreds → List ℕ → ℕ → ℤ → List ℕ → ℕ → Type 0
+PutsOf text None before was code after count = PutsNone NOTHING before was code after count
+PutsOf text (Some creds) before was code after count = Puts (text creds) before code after count
 
-abbrev pub TellsRemote : (IceCreds → List ℕ) → List ℕ → List ℕ → ℕ → HomeRecord → ℤ → HomeRecord → Type 0
-TellsRemote text before after count old code new = PutsOf text old.agent.remote_creds before code after count × (new ≡ old)
+abbrev pub TellsRemote : (IceCreds → List ℕ) → List ℕ → ℕ → List ℕ → ℕ → HomeRecord → ℤ → HomeRecord → Type 0
+TellsRemote text before was after count old code new = PutsOf text old.agent.remote_creds before was code after count × (new ≡ old)

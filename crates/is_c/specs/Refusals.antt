@@ -6,7 +6,7 @@ use Rattle.is_candidate.specs.Candidates.{CandidateRecord}
 use Rattle.is_c.specs.declared.candidate.LocalCandidate.{LocalCandidate}
 use Rattle.is_c.specs.Candidates.{Made, MakesCandidate, ReadsBytes}
 use Rattle.is_c.specs.Codes.{NOTHING, NOT_UTF8, BAD_ADDRESS, code_of}
-use Rattle.is_c.specs.Texts.{Puts}
+use Rattle.is_c.specs.Texts.{Puts, PutsNone}
 
 -- the error of an invalid candidate has a message, and no other error has one
 abbrev pub message_of : IceError → Option (List ℕ)
@@ -17,25 +17,25 @@ message_of errors.MtuTooSmall = None
 message_of errors.CredentialsTooLong = None
 message_of errors.PriorityTooHigh = None
 
-abbrev pub PutsMessage : IceError → List ℕ → ℤ → List ℕ → ℕ → Type 0
-PutsMessage e before code after count =
-    MatchOption (message_of e) ((code ≡ code_of e) × (after ≡ before)) (λ text. Puts text before code after count)
+abbrev pub PutsMessage : IceError → List ℕ → ℕ → ℤ → List ℕ → ℕ → Type 0
+PutsMessage e before was code after count =
+    MatchOption (message_of e) (PutsNone (code_of e) before was code after count) (λ text. Puts text before code after count)
 
-abbrev pub PutsRefusal : Result CandidateRecord IceError → List ℕ → ℤ → List ℕ → ℕ → Type 0
-PutsRefusal (Ok c) before code after count = (code ≡ NOTHING) × (after ≡ before)
-PutsRefusal (Err e) before code after count = PutsMessage e before code after count
+abbrev pub PutsRefusal : Result CandidateRecord IceError → List ℕ → ℕ → ℤ → List ℕ → ℕ → Type 0
+PutsRefusal (Ok c) before was code after count = PutsNone NOTHING before was code after count
+PutsRefusal (Err e) before was code after count = PutsMessage e before was code after count
 
 -- if no candidate can be made, the code for the reason
-abbrev pub TellsWhy : ℤ → Made → List ℕ → ℤ → List ℕ → ℕ → Type 0
-TellsWhy why made before code after count =
-    MatchOption made ((code ≡ why) × (after ≡ before)) (λ outcome. PutsRefusal outcome before code after count)
+abbrev pub TellsWhy : ℤ → Made → List ℕ → ℕ → ℤ → List ℕ → ℕ → Type 0
+TellsWhy why made before was code after count =
+    MatchOption made (PutsNone why before was code after count) (λ outcome. PutsRefusal outcome before was code after count)
 
 -- `is_ice_line_refusal`
-abbrev pub TellsOfLine : List ℕ → List ℕ → ℤ → List ℕ → ℕ → Type 0
-TellsOfLine line before code after count =
-    (made : Made) × ReadsBytes line made × TellsWhy NOT_UTF8 made before code after count
+abbrev pub TellsOfLine : List ℕ → List ℕ → ℕ → ℤ → List ℕ → ℕ → Type 0
+TellsOfLine line before was code after count =
+    (made : Made) × ReadsBytes line made × TellsWhy NOT_UTF8 made before was code after count
 
 -- `is_ice_candidate_refusal`
-abbrev pub TellsOfCandidate : LocalCandidate → List ℕ → ℤ → List ℕ → ℕ → Type 0
-TellsOfCandidate c before code after count =
-    (made : Made) × MakesCandidate c made × TellsWhy BAD_ADDRESS made before code after count
+abbrev pub TellsOfCandidate : LocalCandidate → List ℕ → ℕ → ℤ → List ℕ → ℕ → Type 0
+TellsOfCandidate c before was code after count =
+    (made : Made) × MakesCandidate c made × TellsWhy BAD_ADDRESS made before was code after count

@@ -23,7 +23,7 @@ fn info_text(alloc: Global, candidate: &Candidate) -> Result<String, IceError>
 }
 
 fn put_info(alloc: Global, candidate: &Candidate, buffer: &mut [u8], length: &mut usize) -> i32
-    ensures { PutsInfo candidate.now buffer.old result buffer.new length.new }
+    ensures { PutsInfo candidate.now buffer.old length.old result buffer.new length.new }
 {
     match info_text(alloc, candidate) {
         Ok(text) => put(text.as_bytes(), buffer, length),
@@ -39,7 +39,7 @@ pub extern "C" fn is_ice_line_to_json(
     buffer: &mut [u8],
     length: &mut usize,
 ) -> i32
-    ensures { TellsInfo line.now buffer.old result buffer.new length.new }
+    ensures { TellsInfo line.now buffer.old length.old result buffer.new length.new }
 {
     match line_candidate(alloc, line) {
         Some(Ok(candidate)) => put_info(alloc, &candidate, buffer, length),
@@ -69,7 +69,7 @@ pub extern "C" fn is_ice_line_from_json(
     buffer: &mut [u8],
     length: &mut usize,
 ) -> i32
-    ensures { TellsLineOf json.now buffer.old result buffer.new length.new }
+    ensures { TellsLineOf json.now buffer.old length.old result buffer.new length.new }
 {
     let made = info_candidate(alloc, json);
     put_made(alloc, &made, codes::NOT_UTF8, buffer, length)
@@ -83,7 +83,7 @@ pub extern "C" fn is_ice_json_refusal(
     buffer: &mut [u8],
     length: &mut usize,
 ) -> i32
-    ensures { TellsOfInfo json.now buffer.old result buffer.new length.new }
+    ensures { TellsOfInfo json.now buffer.old length.old result buffer.new length.new }
 {
     match info_candidate(alloc, json) {
         Some(outcome) => put_refusal(&outcome, buffer, length),

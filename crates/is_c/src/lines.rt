@@ -16,7 +16,7 @@ pub(crate) fn put_made(
     buffer: &mut [u8],
     length: &mut usize,
 ) -> i32
-    ensures { PutsMade why made.now buffer.old result buffer.new length.new }
+    ensures { PutsMade why made.now buffer.old length.old result buffer.new length.new }
 {
     match made {
         Some(Ok(candidate)) => put_line(alloc, Some(candidate), buffer, length),
@@ -34,7 +34,7 @@ pub extern "C" fn is_ice_candidate_line(
     buffer: &mut [u8],
     length: &mut usize,
 ) -> i32
-    ensures { TellsGiven candidate.now buffer.old result buffer.new length.new }
+    ensures { TellsGiven candidate.now buffer.old length.old result buffer.new length.new }
 {
     let made = local_candidate(alloc, candidate);
     put_made(alloc, &made, codes::BAD_ADDRESS, buffer, length)
@@ -69,7 +69,7 @@ pub extern "C" fn is_ice_line_with_ufrag(
     buffer: &mut [u8],
     length: &mut usize,
 ) -> i32
-    ensures { TellsNamed line.now ufrag.now buffer.old result buffer.new length.new }
+    ensures { TellsNamed line.now ufrag.now buffer.old length.old result buffer.new length.new }
 {
     let made = named(alloc, line, ufrag);
     put_made(alloc, &made, codes::NOT_UTF8, buffer, length)

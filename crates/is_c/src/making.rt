@@ -5,6 +5,7 @@ ghost use Rattle.is_rules.specs.Fitting.{are_too_long};
 ghost use Rattle.is_c.specs.Codes.{OUT_OF_MEMORY, CREDENTIALS_TOO_LONG};
 ghost use Rattle.is_c.specs.Making.{fresh_home, MakesAt};
 ghost use Rattle.is_c.specs.Held.{home_of, held_by};
+ghost use Rattle.is_c.specs.Limits.{DISCOVERED_LIMIT};
 
 use crate::codes;
 use crate::credentials::creds_of;
@@ -13,8 +14,12 @@ use crate::slot::Slot;
 use is_agent::{Agent, IceCreds};
 use std::alloc::Global;
 
-/// How many remote candidates requests may bring, until another limit is set.
-const DISCOVERED_LIMIT: usize = 32;
+/// How many candidates received packets may bring of each side, until another limit is set.
+fn discovered_limit() -> usize
+    ensures { result ≡ DISCOVERED_LIMIT }
+{
+    32
+}
 
 fn boxed_agent(alloc: Global, creds: IceCreds, tie_breaker: u64) -> Result<Box<Home>, i32>
     ensures made { IfOk result (λ home. (are_too_long creds None ≡ false) × (home_of home.value ≡ fresh_home creds tie_breaker)) }
@@ -24,7 +29,7 @@ fn boxed_agent(alloc: Global, creds: IceCreds, tie_breaker: u64) -> Result<Box<H
         Ok(agent) => agent,
         Err(error) => return Err(codes::code_of(&error)),
     };
-    agent.set_max_discovered(Some(DISCOVERED_LIMIT));
+    agent.set_max_discovered(Some(discovered_limit()));
     let waiting = None;
     match Box::new(alloc, Home { agent, waiting }) {
         Ok(home) => Ok(home),

@@ -148,7 +148,7 @@ pub(crate) fn put_line(
     buffer: &mut [u8],
     length: &mut usize,
 ) -> i32
-    ensures { PutsLine (option_copied candidate.entry) buffer.old result buffer.new length.new }
+    ensures { PutsLine (option_copied candidate.entry) buffer.old length.old result buffer.new length.new }
 {
     match candidate {
         Some(candidate) => match candidate.to_sdp_string(alloc) {
@@ -181,7 +181,7 @@ pub extern "C" fn is_ice_local_candidate(
     buffer: &mut [u8],
     length: &mut usize,
 ) -> i32
-    ensures { At (TellsLine (λ a. a.local) index buffer.old buffer.new length.new) (held_by slot.old) result (held_by slot.new) }
+    ensures { At (TellsLine (λ a. a.local) index buffer.old length.old buffer.new length.new) (held_by slot.old) result (held_by slot.new) }
 {
     let Some(home) = slot.take(alloc) else {
         return codes::NO_AGENT;
@@ -200,7 +200,7 @@ pub extern "C" fn is_ice_remote_candidate(
     buffer: &mut [u8],
     length: &mut usize,
 ) -> i32
-    ensures { At (TellsLine (λ a. a.remote) index buffer.old buffer.new length.new) (held_by slot.old) result (held_by slot.new) }
+    ensures { At (TellsLine (λ a. a.remote) index buffer.old length.old buffer.new length.new) (held_by slot.old) result (held_by slot.new) }
 {
     let Some(home) = slot.take(alloc) else {
         return codes::NO_AGENT;
@@ -235,7 +235,7 @@ pub extern "C" fn is_ice_has_viable_remote(alloc: Global, slot: &mut Slot, addre
 // ---- the peer's credentials
 
 fn put_remote_ufrag(home: &Home, buffer: &mut [u8], length: &mut usize) -> i32
-    ensures { PutsOf (λ creds. creds.ufrag) (record_of home.now.agent).remote_creds buffer.old result buffer.new length.new }
+    ensures { PutsOf (λ creds. creds.ufrag) (record_of home.now.agent).remote_creds buffer.old length.old result buffer.new length.new }
 {
     match home.agent.remote_credentials() {
         Some(creds) => put(creds.ufrag.as_str().as_bytes(), buffer, length),
@@ -251,7 +251,7 @@ pub extern "C" fn is_ice_remote_ufrag(
     buffer: &mut [u8],
     length: &mut usize,
 ) -> i32
-    ensures { At (TellsRemote (λ creds. creds.ufrag) buffer.old buffer.new length.new) (held_by slot.old) result (held_by slot.new) }
+    ensures { At (TellsRemote (λ creds. creds.ufrag) buffer.old length.old buffer.new length.new) (held_by slot.old) result (held_by slot.new) }
 {
     let Some(home) = slot.take(alloc) else {
         return codes::NO_AGENT;
@@ -262,7 +262,7 @@ pub extern "C" fn is_ice_remote_ufrag(
 }
 
 fn put_remote_pass(home: &Home, buffer: &mut [u8], length: &mut usize) -> i32
-    ensures { PutsOf (λ creds. creds.pass) (record_of home.now.agent).remote_creds buffer.old result buffer.new length.new }
+    ensures { PutsOf (λ creds. creds.pass) (record_of home.now.agent).remote_creds buffer.old length.old result buffer.new length.new }
 {
     match home.agent.remote_credentials() {
         Some(creds) => put(creds.pass.as_str().as_bytes(), buffer, length),
@@ -278,7 +278,7 @@ pub extern "C" fn is_ice_remote_pass(
     buffer: &mut [u8],
     length: &mut usize,
 ) -> i32
-    ensures { At (TellsRemote (λ creds. creds.pass) buffer.old buffer.new length.new) (held_by slot.old) result (held_by slot.new) }
+    ensures { At (TellsRemote (λ creds. creds.pass) buffer.old length.old buffer.new length.new) (held_by slot.old) result (held_by slot.new) }
 {
     let Some(home) = slot.take(alloc) else {
         return codes::NO_AGENT;

@@ -9,7 +9,7 @@ use is_proto::IceError;
 use std::alloc::Global;
 
 fn put_message(error: &IceError, buffer: &mut [u8], length: &mut usize) -> i32
-    ensures { PutsMessage error.now buffer.old result buffer.new length.new }
+    ensures { PutsMessage error.now buffer.old length.old result buffer.new length.new }
 {
     match error {
         IceError::BadCandidate(message) => put(message.as_bytes(), buffer, length),
@@ -22,7 +22,7 @@ pub(crate) fn put_refusal(
     buffer: &mut [u8],
     length: &mut usize,
 ) -> i32
-    ensures { PutsRefusal outcome.now buffer.old result buffer.new length.new }
+    ensures { PutsRefusal outcome.now buffer.old length.old result buffer.new length.new }
 {
     match outcome {
         Ok(_) => codes::NOTHING,
@@ -39,7 +39,7 @@ pub extern "C" fn is_ice_line_refusal(
     buffer: &mut [u8],
     length: &mut usize,
 ) -> i32
-    ensures { TellsOfLine line.now buffer.old result buffer.new length.new }
+    ensures { TellsOfLine line.now buffer.old length.old result buffer.new length.new }
 {
     match line_candidate(alloc, line) {
         Some(outcome) => put_refusal(&outcome, buffer, length),
@@ -55,7 +55,7 @@ pub extern "C" fn is_ice_candidate_refusal(
     buffer: &mut [u8],
     length: &mut usize,
 ) -> i32
-    ensures { TellsOfCandidate candidate.now buffer.old result buffer.new length.new }
+    ensures { TellsOfCandidate candidate.now buffer.old length.old result buffer.new length.new }
 {
     match local_candidate(alloc, candidate) {
         Some(outcome) => put_refusal(&outcome, buffer, length),

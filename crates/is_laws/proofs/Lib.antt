@@ -2,3 +2,14 @@ pub mod Unspent
 pub mod Spends
 pub mod Spending
 pub mod NotStarved
+pub mod FirstMoment
+pub mod FirstRound
+pub mod OpenCourses
+pub mod OpenRounds
+pub mod FirstChecks
+pub mod SharedRuns
+pub mod Lines
+pub mod Waited
+pub mod SeenPaths
+pub mod LastNominated
+pub mod OnePath

@@ -1,13 +1,13 @@
 -- With limits, a bound on the rounds before a pair that is due is checked, whatever pairs requests add in them.
-use Rattle.std.proofs.Common.{◌≡◌, ℕ, ◌+◌, ◌*◌, ◌<◌, ◌≤◌, Bool, true, false, List, [], ◌∷◌, ◌++◌, length, inl, inr, refl, sym, ◌∙◌, subst, arith, cond, append_assoc}
-use Rattle.std.proofs.Math.Nat.{add-mul, le_of_mul-le-mul_right, mul-le-mul, mul-le-mul_left, mul-le-mul_right}
+use Rattle.std.proofs.Common.{◌≡◌, ℕ, ◌+◌, ◌*◌, ◌<◌, ◌≤◌, Bool, true, false, List, [], ◌∷◌, ◌++◌, length, count_by, inl, inr, refl, sym, ◌∙◌, subst, arith, cond, append_assoc}
+use Rattle.std.proofs.Math.Nat.{add-mul, le_of_mul-le-mul_right, mul-le-mul_right}
 use Rattle.std.proofs.lemmas.List.Sums.{sum_by-append, sum_by-cons}
 use Rattle.rand_core.specs.Stream.{Stream}
 use Rattle.is_proto.specs.Lists.{Has}
 use Rattle.is_candidate.specs.Candidates.{CandidateRecord}
 use Rattle.is_pair.specs.Pairs.{PairRecord}
 use Rattle.is_rules.specs.Agent.{AgentRecord}
-use Rattle.is_rules.specs.Bounds.{is_signal, signal_count}
+use Rattle.is_rules.specs.Bounds.{gathered_count, is_gathered, is_signal, pair_bound, signal_count}
 use Rattle.is_rules.specs.Logs.{Logged}
 use Rattle.is_rules.specs.Reached.{IsEndedIn, IsPassing, PairsAreReached, is_in_round}
 use Rattle.is_rules.specs.Rounds.{LoggedRound, RunsOn, entries_of}
@@ -17,15 +17,14 @@ use Rattle.is_rules.specs.Sound.{IsSound}
 use Rattle.is_rules.specs.Staying.{MayEnd}
 use Rattle.is_rules.specs.Steps.{Call, AddLocalCandidate, AddRemoteCandidate, InvalidateCandidate, RestartIce, RecreateCandidatePairs, HandleTimeout, Entry}
 use Rattle.is_rules.specs.declared.emitted.Path.{Path}
-use Rattle.is_rules.proofs.BoundLaws.{within_run}
 use Rattle.is_rules.proofs.BoundLists.{at-most-one}
-use Rattle.is_rules.proofs.CellLaws.{few_pairs}
+use Rattle.is_rules.proofs.BoundPairs.{pairs_within}
 use Rattle.is_rules.proofs.EffectLaws.{path_law}
 use Rattle.is_rules.proofs.LogLaws.{runs_sound}
 use Rattle.is_rules.proofs.LogParts.{no-case, run-on}
 use Rattle.is_rules.proofs.PartPoints.{deeper}
 use Rattle.is_laws.specs.NotStarved.{AreSteady, NoneStarves, is_steady, is_timeout, timeout_count}
-use Rattle.is_laws.proofs.Spending.{part-spends, requests-add-few}
+use Rattle.is_laws.proofs.Spending.{requests-add-few}
 
 -- ---- numbers
 
@@ -56,6 +55,10 @@ module _ {P : Type 0} where
   steady-signals (AddRemoteCandidate c) is = no-case is
   steady-signals _ is = refl
 
+  steady-gathered : (call : Call P) → is_steady call ≡ true → is_gathered call ≡ false
+  steady-gathered (AddLocalCandidate c) is = no-case is
+  steady-gathered _ is = refl
+
   no-timeouts : (xs : List (Logged P)) → ((x : Logged P) → Has xs x → is_in_round x.call ≡ true) → timeout_count xs ≡ 0
   no-timeouts [] are = refl
   no-timeouts (x ∷ xs) are =
@@ -64,13 +67,20 @@ module _ {P : Type 0} where
       let none : cond (is_timeout x.call) 1 0 ≤ 0 = none-of (is_timeout x.call) (between-counts x.call (are x (inl refl))) in
       omega (arith, rest, all, none)
 
-  no-signals : (xs : List (Logged P)) → AreSteady xs → signal_count xs ≡ 0
-  no-signals [] are = refl
-  no-signals (x ∷ xs) are =
-      let rest = no-signals xs (λ y has. are y (inr has)) in
-      let all = sum_by-cons (λ (y : Logged P). cond (is_signal y.call) 1 0) x xs in
-      let none : cond (is_signal x.call) 1 0 ≤ 0 = none-of (is_signal x.call) (steady-signals x.call (are x (inl refl))) in
-      omega (arith, rest, all, none)
+  module _ (test : Call P → Bool) (none_passes : (call : Call P) → is_steady call ≡ true → test call ≡ false) where
+    none-counted : (xs : List (Logged P)) → AreSteady xs → count_by (λ (y : Logged P). test y.call) xs ≡ 0
+    none-counted [] are = refl
+    none-counted (x ∷ xs) are =
+        let rest = none-counted xs (λ y has. are y (inr has)) in
+        let all = sum_by-cons (λ (y : Logged P). cond (test y.call) 1 0) x xs in
+        let none : cond (test x.call) 1 0 ≤ 0 = none-of (test x.call) (none_passes x.call (are x (inl refl))) in
+        omega (arith, rest, all, none)
+
+    counted-before : (xs before : List (Logged P)) → AreSteady xs → count_by (λ (y : Logged P). test y.call) (xs ++ before) ≡ count_by (λ (y : Logged P). test y.call) before
+    counted-before xs before are =
+        let sum = sum_by-append (λ (y : Logged P). cond (test y.call) 1 0) xs before in
+        let none = none-counted xs are in
+        omega (arith, sum, none)
 
   few-timeouts : (by : ℕ) (rounds : List (LoggedRound P)) → ((r : LoggedRound P) → Has rounds r → IsPassing by r) → timeout_count (entries_of rounds) ≤ length rounds
   few-timeouts by [] are = omega arith
@@ -84,7 +94,7 @@ module _ {P : Type 0} where
 
 module _ {H P : Type 0} (mac : H → List ℕ → List ℕ → List ℕ) (answers : P → CandidateRecord → ℕ → ℕ → Type 0) where
   -- nothing in it removes a pair but a timeout
-  may-not : (a : AgentRecord H P) (call : Call P) (e : Entry) (p : PairRecord) → is_in_round call ≡ true → is_steady call ≡ true → MayEnd a call e p → ⊥
+  may-not : (a : AgentRecord H P) (call : Call P) (e : Entry) (p : PairRecord) → is_in_round call ≡ true → is_steady call ≡ true → MayEnd answers a call e p → ⊥
   may-not a (AddLocalCandidate c) e p between steady ends = no-case steady
   may-not a (AddRemoteCandidate c) e p between steady ends = no-case steady
   may-not a (InvalidateCandidate c) e p between steady ends = no-case between
@@ -114,35 +124,18 @@ module _ {H P : Type 0} (mac : H → List ℕ → List ℕ → List ℕ) (answer
         led : Run mac answers first s (entries_of rounds ++ before) last part.behind
         led = run-on mac answers first start last s part.at part.behind before (entries_of rounds) part.led part.run
 
-        signals : signal_count (entries_of rounds ++ before) ≡ signal_count before
-        signals =
-            let sum = sum_by-append (λ (y : Logged P). cond (is_signal y.call) 1 0) (entries_of rounds) before in
-            let none = no-signals (entries_of rounds) f.steady in
-            omega (arith, sum, none)
+        was : length start.pairs ≤ pair_bound limit most (gathered_count before) (signal_count before)
+        was = pairs_within mac answers most limit first s before start part.at fresh
+            (λ b m a y k. limited b m a y (deeper mac answers first s log before (part.rest ++ entries_of rounds) b m y a split k))
+            (λ b m a y k. few b m a y (deeper mac answers first s log before (part.rest ++ entries_of rounds) b m y a split k)) part.led
 
-        grown : length start.local ≤ length last.local
-        grown = (part-spends mac answers start.timing.max_retransmits first s fresh before start part.at part.led f.line.checking.full refl (entries_of rounds) last part.behind f.steady part.run).1
-
-        was : length start.pairs ≤ limit + length last.local * (most + signal_count before)
-        was =
-            let pairs : length start.pairs ≤ limit + length start.local * length start.remote =
-            few_pairs mac answers limit first s before start part.at fresh
-            (λ b m a y k. few b m a y (deeper mac answers first s log before (part.rest ++ entries_of rounds) b m y a split k)) part.led in
-            let l = within_run mac answers most first s before start part.at fresh
-            (λ b m a y k. limited b m a y (deeper mac answers first s log before (part.rest ++ entries_of rounds) b m y a split k)) part.led in
-            let wider : length start.local * length start.remote ≤ length last.local * (most + signal_count before) = mul-le-mul grown l.remote in
-            omega (arith, pairs, wider)
-
-        now : length last.pairs ≤ limit + length last.local * (most + signal_count before)
+        now : length last.pairs ≤ pair_bound limit most (gathered_count before) (signal_count before)
         now =
-            let pairs : length last.pairs ≤ limit + length last.local * length last.remote =
-            few_pairs mac answers limit first s (entries_of rounds ++ before) last part.behind fresh
-            (λ b m a y k. few b m a y (deeper mac answers first s log (entries_of rounds ++ before) part.rest b m y a part.split k)) led in
-            let l = within_run mac answers most first s (entries_of rounds ++ before) last part.behind fresh
-            (λ b m a y k. limited b m a y (deeper mac answers first s log (entries_of rounds ++ before) part.rest b m y a part.split k)) led in
-            let remote : length last.remote ≤ most + signal_count before = subst (λ k. length last.remote ≤ most + k) signals l.remote in
-            let wider : length last.local * length last.remote ≤ length last.local * (most + signal_count before) = mul-le-mul_left (length last.local) remote in
-            omega (arith, pairs, wider)
+            subst (λ k. length last.pairs ≤ pair_bound limit most k (signal_count before)) (counted-before is_gathered steady-gathered (entries_of rounds) before f.steady)
+            (subst (λ k. length last.pairs ≤ pair_bound limit most (gathered_count (entries_of rounds ++ before)) k) (counted-before is_signal steady-signals (entries_of rounds) before f.steady)
+            (pairs_within mac answers most limit first s (entries_of rounds ++ before) last part.behind fresh
+            (λ b m a y k. limited b m a y (deeper mac answers first s log (entries_of rounds ++ before) part.rest b m y a part.split k))
+            (λ b m a y k. few b m a y (deeper mac answers first s log (entries_of rounds ++ before) part.rest b m y a part.split k)) led))
 
         enough : 2 * length start.pairs + last.next_number ≤ length rounds + 1 + start.next_number
         enough =
@@ -151,5 +144,5 @@ module _ {H P : Type 0} (mac : H → List ℕ → List ℕ → List ℕ) (answer
             let sound : IsSound start = runs_sound mac answers (path_law mac answers) first start s part.at before fresh part.led in
             let all = f.enough in
             enough-rounds (length start.pairs) (length last.pairs) start.next_number last.next_number (length rounds)
-            (limit + length last.local * (most + signal_count before)) start.timing.max_retransmits was now sound.checks
+            (pair_bound limit most (gathered_count before) (signal_count before)) start.timing.max_retransmits was now sound.checks
             (omega (arith, added, timeouts)) (omega (arith, all))

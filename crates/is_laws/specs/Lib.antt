@@ -1,1 +1,10 @@
+pub mod Matching
 pub mod NotStarved
+pub mod FirstTimeouts
+pub mod FirstChecks
+pub mod OpenRounds
+pub mod DueRounds
+pub mod Shared
+pub mod Waiting
+pub mod Limited
+pub mod Renominating

@@ -1,4 +1,4 @@
--- With limits on pairs and on what requests bring, a pair that is due is checked within a number of rounds that depends on nothing
+-- With limits on pairs and on what packets bring, a pair that is due is checked within a number of rounds that depends on nothing
 -- that the agent receives in them.
 use Rattle.std.specs.Prelude.{◌≡◌, ℕ, ◌+◌, ◌*◌, ◌≤◌, ◌⊎◌, Bool, true, false, List, length, count_by, Some}
 use Rattle.rand_core.specs.Stream.{Stream}
@@ -7,8 +7,7 @@ use Rattle.is_candidate.specs.Candidates.{CandidateRecord}
 use Rattle.is_pair.specs.Pairs.{PairRecord}
 use Rattle.is_rules.specs.Agent.{AgentRecord}
 use Rattle.is_rules.specs.Asked.{IsAnsweredIn}
-use Rattle.is_rules.specs.BoundedRounds.{pair_bound}
-use Rattle.is_rules.specs.Bounds.{FormsFew, IsLimited, signal_count}
+use Rattle.is_rules.specs.Bounds.{FormsFew, IsLimited, gathered_count, pair_bound, signal_count}
 use Rattle.is_rules.specs.Logs.{Logged}
 use Rattle.is_rules.specs.Reached.{ChecksIn, IsInLine, IsPassing, is_in_round}
 use Rattle.is_rules.specs.Rounds.{LoggedRound, Part, began_at, entries_of}
@@ -60,13 +59,13 @@ module _ {H P : Type 0} where
     RequestsAddFew = (first : AgentRecord H P) (s : Stream) (log : List (Logged P)) → IsFresh first → RequestsAddFewIn first s log
 
     -- Then a check is sent on the pair's path in one of the rounds, unless a success response is received on it in one of them. The
-    -- bound counts the local candidates at the end of the rounds, also those that responses added.
+    -- bound depends on the caller only.
     abbrev pub SteadyRoundsReach : AgentRecord H P → Stream → List (Logged P) → Type 0
     SteadyRoundsReach first s log =
         (most limit : ℕ) → IsLimited mac answers most first s log → FormsFew mac answers limit first s log
         → (before : List (Logged P)) (start last : AgentRecord H P) (rounds : List (LoggedRound P)) (p : PairRecord) (by : ℕ)
         → Part mac answers first s log before start (entries_of rounds) last
-        → SufficeSteady (pair_bound limit (length last.local) most (signal_count before)) by start rounds p
+        → SufficeSteady (pair_bound limit most (gathered_count before) (signal_count before)) by start rounds p
         → ChecksIn rounds (path_of start p) ⊎ IsAnsweredIn (entries_of rounds) (path_of start p)
 
     abbrev pub NoneStarves : Type 0

@@ -12,7 +12,7 @@ pub fn requests_add_few<H: Sha1HmacProvider, P: LocalPreference>()
     ensures { RequestsAddFew H.mac P.answers }
 {}
 
-/// With limits on pairs and on what requests bring, n pairs at most: a check is sent on the path of a pair that is due in one of
+/// With limits on pairs and on what packets bring, n pairs at most: a check is sent on the path of a pair that is due in one of
 /// (3n - 1) * m / (m - 1) rounds, whatever the agent receives in them and received before, unless a success response is received
 /// on the path in one of them. No candidate is added in the rounds.
 pub fn none_starves<H: Sha1HmacProvider, P: LocalPreference>()

@@ -24,11 +24,10 @@ use Rattle.is_rules.specs.Staying.{Stays}
 use Rattle.is_rules.specs.Steps.{Call, Entry, HandleTimeout, Step}
 use Rattle.is_rules.specs.Emitted.{issued_as}
 use Rattle.is_rules.proofs.Addresses.{both}
-use Rattle.is_rules.proofs.Announced.{named-at}
+use Rattle.is_rules.proofs.Announced.{one-named}
 use Rattle.is_rules.proofs.Announcing.{nominated-eligible}
 use Rattle.is_rules.proofs.AskedLaws.{back-on, uses-too}
 use Rattle.is_rules.proofs.EffectLaws.{path_law}
-use Rattle.is_rules.proofs.LogLaws.{none_pass}
 use Rattle.is_rules.proofs.RefusalLaws.{fresh_sound}
 use Rattle.is_rules.proofs.StayLaws.{pairs-stay}
 use Rattle.is_rules.proofs.Staying.{sound-course}
@@ -36,8 +35,7 @@ use Rattle.is_rules.proofs.Staying.{sound-course}
 module _ {H P : Type 0} where
   -- `selected_pair` names a pair, if one is eligible
   named : (a : AgentRecord H P) (q : PairRecord) → Has a.pairs q → is_eligible a.controlling q ≡ true → IsTopAnnounced a → (n : ℕ) × (a.selected_pair ≡ Some n)
-  named a q has able (None, none, stands) = absurd (none_pass (is_eligible a.controlling) a.pairs q none has able)
-  named a q has able (Some best, greatest, stands) = let k = named-at a.selected_pair best.priority a.pairs stands in (k.0.number, k.2)
+  named a q has able top = let k = one-named a q has able top in (k.0.number, k.2)
 
   -- a pair of the path passes
   abbrev Marked : Path → (PairRecord → Bool) → AgentRecord H P → Type 0
@@ -62,7 +60,7 @@ module _ {H P : Type 0} where
 
     module _ (path : Path) where
       next : (test : PairRecord → Bool) (old new : AgentRecord H P) (s t : Stream) (call : Call P) (e : Entry) → ((p : PairRecord) (k : Stays old p new) → test p ≡ true → test k.pair ≡ true)
-          → IsSound old → GivesBased call → Step mac answers old s call e new t → Marked path test old → Marked path test new ⊎ Ends old call e path
+          → IsSound old → GivesBased call → Step mac answers old s call e new t → Marked path test old → Marked path test new ⊎ Ends answers old call e path
       next test old new s t call e keeps sound based step (p, has, is, joins) = elim (pairs-stay mac answers old new s t call e p sound based step has) [
         | inl k ↦ inl (k.pair, k.there, keeps p k is, (ap (λ (w : Path). w.source) k.path ∙ joins.0, ap (λ (w : Path). w.destination) k.path ∙ joins.1))
         | inr ends ↦ inr (p, has, joins, ends)
@@ -119,7 +117,7 @@ module _ {H P : Type 0} where
         (course_on xs ((HandleTimeout now, moment) ∷ []) start near last course (last, s, t, tt, step, refl)) in
         by sound_first sound_near whole (granted path xs start near sound_start course asks) (answered path xs start near sound_start course y has is) where
           Said : Type 0
-          Said = (AnnouncesAlong (before ++ (xs ++ (HandleTimeout now, moment) ∷ [])) × HasAnnounced last) ⊎ (EndsAlong mac answers xs start near course path ⊎ Ends near (HandleTimeout now) moment path)
+          Said = (AnnouncesAlong (before ++ (xs ++ (HandleTimeout now, moment) ∷ [])) × HasAnnounced last) ⊎ (EndsAlong mac answers xs start near course path ⊎ Ends answers near (HandleTimeout now) moment path)
 
           at_last : IsSound first → IsSound near → Course mac answers (before ++ (xs ++ (HandleTimeout now, moment) ∷ [])) first last → Marked path is_nominated last → Marked path is_valid last → Said
           at_last sound_first sound_near whole n w =

@@ -10,7 +10,7 @@ use Rattle.is_rules.specs.declared.emitted.Emitted.{Emitted}
 use Rattle.is_rules.specs.declared.emitted.Issued.{Issued}
 use Rattle.is_rules.specs.declared.emitted.Path.{Path}
 use Rattle.is_rules.specs.Agent.{AgentRecord}
-use Rattle.is_rules.specs.Answers.{is_role_conflict, TakesSuccess, TakesFailure, GivesUpRole}
+use Rattle.is_rules.specs.Answers.{is_role_conflict, mapped_learnt, success_counted, TakesSuccess, TakesFailure, GivesUpRole}
 use Rattle.is_rules.specs.Checking.{MayCheck, ChecksTop, all_asked}
 use Rattle.is_rules.specs.Forming.{Combination, FormsAll}
 use Rattle.is_rules.specs.Nominating.{Nominates, NominatesWhere, nominated_emitted, with_selection}
@@ -20,7 +20,7 @@ use Rattle.is_rules.proofs.BoundLists.{Lists}
 
 module _ {H P : Type 0} where
   abbrev pub lists_of : AgentRecord H P → Lists
-  lists_of a = record { limit = a.max_discovered; remote = a.remote; sources = a.discovered_sources }
+  lists_of a = record { limit = a.max_discovered; local = a.local; remote = a.remote; sources = a.discovered_sources }
 
   abbrev pub Same : AgentRecord H P → AgentRecord H P → Type 0
   Same old new = lists_of new ≡ lists_of old
@@ -60,9 +60,11 @@ module _ {H P : Type 0} where
       check_same mac now kept.remote_creds kept new s t issued checking
       ∙ (gives_up_same now named kept second giving ∙ nominates_same (at_moment now old) named first nominating)
 
-  pub success_same : (now : ℕ) (old new : AgentRecord H P) (via : Path) (m : Message) (emitted : Emitted) → TakesSuccess now old via m emitted new → Same old new
+  -- a response changes them as its mapped address does
+  pub success_same : (now : ℕ) (old new : AgentRecord H P) (via : Path) (m : Message) (emitted : Emitted) → TakesSuccess now old via m emitted new
+      → (p : PairRecord) × Same (mapped_learnt p m.attributes.xor_mapped_address (success_counted old)) new
   success_same now old new via m emitted (recorded, (i, p, after, found, keeps, took, made), (path, mid, nominates, is, done)) =
-      ap (λ (a : AgentRecord H P). lists_of a) done ∙ (nominates_same recorded mid path nominates ∙ ap (λ (a : AgentRecord H P). lists_of a) made)
+      (p, ap (λ (a : AgentRecord H P). lists_of a) done ∙ (nominates_same recorded mid path nominates ∙ ap (λ (a : AgentRecord H P). lists_of a) made))
 
   pub failure_same : (old new : AgentRecord H P) (via : Path) (m : Message) (emitted : Emitted) → TakesFailure old via m emitted new → Same old new
   failure_same old new via m emitted h = either (is_role_conflict m) h (λ _ k. gives k) (λ _ k. same old new k.1) where

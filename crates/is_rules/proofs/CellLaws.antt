@@ -1,15 +1,21 @@
--- How calls and executions change the number of repeated cells, and so how many pairs there are.
-use Rattle.std.proofs.Common.{◌≡◌, ℕ, ◌+◌, ◌*◌, ◌≤◌, ◌==◌, ◌&&◌, not, Bool, true, false, if◌then◌else◌, List, [], ◌∷◌, length, map, Option, Some, None, Result, Ok, Err, inl, inr, ◌⊎◌, refl, sym, subst, ap, ◌∙◌, arith}
+-- How calls and executions change the number of pairs that requests do not bring, and so how many pairs there are.
+use Rattle.std.proofs.Common.{◌≡◌, ℕ, zero, suc, ◌+◌, ◌*◌, ◌≤◌, ◌==◌, ◌&&◌, not, Bool, true, false, cond, if◌then◌else◌, List, [], ◌∷◌, length, map, count_by, Option, Some, None, Result, Ok, Err, inl, inr, ◌⊎◌, refl, sym, subst, ap, ◌∙◌, arith}
+use Rattle.std.proofs.Math.Nat.{mul-le-mul_right}
+use Rattle.std.specs.Prelude.{slice_set}
 use Rattle.std.proofs.lemmas.List.{length-map}
+use Rattle.std.proofs.lemmas.List.Sums.{sum_by-cons}
 use Rattle.rand_core.specs.Stream.{Stream}
 use Rattle.is_proto.specs.declared.error.IceError.{IceError}
-use Rattle.is_candidate.specs.Candidates.{CandidateRecord}
+use Rattle.is_candidate.specs.declared.candidate.kind.CandidateKind.{CandidateKind}
+use Rattle.is_candidate.specs.declared.candidate.kind.CandidateKind.TheVariants.{PeerReflexive}
+use Rattle.is_candidate.specs.Candidates.{CandidateRecord, candidate_at}
+use Rattle.is_candidate.specs.Kinds.{same_kind}
 use Rattle.is_pair.specs.Due.{asked}
 use Rattle.is_pair.specs.Pairs.{PairRecord, undue}
 use Rattle.is_rules.specs.declared.credentials.IceCreds.{IceCreds}
 use Rattle.is_rules.specs.Agent.{AgentRecord}
 use Rattle.is_rules.specs.Bounds.{FormsFew, LimitsPairs}
-use Rattle.is_rules.specs.Discarding.{is_local_at, is_remote_at, local_discarded, place_to_discard, remote_discarded, InvalidatesAt}
+use Rattle.is_rules.specs.Discarding.{discarded, is_local_at, is_remote_at, local_discarded, place_to_discard, remote_discarded, InvalidatesAt}
 use Rattle.is_rules.specs.Forming.{Combination}
 use Rattle.is_rules.specs.Local.{AddsLocal}
 use Rattle.is_rules.specs.Logs.{Logged}
@@ -19,9 +25,10 @@ use Rattle.is_rules.specs.Credentials.{SetsLocal, SetsRemote}
 use Rattle.is_rules.specs.Settings.{SetsMtu}
 use Rattle.is_rules.specs.Runs.{IsFresh, Run, run_to}
 use Rattle.is_rules.specs.Sound.{IsSound}
-use Rattle.is_rules.specs.Steps.{Call, SetMtu, SetControlTieBreaker, SetMaxCandidatePairs, SetMaxDiscovered, SetIceLite, SetTimingAdvance, SetInitialStunRto, SetMaxStunRto, SetMaxStunRetransmits, SetLiteTimeout, SetLocalPreference, SetControlling, SetLocalCredentials, SetRemoteCredentials, SkipPairIds, AddLocalCandidate, AddRemoteCandidate, InvalidateCandidate, RestartIce, RecreateCandidatePairs, ReceivePacket, HandleTimeout, PollTransmit, PollTimeout, PollEvent, Entry, Step, MayDo}
-use Rattle.is_rules.proofs.Cells.{cell_of, cells, cells-map, pairs-in-grid, repeats, repeats-filter, repeats-length}
-use Rattle.is_rules.proofs.CellSteps.{Fewer, alike, made-as, unchanged, forms_few, received, timed}
+use Rattle.is_rules.specs.Steps.{Call, SetMtu, SetControlTieBreaker, SetMaxCandidatePairs, SetMaxDiscovered, SetIceLite, SetRenomination, SetTimingAdvance, SetInitialStunRto, SetMaxStunRto, SetMaxStunRetransmits, SetLiteTimeout, SetLocalPreference, SetControlling, SetLocalCredentials, SetRemoteCredentials, SkipPairIds, AddLocalCandidate, AddRemoteCandidate, InvalidateCandidate, RestartIce, RecreateCandidatePairs, ReceivePacket, HandleTimeout, PollTransmit, PollTimeout, PollEvent, Entry, Step, MayDo}
+use Rattle.is_rules.proofs.BoundLists.{is_own}
+use Rattle.is_rules.proofs.Cells.{cell_of, cells, cells-map, extras, extras-agree, extras-filter, extras-length, owned, pairs-in-grid, total-first}
+use Rattle.is_rules.proofs.CellSteps.{Fewer, alike, forms_few, grid_of, made-as, own_at, recast, received, surplus, timed, unchanged}
 use Rattle.is_rules.proofs.EffectLaws.{path_law}
 use Rattle.is_rules.proofs.Enrolments.{by_adding_local, by_adding_remote, by_waking}
 use Rattle.is_rules.proofs.Frames.{either}
@@ -29,12 +36,37 @@ use Rattle.is_rules.proofs.LogLaws.{runs_sound}
 use Rattle.is_rules.proofs.PartPoints.{deeper, later_point}
 use Rattle.is_rules.proofs.RefusalLaws.{mtu_kept, local_kept, remote_kept, restart_kept, recreation_kept, enrolment_kept, storing_kept}
 
+-- a changed candidate of the same kind leaves all kinds
+kinds-put : (cs : List CandidateRecord) (r k : ℕ) (c : CandidateRecord) → c.kind ≡ (candidate_at cs r).kind → (candidate_at (slice_set cs r c) k).kind ≡ (candidate_at cs k).kind
+kinds-put [] r k c same = refl
+kinds-put (x ∷ xs) zero zero c same = same
+kinds-put (x ∷ xs) zero (suc k) c same = refl
+kinds-put (x ∷ xs) (suc r) zero c same = refl
+kinds-put (x ∷ xs) (suc r) (suc k) c same = kinds-put xs r k c same
+
+count-most : (test : CandidateRecord → Bool) (cs : List CandidateRecord) → count_by test cs ≤ length cs
+count-most test [] = omega arith
+count-most test (c ∷ cs) = by (test c) (sum_by-cons (λ y. cond (test y) 1 0) c cs) (count-most test cs) where
+  by : (b : Bool) → count_by test (c ∷ cs) ≡ cond b 1 0 + count_by test cs → count_by test cs ≤ length cs → count_by test (c ∷ cs) ≤ length (c ∷ cs)
+  by true e le = omega (arith, e, le)
+  by false e le = omega (arith, e, le)
+
+-- counted by their indices
+owned-count : (cs : List CandidateRecord) → owned (own_at cs) (length cs) ≡ count_by is_own cs
+owned-count [] = refl
+owned-count (c ∷ cs) =
+    let first : owned (own_at (c ∷ cs)) (length (c ∷ cs)) ≡ cond (is_own c) 1 0 + owned (own_at cs) (length cs) =
+    total-first (λ l. cond (own_at (c ∷ cs) l) 1 0) (length cs) in
+    let all : count_by is_own (c ∷ cs) ≡ cond (is_own c) 1 0 + count_by is_own cs = sum_by-cons (λ y. cond (is_own y) 1 0) c cs in
+    let rest = owned-count cs in
+    omega (arith, first, all, rest)
+
 unless_undue : (b : Bool) (ps : List PairRecord) → cells (if b then ps else map undue ps) ≡ cells ps
 unless_undue true ps = refl
 unless_undue false ps = cells-map undue (λ p. refl) ps
 
 module _ {H P : Type 0} where
-  -- no more repeated cells, or the limit holds
+  -- no more of them, or the limit holds
   abbrev Stays : AgentRecord H P → AgentRecord H P → Type 0
   Stays old new = Fewer old new ⊎ (length new.pairs ≤ old.max_pairs)
 
@@ -44,11 +76,11 @@ module _ {H P : Type 0} where
     kept : new ≡ old → Stays old new
     kept made = inl (unchanged old new made)
 
-    placed : cells new.pairs ≡ cells old.pairs → Stays old new
+    placed : grid_of new ≡ grid_of old → Stays old new
     placed is = inl (alike old new is)
 
-    cells_in : (wanted : AgentRecord H P) → new ≡ wanted → cells new.pairs ≡ cells wanted.pairs
-    cells_in wanted made = ap (λ (a : AgentRecord H P). cells a.pairs) made
+    cells_in : (wanted : AgentRecord H P) → new ≡ wanted → grid_of new ≡ grid_of wanted
+    cells_in wanted made = ap (λ (a : AgentRecord H P). grid_of a) made
 
     may : (Does : Result (Unit {0}) IceError → AgentRecord H P → Type 0) → (Does (Ok _) new → Stays old new) → ((error : IceError) → Does (Err error) new → new ≡ old) → MayDo Does s e new t → Stays old new
     may Does done failed (Ok _, is, h, drawn) = done h
@@ -57,14 +89,18 @@ module _ {H P : Type 0} where
     restarts : (creds : IceCreds) (keep : Bool) → MayDo (Restarts old creds keep) s e new t → Stays old new
     restarts creds keep (Ok _, is, (fits, made), drawn) =
         let none : cells new.pairs ≡ [] = ap (λ (a : AgentRecord H P). cells a.pairs) made in
-        inl (subst (λ (cs : List Combination). repeats cs ≤ repeats (cells old.pairs)) (sym none) (omega arith))
+        inl (subst (λ (cs : List Combination). extras (own_at new.local) cs ≤ surplus old) (sym none) (omega arith))
     restarts creds keep (Err error, is, h, drawn) = kept (restart_kept old new creds keep error h)
 
     discards : (l r : Option ℕ) (found : Bool) → InvalidatesAt l r old found new → Stays old new
     discards (Some place) r found (is, made) =
-        inl (made-as old (local_discarded place old) new made (repeats-filter (λ p. not (is_local_at place p)) old.pairs))
+        inl (made-as old (local_discarded place old) new made (
+        let gone = extras-filter (own_at (local_discarded place old).local) (λ p. not (is_local_at place p)) old.pairs in
+        let same = extras-agree (own_at (local_discarded place old).local) (own_at old.local) (cells old.pairs)
+        (λ c has. ap (λ (kind : CandidateKind). not (same_kind kind PeerReflexive)) (kinds-put old.local place c.0 (discarded (candidate_at old.local place)) refl)) in
+        omega (arith, gone, same)))
     discards None (Some place) found (is, made) =
-        inl (made-as old (remote_discarded place old) new made (repeats-filter (λ p. not (is_remote_at place p)) old.pairs))
+        inl (made-as old (remote_discarded place old) new made (extras-filter (own_at old.local) (λ p. not (is_remote_at place p)) old.pairs))
     discards None None found (is, made) = kept made
 
     signals : (c : CandidateRecord) → MayDo (AddsRemote old c) s e new t → Stays old new
@@ -86,69 +122,73 @@ module _ {H P : Type 0} where
         (λ x based k f. inr (forms_few _ new _ f))
     adds_local c (Err error) h = kept (enrolment_kept answers old new c error h)
 
-    pub steps : (call : Call P) → Step mac answers old s call e new t → Stays old new
-    steps (SetMtu target warn) h = may (SetsMtu old target warn) (λ k. placed (cells_in _ k.1)) (mtu_kept old new target warn) h
-    steps (SetControlTieBreaker tie) (is, made, drawn) = placed (cells_in _ made)
-    steps (SetMaxCandidatePairs k) (is, made, drawn) = placed (cells_in _ made)
-    steps (SetMaxDiscovered limit) (is, made, drawn) = placed (cells_in _ made)
-    steps (SetIceLite lite) (is, made, drawn) = placed (cells_in _ made)
-    steps (SetTimingAdvance by) (is, made, drawn) = placed (cells_in _ made)
-    steps (SetInitialStunRto rto) (is, made, drawn) = placed (cells_in _ made ∙ unless_undue (old.timing.initial_rto.0 == rto && old.timing.max_rto.0 == old.timing.max_rto.0) old.pairs)
-    steps (SetMaxStunRto rto) (is, made, drawn) = placed (cells_in _ made ∙ unless_undue (old.timing.initial_rto.0 == old.timing.initial_rto.0 && old.timing.max_rto.0 == rto) old.pairs)
-    steps (SetMaxStunRetransmits k) h = either (k == 0) h (λ _ x. kept x.1) (λ _ x. placed (cells_in _ x.1))
-    steps (SetLiteTimeout timeout) (is, made, drawn) = placed (cells_in _ made)
-    steps (SetLocalPreference object) (is, made, drawn) = placed (cells_in _ made)
-    steps (SetControlling controlling) (is, made, drawn) = placed (cells_in _ made)
-    steps (SetLocalCredentials creds) h = may (SetsLocal old creds) (λ k. placed (cells_in _ k.1)) (local_kept old new creds) h
-    steps (SetRemoteCredentials creds) h = may (SetsRemote old creds) (λ k. placed (cells_in _ k.1)) (remote_kept old new creds) h
-    steps (SkipPairIds k) (is, made, drawn) = placed (cells_in _ made)
-    steps (AddLocalCandidate c) (r, is, h, drawn) = adds_local c r h
-    steps (AddRemoteCandidate c) h = signals c h
-    steps (InvalidateCandidate c) (found, is, h, drawn) = discards (place_to_discard c old.local) (place_to_discard c old.remote) found h
-    steps (RestartIce creds keep) h = restarts creds keep h
-    steps RecreateCandidatePairs h = recreates h
-    steps (ReceivePacket now via bytes) (h, drawn) = inl (received mac answers now old new via bytes e h)
-    steps (HandleTimeout now) (r, emitted, is, h) = inl (timed mac now old new s t r emitted h)
-    steps PollTransmit (given, is, (polled, made), drawn) = placed (cells_in _ made)
-    steps PollTimeout (wake, is, h, drawn) = by_waking old new wake h
+    pub steps : IsSound old → (call : Call P) → Step mac answers old s call e new t → Stays old new
+    steps sound (SetMtu target warn) h = may (SetsMtu old target warn) (λ k. placed (cells_in _ k.1)) (mtu_kept old new target warn) h
+    steps sound (SetControlTieBreaker tie) (is, made, drawn) = placed (cells_in _ made)
+    steps sound (SetMaxCandidatePairs k) (is, made, drawn) = placed (cells_in _ made)
+    steps sound (SetMaxDiscovered limit) (is, made, drawn) = placed (cells_in _ made)
+    steps sound (SetIceLite lite) (is, made, drawn) = placed (cells_in _ made)
+    steps sound (SetRenomination on) (is, made, drawn) = placed (cells_in _ made)
+    steps sound (SetTimingAdvance by) (is, made, drawn) = placed (cells_in _ made)
+    steps sound (SetInitialStunRto rto) (is, made, drawn) = placed (cells_in _ made ∙ recast old _ (unless_undue (old.timing.initial_rto.0 == rto && old.timing.max_rto.0 == old.timing.max_rto.0) old.pairs))
+    steps sound (SetMaxStunRto rto) (is, made, drawn) = placed (cells_in _ made ∙ recast old _ (unless_undue (old.timing.initial_rto.0 == old.timing.initial_rto.0 && old.timing.max_rto.0 == rto) old.pairs))
+    steps sound (SetMaxStunRetransmits k) h = either (k == 0) h (λ _ x. kept x.1) (λ _ x. placed (cells_in _ x.1))
+    steps sound (SetLiteTimeout timeout) (is, made, drawn) = placed (cells_in _ made)
+    steps sound (SetLocalPreference object) (is, made, drawn) = placed (cells_in _ made)
+    steps sound (SetControlling controlling) (is, made, drawn) = placed (cells_in _ made)
+    steps sound (SetLocalCredentials creds) h = may (SetsLocal old creds) (λ k. placed (cells_in _ k.1)) (local_kept old new creds) h
+    steps sound (SetRemoteCredentials creds) h = may (SetsRemote old creds) (λ k. placed (cells_in _ k.1)) (remote_kept old new creds) h
+    steps sound (SkipPairIds k) (is, made, drawn) = placed (cells_in _ made)
+    steps sound (AddLocalCandidate c) (r, is, h, drawn) = adds_local c r h
+    steps sound (AddRemoteCandidate c) h = signals c h
+    steps sound (InvalidateCandidate c) (found, is, h, drawn) = discards (place_to_discard c old.local) (place_to_discard c old.remote) found h
+    steps sound (RestartIce creds keep) h = restarts creds keep h
+    steps sound RecreateCandidatePairs h = recreates h
+    steps sound (ReceivePacket now via bytes) (h, drawn) = inl (received mac answers now old new via bytes e (λ p has. (sound.placed p has).0) h)
+    steps sound (HandleTimeout now) (r, emitted, is, h) = inl (timed mac now old new s t r emitted h)
+    steps sound PollTransmit (given, is, (polled, made), drawn) = placed (cells_in _ made)
+    steps sound PollTimeout (wake, is, h, drawn) = by_waking old new wake h
         (λ made. kept made)
         (λ at made. inl (made-as old (record old { pairs = map (asked at old.timing) old.pairs }) new made
-        (alike old (record old { pairs = map (asked at old.timing) old.pairs }) (cells-map (asked at old.timing) (λ p. refl) old.pairs))))
-    steps PollEvent (given, is, (polled, made), drawn) = placed (cells_in _ made)
+        (alike old (record old { pairs = map (asked at old.timing) old.pairs }) (recast old (map (asked at old.timing) old.pairs) (cells-map (asked at old.timing) (λ p. refl) old.pairs)))))
+    steps sound PollEvent (given, is, (polled, made), drawn) = placed (cells_in _ made)
 
   -- ---- executions
 
   module _ (mac : H → List ℕ → List ℕ → List ℕ) (answers : P → CandidateRecord → ℕ → ℕ → Type 0) where
-    few_repeats : (limit : ℕ) (first : AgentRecord H P) (s : Stream) (log : List (Logged P)) (last : AgentRecord H P) (t : Stream) → IsFresh first → FormsFew mac answers limit first s log
-        → Run mac answers first s log last t → repeats (cells last.pairs) ≤ limit
-    few_repeats limit first s [] last t (creds, tie, is) few (same, drawn) =
-        subst (λ (a : AgentRecord H P). repeats (cells a.pairs) ≤ limit) (sym same)
-        (subst (λ (a : AgentRecord H P). repeats (cells a.pairs) ≤ limit) (sym is) (omega arith))
-    few_repeats limit first s (x ∷ before) last t is_fresh few (mid, u, led, number, given, step) =
-        by (steps mac answers mid last u t x.entry x.call step)
-        (few_repeats limit first s before mid u is_fresh (λ b m a y p. few b m a y (later_point mac answers first s x before b m y a p)) led)
+    few_extras : (limit : ℕ) (first : AgentRecord H P) (s : Stream) (log : List (Logged P)) (last : AgentRecord H P) (t : Stream) → IsFresh first → FormsFew mac answers limit first s log
+        → Run mac answers first s log last t → surplus last ≤ limit
+    few_extras limit first s [] last t (creds, tie, is) few (same, drawn) =
+        subst (λ (a : AgentRecord H P). surplus a ≤ limit) (sym same) (subst (λ (a : AgentRecord H P). surplus a ≤ limit) (sym is) (omega arith))
+    few_extras limit first s (x ∷ before) last t is_fresh few (mid, u, led, number, given, step) =
+        by (steps mac answers mid last u t x.entry (runs_sound mac answers (path_law mac answers) first mid s u before is_fresh led) x.call step)
+        (few_extras limit first s before mid u is_fresh (λ b m a y p. few b m a y (later_point mac answers first s x before b m y a p)) led)
         (few before mid last x (record { rest = []; split = refl; at = u; led = led; number = number; given = given; behind = t; step = step })) where
-          by : Stays mid last → repeats (cells mid.pairs) ≤ limit → mid.max_pairs ≤ limit → repeats (cells last.pairs) ≤ limit
+          by : Stays mid last → surplus mid ≤ limit → mid.max_pairs ≤ limit → surplus last ≤ limit
           by (inl fewer) was most = omega (arith, fewer, was)
           by (inr formed) was most =
               let all : length (cells last.pairs) ≡ length last.pairs = length-map last.pairs cell_of in
-              let some = repeats-length (cells last.pairs) in
+              let some = extras-length (own_at last.local) (cells last.pairs) in
               omega (arith, formed, most, all, some)
 
+    -- requests add pairs only at local candidates that no response brought
     pub few_pairs : (limit : ℕ) (first : AgentRecord H P) (s : Stream) (log : List (Logged P)) (last : AgentRecord H P) (t : Stream) → IsFresh first → FormsFew mac answers limit first s log
-        → Run mac answers first s log last t → length last.pairs ≤ limit + length last.local * length last.remote
+        → Run mac answers first s log last t → length last.pairs ≤ limit + count_by is_own last.local * length last.remote
     few_pairs limit first s log last t is_fresh few run =
-        let le = few_repeats limit first s log last t is_fresh few run in
+        let le = few_extras limit first s log last t is_fresh few run in
         let sound : IsSound last = runs_sound mac answers (path_law mac answers) first last s t log is_fresh run in
-        let k = pairs-in-grid last.pairs (length last.local) (length last.remote) sound.placed in
-        along (length last.pairs) (repeats (cells last.pairs)) (length last.local * length last.remote) limit k le where
-          along : (a r g k : ℕ) → a ≤ r + g → r ≤ k → a ≤ k + g
-          along a r g k h le = omega (arith, h, le)
+        let k = pairs-in-grid (own_at last.local) last.pairs (length last.local) (length last.remote) sound.placed in
+        let grid : owned (own_at last.local) (length last.local) * length last.remote ≡ count_by is_own last.local * length last.remote =
+        ap (λ (m : ℕ). m * length last.remote) (owned-count last.local) in
+        along (length last.pairs) (surplus last) (owned (own_at last.local) (length last.local) * length last.remote) (count_by is_own last.local * length last.remote) limit k le grid where
+          along : (a r g h k : ℕ) → a ≤ r + g → r ≤ k → g ≡ h → a ≤ k + h
+          along a r g h k p q e = omega (arith, p, q, e)
 
     pub limits_pairs : LimitsPairs {H = H} mac answers
     limits_pairs first s log is_fresh limit few before mid after x point =
-        let most : length after.pairs ≤ limit + length after.local * length after.remote =
+        let few_own : count_by is_own after.local * length after.remote ≤ length after.local * length after.remote = mul-le-mul_right (length after.remote) (count-most is_own after.local) in
+        let most : length after.pairs ≤ limit + count_by is_own after.local * length after.remote =
         few_pairs limit first s (x ∷ before) after point.behind is_fresh
         (λ b m a y p. few b m a y (deeper mac answers first s log (x ∷ before) point.rest b m y a point.split p))
         (run_to mac answers first s log before mid x after point) in
-        omega (arith, most)
+        omega (arith, most, few_own)

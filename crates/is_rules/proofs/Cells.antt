@@ -1,8 +1,9 @@
--- The cells of pairs: the indices of their two candidates. A list has at most one pair for each cell, apart from repeated cells.
-use Rattle.std.proofs.Common.{◌≡◌, ℕ, zero, suc, ◌+◌, ◌*◌, ◌<◌, ◌≤◌, ◌==◌, ◌&&◌, ◌||◌, Bool, true, false, List, [], ◌∷◌, ◌++◌, length, map, filter, nat_lt, Some, inl, inr, refl, sym, subst, ap, ◌∙◌, arith, cond, if◌then◌else◌}
+-- The cells of pairs: the indices of their two candidates. A list has at most one pair for each cell whose local index passes a test,
+-- apart from repeated cells.
+use Rattle.std.proofs.Common.{◌≡◌, ℕ, zero, suc, ◌+◌, ◌*◌, ◌<◌, ◌≤◌, ◌==◌, ◌&&◌, ◌||◌, Bool, true, false, not, List, [], ◌∷◌, ◌++◌, length, map, filter, nat_lt, Some, inl, inr, refl, sym, subst, ap, ◌∙◌, arith, cond, if◌then◌else◌}
 use Rattle.std.specs.Prelude.{slice_get, slice_set}
 use Rattle.std.specs.List.{list_any}
-use Rattle.std.proofs.Math.Nat.{suc-mul}
+use Rattle.std.proofs.Math.Nat.{add-mul, suc-mul}
 use Rattle.std.proofs.lemmas.Bool.{eqb-true, eq-eqb, ltb-true, ltb-false}
 use Rattle.std.proofs.lemmas.List.{length-map}
 use Rattle.is_proto.specs.Lists.{Has}
@@ -16,10 +17,10 @@ use Rattle.is_rules.proofs.Tells.{some_is}
 abbrev pub is_cell : Combination → Combination → Bool
 is_cell c d = d.0 == c.0 && d.1 == c.1
 
--- how many cells come again later in the list
-abbrev pub repeats : List Combination → ℕ
-repeats [] = 0
-repeats (c ∷ cs) = cond (list_any (is_cell c) cs) 1 0 + repeats cs
+-- how many cells have a local index that does not pass, or come again later in the list
+abbrev pub extras : (ℕ → Bool) → List Combination → ℕ
+extras own [] = 0
+extras own (c ∷ cs) = cond (not (own c.0) || list_any (is_cell c) cs) 1 0 + extras own cs
 
 abbrev pub cell_of : PairRecord → Combination
 cell_of p = (p.local, p.remote)
@@ -74,26 +75,34 @@ any-fewer c keep (p ∷ ps) h = by (keep p) h (any-fewer c keep ps) where
   by true h rest = or-mono (is_cell c (cell_of p)) (list_any (is_cell c) (cells (filter keep ps))) (list_any (is_cell c) (cells ps)) h rest
   by false h rest = or-true (is_cell c (cell_of p)) (list_any (is_cell c) (cells ps)) (rest h)
 
--- removed pairs leave no more repeated cells
-pub repeats-filter : (keep : PairRecord → Bool) (ps : List PairRecord) → repeats (cells (filter keep ps)) ≤ repeats (cells ps)
-repeats-filter keep [] = omega arith
-repeats-filter keep (p ∷ ps) = kept (keep p) (repeats-filter keep ps) where
-  kept : (b : Bool) → repeats (cells (filter keep ps)) ≤ repeats (cells ps)
-      → repeats (cells (if b then p ∷ filter keep ps else filter keep ps)) ≤ repeats (cells (p ∷ ps))
+-- removed pairs leave no more such cells
+pub extras-filter : (own : ℕ → Bool) (keep : PairRecord → Bool) (ps : List PairRecord) → extras own (cells (filter keep ps)) ≤ extras own (cells ps)
+extras-filter own keep [] = omega arith
+extras-filter own keep (p ∷ ps) = kept (keep p) (extras-filter own keep ps) where
+  kept : (b : Bool) → extras own (cells (filter keep ps)) ≤ extras own (cells ps)
+      → extras own (cells (if b then p ∷ filter keep ps else filter keep ps)) ≤ extras own (cells (p ∷ ps))
   kept true le =
-      sums (cond (list_any (is_cell (cell_of p)) (cells (filter keep ps))) 1 0) (cond (list_any (is_cell (cell_of p)) (cells ps)) 1 0)
-      (repeats (cells (filter keep ps))) (repeats (cells ps))
-      (one-le (list_any (is_cell (cell_of p)) (cells (filter keep ps))) (list_any (is_cell (cell_of p)) (cells ps)) (any-fewer (cell_of p) keep ps)) le
-  kept false le = behind (cond (list_any (is_cell (cell_of p)) (cells ps)) 1 0) (repeats (cells (filter keep ps))) (repeats (cells ps)) le where
+      sums (cond (not (own p.local) || list_any (is_cell (cell_of p)) (cells (filter keep ps))) 1 0) (cond (not (own p.local) || list_any (is_cell (cell_of p)) (cells ps)) 1 0)
+      (extras own (cells (filter keep ps))) (extras own (cells ps))
+      (one-le (not (own p.local) || list_any (is_cell (cell_of p)) (cells (filter keep ps))) (not (own p.local) || list_any (is_cell (cell_of p)) (cells ps))
+      (λ h. or-mono (not (own p.local)) (list_any (is_cell (cell_of p)) (cells (filter keep ps))) (list_any (is_cell (cell_of p)) (cells ps)) h (any-fewer (cell_of p) keep ps))) le
+  kept false le = behind (cond (not (own p.local) || list_any (is_cell (cell_of p)) (cells ps)) 1 0) (extras own (cells (filter keep ps))) (extras own (cells ps)) le where
     behind : (a b c : ℕ) → b ≤ c → b ≤ a + c
     behind a b c h = omega (arith, h)
 
-pub repeats-length : (cs : List Combination) → repeats cs ≤ length cs
-repeats-length [] = omega arith
-repeats-length (c ∷ cs) = by (list_any (is_cell c) cs) (repeats-length cs) where
-  by : (b : Bool) → repeats cs ≤ length cs → cond b 1 0 + repeats cs ≤ length (c ∷ cs)
+pub extras-length : (own : ℕ → Bool) (cs : List Combination) → extras own cs ≤ length cs
+extras-length own [] = omega arith
+extras-length own (c ∷ cs) = by (not (own c.0) || list_any (is_cell c) cs) (extras-length own cs) where
+  by : (b : Bool) → extras own cs ≤ length cs → cond b 1 0 + extras own cs ≤ length (c ∷ cs)
   by true le = omega (arith, le)
   by false le = omega (arith, le)
+
+-- only the local indices of the cells are tested
+pub extras-agree : (own other : ℕ → Bool) (cs : List Combination) → ((c : Combination) → Has cs c → own c.0 ≡ other c.0) → extras own cs ≡ extras other cs
+extras-agree own other [] same = refl
+extras-agree own other (c ∷ cs) same =
+    ap (λ (b : Bool). cond (not b || list_any (is_cell c) cs) 1 0 + extras own cs) (same c (inl refl))
+    ∙ ap (λ (n : ℕ). cond (not (other c.0) || list_any (is_cell c) cs) 1 0 + n) (extras-agree own other cs (λ d has. same d (inr has)))
 
 -- a pair for a new cell
 turned : (c d : Combination) → is_cell d c ≡ true → is_cell c d ≡ true
@@ -105,26 +114,34 @@ push-any : (x c : Combination) (cs : List Combination) → is_cell x c ≡ false
 push-any x c [] off = rw off refl
 push-any x c (y ∷ ys) off = ap (λ (b : Bool). is_cell x y || b) (push-any x c ys off)
 
-repeats-push : (cs : List Combination) (c : Combination) → list_any (is_cell c) cs ≡ false → repeats (cs ++ c ∷ []) ≡ repeats cs
-repeats-push [] c none = refl
-repeats-push (x ∷ xs) c none =
+extras-push : (own : ℕ → Bool) (cs : List Combination) (c : Combination) → own c.0 ≡ true → list_any (is_cell c) cs ≡ false → extras own (cs ++ c ∷ []) ≡ extras own cs
+extras-push own [] c its none = ap (λ (b : Bool). cond (not b || false) 1 0 + 0) its
+extras-push own (x ∷ xs) c its none =
     let k = neither (is_cell c x) (list_any (is_cell c) xs) none in
     let off = no-more (is_cell x c) (is_cell c x) (turned c x) k.0 in
-    ap (λ (b : Bool). cond b 1 0 + repeats (xs ++ c ∷ [])) (push-any x c xs off)
-    ∙ ap (λ (n : ℕ). cond (list_any (is_cell x) xs) 1 0 + n) (repeats-push xs c k.1)
+    ap (λ (b : Bool). cond (not (own x.0) || b) 1 0 + extras own (xs ++ c ∷ [])) (push-any x c xs off)
+    ∙ ap (λ (n : ℕ). cond (not (own x.0) || list_any (is_cell x) xs) 1 0 + n) (extras-push own xs c its k.1)
 
 cells-push : (ps : List PairRecord) (p : PairRecord) → cells (ps ++ p ∷ []) ≡ cells ps ++ cell_of p ∷ []
 cells-push [] p = refl
 cells-push (x ∷ xs) p = ap (λ (cs : List Combination). cell_of x ∷ cs) (cells-push xs p)
 
-pub repeats-new : (ps : List PairRecord) (p : PairRecord) → list_any (is_cell (cell_of p)) (cells ps) ≡ false → repeats (cells (ps ++ p ∷ [])) ≡ repeats (cells ps)
-repeats-new ps p none = ap repeats (cells-push ps p) ∙ repeats-push (cells ps) (cell_of p) none
+pub extras-new : (own : ℕ → Bool) (ps : List PairRecord) (p : PairRecord) → own p.local ≡ true → list_any (is_cell (cell_of p)) (cells ps) ≡ false
+    → extras own (cells (ps ++ p ∷ [])) ≡ extras own (cells ps)
+extras-new own ps p its none = ap (λ (cs : List Combination). extras own cs) (cells-push ps p) ∙ extras-push own (cells ps) (cell_of p) its none
 
 -- ---- sums over indices
 
-abbrev total : (ℕ → ℕ) → ℕ → ℕ
+abbrev pub total : (ℕ → ℕ) → ℕ → ℕ
 total f zero = 0
 total f (suc n) = f n + total f n
+
+-- the first index apart
+pub total-first : (f : ℕ → ℕ) (n : ℕ) → total f (suc n) ≡ f 0 + total (λ k. f (suc k)) n
+total-first f zero = refl
+total-first f (suc n) = later (f (suc n)) (f 0) (total f (suc n)) (total (λ k. f (suc k)) n) (total-first f n) where
+  later : (a b c d : ℕ) → c ≡ b + d → a + c ≡ b + (a + d)
+  later a b c d e = omega (arith, e)
 
 total-le : (f g : ℕ → ℕ) → ((k : ℕ) → f k ≤ g k) → (n : ℕ) → total f n ≤ total g n
 total-le f g le zero = omega arith
@@ -159,9 +176,17 @@ here cs l r = cond (list_any (is_cell (l, r)) cs) 1 0
 abbrev row : List Combination → ℕ → ℕ → ℕ
 row cs n l = total (here cs l) n
 
--- how many cells of the grid are in the list
-abbrev hits : List Combination → ℕ → ℕ → ℕ
-hits cs m n = total (row cs n) m
+-- the row, if its local index passes
+abbrev own-row : (ℕ → Bool) → List Combination → ℕ → ℕ → ℕ
+own-row own cs n l = cond (own l) (row cs n l) 0
+
+-- how many cells of the grid are in the list, and have a local index that passes
+abbrev hits : (ℕ → Bool) → List Combination → ℕ → ℕ → ℕ
+hits own cs m n = total (own-row own cs n) m
+
+-- how many of the first indices pass
+abbrev pub owned : (ℕ → Bool) → ℕ → ℕ
+owned own m = total (λ l. cond (own l) 1 0) m
 
 here-one : (cs : List Combination) (l r : ℕ) → here cs l r ≤ 1
 here-one cs l r = by (list_any (is_cell (l, r)) cs) where
@@ -172,8 +197,15 @@ here-one cs l r = by (list_any (is_cell (l, r)) cs) where
 row-most : (cs : List Combination) (n l : ℕ) → row cs n l ≤ n
 row-most cs n l = let k : total (here cs l) n ≤ n * 1 = total-most (here cs l) 1 (here-one cs l) n in omega (arith, k)
 
-hits-most : (cs : List Combination) (m n : ℕ) → hits cs m n ≤ m * n
-hits-most cs m n = total-most (row cs n) n (row-most cs n) m
+hits-most : (own : ℕ → Bool) (cs : List Combination) (m n : ℕ) → hits own cs m n ≤ owned own m * n
+hits-most own cs zero n = omega arith
+hits-most own cs (suc m) n = by (own m) (hits-most own cs m n) where
+  by : (b : Bool) → hits own cs m n ≤ owned own m * n → cond b (row cs n m) 0 + hits own cs m n ≤ (cond b 1 0 + owned own m) * n
+  by true le =
+      let most = row-most cs n m in
+      let all : (1 + owned own m) * n ≡ 1 * n + owned own m * n = add-mul 1 (owned own m) n in
+      omega (arith, le, most, all)
+  by false le = let all : (0 + owned own m) * n ≡ 0 * n + owned own m * n = add-mul 0 (owned own m) n in omega (arith, le, all)
 
 here-grows : (c : Combination) (cs : List Combination) (l r : ℕ) → here cs l r ≤ here (c ∷ cs) l r
 here-grows c cs l r =
@@ -181,6 +213,12 @@ here-grows c cs l r =
 
 row-grows : (c : Combination) (cs : List Combination) (n l : ℕ) → row cs n l ≤ row (c ∷ cs) n l
 row-grows c cs n l = total-le (here cs l) (here (c ∷ cs) l) (here-grows c cs l) n
+
+own-grows : (own : ℕ → Bool) (c : Combination) (cs : List Combination) (n l : ℕ) → own-row own cs n l ≤ own-row own (c ∷ cs) n l
+own-grows own c cs n l = by (own l) where
+  by : (b : Bool) → cond b (row cs n l) 0 ≤ cond b (row (c ∷ cs) n l) 0
+  by true = row-grows c cs n l
+  by false = omega arith
 
 at-itself : (c : Combination) (b : Bool) → (is_cell c c || b) ≡ true
 at-itself c b = rw (and-true (c.0 == c.0) (c.1 == c.1) (eq-eqb c.0 c.0 refl) (eq-eqb c.1 c.1 refl)) refl
@@ -195,30 +233,36 @@ here-more c cs none =
 abbrev IsIn : ℕ → ℕ → Combination → Type 0
 IsIn m n c = (c.0 < m) × (c.1 < n)
 
-each-once : (cs : List Combination) (m n : ℕ) → ((c : Combination) → Has cs c → IsIn m n c) → length cs ≤ repeats cs + hits cs m n
-each-once [] m n inside = omega arith
-each-once (c ∷ cs) m n inside = by (list_any (is_cell c) cs) refl (each-once cs m n (λ d has. inside d (inr has))) where
-  by : (b : Bool) → list_any (is_cell c) cs ≡ b → length cs ≤ repeats cs + hits cs m n → length (c ∷ cs) ≤ repeats (c ∷ cs) + hits (c ∷ cs) m n
+own-more : (b : Bool) (x y : ℕ) → not b ≡ false → x + 1 ≤ y → cond b x 0 + 1 ≤ cond b y 0
+own-more true x y h more = more
+own-more false x y h more = absurd (cc)
+
+each-once : (own : ℕ → Bool) (cs : List Combination) (m n : ℕ) → ((c : Combination) → Has cs c → IsIn m n c) → length cs ≤ extras own cs + hits own cs m n
+each-once own [] m n inside = omega arith
+each-once own (c ∷ cs) m n inside = by (not (own c.0) || list_any (is_cell c) cs) refl (each-once own cs m n (λ d has. inside d (inr has))) where
+  by : (b : Bool) → (not (own c.0) || list_any (is_cell c) cs) ≡ b → length cs ≤ extras own cs + hits own cs m n → length (c ∷ cs) ≤ extras own (c ∷ cs) + hits own (c ∷ cs) m n
   by true e le =
-      let again : repeats (c ∷ cs) ≡ 1 + repeats cs = ap (λ (b : Bool). cond b 1 0 + repeats cs) e in
-      let grown : hits cs m n ≤ hits (c ∷ cs) m n = total-le (row cs n) (row (c ∷ cs) n) (row-grows c cs n) m in
+      let again : extras own (c ∷ cs) ≡ 1 + extras own cs = ap (λ (b : Bool). cond b 1 0 + extras own cs) e in
+      let grown : hits own cs m n ≤ hits own (c ∷ cs) m n = total-le (own-row own cs n) (own-row own (c ∷ cs) n) (own-grows own c cs n) m in
       omega (arith, le, again, grown)
   by false e le =
-      let once : repeats (c ∷ cs) ≡ 0 + repeats cs = ap (λ (b : Bool). cond b 1 0 + repeats cs) e in
+      let once : extras own (c ∷ cs) ≡ 0 + extras own cs = ap (λ (b : Bool). cond b 1 0 + extras own cs) e in
+      let off = neither (not (own c.0)) (list_any (is_cell c) cs) e in
       let k = inside c (inl refl) in
       let wider : row cs n c.0 + 1 ≤ row (c ∷ cs) n c.0 =
-      total-more (here cs c.0) (here (c ∷ cs) c.0) (here-grows c cs c.0) c.1 (here-more c cs e) n k.1 in
-      let grown : hits cs m n + 1 ≤ hits (c ∷ cs) m n = total-more (row cs n) (row (c ∷ cs) n) (row-grows c cs n) c.0 wider m k.0 in
+      total-more (here cs c.0) (here (c ∷ cs) c.0) (here-grows c cs c.0) c.1 (here-more c cs off.1) n k.1 in
+      let its : own-row own cs n c.0 + 1 ≤ own-row own (c ∷ cs) n c.0 = own-more (own c.0) (row cs n c.0) (row (c ∷ cs) n c.0) off.0 wider in
+      let grown : hits own cs m n + 1 ≤ hits own (c ∷ cs) m n = total-more (own-row own cs n) (own-row own (c ∷ cs) n) (own-grows own c cs n) c.0 its m k.0 in
       omega (arith, le, once, grown)
 
--- at most one pair for each cell, and one for each repeated cell
-pub pairs-in-grid : (ps : List PairRecord) (m n : ℕ) → ((p : PairRecord) → Has ps p → (p.local < m) × (p.remote < n))
-    → length ps ≤ repeats (cells ps) + m * n
-pairs-in-grid ps m n inside =
+-- at most one pair for each cell whose local index passes, and one for each other or repeated cell
+pub pairs-in-grid : (own : ℕ → Bool) (ps : List PairRecord) (m n : ℕ) → ((p : PairRecord) → Has ps p → (p.local < m) × (p.remote < n))
+    → length ps ≤ extras own (cells ps) + owned own m * n
+pairs-in-grid own ps m n inside =
     let all : length (cells ps) ≡ length ps = length-map ps cell_of in
-    let le = each-once (cells ps) m n (λ c has. placed c (Has-map cell_of ps c has)) in
-    let most = hits-most (cells ps) m n in
-    along (length ps) (length (cells ps)) (repeats (cells ps)) (hits (cells ps) m n) (m * n) all le most where
+    let le = each-once own (cells ps) m n (λ c has. placed c (Has-map cell_of ps c has)) in
+    let most = hits-most own (cells ps) m n in
+    along (length ps) (length (cells ps)) (extras own (cells ps)) (hits own (cells ps) m n) (owned own m * n) all le most where
       placed : (c : Combination) → ((p : PairRecord) × Has ps p × (cell_of p ≡ c)) → IsIn m n c
       placed c (p, has, is) = subst (λ (d : Combination). IsIn m n d) is (inside p has)
 

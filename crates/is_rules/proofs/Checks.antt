@@ -27,7 +27,7 @@ use Rattle.is_pair.specs.Bag.{is_numbered, change_pair}
 use Rattle.is_rules.proofs.Rising.{AreRising}
 use Rattle.is_rules.specs.Sending.{path_of}
 use Rattle.is_rules.specs.Sound.{is_started_state}
-use Rattle.is_rules.specs.Answers.{is_known_address, mapped_candidate, mapped_learnt, success_counted, keeps_check_on, Records}
+use Rattle.is_rules.specs.Answers.{is_left_out, mapped_candidate, mapped_learnt, success_counted, keeps_check_on, Records}
 use Rattle.is_rules.specs.Checking.{all_asked, ChecksTop, MayCheck}
 use Rattle.is_rules.proofs.Frames.{either}
 use Rattle.is_rules.proofs.Tells.{one_pair, some_is}
@@ -219,7 +219,7 @@ module _ (asks met : Path → Type 0) (sent : Path → List ℕ → Bool → Typ
         → Onward asks met sent (record (parts_of asks met sent old) { pairs = ps }) (record (parts_of asks met sent (mapped_learnt p mapped_address (success_counted old))) { pairs = ps })
     learns ps old p None fit = here asks met sent (record (parts_of asks met sent old) { pairs = ps }) fit
     learns ps old p (Some address) fit =
-        learnt (is_known_address old.local address) (record (parts_of asks met sent old) { pairs = ps }) (mapped_candidate (success_counted old) p address) fit
+        learnt (is_left_out old.max_discovered old.local address) (record (parts_of asks met sent old) { pairs = ps }) (mapped_candidate (success_counted old) p address) fit
 
     -- a response is recorded on its path
     pub records : (now : ℕ) (old new : AgentRecord H P) (path : Path) (m : Message) → Fit (parts_of asks met sent old)

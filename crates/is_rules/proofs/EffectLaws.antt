@@ -21,7 +21,7 @@ use Rattle.is_rules.specs.Emitted.{nothing_emitted, reversed}
 use Rattle.is_rules.specs.Sound.{KeepsChecks}
 use Rattle.is_rules.specs.Agent.{AgentRecord}
 use Rattle.is_rules.specs.Queue.{request_at, first_taken, queued}
-use Rattle.is_rules.specs.Answers.{is_known_address, local_with, mapped_candidate, success_counted, is_role_conflict, TakesSuccess, TakesFailure, GivesUpRole}
+use Rattle.is_rules.specs.Answers.{is_left_out, local_with, mapped_candidate, success_counted, is_role_conflict, TakesSuccess, TakesFailure, GivesUpRole}
 use Rattle.is_rules.specs.Accepting.{Takes}
 use Rattle.is_rules.specs.Serving.{Drops, Serves}
 use Rattle.is_rules.specs.Timeouts.{timeout_begun, MaintainsPairs, ServesQueued}
@@ -78,7 +78,7 @@ module _ {H P : Type 0} (mac : H → List ℕ → List ℕ → List ℕ) (answer
         by_address (Some address) is = record {
           checks = λ h. subst (λ (a : AgentRecord H P). KeepsChecks a.timing) (sym made) h;
           based = λ h. subst (λ (a : AgentRecord H P). AllBased a.local) (sym made) (subst (λ o. AllBased (local_with p o (success_counted old))) (sym is)
-              (learnt (is_known_address old.local address) old.local (mapped_candidate (success_counted old) p address) (λ no. let wrong : false ≡ true = no in absurd (cc)) h));
+              (learnt (is_left_out old.max_discovered old.local address) old.local (mapped_candidate (success_counted old) p address) (λ no. let wrong : false ≡ true = no in absurd (cc)) h));
         }
 
         recorded_stands : Stands old recorded

@@ -14,6 +14,7 @@ pub mod Addresses
 mod Examples
 mod RowLaws
 pub mod RefusalLaws
+pub mod Choosing
 pub mod Nominations
 pub mod Frames
 pub mod Vacant
@@ -78,6 +79,7 @@ pub mod Mild
 pub mod MildSteps
 pub mod Reaching
 pub mod ReachLaws
+pub mod BoundPairs
 pub mod BoundedReach
 pub mod ReachedCourses
 pub mod SamePath

@@ -26,7 +26,7 @@ use Rattle.is_rules.specs.Runs.{IsFresh, Run, IsTopPath}
 use Rattle.is_rules.specs.Sending.{path_of}
 use Rattle.is_rules.specs.Sound.{IsSound}
 use Rattle.is_rules.specs.Staying.{MayEnd, Stays}
-use Rattle.is_rules.specs.Steps.{Call, SetMtu, SetControlTieBreaker, SetMaxCandidatePairs, SetMaxDiscovered, SetTimingAdvance, SetLocalPreference, SetControlling, SetLocalCredentials, AddLocalCandidate, AddRemoteCandidate, Entry, ReceivePacket, HandleTimeout, PollTransmit, PollTimeout, PollEvent, Done, Step}
+use Rattle.is_rules.specs.Steps.{Call, SetMtu, SetControlTieBreaker, SetMaxCandidatePairs, SetMaxDiscovered, SetRenomination, SetTimingAdvance, SetLocalPreference, SetControlling, SetLocalCredentials, AddLocalCandidate, AddRemoteCandidate, Entry, ReceivePacket, HandleTimeout, PollTransmit, PollTimeout, PollEvent, Done, Step}
 use Rattle.is_rules.specs.Timeouts.{timeout_begun}
 use Rattle.is_rules.specs.Emitted.{issued_as}
 use Rattle.is_rules.proofs.AskedLaws.{asked-are-announced}
@@ -178,7 +178,7 @@ module _ {H P : Type 0} where
 
     between-goes : (at : ℕ) → by < at → at < MAX → (x : Logged P) (call : Call P) → x.call ≡ call → (old new : AgentRecord H P) (s t : Stream) → is_some old.remote_creds ≡ true → old.last_moment ≡ Some at
         → (p : PairRecord) → IsSound old → Has old.pairs p → p.number ≡ n → path_of old p ≡ path → is_in_round call ≡ true → Step mac answers old s call x.entry new t
-        → IsAnsweredOn x path ⊎ (MayEnd old call x.entry p ⊎ Goes n by old new)
+        → IsAnsweredOn x path ⊎ (MayEnd answers old call x.entry p ⊎ Goes n by old new)
     between-goes at behind early x (ReceivePacket now via bytes) called old new s t known last p sound has number on is (h, drawn) =
         elim (receives-goes n by mac answers now old new via path bytes x.entry known
         (λ q there same. (let one : q ≡ p = one_pair old.pairs q p (rising-each old.pairs sound.rising) there has (same ∙ sym number) in ap (λ (y : PairRecord). path_of old y) one ∙ on)) h) [
@@ -206,6 +206,7 @@ module _ {H P : Type 0} where
     between-goes at behind early x (SetControlTieBreaker tie) called old new s t known last p sound has number on is (told, made, drawn) = inr (inr (goes-to n by old _ new (refl, onward-same n by old.pairs old.next_number) made))
     between-goes at behind early x (SetMaxCandidatePairs k) called old new s t known last p sound has number on is (told, made, drawn) = inr (inr (goes-to n by old _ new (refl, onward-same n by old.pairs old.next_number) made))
     between-goes at behind early x (SetMaxDiscovered limit) called old new s t known last p sound has number on is (told, made, drawn) = inr (inr (goes-to n by old _ new (refl, onward-same n by old.pairs old.next_number) made))
+    between-goes at behind early x (SetRenomination renominates) called old new s t known last p sound has number on is (told, made, drawn) = inr (inr (goes-to n by old _ new (refl, onward-same n by old.pairs old.next_number) made))
     between-goes at behind early x (SetTimingAdvance advance) called old new s t known last p sound has number on is (told, made, drawn) = inr (inr (goes-to n by old _ new (refl, onward-same n by old.pairs old.next_number) made))
     between-goes at behind early x (SetLocalPreference object) called old new s t known last p sound has number on is (told, made, drawn) = inr (inr (goes-to n by old _ new (refl, onward-same n by old.pairs old.next_number) made))
     between-goes at behind early x (SetControlling controlling) called old new s t known last p sound has number on is (told, made, drawn) = inr (inr (goes-to n by old _ new (refl, onward-same n by old.pairs old.next_number) made))
@@ -227,7 +228,7 @@ module _ {H P : Type 0} where
                 (let here = run-on mac answers first start mid s u v before xs led run in
                 let sound = sound-at (xs ++ before) mid v here in
                 let sound_last = sound-at (x ∷ (xs ++ before)) last t (mid, v, here, number, given, step) in
-                let ends-here : MayEnd mid x.call x.entry m.pair → Ends mid x.call x.entry path = λ ends. (m.pair, m.there, (ap (λ (w : Path). w.source) m.on, ap (λ (w : Path). w.destination) m.on), ends) in
+                let ends-here : MayEnd answers mid x.call x.entry m.pair → Ends answers mid x.call x.entry path = λ ends. (m.pair, m.there, (ap (λ (w : Path). w.source) m.on, ap (λ (w : Path). w.destination) m.on), ends) in
                 elim (between-goes at behind early x x.call refl mid last v t m.checking.peer m.last m.pair sound m.there m.number m.on (fits x (inl refl)) step) [
                   | inl answered ↦ inl (x, inl refl, answered)
                   | inr (inl ends) ↦ inr (inl (inl (fits x (inl refl), ends-here ends)))

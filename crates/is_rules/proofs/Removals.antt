@@ -242,9 +242,9 @@ module _ {H P : Type 0} where
         (λ _ n. superseded n.2 (is_local_at k p) refl)
 
   pub local-leaves : (answers : P → CandidateRecord → ℕ → ℕ → Type 0) (old new : AgentRecord H P) (c : CandidateRecord) (place : ℕ) (p : PairRecord) → IsSound old → Has old.pairs p
-      → AddsLocal answers old c (Ok (Some place)) new → Has new.pairs p ⊎ MayEndByLocal old c p
+      → AddsLocal answers old c (Ok (Some place)) new → Has new.pairs p ⊎ MayEndByLocal answers old c p
   local-leaves answers old new c place p sound has h = either (is_too_high c) h
       (λ _ k. no-error (Some place) PriorityTooHigh k.0)
       (λ _ k. either (is_unwanted old c) k
       (λ _ n. no-place place n.0)
-      (λ _ n. elim (enrolment-leaves old new (preferred n.0 c) (position (is_same_place (preferred n.0 c)) old.local) place p sound has n.2) [ inl x ↦ inl x | inr ends ↦ inr (n.0, ends) ]))
+      (λ _ n. elim (enrolment-leaves old new (preferred n.0 c) (position (is_same_place (preferred n.0 c)) old.local) place p sound has n.2) [ inl x ↦ inl x | inr ends ↦ inr (n.0, n.1, ends) ]))

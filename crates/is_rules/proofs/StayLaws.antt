@@ -25,7 +25,7 @@ use Rattle.is_rules.specs.Sending.{path_of}
 use Rattle.is_rules.specs.Settings.{with_rtos}
 use Rattle.is_rules.specs.Sound.{IsSound}
 use Rattle.is_rules.specs.Staying.{Stays, IsOfDiscarded, MayEnd, PairsStay, EndsIn, PairsStayOn}
-use Rattle.is_rules.specs.Steps.{Call, SetMtu, SetControlTieBreaker, SetMaxCandidatePairs, SetMaxDiscovered, SetIceLite, SetTimingAdvance, SetInitialStunRto, SetMaxStunRto, SetMaxStunRetransmits, SetLiteTimeout, SetLocalPreference, SetControlling, SetLocalCredentials, SetRemoteCredentials, SkipPairIds, AddLocalCandidate, AddRemoteCandidate, InvalidateCandidate, RestartIce, RecreateCandidatePairs, ReceivePacket, HandleTimeout, PollTransmit, PollTimeout, PollEvent, Done, Flag, Entry, Receives, Step}
+use Rattle.is_rules.specs.Steps.{Call, SetMtu, SetControlTieBreaker, SetMaxCandidatePairs, SetMaxDiscovered, SetIceLite, SetRenomination, SetTimingAdvance, SetInitialStunRto, SetMaxStunRto, SetMaxStunRetransmits, SetLiteTimeout, SetLocalPreference, SetControlling, SetLocalCredentials, SetRemoteCredentials, SkipPairIds, AddLocalCandidate, AddRemoteCandidate, InvalidateCandidate, RestartIce, RecreateCandidatePairs, ReceivePacket, HandleTimeout, PollTransmit, PollTimeout, PollEvent, Done, Flag, Entry, Receives, Step}
 use Rattle.is_rules.specs.Timeouts.{timeout_begun, is_given_up, MaintainsPairs, ServesQueued}
 use Rattle.is_rules.proofs.EffectLaws.{path_law}
 use Rattle.is_rules.proofs.Enrolments.{by_waking}
@@ -117,13 +117,14 @@ module _ {H P : Type 0} where
       ]
       moment-by now emitted (Some q) is is_done (h, drawn) = inl (kept (keep-serves mac q (first_taken (timeout_begun now old)) new emitted h))
 
-      lasts : (call : Call P) → Step mac answers old s call e new t → Stands p.number new.pairs ⊎ MayEnd old call e p
+      lasts : (call : Call P) → Step mac answers old s call e new t → Stands p.number new.pairs ⊎ MayEnd answers old call e p
       lasts (SetMtu target warn) (Ok _, is, h, drawn) = inl (becomes _ (λ n x. x) h.1)
       lasts (SetMtu target warn) (Err error, is, h, drawn) = inl (as-it-was (mtu_kept old new target warn error h))
       lasts (SetControlTieBreaker tie) (is, made, drawn) = inl (becomes _ (λ n x. x) made)
       lasts (SetMaxCandidatePairs n) (is, made, drawn) = inl (becomes _ (λ n x. x) made)
       lasts (SetMaxDiscovered n) (is, made, drawn) = inl (becomes _ (λ n x. x) made)
       lasts (SetIceLite lite) (is, made, drawn) = inl (becomes _ (λ n x. x) made)
+      lasts (SetRenomination on) (is, made, drawn) = inl (becomes _ (λ n x. x) made)
       lasts (SetTimingAdvance by) (is, made, drawn) = inl (becomes _ (λ n x. x) made)
       lasts (SetInitialStunRto rto) (is, made, drawn) =
           inl (becomes (with_rtos rto old.timing.max_rto.0 old)

@@ -24,11 +24,11 @@ use Rattle.is_rules.specs.declared.emitted.Path.{Path}
 use Rattle.is_rules.specs.declared.emitted.Emitted.{Emitted}
 use Rattle.is_rules.specs.Accepting.{Takes, HandlesPacket, discovered_emitted}
 use Rattle.is_rules.specs.Agent.{AgentRecord}
-use Rattle.is_rules.specs.Answers.{is_known_address, is_role_conflict, goes_back, keeps_check_on, mapped_candidate, local_with, mapped_learnt, success_counted, Records, TakesSuccess, GivesUpRole, TakesFailure}
+use Rattle.is_rules.specs.Answers.{is_left_out, is_role_conflict, goes_back, keeps_check_on, mapped_candidate, local_with, mapped_learnt, success_counted, Records, TakesSuccess, GivesUpRole, TakesFailure}
 use Rattle.is_rules.specs.Exchange.{AreBetween, Course, ChecksStay}
 use Rattle.is_rules.specs.Forming.{formed, with_pair}
 use Rattle.is_rules.specs.Limit.{IsSenderPlace}
-use Rattle.is_rules.specs.Nominating.{nominated_by_self, stands_at, Nominates, NominatesWhere}
+use Rattle.is_rules.specs.Nominating.{nominated_by_self, Nominates, NominatesWhere, followed, remains, selection_of}
 use Rattle.is_rules.specs.Places.{local_place}
 use Rattle.is_rules.specs.Polls.{WakesFrom, is_waiting, is_idle}
 use Rattle.is_rules.specs.Request.{RequestRecord, request_in}
@@ -196,7 +196,7 @@ module _ {H P : Type 0} where
 
     by : Announces old path new → Stays old new
     by (None, greatest, (none, is)) = stays_same old new is
-    by (Some p, greatest, k) = either (stands_at old.selected_pair p.priority old.pairs) k
+    by (Some p, greatest, k) = either (remains (followed old) p (selection_of old)) k
         (λ _ l. stays_same old new l.1)
         (λ _ l. subst (λ (a : AgentRecord H P). Stays old a) (sym l.1) (top p))
 
@@ -268,7 +268,7 @@ module _ {H P : Type 0} where
 
     learnt : (s : AgentRecord H P) (p : PairRecord) (mapped : Option SocketAddr) → Grown s.local (local_with p mapped s)
     learnt s p None = inl refl
-    learnt s p (Some mapped) = by (is_known_address s.local mapped) where
+    learnt s p (Some mapped) = by (is_left_out s.max_discovered s.local mapped) where
       by : (b : Bool) → Grown s.local (if b then s.local else s.local ++ mapped_candidate s p mapped ∷ [])
       by true = inl refl
       by false = inr (mapped_candidate s p mapped, refl)

@@ -116,7 +116,7 @@ module _ (n by : ℕ) where
     ]
 
     pub local-goes : (answers : P → CandidateRecord → ℕ → ℕ → Type 0) (old new : AgentRecord H P) (c : CandidateRecord) (place : ℕ) (p : PairRecord) → IsSound old → Has old.pairs p → p.number ≡ n
-        → AddsLocal answers old c (Ok (Some place)) new → MayEndByLocal old c p ⊎ Goes n by old new
+        → AddsLocal answers old c (Ok (Some place)) new → MayEndByLocal answers old c p ⊎ Goes n by old new
     local-goes answers old new c place p sound has number h = elim (local-leaves answers old new c place p sound has h) [
       | inl there ↦ inr (by_adding_local old new answers c (Some place) h
           (λ same. goes-same n by old new same)

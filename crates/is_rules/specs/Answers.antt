@@ -1,5 +1,5 @@
 -- Responses to the agent's own checks (RFC 8445, section 7.2.5).
-use Rattle.std.specs.Prelude.{◌≡◌, ℕ, ◌==◌, ◌&&◌, Bool, true, false, List, [], ◌∷◌, ◌++◌, slice_get, slice_set, Option, Some, None}
+use Rattle.std.specs.Prelude.{◌≡◌, ℕ, ◌==◌, ◌&&◌, ◌||◌, Bool, true, false, not, List, [], ◌∷◌, ◌++◌, slice_get, slice_set, Option, Some, None}
 use Rattle.std.specs.Prelude.{MatchBool, if◌then◌else◌}
 use Rattle.std.specs.List.{list_any}
 use Rattle.std.specs.Option.{option_map_or}
@@ -20,6 +20,7 @@ use Rattle.is_rules.specs.declared.emitted.Emitted.{Emitted}
 use Rattle.is_rules.specs.Emitted.{announced_only}
 use Rattle.is_rules.specs.Agent.{AgentRecord}
 use Rattle.is_rules.specs.Sending.{path_of}
+use Rattle.is_rules.specs.Limit.{has_local_room}
 use Rattle.is_rules.specs.Nominating.{Nominates}
 use Rattle.is_rules.specs.States.{evaluated}
 use Rattle.is_rules.specs.Roles.{switched}
@@ -28,6 +29,10 @@ use Rattle.is_rules.specs.Serving.{Drops}
 -- A local candidate has this address, possibly a discarded one.
 abbrev pub is_known_address : List CandidateRecord → SocketAddr → Bool
 is_known_address local address = list_any (λ c. same_address c.addr address) local
+
+-- A mapped address brings no candidate: a local candidate has it, or there is no room for one more.
+abbrev pub is_left_out : Option ℕ → List CandidateRecord → SocketAddr → Bool
+is_left_out limit local mapped = is_known_address local mapped || not (has_local_room limit local)
 
 -- an error response with code 487
 abbrev pub is_role_conflict : Message → Bool
@@ -52,7 +57,7 @@ module _ {H P : Type 0} where
   abbrev pub success_counted : AgentRecord H P → AgentRecord H P
   success_counted a = record a { stats = record a.stats { bind_success_recv = counted a.stats.bind_success_recv } }
 
-  -- the peer-reflexive candidate that an unknown mapped address becomes (RFC 8445, section 7.2.5.3.1)
+  -- the peer-reflexive candidate that a mapped address becomes (RFC 8445, section 7.2.5.3.1)
   abbrev pub mapped_candidate : AgentRecord H P → PairRecord → SocketAddr → CandidateRecord
   mapped_candidate a p mapped =
       peer_reflexive_candidate None (candidate_at a.local p.local).proto (check_priority (candidate_at a.local p.local)) mapped
@@ -60,7 +65,7 @@ module _ {H P : Type 0} where
 
   abbrev pub local_with : PairRecord → Option SocketAddr → AgentRecord H P → List CandidateRecord
   local_with p None a = a.local
-  local_with p (Some mapped) a = if is_known_address a.local mapped then a.local else a.local ++ mapped_candidate a p mapped ∷ []
+  local_with p (Some mapped) a = if is_left_out a.max_discovered a.local mapped then a.local else a.local ++ mapped_candidate a p mapped ∷ []
 
   -- The candidate is added here without forming a pair.
   abbrev pub mapped_learnt : PairRecord → Option SocketAddr → AgentRecord H P → AgentRecord H P

@@ -57,7 +57,7 @@ module _ {H P : Type 0} where
       abbrev pub MayEndIn : List (Logged P) → Path → Type 0
       MayEndIn part path =
           (before : List (Logged P)) × (mid after : AgentRecord H P) × (x : Logged P) × (p : PairRecord)
-          × Point mac answers first s log before mid x after × Has part x × Has mid.pairs p × Joins mid path p × MayEnd mid x.call x.entry p
+          × Point mac answers first s log before mid x after × Has part x × Has mid.pairs p × Joins mid path p × MayEnd answers mid x.call x.entry p
 
       -- In a segment of the log the peer nominated a path and a success response was received on it, in either order. A
       -- `handle_timeout` call that serves no early request follows. If only one pair uses the path's addresses then, a path is

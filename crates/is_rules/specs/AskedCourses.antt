@@ -35,13 +35,13 @@ AnnouncesAlong xs = (x : Call _ × Entry) × Has xs x × (is_some (last_of x.1.e
 
 module _ {H P : Type 0} where
   -- The transition may remove a pair that uses the path's addresses.
-  abbrev pub Ends : AgentRecord H P → Call P → Entry → Path → Type 0
-  Ends a call e path = (p : PairRecord) × Has a.pairs p × Joins a path p × MayEnd a call e p
+  abbrev pub Ends : (P → CandidateRecord → ℕ → ℕ → Type 0) → AgentRecord H P → Call P → Entry → Path → Type 0
+  Ends answers a call e path = (p : PairRecord) × Has a.pairs p × Joins a path p × MayEnd answers a call e p
 
   module _ (mac : H → List ℕ → List ℕ → List ℕ) (answers : P → CandidateRecord → ℕ → ℕ → Type 0) where
     abbrev pub EndsAlong : (xs : List (Call P × Entry)) (old new : AgentRecord H P) → Course mac answers xs old new → Path → Type 0
     EndsAlong [] old new course path = ⊥
-    EndsAlong (x ∷ rest) old new course path = Ends old x.0 x.1 path ⊎ EndsAlong rest course.0 new course.5 path
+    EndsAlong (x ∷ rest) old new course path = Ends answers old x.0 x.1 path ⊎ EndsAlong rest course.0 new course.5 path
 
     -- A call accepts the nomination of the path, and the agent is controlled afterwards.
     abbrev pub GrantsAlong : (xs : List (Call P × Entry)) (old new : AgentRecord H P) → Course mac answers xs old new → Path → Type 0
@@ -58,7 +58,7 @@ module _ {H P : Type 0} where
         → IsFresh first → Course mac answers before first start → (course : Course mac answers xs start near)
         → Step mac answers near s (HandleTimeout now) moment last t → moment.answer ≡ Done → request_at now near ≡ None
         → GrantsAlong xs start near course path → IsAnsweredAlong xs path → IsAlone last path
-        → (AnnouncesAlong (before ++ (xs ++ (HandleTimeout now, moment) ∷ [])) × HasAnnounced last) ⊎ (EndsAlong xs start near course path ⊎ Ends near (HandleTimeout now) moment path)
+        → (AnnouncesAlong (before ++ (xs ++ (HandleTimeout now, moment) ∷ [])) × HasAnnounced last) ⊎ (EndsAlong xs start near course path ⊎ Ends answers near (HandleTimeout now) moment path)
 
     -- A controlling agent: no pair is valid when a segment of an execution begins. An accepted success response ends the segment,
     -- and the agent is controlling afterwards. Then a path was selected in the segment, and an eligible pair exists afterwards,

@@ -1,4 +1,4 @@
--- With limits on pairs and on what requests bring: how many rounds suffice for a pair that is due, whatever pairs there are.
+-- With limits on pairs and on what packets bring: how many rounds suffice for a pair that is due, whatever pairs there are.
 use Rattle.std.specs.Prelude.{◌≡◌, ℕ, ◌+◌, ◌*◌, ◌≤◌, ◌⊎◌, List, length, Some}
 use Rattle.rand_core.specs.Stream.{Stream}
 use Rattle.is_proto.specs.Lists.{Has}
@@ -6,16 +6,12 @@ use Rattle.is_candidate.specs.Candidates.{CandidateRecord}
 use Rattle.is_pair.specs.Pairs.{PairRecord}
 use Rattle.is_rules.specs.Agent.{AgentRecord}
 use Rattle.is_rules.specs.Asked.{IsAnsweredIn}
-use Rattle.is_rules.specs.Bounds.{FormsFew, IsLimited, signal_count}
+use Rattle.is_rules.specs.Bounds.{FormsFew, IsLimited, gathered_count, pair_bound, signal_count}
 use Rattle.is_rules.specs.Logs.{Logged}
 use Rattle.is_rules.specs.Reached.{ChecksIn, IsEndedIn, IsInLine, IsPassing}
 use Rattle.is_rules.specs.Rounds.{LoggedRound, Part, began_at, entries_of}
 use Rattle.is_rules.specs.Runs.{IsFresh}
 use Rattle.is_rules.specs.Sending.{path_of}
-
--- As many pairs as the limits allow: `most` candidates of requests, `signals` of the caller, and a limit on pairs.
-abbrev pub pair_bound : ℕ → ℕ → ℕ → ℕ → ℕ
-pair_bound limit local most signals = limit + local * (most + signals)
 
 module _ {H P : Type 0} where
   -- The rounds suffice for a pair that is due by the time `by` when they begin. For a bound of n pairs there are at least 2n - 1
@@ -36,7 +32,7 @@ module _ {H P : Type 0} where
         (most limit : ℕ) → IsLimited mac answers most first s log → FormsFew mac answers limit first s log
         → (before : List (Logged P)) (start last : AgentRecord H P) (rounds : List (LoggedRound P)) (p : PairRecord) (by : ℕ)
         → (found : Part mac answers first s log before start (entries_of rounds) last)
-        → SufficeWithin (pair_bound limit (length start.local) most (signal_count before)) by start rounds last p
+        → SufficeWithin (pair_bound limit most (gathered_count before) (signal_count before)) by start rounds last p
         → ChecksIn rounds (path_of start p)
         ⊎ (IsAnsweredIn (entries_of rounds) (path_of start p)
         ⊎ IsEndedIn mac answers before start found.at (entries_of rounds) last found.behind found.run (path_of start p))

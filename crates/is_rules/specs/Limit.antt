@@ -1,10 +1,13 @@
--- The limit on remote candidates that requests brought (`set_max_discovered`), and the place that an unknown sender gets.
+-- The limit on candidates that received packets bring (`set_max_discovered`): remote ones by requests, local ones by responses. And
+-- the place that an unknown sender gets.
 use Rattle.std.specs.Prelude.{◌≡◌, ℕ, ◌==◌, ◌<◌, ◌-◌, ◌&&◌, ◌||◌, Bool, true, false, not, nat_lt, List, length, drop, count_by}
 use Rattle.std.specs.Prelude.{Option, Some, None, MatchBool, ◌⊎◌}
 use Rattle.std.specs.List.{list_any}
 use Rattle.std.specs.Option.{option_map_or}
 use Rattle.is_candidate.specs.Candidates.{CandidateRecord, candidate_at}
+use Rattle.is_candidate.specs.declared.candidate.kind.CandidateKind.TheVariants.{PeerReflexive}
 use Rattle.is_candidate.specs.Equality.{is_temporary}
+use Rattle.is_candidate.specs.Kinds.{same_kind}
 use Rattle.is_pair.specs.Pairs.{PairRecord}
 use Rattle.is_rules.specs.declared.accepting.Source.{Source}
 use Rattle.is_rules.specs.declared.emitted.Path.{Path}
@@ -58,6 +61,20 @@ Settles limit remote pairs Full place = ⊥
 -- where the sender of a request is among the remote candidates, or the place that it gets
 abbrev pub IsPlaceOf : Option ℕ → List CandidateRecord → List PairRecord → RequestRecord → RemotePlace → Type 0
 IsPlaceOf limit remote pairs q place = (found : RemotePlace) × IsRemotePlace remote q found × Settles limit remote pairs found place
+
+-- ---- local candidates that responses bring
+
+-- A response brings a peer-reflexive candidate. One that the caller added counts too.
+abbrev pub is_mapped : CandidateRecord → Bool
+is_mapped c = same_kind c.kind PeerReflexive
+
+-- Discarded ones count, since they stay in the list.
+abbrev pub mapped_count : List CandidateRecord → ℕ
+mapped_count local = count_by is_mapped local
+
+-- A response may bring one more.
+abbrev pub has_local_room : Option ℕ → List CandidateRecord → Bool
+has_local_room limit local = is_below limit (mapped_count local)
 
 -- ---- discovered sources
 

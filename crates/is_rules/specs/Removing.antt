@@ -8,7 +8,7 @@ use Rattle.is_pair.specs.Pairs.{PairRecord}
 use Rattle.is_rules.specs.Agent.{AgentRecord}
 use Rattle.is_rules.specs.Discarding.{local_discarded}
 use Rattle.is_rules.specs.Forming.{SidesRecord, Combination, combined_priority, is_redundant, local_combinations, remote_combinations, sides_of}
-use Rattle.is_rules.specs.Local.{as_own, appended, comes_again, enabled, enabled_again, preferred}
+use Rattle.is_rules.specs.Local.{as_own, appended, comes_again, enabled, enabled_again, preferred, Prefers}
 use Rattle.is_rules.specs.Remote.{as_remote, is_ignored, is_placeholder, place_or_end, with_remote}
 
 -- The combination is redundant with the pair, and has a greater priority. So its new pair may replace the pair: it takes over
@@ -57,7 +57,8 @@ module _ {H P : Type 0} where
       (MayBeRemoved (enabled_again place old) (local_combinations (enabled (candidate_at old.local place)) place old.remote) p)
       ((p.local ≡ place) ⊎ MayEndByAppending old c (local_discarded place old) p)
 
-  -- The candidate is added with some local preference.
-  abbrev pub MayEndByLocal : AgentRecord H P → CandidateRecord → PairRecord → Type 0
-  MayEndByLocal old c p =
-      (preference : ℕ) × MayEndByEnrolling old (preferred preference c) (position (is_same_place (preferred preference c)) old.local) p
+  -- The candidate is added with a local preference that it may get.
+  abbrev pub MayEndByLocal : (P → CandidateRecord → ℕ → ℕ → Type 0) → AgentRecord H P → CandidateRecord → PairRecord → Type 0
+  MayEndByLocal answers old c p =
+      (preference : ℕ) × Prefers answers old c preference
+      × MayEndByEnrolling old (preferred preference c) (position (is_same_place (preferred preference c)) old.local) p

@@ -34,21 +34,21 @@ module _ {H P : Type 0} where
 
   -- The transition may remove the pair: a pair of an added candidate replaces or evicts it; its candidate is discarded; the pairs
   -- are cleared; or its checks were not answered in time (RFC 7675).
-  abbrev pub MayEnd : AgentRecord H P → Call P → Entry → PairRecord → Type 0
-  MayEnd old (AddLocalCandidate c) e p = (e.answer ≡ Added) × MayEndByLocal old c p
-  MayEnd old (AddRemoteCandidate c) e p = (e.answer ≡ Done) × MayEndByRemote old c p
-  MayEnd old (InvalidateCandidate c) e p = (e.answer ≡ Flag true) × IsOfDiscarded old c p
-  MayEnd old (RestartIce creds keep) e p = e.answer ≡ Done
-  MayEnd old RecreateCandidatePairs e p = e.answer ≡ Done
-  MayEnd old (HandleTimeout now) e p = (e.answer ≡ Done) × (request_at now old ≡ None) × (is_given_up now old p ≡ true)
-  MayEnd old _ e p = ⊥
+  abbrev pub MayEnd : (P → CandidateRecord → ℕ → ℕ → Type 0) → AgentRecord H P → Call P → Entry → PairRecord → Type 0
+  MayEnd answers old (AddLocalCandidate c) e p = (e.answer ≡ Added) × MayEndByLocal answers old c p
+  MayEnd answers old (AddRemoteCandidate c) e p = (e.answer ≡ Done) × MayEndByRemote old c p
+  MayEnd answers old (InvalidateCandidate c) e p = (e.answer ≡ Flag true) × IsOfDiscarded old c p
+  MayEnd answers old (RestartIce creds keep) e p = e.answer ≡ Done
+  MayEnd answers old RecreateCandidatePairs e p = e.answer ≡ Done
+  MayEnd answers old (HandleTimeout now) e p = (e.answer ≡ Done) × (request_at now old ≡ None) × (is_given_up now old p ≡ true)
+  MayEnd answers old _ e p = ⊥
 
   module _ (mac : H → List ℕ → List ℕ → List ℕ) (answers : P → CandidateRecord → ℕ → ℕ → Type 0) where
     -- All other transitions leave each pair: requests, responses, role conflicts, and settings.
     abbrev pub PairsStay : Type 0
     PairsStay =
         (old new : AgentRecord H P) (s t : Stream) (call : Call P) (e : Entry) (p : PairRecord)
-        → IsSound old → GivesBased call → Step mac answers old s call e new t → Has old.pairs p → Stays old p new ⊎ MayEnd old call e p
+        → IsSound old → GivesBased call → Step mac answers old s call e new t → Has old.pairs p → Stays old p new ⊎ MayEnd answers old call e p
 
     -- ---- in a log
 
@@ -57,7 +57,7 @@ module _ {H P : Type 0} where
     EndsIn first s log part number path =
         (before : List (Logged P)) × (mid after : AgentRecord H P) × (x : Logged P) × (p : PairRecord)
         × Point mac answers first s log before mid x after × Has part x × Has mid.pairs p × (p.number ≡ number) × (path_of mid p ≡ path)
-        × MayEnd mid x.call x.entry p
+        × MayEnd answers mid x.call x.entry p
 
     -- The same over each segment of the log.
     abbrev pub PairsStayIn : AgentRecord H P → Stream → List (Logged P) → Type 0

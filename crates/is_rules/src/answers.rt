@@ -14,9 +14,10 @@ ghost use Rattle.is_rules.specs.Nominating.{path_in};
 ghost use Rattle.is_stun.specs.MessageView.{message_view};
 ghost use Rattle.is_rules.specs.Kept.{NoneTooHigh};
 ghost use Rattle.is_rules.specs.Due.{IsSentUnder};
-ghost use Rattle.is_rules.specs.Answers.{is_known_address, is_role_conflict, goes_back, joined_by};
+ghost use Rattle.is_rules.specs.Answers.{is_known_address, is_left_out, is_role_conflict, goes_back, joined_by};
 
 use crate::emitted::Path;
+use crate::limit::has_local_room;
 use crate::local::append;
 use crate::nomination::path_in;
 use crate::sides::Sides;
@@ -95,10 +96,17 @@ pub fn pair_awaiting(pairs: &Checklist, sides: Sides<'_>, via: &Path, id: TransI
 // ---- success responses
 
 /// A local candidate has this address, possibly a discarded one.
-pub fn is_known_address(local: &[Candidate], address: SocketAddr) -> bool
+fn is_known_address(local: &[Candidate], address: SocketAddr) -> bool
     ensures { result ≡ is_known_address local.now address }
 {
     local.iter().any(|c| same_address(c.addr(), address))
+}
+
+/// The mapped address brings no candidate: a local candidate has it, or the limit is reached.
+pub fn is_left_out(limit: Option<usize>, local: &[Candidate], mapped: SocketAddr) -> bool
+    ensures { result ≡ is_left_out limit local.now mapped }
+{
+    is_known_address(local, mapped) || !has_local_room(limit, local)
 }
 
 /// Appends the candidate, if there is one, within the reserved capacity.

@@ -4,7 +4,7 @@
 ghost use Rattle.is_rules.specs.Sound.{FreshIsSound};
 ghost use Rattle.is_rules.specs.Effects.{PathLaw, TradeLaw, RefusalKeeps};
 ghost use Rattle.is_rules.specs.Runs.{EntriesArePoints, RunsAreSound, AnnouncedAreAnswered, AnnouncedAreAskedFor, PointsAreTop, TakersAreValid, AskedAreNominated, RepliesAreAmong, UnacceptedChangeNothing};
-ghost use Rattle.is_rules.specs.Bounds.{LimitsBound, LimitsPairs};
+ghost use Rattle.is_rules.specs.Bounds.{BoundsPairs, LimitsBound, LimitsPairs};
 ghost use Rattle.is_rules.specs.BoundedRounds.{LimitsReach};
 ghost use Rattle.is_rules.specs.Reporting.{QueuesLaw};
 ghost use Rattle.is_rules.specs.RoleView.{FreshIsNew, RoleLaw};
@@ -55,15 +55,18 @@ pub fn runs_are_sound<H: Sha1HmacProvider, P: LocalPreference>()
     ensures { RunsAreSound H.mac P.answers }
 {}
 
-/// If a limit on what requests bring is set whenever a packet or a timeout comes, the list of remote candidates is never longer
-/// than the limit and the candidates that the caller added, and that of remembered sources is never longer than the limit.
+/// If the limit on what packets bring is at most this one whenever a packet or a timeout comes, neither list of candidates is ever
+/// longer than the limit plus the candidates that the caller added to it, and that of remembered sources is never longer than the
+/// limit.
 pub fn limits_bound<H: Sha1HmacProvider, P: LocalPreference>()
     ensures { LimitsBound H.mac P.answers }
 {}
 
-/// There are never more pairs than the limit on pairs plus the number of local candidates times that of remote ones.
+/// There are never more pairs than the limit on pairs plus the number of local candidates times that of remote ones. With a limit on
+/// what packets bring too, the bound depends on the caller only.
 pub fn limits_pairs<H: Sha1HmacProvider, P: LocalPreference>()
-    ensures { LimitsPairs H.mac P.answers }
+    ensures few { LimitsPairs H.mac P.answers }
+    ensures bounded { BoundsPairs H.mac P.answers }
 {}
 
 /// Each entry of an execution's log is between two states, so what holds at each entry says something of each.
@@ -275,7 +278,7 @@ pub fn pairs_are_reached<H: Sha1HmacProvider, P: LocalPreference>()
     ensures { PairsAreReached H.mac P.answers }
 {}
 
-/// With limits on pairs and on what requests bring, n pairs at most: a check is sent on the path of a pair that is due in one of
+/// With limits on pairs and on what packets bring, n pairs at most: a check is sent on the path of a pair that is due in one of
 /// 2n - 1 rounds, and one more for each pair that is added in them, whatever the agent receives and received before.
 pub fn limits_reach<H: Sha1HmacProvider, P: LocalPreference>()
     ensures { LimitsReach H.mac P.answers }

@@ -1,15 +1,17 @@
-//! The limit on remote candidates that requests bring, and the place that an unknown sender gets under it.
+//! The limit on remote candidates that requests bring, and on local ones that responses bring; and the place that an unknown sender
+//! gets under it.
 
 ghost use Rattle.std.specs.Prelude.{◌≡◌, ◌<◌, drop, length};
 ghost use Rattle.is_pair.specs.Checklists.{bag_of};
 ghost use Rattle.is_rules.specs.RequestView.{request_view};
-ghost use Rattle.is_rules.specs.Limit.{discovered_count, is_below, has_room, is_vacant, IsVacancy, IsRoom, IsPlaceOf, newest};
+ghost use Rattle.is_rules.specs.Limit.{discovered_count, is_below, has_room, has_local_room, is_mapped, is_vacant, mapped_count, IsVacancy, IsRoom, IsPlaceOf, newest};
 
 use crate::accepting::Source;
 use crate::places::{RemotePlace, candidate_at, remote_place};
 use crate::request::Request;
-use is_candidate::Candidate;
 use is_candidate::candidate::equality::is_temporary;
+use is_candidate::candidate::kind::same_kind;
+use is_candidate::{Candidate, CandidateKind};
 use is_pair::checklist::{Checklist, PairTest};
 use is_pair::pair::CandidatePair;
 
@@ -97,6 +99,31 @@ pub fn sender_place(
         place => place,
     }
 }
+
+// ---- local candidates
+
+/// A peer-reflexive candidate, as responses bring them.
+fn is_mapped(candidate: &Candidate) -> bool
+    ensures { result ≡ is_mapped candidate.now }
+{
+    same_kind(candidate.kind(), CandidateKind::PeerReflexive)
+}
+
+/// How many local candidates are peer-reflexive, discarded ones included.
+fn mapped_count(local: &[Candidate]) -> usize
+    ensures { result ≡ mapped_count local.now }
+{
+    local.iter().filter(|c| is_mapped(c)).count()
+}
+
+/// A response may bring one more candidate.
+pub fn has_local_room(limit: Option<usize>, local: &[Candidate]) -> bool
+    ensures { result ≡ has_local_room limit local.now }
+{
+    limit.is_none() || is_below(limit, mapped_count(local))
+}
+
+// ---- discovered sources
 
 /// Removes this many sources, the oldest ones.
 fn drop_oldest(sources: &mut Vec<Source>, count: usize)

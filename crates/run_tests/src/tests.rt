@@ -179,7 +179,7 @@ enum Step {
     Lite,
     /// The limit of pairs.
     Pairs(usize),
-    /// The limit of remote candidates that requests bring.
+    /// The limit on candidates that packets bring.
     Discovered(usize),
     /// The limit of checks of a pair.
     Checks(usize),

@@ -1,4 +1,4 @@
-//! The limit on remote candidates that requests bring.
+//! The limit on candidates that packets bring: remote ones by requests, local ones by responses.
 
 use super::*;
 use is::stun::Builder;
@@ -15,7 +15,11 @@ impl Subject for Limits {
         a_discarded_sender_counts(player)?;
         a_sender_without_a_pair_makes_room(player)?;
         only_the_newest_source_is_remembered(player)?;
-        sources_wait_while_events_do(player)
+        sources_wait_while_events_do(player)?;
+        without_a_limit_each_mapped_address_is_stored(player)?;
+        a_mapped_address_past_the_limit_is_left_out(player)?;
+        a_peer_reflexive_candidate_of_the_caller_counts(player)?;
+        a_pair_is_selected_all_the_same(player)
     }
 }
 
@@ -130,5 +134,61 @@ fn sources_wait_while_events_do(player: &mut Player) -> Told {
         discovers(player, 2000) && player.tells(b""),
         is_dropped(player, 0, 2001) && discovers(player, 2001),
         same(player.agent.stats().discovered_recv_count, 2, player),
+    ])
+}
+
+// ---- mapped addresses
+
+/// An agent with a pair and this limit sends its first check.
+fn set_up_checked(player: &mut Player, limit: Option<usize>) -> bool {
+    if !player.set_up_pair() {
+        return false;
+    }
+    player.agent.set_max_discovered(limit);
+    player.checks(0)
+}
+
+/// The limit is this one from now on.
+fn is_limited(player: &mut Player, limit: usize) -> bool {
+    player.agent.set_max_discovered(Some(limit));
+    true
+}
+
+/// A response to the check arrives, whose mapped address is 10.0.0.9 and this port.
+fn is_mapped(player: &mut Player, ms: u64, port: u16) -> bool {
+    player.expects_answer(at(9, port)) && player.hears_peer(ms)
+}
+
+fn without_a_limit_each_mapped_address_is_stored(player: &mut Player) -> Told {
+    Story("without_a_limit_each_mapped_address_is_stored").holds(&[
+        set_up_checked(player, None),
+        is_mapped(player, 50, 9000) && is_mapped(player, 51, 9001) && is_mapped(player, 52, 9002),
+        player.is_at(&[at(1, 1000), at(9, 9000), at(9, 9001), at(9, 9002)]),
+    ])
+}
+
+fn a_mapped_address_past_the_limit_is_left_out(player: &mut Player) -> Told {
+    Story("a_mapped_address_past_the_limit_is_left_out").holds(&[
+        set_up_checked(player, Some(2)),
+        is_mapped(player, 50, 9000) && is_mapped(player, 51, 9001) && is_mapped(player, 52, 9002),
+        player.is_at(&[at(1, 1000), at(9, 9000), at(9, 9001)]),
+        same(player.agent.stats().bind_success_recv, 3, player),
+    ])
+}
+
+fn a_peer_reflexive_candidate_of_the_caller_counts(player: &mut Player) -> Told {
+    Story("a_peer_reflexive_candidate_of_the_caller_counts").holds(&[
+        player.set_up_pair() && player.own("candidate:1 1 udp 100 10.0.0.8 8000 typ prflx"),
+        player.checks(0) && is_limited(player, 1) && is_mapped(player, 50, 9000),
+        player.is_at(&[at(1, 1000), at(8, 8000)]),
+    ])
+}
+
+/// With a limit of 0 no source is reported either.
+fn a_pair_is_selected_all_the_same(player: &mut Player) -> Told {
+    Story("a_pair_is_selected_all_the_same").holds(&[
+        player.set_up_pair() && is_limited(player, 0),
+        player.complete_check(at(9, 9000)) && player.is_at(&[at(1, 1000)]),
+        player.tells(b"RcNC"),
     ])
 }

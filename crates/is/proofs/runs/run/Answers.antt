@@ -1,6 +1,7 @@
 use Rattle.is.proofs.Logs.{run_of, entries_stand}
 use Rattle.is.proofs.AcceptedLemmas.{packets_are_settled}
 use Rattle.is.proofs.QueuesLemmas.{others_issue_none, queues_are_kept}
+use Rattle.is.proofs.Flooded.{queues_stay_short, discoveries_are_few}
 use Rattle.is.proofs.runs.run.Goals as goal
 
 pub returns-clause-entries : goal.returns-clause-entries
@@ -31,7 +32,10 @@ pub returns-clause-of_use : goal.returns-clause-of_use
 returns-clause-of_use g c = c.turns_are_of_use.ensures _ _ _
 
 pub returns-clause-rounds : goal.returns-clause-rounds
-returns-clause-rounds g c = c.answered_rounds_announce.ensures _ _ _
+returns-clause-rounds g c = c.open_rounds_announce.ensures _ _ _
+
+pub returns-clause-due_rounds : goal.returns-clause-due_rounds
+returns-clause-due_rounds g c = c.due_rounds_announce.ensures _ _ _
 
 pub returns-clause-takers : goal.returns-clause-takers
 returns-clause-takers g c = c.takers_are_valid.ensures _ _ _
@@ -49,7 +53,16 @@ pub returns-clause-bounded : goal.returns-clause-bounded
 returns-clause-bounded g c = c.limits_bound.ensures _ _ _
 
 pub returns-clause-few : goal.returns-clause-few
-returns-clause-few g c = c.limits_pairs.ensures _ _ _
+returns-clause-few g c = c.limits_pairs.ensures.few _ _ _
+
+pub returns-clause-limited : goal.returns-clause-limited
+returns-clause-limited g c = c.limits_pairs.ensures.bounded _ _ _
+
+pub returns-clause-waiting : goal.returns-clause-waiting
+returns-clause-waiting g c = queues_stay_short _ _ c.queues_are_short.ensures _ _ _
+
+pub returns-clause-discovered : goal.returns-clause-discovered
+returns-clause-discovered g c = discoveries_are_few _ _ c.discoveries_stay_few.ensures _ _ _
 
 pub returns-clause-order : goal.returns-clause-order
 returns-clause-order g c = queues_are_kept _ _ c.queues_are_kept.ensures _ _ _

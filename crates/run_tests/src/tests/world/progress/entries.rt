@@ -72,7 +72,7 @@ impl Play {
         let ends = match note.event {
             Event::Do(s, step) if s == side => match step {
                 Step::Moment(_) => expires,
-                Step::Host(_) | Step::Peer(_) | Step::PeerLine(_) => true,
+                Step::Host(_) | Step::Peer(_) | Step::PeerLine(_) => self.may_replace(side, step),
                 Step::Restart | Step::Recreate => true,
                 _ => false,
             },
@@ -81,9 +81,29 @@ impl Play {
         ends && note.done && seen.joined > 0
     }
 
+    /// A pair of the added candidate may replace a pair of the side's path. The stories add few pairs, so none is evicted.
+    fn may_replace(&self, side: Side, step: Step) -> bool {
+        match call(self.alloc, side, step) {
+            Some(AgentCall::AddRemoteCandidate(candidate)) => {
+                candidate.addr() == of(side, self.paths).destination
+            }
+            _ => true,
+        }
+    }
+
     pub(super) fn may_end_in(&self, first: usize, end: usize, side: Side) -> bool {
         for number in first..end {
             if self.may_end(number, side) {
+                return true;
+            }
+        }
+        false
+    }
+
+    /// The same between the side's `handle_timeout` calls (`MayEndInRounds`).
+    pub(super) fn may_end_between(&self, first: usize, end: usize, side: Side) -> bool {
+        for (number, note) in self.notes.iter().enumerate().take(end).skip(first) {
+            if !is_timeout(note, side) && self.may_end(number, side) {
                 return true;
             }
         }

@@ -19,7 +19,8 @@ Exchanges(KnowStill) selects open [ B@0 A> B> 0@10 B> 2@20 A@300 A> 3@310 B@320 
 Exchanges(Pending) silent open [ B@0 B.one A> B> 0@10 B> 2@20 A@300 A> 3@310 B@320 B> 1@330 A> 5@340 B@350
 Moment silent open [ B@0 A> B> 0@10 B> 2@20 1@30 A> 3@40 A@300 A> 4@310 B?
 Stays silent open [ B@0 A> B> 0@10 B> 2@20 1@30 A> 3@40 B.clears A@300 A> 4@310 B@320
-Stays selects open [ B@0 A> B> 0@10 B> 2@20 1@30 A> 3@40 B.absent A@300 A> 4@310 B@320
+none selects open [ B@0 A> B> 0@10 B> 2@20 1@30 A> 3@40 B.absent A@300 A> 4@310 B@320
+Stays selects open [ B@0 A> B> 0@10 B> 2@20 1@30 A> 3@40 B.again A@300 A> 4@310 B@320
 Alone selects B.knows B.host A.knows A.host A.peer A@0 A> 0@10 B.tcp B.peer B> 1@20 [ B@20 B> 2@30 A> 3@40 A@300 A> 4@310 B@320
 NewAgents silent open B@0 A> B> 0@10 B> 2@20 1@30 A> 3@40 A@300 A> 4@310 B@320 cut [ A@900 A> 5@910 B@920 B> B> B> B> 9@930 A> 10@940 B@950
 ";

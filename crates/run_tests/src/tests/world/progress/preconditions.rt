@@ -1,6 +1,7 @@
 //! The preconditions of the clauses `granted`, `connect`, `rounds` and `meet` of `World::run`, by the names of their
 //! definitions in `Grantings`, `Connections`, `Selections` and `Meetings`. For each clause a function returns the first
-//! precondition that an execution lacks, and how many it lacks.
+//! precondition that an execution lacks, and how many it lacks. That a call may remove a pair counts as one, since the
+//! clause then says nothing else.
 
 use super::entries::{back, is_timeout};
 use super::exchanges::{Exchange, Wanted};
@@ -39,6 +40,8 @@ pub(super) enum Lacks {
     Alone,
     /// No call may have removed such a pair (`MayEndAt`).
     Stays,
+    /// Nor one of the controlling side's path in its rounds (`MayEndInRounds`).
+    AskingStays,
 }
 
 /// A clause. In stories A is controlling in `rounds`, and B is controlled in `granted` and `connect`.
@@ -157,6 +160,10 @@ impl Play {
         let lists = [
             self.lacks_rounds(Side::A, c.asking, moment)
                 .map(Lacks::AskingRounds),
+            missing(
+                !self.may_end_between(c.asking, moment, Side::A),
+                Lacks::AskingStays,
+            ),
             asks,
             self.lacks_rounds(Side::B, c.asked, moment)
                 .map(Lacks::AskedRounds),
@@ -185,6 +192,10 @@ impl Play {
             missing(self.fresh, Lacks::NewAgents),
             missing(apart, Lacks::Roles),
             rounds,
+            missing(
+                !self.may_end_between(c.asking, ended, Side::A),
+                Lacks::AskingStays,
+            ),
             answers,
         ];
         joined((None, 0), &lists)

@@ -16,7 +16,7 @@ pub(super) enum Rounds {
     Queue,
     /// It has a pair on the path.
     There,
-    /// The pair is due before each `handle_timeout` call.
+    /// The pair is due by the first `handle_timeout` call, and before the others.
     Late,
     /// It is not valid, or its due time is fixed.
     Settled,
@@ -26,10 +26,25 @@ pub(super) enum Rounds {
     Young,
     /// Each `handle_timeout` call returns Ok.
     Done,
-    /// The side makes only polls between them.
-    Polls,
-    /// 2n - 1 rounds for n pairs, and one for each pair that is added; in `rounds` n for n pairs that are due.
+    /// Between them the side polls, adds candidates, and changes only settings that no pair depends on.
+    Between,
+    /// The rounds suffice (`AreEnough`); in `rounds` also n rounds with polls only, for n pairs that are due (`AreEachPolled`).
     Enough,
+}
+
+/// Rounds of a side (`AreKept`).
+#[derive(Clone, Copy)]
+struct Kept {
+    /// The pair is due by this time.
+    by: Instant,
+    /// The time of the first `handle_timeout` call.
+    from: Instant,
+    /// The entry of the second one, or the end.
+    second: usize,
+    /// How many rounds follow the first one.
+    later: u64,
+    /// Between the `handle_timeout` calls the side only polls.
+    polls: bool,
 }
 
 /// What the pair lacks for rounds that begin at this time (`IsInLine`).
@@ -43,7 +58,7 @@ fn lacks_in_line(seen: Seen, now: Instant) -> Result<Instant, Rounds> {
     let Some(pair) = seen.awaited else {
         return Err(Rounds::There);
     };
-    if pair.due >= now {
+    if pair.due > now {
         return Err(Rounds::Late);
     }
     if pair.valid && !pair.due_is_fixed {
@@ -55,27 +70,45 @@ fn lacks_in_line(seen: Seen, now: Instant) -> Result<Instant, Rounds> {
     Ok(pair.due)
 }
 
-/// What the side's own call lacks in a round (`IsKept`), or whether it begins one.
-fn begins_round(note: &Note, side: Side, by: Instant) -> Result<bool, Rounds> {
-    match note.event {
-        Event::Do(s, Step::Moment(ms)) if s == side => {
-            if !note.done {
-                Err(Rounds::Done)
-            } else if moment(ms) <= by {
-                Err(Rounds::Late)
-            } else {
-                Ok(true)
-            }
-        }
-        Event::Do(s, Step::PollPacket | Step::PollWake | Step::PollEvent) if s == side => Ok(false),
-        Event::Do(s, _) if s == side => Err(Rounds::Polls),
-        _ => Ok(false),
+/// What the side does at an entry.
+#[derive(Clone, Copy)]
+enum Does {
+    /// A `handle_timeout` call at this time.
+    Moment(Instant),
+    /// A poll, or nothing.
+    Polls,
+    /// Another call that may come in a round (`is_in_round`).
+    Calls,
+}
+
+/// What the side's own call lacks in a round (`IsKept`), or what it does.
+fn does_in_round(note: &Note, side: Side) -> Result<Does, Rounds> {
+    let step = match note.event {
+        Event::Do(s, step) if s == side => step,
+        _ => return Ok(Does::Polls),
+    };
+    match step {
+        Step::Moment(ms) if note.done => Ok(Does::Moment(moment(ms))),
+        Step::Moment(_) => Err(Rounds::Done),
+        Step::PollPacket | Step::PollWake | Step::PollEvent => Ok(Does::Polls),
+        Step::Host(_) | Step::Peer(_) | Step::PeerLine(_) | Step::Named(_) => Ok(Does::Calls),
+        Step::Pairs(_) | Step::Discovered(_) => Ok(Does::Calls),
+        _ => Err(Rounds::Between),
     }
 }
 
+/// 2n - 1 rounds for n pairs, and one for each pair that is added until the last.
+fn are_enough(rounds: u64, first: Seen, last: Seen) -> bool {
+    let Ok(pairs) = u64::try_from(first.pairs) else {
+        return false;
+    };
+    let needed = pairs.saturating_mul(2).saturating_add(last.numbers);
+    needed <= rounds.saturating_add(1).saturating_add(first.numbers)
+}
+
 impl Play {
-    /// When rounds of the side begin with the first entry, and the pair is due (`IsInLine`).
-    fn line(&self, side: Side, first: usize) -> Result<Instant, Rounds> {
+    /// When rounds of the side begin with the first entry, and by when the pair is due (`IsInLine`).
+    fn line(&self, side: Side, first: usize) -> Result<(Instant, Instant), Rounds> {
         let now = match self.notes.get(first) {
             Some(note) => match note.event {
                 Event::Do(s, Step::Moment(ms)) if s == side => moment(ms),
@@ -83,45 +116,72 @@ impl Play {
             },
             None => return Err(Rounds::Comes),
         };
-        lacks_in_line(self.before(first, side), now)
+        Ok((lacks_in_line(self.before(first, side), now)?, now))
     }
 
-    /// How many rounds of the side there are from the first entry on, before the end.
-    fn rounds(&self, side: Side, first: usize, end: usize) -> Result<usize, Rounds> {
-        let by = self.line(side, first)?;
-        let mut count = 0usize;
-        for (number, note) in self.notes.iter().enumerate().take(end) {
-            if number >= first && begins_round(note, side, by)? {
-                count = count.saturating_add(1);
+    /// The rounds of the side from the first entry on, before the end.
+    fn kept(&self, side: Side, first: usize, end: usize) -> Result<Kept, Rounds> {
+        if first >= end {
+            return Err(Rounds::Comes);
+        }
+        let (by, from) = self.line(side, first)?;
+        let mut kept = Kept {
+            by,
+            from,
+            second: end,
+            later: 0,
+            polls: true,
+        };
+        for (number, note) in self.notes.iter().enumerate().take(end).skip(first) {
+            match does_in_round(note, side)? {
+                Does::Moment(now) if number > first => {
+                    if now <= by {
+                        return Err(Rounds::Late);
+                    }
+                    kept.second = kept.second.min(number);
+                    kept.later = kept.later.saturating_add(1);
+                }
+                Does::Calls => kept.polls = false,
+                _ => {}
             }
         }
-        Ok(count)
+        Ok(kept)
+    }
+
+    /// The rounds suffice (`Suffices`).
+    fn suffices(&self, kept: Kept, side: Side, first: usize, end: usize) -> bool {
+        let (start, last) = (self.before(first, side), self.before(end, side));
+        let is_early = kept.by < kept.from;
+        start.pairs <= 1
+            || is_early && are_enough(kept.later.saturating_add(1), start, last)
+            || are_enough(kept.later, self.before(kept.second, side), last)
     }
 
     /// What the side's rounds lack.
     pub(super) fn lacks_rounds(&self, side: Side, first: usize, end: usize) -> Option<Rounds> {
-        let count = match self.rounds(side, first, end) {
-            Ok(count) => u64::try_from(count).ok()?,
-            Err(missed) => return Some(missed),
-        };
-        let (start, last) = (self.before(first, side), self.before(end, side));
-        let pairs = u64::try_from(start.pairs).ok()?;
-        let needed = pairs.saturating_mul(2).saturating_add(last.numbers);
-        if needed <= count.saturating_add(1).saturating_add(start.numbers) {
-            None
-        } else {
-            Some(Rounds::Enough)
+        match self.kept(side, first, end) {
+            Err(missed) => Some(missed),
+            Ok(kept) if self.suffices(kept, side, first, end) => None,
+            Ok(_) => Some(Rounds::Enough),
         }
     }
 
     /// What the side's rounds lack in `rounds`.
     pub(super) fn lacks_due_rounds(&self, side: Side, first: usize, end: usize) -> Option<Rounds> {
         let start = self.before(first, side);
-        match self.rounds(side, first, end) {
-            Err(missed) => Some(missed),
-            Ok(_) if start.is_valid => Some(Rounds::Invalid),
-            Ok(count) if count < start.due => Some(Rounds::Enough),
-            Ok(_) => None,
+        let kept = match self.kept(side, first, end) {
+            Err(missed) => return Some(missed),
+            Ok(_) if start.is_valid => return Some(Rounds::Invalid),
+            Ok(kept) => kept,
+        };
+        let due = u64::try_from(start.due).ok()?;
+        let is_polled = kept.polls && kept.by < kept.from;
+        if is_polled && due <= kept.later.saturating_add(1)
+            || self.suffices(kept, side, first, end)
+        {
+            None
+        } else {
+            Some(Rounds::Enough)
         }
     }
 

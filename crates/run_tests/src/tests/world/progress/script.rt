@@ -33,6 +33,18 @@ fn side_of(word: &str) -> Option<Side> {
     }
 }
 
+/// A candidate with the address of the other side, and a greater priority.
+fn again(side: Side) -> &'static str {
+    match side {
+        Side::A => {
+            "candidate:2 1 udp 2130706432 10.0.0.2 2000 typ srflx raddr 10.0.0.7 rport 7000"
+        }
+        Side::B => {
+            "candidate:2 1 udp 2130706432 10.0.0.1 1000 typ srflx raddr 10.0.0.7 rport 7000"
+        }
+    }
+}
+
 /// A call by its word.
 fn step_of(side: Side, word: &str) -> Option<Step> {
     match word {
@@ -41,6 +53,7 @@ fn step_of(side: Side, word: &str) -> Option<Step> {
         "host" => Some(Step::Host(home(side))),
         "peer" => Some(Step::Peer(home(other(side)))),
         "absent" => Some(Step::Peer(at(9, 9000))),
+        "again" => Some(Step::PeerLine(again(side))),
         "lesser" => Some(Step::PeerLine("candidate:1 1 udp 999 10.0.0.2 2000 typ host")),
         "greater" => Some(Step::PeerLine("candidate:1 1 udp 1000 10.0.0.3 2000 typ host")),
         "tcp" => Some(Step::PeerLine(

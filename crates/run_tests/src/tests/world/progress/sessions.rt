@@ -241,27 +241,27 @@ pub(super) fn play(stage: &mut Stage, play: &mut Play) -> Told {
     with_a_conflict_or_a_late_candidate(stage, play)
 }
 
-/// With one pair each call of A comes exactly when the pair is due, so `rounds` does not apply. With a short round trip
-/// neither does `connect`.
+/// The round trips are 40, 100 and 1000 ms. Each agent has one pair, and its first call comes exactly when the pair is due:
+/// the clauses say by when both select a path, and they do so then.
 fn on_one_link(stage: &mut Stage, play: &mut Play) -> Told {
     Story("on_one_link").holds(&[
         has_times(
             stage,
             play,
             plain(20, false),
-            covered(40, 70, None, 70, None),
+            covered(40, 70, Some(40), 70, Some(70)),
         ),
         has_times(
             stage,
             play,
             plain(50, false),
-            covered(100, 150, None, 150, None),
+            covered(100, 150, Some(100), 150, Some(150)),
         ),
         has_times(
             stage,
             play,
             plain(500, false),
-            covered(1000, 1500, None, 1500, Some(1500)),
+            covered(1000, 1500, Some(1000), 1500, Some(1500)),
         ),
     ])
 }
@@ -295,7 +295,17 @@ fn with_a_conflict_or_a_late_candidate(stage: &mut Stage, play: &mut Play) -> To
         ..plain(50, false)
     };
     Story("with_a_conflict_or_a_late_candidate").holds(&[
-        has_times(stage, play, conflict, covered(100, 353, None, 650, None)),
-        has_times(stage, play, late, covered(100, 150, None, 650, None)),
+        has_times(
+            stage,
+            play,
+            conflict,
+            covered(100, 353, None, 650, Some(650)),
+        ),
+        has_times(
+            stage,
+            play,
+            late,
+            covered(100, 150, Some(100), 150, Some(150)),
+        ),
     ])
 }
