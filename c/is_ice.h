@@ -308,6 +308,14 @@ IS_ICE_QUIET_CALL int32_t is_ice_set_controlling(is_ice_agent *agent, bool contr
  * never finds a path, and no call reports it. IS_ICE_OK. Value: false. */
 IS_ICE_QUIET_CALL int32_t is_ice_set_lite(is_ice_agent *agent, bool lite);
 
+/* is_ice_set_renomination - lets each nomination replace the ones before, so that both agents select the same path
+ * whatever priorities each has. Set it at both agents or at none, before the first packet: agree on it in signaling, by
+ * `a=ice-options:renomination`. A controlling agent then puts USE-CANDIDATE only on checks of the pair that it selected
+ * last. A controlled one selects the pair on which it received the last request with USE-CANDIDATE, once a check of its
+ * own was answered on it; until then it keeps its path. If only the controlled agent has it, its path may change at each
+ * check of the other. IS_ICE_OK. Value: false. */
+IS_ICE_QUIET_CALL int32_t is_ice_set_renomination(is_ice_agent *agent, bool enabled);
+
 /* is_ice_set_lite_timeout - sets how long a lite agent keeps a pair after the last check of the other agent on it. A
  * pair without any counts as checked at its first is_ice_handle_timeout call. With 0 the next such call after a check
  * removes the pair. Against Firefox set 30 s: it still sends checks after a cut of 20 s, and does not nominate again

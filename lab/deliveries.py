@@ -103,7 +103,7 @@ class Deliveries:
     def _arrivals(self, side: str, path: Path, step: Step) -> list[Handed]:
         assert step.sent is not None
         there, before = other(side), step.before[side]
-        nominates = all(p.is_nominated for p in step.after[side].on(path))
+        nominates = all(step.after[side].stays_nominated(p) for p in step.after[side].on(path))
         found = []
         for at in self.session.arrivals.get((there, step.sent.returned.contents), ()):
             agent, given = self.steps[at].before[there], self.steps[at].entry.given

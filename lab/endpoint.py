@@ -68,6 +68,7 @@ class Endpoint:
         s, agent = self.settings, self.agent
         agent.set_controlling(s.controlling)
         agent.set_ice_lite(s.lite)
+        agent.set_renomination(s.renomination)
         for value, setter in ((s.initial_rto_ms, agent.set_initial_stun_rto), (s.max_rto_ms, agent.set_max_stun_rto),
                               (s.advance_ms, agent.set_timing_advance)):
             if value is not None:

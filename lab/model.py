@@ -57,6 +57,7 @@ class Agent:
     tie_breaker: int
     controlling: bool = False
     lite: bool = False
+    renominates: bool = False
     peer: IceCreds | None = None
     timing: Timing = Timing()
     advance: int = 50 * MILLISECOND
@@ -66,6 +67,7 @@ class Agent:
     pairs: tuple[Pair, ...] = ()
     next_number: int = 0
     selected: int | None = None
+    last_nominated: int | None = None  # by the peer
     queue: tuple[Request, ...] = ()
     last: int | None = None
 
@@ -82,6 +84,10 @@ class Agent:
     def is_eligible(self, pair: Pair) -> bool:
         """Whether it may be selected."""
         return pair.is_valid and (self.controlling or pair.is_nominated)
+
+    def stays_nominated(self, pair: Pair) -> bool:
+        """Whether its checks have USE-CANDIDATE if the agent is controlling."""
+        return pair.is_nominated and (not self.renominates or pair.number == self.selected)
 
     def request_at(self, now: int) -> Request | None:
         """Returns the early request that a `handle_timeout` serves."""
@@ -194,8 +200,11 @@ class Agent:
         return replace(self, pairs=tuple(change(p) if p.number == number else p for p in self.pairs))
 
     def _nominate(self) -> tuple[Agent, tuple[Path, ...]]:
-        top = max((p for p in self.pairs if self.is_eligible(p)), key=lambda p: p.priority, default=None)
-        if top is None or any(p.number == self.selected and p.priority == top.priority for p in self.pairs):
+        eligible = [p for p in self.pairs if self.is_eligible(p)]
+        follows = self.renominates and not self.controlling and self.last_nominated is not None
+        favored = (self.last_nominated, self.selected) if follows else ()
+        top = next((p for number in favored for p in eligible if p.number == number), max(eligible, key=lambda p: p.priority, default=None))
+        if top is None or any(p.number == self.selected and (p is top if follows else p.priority == top.priority) for p in self.pairs):
             return self, ()
         new = replace(self, selected=top.number)
         if not top.is_nominated and (self.controlling or self.lite):
@@ -237,6 +246,8 @@ class Agent:
             pair = Pair(new.next_number, local, remote, new._priority(local, remote))
             new = replace(new, pairs=(*new.pairs, pair), next_number=new.next_number + 1)
         was_valid = pair.is_valid
+        if not new.controlling and q.use_candidate:
+            new = replace(new, last_nominated=pair.number)
         new = new._changed(pair.number, lambda p: self._served(new, p, q))
         new, told = new._nominate() if new.controlling and was_valid else (new, ())
         return new, Issued("success", (new.local[local].base, q.source), q.id), told

@@ -40,6 +40,7 @@ class AgentSettings:
 
     controlling: bool = False
     lite: bool = False
+    renomination: bool = False  # each nomination replaces the earlier ones
     initial_rto_ms: float | None = None
     max_rto_ms: float = 3000.0
     advance_ms: float | None = None
@@ -113,15 +114,27 @@ def names() -> list[str]:
 def load(name: str, changes: tuple[str, ...] = ()) -> Scenario:
     """Loads a scenario of lab/scenarios, or another file, with changes like `a.initial_rto_ms=100`."""
     path = Path(name) if name.endswith(".toml") else FOLDER / f"{name}.toml"
-    try:
-        table = tomllib.loads(path.read_text(encoding="utf-8"))
-    except FileNotFoundError:
-        raise BadScenario(f"there is no scenario {name}: {', '.join(names())}") from None
-    except tomllib.TOMLDecodeError as fault:
-        raise BadScenario(f"{path}: {fault}") from None
+    table = _read(path)
     for change in changes:
         _change(table, change)
     return scenario_of(path.stem, table)
+
+
+def _read(path: Path) -> dict[str, Any]:
+    """Reads a TOML file. With `like`, what it does not say is as in that scenario."""
+    try:
+        table = tomllib.loads(path.read_text(encoding="utf-8"))
+    except FileNotFoundError:
+        raise BadScenario(f"there is no scenario {path.stem}: {', '.join(names())}") from None
+    except tomllib.TOMLDecodeError as fault:
+        raise BadScenario(f"{path}: {fault}") from None
+    like = table.pop("like", None)
+    return table if like is None else _over(_read(path.parent / f"{like}.toml"), table)
+
+
+def _over(table: dict[str, Any], changes: dict[str, Any]) -> dict[str, Any]:
+    both = {key: _over(table[key], value) for key, value in changes.items() if isinstance(value, dict) and isinstance(table.get(key), dict)}
+    return {**table, **changes, **both}
 
 
 def scenario_of(name: str, table: dict[str, Any]) -> Scenario:

@@ -110,6 +110,7 @@ static void introduce(struct story *s)
     uint8_t line[256];
     size_t length, index = 0;
     QUIET(IS_ICE_OK, is_ice_set_lite(&s->b, false));
+    QUIET(IS_ICE_OK, is_ice_set_renomination(&s->b, false));
     QUIET(IS_ICE_OK, is_ice_set_tie_breaker(&s->b, 5));
     QUIET(IS_ICE_OK, is_ice_set_max_pairs(&s->b, 100));
     QUIET(IS_ICE_OK, is_ice_set_max_discovered(&s->b, 32));

@@ -68,6 +68,12 @@ class Scenarios(unittest.TestCase):
                 scenario.scenario_of("x", table)
             self.assertIn(word, str(fault.exception))
 
+    def test_a_scenario_like_another(self) -> None:
+        own, other = scenario.load("two_links_renominated"), scenario.load("two_links_nat")
+        self.assertEqual((own.link, own.nat, own.a.interface), (other.link, other.nat, other.a.interface))
+        self.assertTrue(own.symmetric and own.a.renomination and own.b.renomination)
+        self.assertFalse(other.symmetric or other.a.renomination or other.b.renomination)
+
     def test_a_change_of_a_setting(self) -> None:
         changed = scenario.load("two_homes", ("a.initial_rto_ms=100", "link.home.loss=0.5"))
         self.assertEqual((changed.a.initial_rto_ms, changed.link["home"].loss), (100, 0.5))

@@ -192,6 +192,7 @@ PROTOTYPES: dict[str, list[object]] = {
     "is_ice_agent_new": [_AGENT, *_BYTES, *_BYTES, c_uint64],
     "is_ice_set_controlling": [_AGENT, c_bool],
     "is_ice_set_lite": [_AGENT, c_bool],
+    "is_ice_set_renomination": [_AGENT, c_bool],
     "is_ice_set_lite_timeout": [_AGENT, c_uint64],
     "is_ice_set_tie_breaker": [_AGENT, c_uint64],
     "is_ice_set_max_pairs": [_AGENT, c_size_t],

@@ -196,6 +196,16 @@ class IceAgent:
         """
         done(self._c.is_ice_set_lite(self._at, enabled))
 
+    def set_renomination(self, enabled: bool) -> None:
+        """Lets each nomination replace the ones before, so that both agents select the same path whatever priorities each has. Default: False.
+
+        Set it at both agents or at none, and before the first packet: agree on it in signaling, by `a=ice-options:renomination`. A
+        controlling agent then puts USE-CANDIDATE only on checks of the pair that it selected last. A controlled agent selects the
+        pair on which it received the last request with USE-CANDIDATE, once a check of its own was answered on it; until then it
+        keeps its path. If only the controlled agent has it, its path may change at each check of the peer.
+        """
+        done(self._c.is_ice_set_renomination(self._at, enabled))
+
     def set_control_tie_breaker(self, tie_breaker: int) -> None:
         """Sets the number that decides role conflicts: the agent with the greater one keeps its role."""
         done(self._c.is_ice_set_tie_breaker(self._at, in_range(tie_breaker, 64, "a tie-breaker")))

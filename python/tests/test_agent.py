@@ -85,6 +85,39 @@ def play(agents: tuple[IceAgent, IceAgent], rounds: int = 10) -> tuple[list[obje
             polled.append(event)
     return events
 
+def last_paths(renomination: bool) -> tuple[SocketAddress | None, SocketAddress | None]:
+    """Plays two agents that rank two paths differently. Returns the address of the first one on the path that each selected last.
+
+    The path that the first agent prefers begins to work after half a second.
+    """
+    other_here = SocketAddress("10.0.0.3", 1000)
+    a, b = IceAgent(IceCreds("AAAA", "P" * 22), tie_breaker=10), IceAgent(IceCreds("BBBB", "Q" * 22), tie_breaker=5)
+    a.set_controlling(True)
+    for agent, other, addresses in ((a, b, (HERE, other_here)), (b, a, (THERE,))):
+        agent.set_renomination(renomination)
+        agent.set_remote_credentials(other.local_credentials)
+        for preference, address in zip((2000, 1000), addresses, strict=False):
+            agent.set_local_preference(preference)
+            agent.add_local_candidate(Candidate.host(address))
+    a.add_remote_candidate(LINE_OF_THERE)
+    b.add_remote_candidate("candidate:1 1 udp 1000 10.0.0.1 1000 typ host")
+    b.add_remote_candidate("candidate:2 1 udp 2000 10.0.0.3 1000 typ host")
+    selected: dict[IceAgent, SocketAddress] = {}
+    for ms in range(0, 5000, 50):
+        now = BEGINNING + ms * SECOND // 1000
+        for agent in (a, b):
+            agent.handle_timeout(now)
+        for _ in range(4):
+            for agent, other in ((a, b), (b, a)):
+                while packet := agent.poll_transmit():
+                    if ms >= 500 or HERE not in (packet.source, packet.destination):
+                        other.handle_packet(now, packet.source, packet.destination, packet.contents)
+                while event := agent.poll_event():
+                    if isinstance(event, NominatedSend):
+                        selected[agent] = event.source if agent is a else event.destination
+    return selected.get(a), selected.get(b)
+
+
 
 def seconds_of_a_cut(agents: tuple[IceAgent, IceAgent]) -> float:
     """Delivers nothing after a check of the first agent was answered. Returns how long that agent then is connected."""
@@ -232,6 +265,10 @@ class Errors(unittest.TestCase):
         self.assertRaises(TooFewRandomBytes, self.agent.handle_timeout, BEGINNING, b"short")
         self.assertRaises(ValueError, self.agent.set_initial_stun_rto, -1)
         self.assertRaises(ValueError, self.agent.set_max_candidate_pairs, 1 << 64)
+
+    def test_renomination(self) -> None:
+        self.assertEqual(last_paths(False), (HERE, SocketAddress("10.0.0.3", 1000)))
+        self.assertEqual(last_paths(True), (HERE, HERE))
 
     def test_bytes_that_are_no_message(self) -> None:
         self.assertRaises(Unparsed, self.agent.handle_packet, BEGINNING, THERE, HERE, b"media")

@@ -246,6 +246,7 @@ unsafe extern "C" {
     pub(crate) safe fn is_ice_agent_free(agent: &mut Agent);
     pub(crate) safe fn is_ice_set_controlling(agent: &mut Agent, controlling: bool) -> i32;
     pub(crate) safe fn is_ice_set_lite(agent: &mut Agent, lite: bool) -> i32;
+    pub(crate) safe fn is_ice_set_renomination(agent: &mut Agent, enabled: bool) -> i32;
     pub(crate) safe fn is_ice_set_lite_timeout(agent: &mut Agent, nanoseconds: u64) -> i32;
     pub(crate) safe fn is_ice_set_tie_breaker(agent: &mut Agent, tie_breaker: u64) -> i32;
     pub(crate) safe fn is_ice_set_max_pairs(agent: &mut Agent, limit: usize) -> i32;

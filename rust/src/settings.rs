@@ -60,6 +60,17 @@ impl IceAgent {
         self.tell("lite", |agent| ffi::is_ice_set_lite(agent, enabled));
     }
 
+    /// Lets each nomination replace the ones before, so that both agents select the same path whatever priorities each has.
+    /// Default: false, as in the original.
+    ///
+    /// Set it at both agents or at none, and before the first packet: agree on it in signaling, by `a=ice-options:renomination`.
+    /// A controlling agent then puts USE-CANDIDATE only on checks of the pair that it selected last. A controlled agent selects the
+    /// pair on which it received the last request with USE-CANDIDATE, once a check of its own was answered on it; until then it
+    /// keeps its path. If only the controlled agent has it, its path may change at each check of the peer.
+    pub fn set_renomination(&mut self, enabled: bool) {
+        self.tell("renomination", |agent| ffi::is_ice_set_renomination(agent, enabled));
+    }
+
     /// Sets the pacing interval Ta: the least time between two timeouts, each of which sends at most one packet. Default: 50 ms.
     pub fn set_timing_advance(&mut self, duration: Duration) {
         self.tell("pacing interval", |agent| ffi::is_ice_set_timing_advance(agent, nanoseconds(duration)));

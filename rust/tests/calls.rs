@@ -154,6 +154,7 @@ fn delays_are_set() {
     assert_eq!(agent.ice_timeout(), ms(400));
     agent.set_timing_advance(ms(20));
     agent.set_lite_timeout(ms(30000));
+    agent.set_renomination(true);
     agent.set_mtu(600..=700);
     assert_eq!((agent.mtu(), agent.mtu_warn()), (600, 700));
 }

@@ -12,6 +12,7 @@ mod moments;
 mod pairs;
 mod progress;
 mod queue;
+mod renomination;
 mod requests;
 mod restarts;
 mod roles;

@@ -33,6 +33,7 @@ pub enum CallName {
     Agent,
     Controlling,
     Lite,
+    Renomination,
     Remote,
     Pairs,
     Retransmits,
@@ -61,7 +62,7 @@ struct Row {
 }
 
 /// The calls of scripts: the word of each, and its fields.
-static CALLS: [Row; 19] = [
+static CALLS: [Row; 20] = [
     Row {
         word: "agent",
         name: CallName::Agent,
@@ -75,6 +76,11 @@ static CALLS: [Row; 19] = [
     Row {
         word: "lite",
         name: CallName::Lite,
+        fields: &["flag"],
+    },
+    Row {
+        word: "renomination",
+        name: CallName::Renomination,
         fields: &["flag"],
     },
     Row {
@@ -318,6 +324,7 @@ fn plain_call(name: CallName, fields: Fields<'_>) -> Result<Call, Fault> {
     Ok(match name {
         CallName::Controlling => Call::SetControlling(fields.flag("flag")?),
         CallName::Lite => Call::SetIceLite(fields.flag("flag")?),
+        CallName::Renomination => Call::SetRenomination(fields.flag("flag")?),
         CallName::Pairs => Call::SetMaxCandidatePairs(fields.count("number")?),
         CallName::Retransmits => Call::SetMaxStunRetransmits(fields.positive("number")?),
         CallName::Rto => Call::SetInitialStunRto(fields.duration("number")?),

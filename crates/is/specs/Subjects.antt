@@ -1,7 +1,7 @@
 -- Which function of a run makes a call.
 use Rattle.std.specs.Prelude.{Bool, true, false}
-use Rattle.is_rules.specs.Steps.{Call, SetControlTieBreaker, SetMaxCandidatePairs, SetMaxDiscovered, SetIceLite, SetTimingAdvance, SetInitialStunRto}
-use Rattle.is_rules.specs.Steps.{SetMaxStunRto, SetLiteTimeout, SetLocalPreference, SetControlling, SkipPairIds, ReceivePacket, HandleTimeout}
+use Rattle.is_rules.specs.Steps.{Call, SetControlTieBreaker, SetMaxCandidatePairs, SetMaxDiscovered, SetIceLite, SetRenomination, SetTimingAdvance}
+use Rattle.is_rules.specs.Steps.{SetInitialStunRto, SetMaxStunRto, SetLiteTimeout, SetLocalPreference, SetControlling, SkipPairIds, ReceivePacket, HandleTimeout}
 
 -- a setting that takes any value
 abbrev pub is_plain_setting : {P : Type 0} → Call P → Bool
@@ -9,6 +9,7 @@ is_plain_setting (SetControlTieBreaker _) = true
 is_plain_setting (SetMaxCandidatePairs _) = true
 is_plain_setting (SetMaxDiscovered _) = true
 is_plain_setting (SetIceLite _) = true
+is_plain_setting (SetRenomination _) = true
 is_plain_setting (SetTimingAdvance _) = true
 is_plain_setting (SetInitialStunRto _) = true
 is_plain_setting (SetMaxStunRto _) = true

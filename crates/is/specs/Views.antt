@@ -5,8 +5,8 @@ use Rattle.std.specs.Range.{range_inclusive_start, range_inclusive_end}
 use Rattle.is_proto.specs.Packets.{packet_of}
 use Rattle.is_rules.specs.Steps as agent
 use Rattle.is.specs.declared.calls.AgentCall.{AgentCall}
-use Rattle.is.specs.declared.calls.AgentCall.TheVariants.{SetMtu, SetControlTieBreaker, SetMaxCandidatePairs, SetMaxDiscovered, SetIceLite, SetTimingAdvance}
-use Rattle.is.specs.declared.calls.AgentCall.TheVariants.{SetInitialStunRto, SetMaxStunRto, SetMaxStunRetransmits, SetLiteTimeout, SetLocalPreference}
+use Rattle.is.specs.declared.calls.AgentCall.TheVariants.{SetMtu, SetControlTieBreaker, SetMaxCandidatePairs, SetMaxDiscovered, SetIceLite, SetRenomination}
+use Rattle.is.specs.declared.calls.AgentCall.TheVariants.{SetTimingAdvance, SetInitialStunRto, SetMaxStunRto, SetMaxStunRetransmits, SetLiteTimeout, SetLocalPreference}
 use Rattle.is.specs.declared.calls.AgentCall.TheVariants.{SetControlling, SetLocalCredentials, SetRemoteCredentials, SkipPairIds}
 use Rattle.is.specs.declared.calls.AgentCall.TheVariants.{AddLocalCandidate, AddRemoteCandidate, InvalidateCandidate, RestartIce}
 use Rattle.is.specs.declared.calls.AgentCall.TheVariants.{RecreateCandidatePairs, Packet, HandleTimeout, PollTransmit, PollTimeout}
@@ -22,6 +22,7 @@ call_view (SetControlTieBreaker tie_breaker) = agent.SetControlTieBreaker tie_br
 call_view (SetMaxCandidatePairs limit) = agent.SetMaxCandidatePairs limit
 call_view (SetMaxDiscovered limit) = agent.SetMaxDiscovered limit
 call_view (SetIceLite lite) = agent.SetIceLite lite
+call_view (SetRenomination renominates) = agent.SetRenomination renominates
 call_view (SetTimingAdvance advance) = agent.SetTimingAdvance advance.0
 call_view (SetInitialStunRto rto) = agent.SetInitialStunRto rto.0
 call_view (SetMaxStunRto rto) = agent.SetMaxStunRto rto.0

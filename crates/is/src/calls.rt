@@ -23,6 +23,8 @@ pub enum AgentCall<P> {
     SetMaxDiscovered(Option<usize>),
     /// `set_ice_lite`. Its result is `Done`.
     SetIceLite(bool),
+    /// `set_renomination`. Its result is `Done`.
+    SetRenomination(bool),
     /// `set_timing_advance`. Its result is `Done`.
     SetTimingAdvance(Duration),
     /// `set_initial_stun_rto`. Its result is `Done`.

@@ -1,14 +1,14 @@
 -- What an agent returns of its pairs.
-use Rattle.std.specs.Prelude.{ℕ, ◌==◌, Bool, false, Option, option_map}
-use Rattle.std.specs.Option.{option_map_or}
+use Rattle.std.specs.Prelude.{ℕ, Bool, Option, option_map}
 use Rattle.is_pair.specs.Due.{due_moment}
 use Rattle.is_pair.specs.Pairs.{PairRecord}
 use Rattle.is_rules.specs.Agent.{AgentRecord}
+use Rattle.is_rules.specs.Nominating.{is_named_by}
 
 module _ {H P : Type 0} where
   -- the pair that was selected last
   abbrev pub is_selected : AgentRecord H P → PairRecord → Bool
-  is_selected a p = option_map_or (λ number. number == p.number) a.selected_pair false
+  is_selected a p = is_named_by a.selected_pair p
 
   -- when its next check is due, as of the last `handle_timeout` call
   abbrev pub next_due : AgentRecord H P → PairRecord → Option ℕ

@@ -46,6 +46,8 @@ pub struct Agent<H, P> {
     pub(crate) timing_advance: Duration,
     /// The agent has only host candidates, and responds to checks without sending any (RFC 8445, section 2.5).
     pub(crate) lite: bool,
+    /// Each nomination replaces the ones before.
+    pub(crate) renominates: bool,
     /// The greatest length of a packet in bytes.
     pub(crate) mtu: usize,
     /// The length in bytes from which packets cause a warning.
@@ -69,6 +71,8 @@ pub struct Agent<H, P> {
     pub(crate) next_number: u64,
     /// The number of the pair that was selected last.
     pub(crate) selected_pair: Option<u64>,
+    /// The number of the pair that the peer nominated last.
+    pub(crate) last_nominated: Option<u64>,
     /// The early requests: received before the remote credentials.
     pub(crate) queue: VecDeque<Waiting>,
     pub(crate) state: IceConnectionState,
@@ -147,6 +151,7 @@ impl<H: Sha1HmacProvider + Drop, P: LocalPreference> Agent<H, P> {
             timing: StunTiming::default(),
             timing_advance: Duration(50_000_000),
             lite: false,
+            renominates: false,
             mtu: DEFAULT_MTU,
             mtu_warn: DEFAULT_MTU_WARN,
             local_creds: creds,
@@ -162,6 +167,7 @@ impl<H: Sha1HmacProvider + Drop, P: LocalPreference> Agent<H, P> {
             contents: Vec::new(alloc),
             next_number: 0,
             selected_pair: None,
+            last_nominated: None,
             queue: VecDeque::new(alloc),
             state: IceConnectionState::New,
             last_moment: None,

@@ -49,7 +49,7 @@ impl<H: Sha1HmacProvider + Drop, P: LocalPreference> Agent<H, P> {
         Draft {
             path: self.path_of(pair),
             priority: check_priority_at(&self.local, pair.local_idx()),
-            nominated: pair.is_nominated(),
+            nominated: self.stays_nominated(pair),
         }
     }
 

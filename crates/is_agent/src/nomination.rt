@@ -1,18 +1,21 @@
 //! Nomination (RFC 8445, section 8.1.1): selecting a pair; the rules: `is_rules::nomination`.
 //!
-//! Of the eligible pairs, one with the greatest priority is selected.
+//! Of the eligible pairs, one with the greatest priority is selected. An agent that follows its peer selects the pair that the peer
+//! nominated last.
 
 ghost use Rattle.std.specs.Prelude.{◌≡◌, ℕ};
 ghost use Rattle.is_agent.specs.View.{record_of};
 ghost use Rattle.is_agent.specs.Room.{HasEventRoom, HasPacketRoom, HasCheckRoomAt, UsesNews};
-ghost use Rattle.is_rules.specs.Nominating.{nominated_emitted, Nominates, NominatesWhere};
+ghost use Rattle.is_rules.specs.Nominating.{followed, nominated_emitted, stays_nominated, Nominates, NominatesWhere};
+ghost use Rattle.is_pair.specs.Pairs.{PairRecord};
 
 use crate::agent::Agent;
 use is_candidate::LocalPreference;
+use is_pair::pair::CandidatePair;
 use is_proto::Sha1HmacProvider;
 use is_rules::emitted::Path;
 use is_rules::event::IceAgentEvent;
-use is_rules::nomination::select_pair;
+use is_rules::nomination::{is_named_by, select_pair};
 use is_rules::sides::Sides;
 
 impl<H: Sha1HmacProvider + Drop, P: LocalPreference> Agent<H, P> {
@@ -34,8 +37,27 @@ impl<H: Sha1HmacProvider + Drop, P: LocalPreference> Agent<H, P> {
         self.stats.nomination_send_count = self.stats.nomination_send_count.saturating_add(1);
     }
 
-    /// Selects an eligible pair with the greatest priority, unless the pair that was selected last has that priority. Returns
-    /// the path that was selected.
+    /// The number of the pair that the agent follows: the one that the peer nominated last.
+    fn followed(&self) -> Option<u64>
+        ensures { result ≡ followed (record_of self.now) }
+    {
+        if self.renominates && !self.controlling {
+            self.last_nominated
+        } else {
+            None
+        }
+    }
+
+    /// The pair is nominated, and its nomination is not replaced by a later one.
+    pub(crate) fn stays_nominated(&self, pair: &CandidatePair) -> bool
+        ensures { result ≡ stays_nominated (record_of self.now) pair.now }
+    {
+        pair.is_nominated() && (!self.renominates || is_named_by(self.selected_pair, pair))
+    }
+
+    /// Selects an eligible pair with the greatest priority, unless the pair that was selected last has that priority. If the
+    /// agent follows its peer, it selects the pair that the peer nominated last, once it is eligible. Returns the path that
+    /// was selected.
     pub(crate) fn evaluate_nomination(&mut self) -> Option<Path>
         requires room { HasEventRoom 1 self.old }
         ensures nominates { Nominates (record_of self.old) result (record_of self.new) }
@@ -43,13 +65,14 @@ impl<H: Sha1HmacProvider + Drop, P: LocalPreference> Agent<H, P> {
         ensures packets { HasPacketRoom self.old → HasPacketRoom self.new }
         ensures checks { (now : ℕ) → HasCheckRoomAt now self.old → HasCheckRoomAt now self.new }
     {
+        let followed = self.followed();
         let sides = Sides {
             local: &self.local,
             remote: &self.remote,
             controlling: self.controlling,
             lite: self.lite,
         };
-        let path = select_pair(sides, &mut self.pairs, &mut self.selected_pair);
+        let path = select_pair(sides, followed, &mut self.pairs, &mut self.selected_pair);
         self.emit_nominated(path);
         path
     }

@@ -19,9 +19,9 @@ ghost use Rattle.is_stun.specs.Writing.{written};
 ghost use Rattle.is_rules.specs.Sending.{carried, with_packet};
 ghost use Rattle.is_rules.specs.Roles.{switched};
 ghost use Rattle.is_agent.specs.Ready.{IsReady};
-ghost use Rattle.is_rules.specs.Serving.{names_another, is_misled, is_admitted, sender_at, pair_served, replied, RecordsAndResponds, AddsPairAndResponds};
-ghost use Rattle.is_rules.specs.Serving.{FindsOrAddsPair, AddsUnknownSender, CountsAndServes, SendsRoleConflict, ResolvesRoleConflict, Serves, Chooses, wants_pair_at, wants_pair};
-ghost use Rattle.is_rules.specs.Serving.{lacks_number, MayRefuseRequest};
+ghost use Rattle.is_rules.specs.Serving.{names_another, is_misled, is_admitted, sender_at, nominated_last, pair_served, replied, RecordsAndResponds};
+ghost use Rattle.is_rules.specs.Serving.{AddsPairAndResponds, FindsOrAddsPair, AddsUnknownSender, CountsAndServes, SendsRoleConflict, ResolvesRoleConflict, Serves, Chooses};
+ghost use Rattle.is_rules.specs.Serving.{wants_pair_at, wants_pair, lacks_number, MayRefuseRequest};
 
 use crate::agent::Agent;
 use is_candidate::candidate::equality::TEMPORARY_FOUNDATION;
@@ -203,6 +203,17 @@ impl<H: Sha1HmacProvider + Drop, P: LocalPreference> Agent<H, P> {
         self.controlling && is_valid_at(&self.pairs, number)
     }
 
+    /// The number of the pair that the peer nominated last, after the request at the pair with this number.
+    fn nominated_last(&self, request: &Request<'_>, number: u64) -> Option<u64>
+        ensures { result ≡ nominated_last self.now.controlling (request_view request.now) number self.now.last_nominated }
+    {
+        if !self.controlling && request.use_candidate {
+            Some(number)
+        } else {
+            self.last_nominated
+        }
+    }
+
     /// The pair records the request.
     fn serve_pair(&mut self, request: &Request<'_>, number: u64)
         requires packets { HasPacketRoom self.old }
@@ -214,6 +225,7 @@ impl<H: Sha1HmacProvider + Drop, P: LocalPreference> Agent<H, P> {
             controlling: self.controlling,
             lite: self.lite,
         };
+        self.last_nominated = self.nominated_last(request, number);
         serve_pair(&mut self.pairs, number, request, standing);
     }
 

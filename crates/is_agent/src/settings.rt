@@ -89,6 +89,26 @@ impl<H: Sha1HmacProvider + Drop, P: LocalPreference> Agent<H, P> {
         self.lite = lite;
     }
 
+    /// Whether each nomination replaces the ones before.
+    pub fn renomination(&self) -> bool
+        ensures { result ≡ (record_of self.now).renominates }
+    {
+        self.renominates
+    }
+
+    /// Sets whether each nomination replaces the ones before, so that both agents select the same path whatever priorities each
+    /// has: false until it is set. Set it at both agents or at none, and before the first packet.
+    ///
+    /// A controlling agent then puts USE-CANDIDATE only on checks of the pair that it selected last. A controlled agent selects
+    /// the pair on which it received the last request with USE-CANDIDATE, once a check of its own was answered on it. Until
+    /// then it keeps the pair that it selected last. With a controlling peer that nominates several pairs and repeats
+    /// USE-CANDIDATE on each, a controlled agent would change its path at each of these checks.
+    pub fn set_renomination(&mut self, renominates: bool)
+        ensures { record_of self.new ≡ record (record_of self.old) { renominates = renominates } }
+    {
+        self.renominates = renominates;
+    }
+
     /// Sets the pacing interval of what the agent sends, Ta in RFC 8445, section 14.2: 50 ms until it is set.
     pub fn set_timing_advance(&mut self, advance: Duration)
         ensures { record_of self.new ≡ record (record_of self.old) { timing_advance = advance.0 } }

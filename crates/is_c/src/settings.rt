@@ -40,6 +40,19 @@ pub extern "C" fn is_ice_set_lite(alloc: Global, slot: &mut Slot, lite: bool) ->
     codes::OK
 }
 
+/// Lets each nomination replace the ones before, so that both agents select the same path.
+#[unsafe(no_mangle)]
+pub extern "C" fn is_ice_set_renomination(alloc: Global, slot: &mut Slot, enabled: bool) -> i32
+    ensures { At (Becomes (λ a. record a { renominates = enabled })) (held_by slot.old) result (held_by slot.new) }
+{
+    let Some(mut home) = slot.take(alloc) else {
+        return codes::NO_AGENT;
+    };
+    home.agent.set_renomination(enabled);
+    *slot = Slot::of(home);
+    codes::OK
+}
+
 /// Sets the number that resolves role conflicts.
 #[unsafe(no_mangle)]
 pub extern "C" fn is_ice_set_tie_breaker(alloc: Global, slot: &mut Slot, tie_breaker: u64) -> i32

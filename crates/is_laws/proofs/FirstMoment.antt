@@ -18,10 +18,11 @@ use Rattle.is_rules.specs.declared.emitted.Emitted.{Emitted}
 use Rattle.is_rules.specs.declared.emitted.Issued.{Issued}
 use Rattle.is_rules.specs.declared.emitted.Path.{Path}
 use Rattle.is_rules.specs.Emitted.{issued_as}
-use Rattle.is_rules.specs.Nominating.{nominated_by_self, stands_at, Nominates}
+use Rattle.is_rules.specs.Nominating.{followed, is_eligible, nominated_by_self, remains, selection_of, Nominates}
 use Rattle.is_rules.specs.Progress.{ChecksOn}
 use Rattle.is_rules.specs.Sending.{path_of}
 use Rattle.is_rules.specs.Timeouts.{at_moment, is_given_up, given_up_gone, GivesUp, MaintainsPairs}
+use Rattle.is_rules.proofs.Choosing.{chosen-able}
 use Rattle.is_rules.proofs.Frames.{either}
 use Rattle.is_rules.proofs.LogLaws.{none_pass}
 use Rattle.is_rules.proofs.Mild.{Fixed}
@@ -76,16 +77,19 @@ module _ (now by : ℕ) (begun : by ≤ now) where
     named-ready t old new path h distinct p has (due, inl invalid) = (p, from (announces old new path h), alike-none p, (due, inl invalid)) where
       from : Announces old path new → Has new.pairs p
       from (None, greatest, (is, made)) = subst (λ (a : AgentRecord H P). Has a.pairs p) (sym made) has
-      from (Some top, (top_has, eligible, most), k) = either (stands_at old.selected_pair top.priority old.pairs) k
+      from (Some top, chosen, k) = either (remains (followed old) top (selection_of old)) k
           (λ _ l. subst (λ (a : AgentRecord H P). Has a.pairs p) (sym l.1) has)
           (λ _ l. subst (λ (a : AgentRecord H P). Has a.pairs p) (sym l.1) (still (is_numbered top.number p) refl
           (Has-mapped (change_at top.number (nominated_by_self old.controlling old.lite)) old.pairs p has))) where
+            able : Has old.pairs top × (is_eligible old.controlling top ≡ true)
+            able = chosen-able old.controlling (followed old) (selection_of old) top chosen
+
             still : (b : Bool) → is_numbered top.number p ≡ b
                 → Has (map (change_at top.number (nominated_by_self old.controlling old.lite)) old.pairs) (if b then nominated_by_self old.controlling old.lite p else p)
                 → Has (map (change_at top.number (nominated_by_self old.controlling old.lite)) old.pairs) p
             still true is there =
-                let one : p ≡ top = distinct p top has top_has (eqb-true p.number top.number is) in
-                absurd (and-left (is_valid top) (old.controlling || is_nominated top) (ap (λ (x : PairRecord). is_valid x) (sym one) ∙ invalid) eligible)
+                let one : p ≡ top = distinct p top has able.0 (eqb-true p.number top.number is) in
+                absurd (and-left (is_valid top) (old.controlling || is_nominated top) (ap (λ (x : PairRecord). is_valid x) (sym one) ∙ invalid) able.1)
             still false is there = there
 
     given-ready : (old new : AgentRecord H P) (path : Option Path) → GivesUp now old path new → old.lite ≡ false → Distinct old.pairs → (p : PairRecord) → Has old.pairs p

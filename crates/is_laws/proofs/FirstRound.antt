@@ -26,7 +26,7 @@ use Rattle.is_rules.specs.Runs.{IsFresh, Run}
 use Rattle.is_rules.specs.Sending.{path_of}
 use Rattle.is_rules.specs.Sound.{IsSound}
 use Rattle.is_rules.specs.Staying.{MayEnd, Stays}
-use Rattle.is_rules.specs.Steps.{Call, SetMtu, SetControlTieBreaker, SetMaxCandidatePairs, SetMaxDiscovered, SetTimingAdvance, SetLocalPreference, SetControlling, SetLocalCredentials, AddLocalCandidate, AddRemoteCandidate, Entry, ReceivePacket, HandleTimeout, PollTransmit, PollTimeout, PollEvent, Done, Step}
+use Rattle.is_rules.specs.Steps.{Call, SetMtu, SetControlTieBreaker, SetMaxCandidatePairs, SetMaxDiscovered, SetRenomination, SetTimingAdvance, SetLocalPreference, SetControlling, SetLocalCredentials, AddLocalCandidate, AddRemoteCandidate, Entry, ReceivePacket, HandleTimeout, PollTransmit, PollTimeout, PollEvent, Done, Step}
 use Rattle.is_rules.specs.Timeouts.{timeout_begun}
 use Rattle.is_rules.proofs.EffectLaws.{path_law}
 use Rattle.is_rules.proofs.Frames.{either}
@@ -205,6 +205,7 @@ module _ {H P : Type 0} where
     between-keeps (SetControlTieBreaker tie) e old new s t known last p sound has number on is (told, made, drawn) = inr (inr (keeps-to n old _ new (refl, λ d cs f. f) made))
     between-keeps (SetMaxCandidatePairs k) e old new s t known last p sound has number on is (told, made, drawn) = inr (inr (keeps-to n old _ new (refl, λ d cs f. f) made))
     between-keeps (SetMaxDiscovered limit) e old new s t known last p sound has number on is (told, made, drawn) = inr (inr (keeps-to n old _ new (refl, λ d cs f. f) made))
+    between-keeps (SetRenomination renominates) e old new s t known last p sound has number on is (told, made, drawn) = inr (inr (keeps-to n old _ new (refl, λ d cs f. f) made))
     between-keeps (SetTimingAdvance advance) e old new s t known last p sound has number on is (told, made, drawn) = inr (inr (keeps-to n old _ new (refl, λ d cs f. f) made))
     between-keeps (SetLocalPreference object) e old new s t known last p sound has number on is (told, made, drawn) = inr (inr (keeps-to n old _ new (refl, λ d cs f. f) made))
     between-keeps (SetControlling controlling) e old new s t known last p sound has number on is (told, made, drawn) = inr (inr (keeps-to n old _ new (refl, λ d cs f. f) made))

@@ -10,3 +10,6 @@ pub mod FirstChecks
 pub mod SharedRuns
 pub mod Lines
 pub mod Waited
+pub mod SeenPaths
+pub mod LastNominated
+pub mod OnePath

@@ -10,7 +10,7 @@ use Rattle.is_rules.specs.Logs.{Logged}
 use Rattle.is_rules.specs.Rounds.{RunsOn}
 use Rattle.is_rules.specs.Runs.{IsFresh, Run}
 use Rattle.is_rules.specs.Sound.{IsSound}
-use Rattle.is_rules.specs.Steps.{Call, SetMtu, SetControlTieBreaker, SetMaxCandidatePairs, SetMaxDiscovered, SetTimingAdvance, SetLocalPreference, SetControlling, SetLocalCredentials, ReceivePacket, HandleTimeout, PollTransmit, PollTimeout, PollEvent, Entry, Step}
+use Rattle.is_rules.specs.Steps.{Call, SetMtu, SetControlTieBreaker, SetMaxCandidatePairs, SetMaxDiscovered, SetRenomination, SetTimingAdvance, SetLocalPreference, SetControlling, SetLocalCredentials, ReceivePacket, HandleTimeout, PollTransmit, PollTimeout, PollEvent, Entry, Step}
 use Rattle.is_rules.proofs.EffectLaws.{path_law}
 use Rattle.is_rules.proofs.Enrolments.{by_waking}
 use Rattle.is_rules.proofs.LogLaws.{runs_sound}
@@ -44,6 +44,7 @@ module _ {H P : Type 0} (mac : H → List ℕ → List ℕ → List ℕ) (answer
   call-spends (SetControlTieBreaker tie) old new s t e sound full most is (told, made, drawn) = kept old _ new (refl, omega arith, omega arith) made
   call-spends (SetMaxCandidatePairs k) old new s t e sound full most is (told, made, drawn) = kept old _ new (refl, omega arith, omega arith) made
   call-spends (SetMaxDiscovered limit) old new s t e sound full most is (told, made, drawn) = kept old _ new (refl, omega arith, omega arith) made
+  call-spends (SetRenomination renominates) old new s t e sound full most is (told, made, drawn) = kept old _ new (refl, omega arith, omega arith) made
   call-spends (SetTimingAdvance advance) old new s t e sound full most is (told, made, drawn) = kept old _ new (refl, omega arith, omega arith) made
   call-spends (SetLocalPreference object) old new s t e sound full most is (told, made, drawn) = kept old _ new (refl, omega arith, omega arith) made
   call-spends (SetControlling controlling) old new s t e sound full most is (told, made, drawn) = kept old _ new (refl, omega arith, omega arith) made

@@ -31,7 +31,7 @@ use Rattle.is_rules.specs.declared.emitted.Path.{Path}
 use Rattle.is_rules.specs.declared.emitted.Emitted.{Emitted}
 use Rattle.is_rules.specs.declared.emitted.Issued.{Issued}
 use Rattle.is_rules.specs.Forming.{formed, with_pair}
-use Rattle.is_rules.specs.Nominating.{nominated_by_self, stands_at, Nominates}
+use Rattle.is_rules.specs.Nominating.{nominated_by_self, Nominates, followed, remains, selection_of}
 use Rattle.is_rules.specs.Places.{local_place}
 use Rattle.is_rules.specs.Queue.{first_taken, request_at}
 use Rattle.is_rules.specs.Request.{RequestRecord, request_in}
@@ -88,7 +88,7 @@ module _ {H P : Type 0} where
     nominates-spends old new path h = from (announces old new path h) where
       from : Announces old path new → Spends 0 old new
       from (None, greatest, (is, made)) = spends-none old new made
-      from (Some top, greatest, k) = either (stands_at old.selected_pair top.priority old.pairs) k
+      from (Some top, greatest, k) = either (remains (followed old) top (selection_of old)) k
           (λ _ l. spends-none old new l.1)
           (λ _ l. spends-to 0 old _ new (
             refl,
@@ -101,7 +101,7 @@ module _ {H P : Type 0} where
     nominates-rises old new path h = from (announces old new path h) where
       from : Announces old path new → rises new.pairs ≡ rises old.pairs
       from (None, greatest, (is, made)) = ap (λ (a : AgentRecord H P). rises a.pairs) made
-      from (Some top, greatest, k) = either (stands_at old.selected_pair top.priority old.pairs) k
+      from (Some top, greatest, k) = either (remains (followed old) top (selection_of old)) k
           (λ _ l. ap (λ (a : AgentRecord H P). rises a.pairs) l.1)
           (λ _ l. ap (λ (a : AgentRecord H P). rises a.pairs) l.1
           ∙ rises-changed (change_at top.number (nominated_by_self old.controlling old.lite))

@@ -1,3 +1,4 @@
+pub mod Matching
 pub mod NotStarved
 pub mod FirstTimeouts
 pub mod FirstChecks
@@ -6,3 +7,4 @@ pub mod DueRounds
 pub mod Shared
 pub mod Waiting
 pub mod Limited
+pub mod Renominating

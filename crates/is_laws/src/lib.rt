@@ -6,5 +6,7 @@
 
 pub mod announcing;
 pub mod flooding;
+pub mod matching;
 pub mod reaching;
+pub mod renominating;
 pub mod starving;

@@ -1,6 +1,5 @@
 -- An accepted success response selects a path, if no pair was valid before.
-use Rattle.std.proofs.Common.{◌≡◌, ℕ, ◌<◌, ◌≤◌, ◌==◌, Bool, true, false, List, [], ◌∷◌, Option, Some, None, is_some, inl, inr, refl, ap, sym, ◌∙◌, subst, arith}
-use Rattle.std.specs.Prelude.{find, cond}
+use Rattle.std.proofs.Common.{◌≡◌, ℕ, ◌<◌, ◌≤◌, ◌==◌, true, false, List, [], ◌∷◌, Option, Some, None, is_some, inl, inr, refl, ap, sym, ◌∙◌, subst, arith}
 use Rattle.std.specs.Option.{option_map_or}
 use Rattle.std.proofs.lemmas.Bool.{eqb-true}
 use Rattle.rand_core.specs.Stream.{Stream}
@@ -10,13 +9,14 @@ use Rattle.is_pair.specs.Pairs.{PairRecord, is_valid}
 use Rattle.is_pair.specs.Bag.{is_numbered, pair_numbered}
 use Rattle.is_rules.specs.declared.emitted.Path.{Path}
 use Rattle.is_rules.specs.Agent.{AgentRecord}
-use Rattle.is_rules.specs.Nominating.{is_eligible, stands_at}
+use Rattle.is_rules.specs.Nominating.{is_eligible, stands_at, followed, remains, selection_of}
 use Rattle.is_rules.specs.Sound.{IsSound}
 use Rattle.is_rules.specs.Points.{IsTopAnnounced}
 use Rattle.is_rules.specs.Effects.{last_of, PathEffect}
 use Rattle.is_rules.specs.Logs.{Logged}
 use Rattle.is_rules.specs.Runs.{IsFresh, Run, Point}
 use Rattle.is_rules.specs.Rounds.{BringsSuccess, AnnouncesIn}
+use Rattle.is_rules.proofs.Choosing.{chosen-able, chosen-none, found-in, named-by}
 use Rattle.is_rules.proofs.PathLaws.{below_is}
 use Rattle.is_rules.proofs.EffectLaws.{path_law}
 use Rattle.is_rules.proofs.LogLaws.{none_pass, runs_sound}
@@ -25,15 +25,6 @@ use Rattle.is_rules.proofs.Announcing.{eligible, point-of, answers-announce}
 use Rattle.is_rules.proofs.LogParts.{no-case}
 
 -- ---- the pair that `selected_pair` names
-
-found-by : (test : PairRecord → Bool) (x p : PairRecord) (xs : List PairRecord) (b : Bool) → test x ≡ b → (find test xs ≡ Some p → Has xs p × (test p ≡ true))
-    → cond b (Some x) (find test xs) ≡ Some p → Has (x ∷ xs) p × (test p ≡ true)
-found-by test x p xs true passes rest is = let same : x ≡ p = cc in (inl same, subst (λ (y : PairRecord). test y ≡ true) same passes)
-found-by test x p xs false passes rest is = let k = rest is in (inr k.0, k.1)
-
-found-in : (test : PairRecord → Bool) (ps : List PairRecord) (p : PairRecord) → find test ps ≡ Some p → Has ps p × (test p ≡ true)
-found-in test [] p is = let no : None ≡ Some p = is in absurd (cc)
-found-in test (x ∷ xs) p is = found-by test x p xs (test x) refl (λ k. found-in test xs p k) is
 
 pub named-at : (announced : Option ℕ) (priority : ℕ) (pairs : List PairRecord) → stands_at announced priority pairs ≡ true
     → (p : PairRecord) × Has pairs p × (announced ≡ Some p.number)
@@ -48,8 +39,16 @@ module _ {H P : Type 0} where
   -- if a pair is eligible, `selected_pair` names one
   pub one-named : (a : AgentRecord H P) (q : PairRecord) → Has a.pairs q → is_eligible a.controlling q ≡ true → IsTopAnnounced a
       → (p : PairRecord) × Has a.pairs p × (a.selected_pair ≡ Some p.number)
-  one-named a q has able (None, none, stands) = absurd (none_pass (is_eligible a.controlling) a.pairs q none has able)
-  one-named a q has able (Some best, greatest, stands) = named-at a.selected_pair best.priority a.pairs stands
+  one-named a q has able (None, none, stands) =
+      absurd (none_pass (is_eligible a.controlling) a.pairs q (chosen-none a.controlling (followed a) (selection_of a) none) has able)
+  one-named a q has able (Some best, chosen, stands) = by (followed a) refl where
+    by : (o : Option ℕ) → followed a ≡ o → (p : PairRecord) × Has a.pairs p × (a.selected_pair ≡ Some p.number)
+    by None none = named-at a.selected_pair best.priority a.pairs (subst (λ f. remains f best (selection_of a) ≡ true) none stands)
+    by (Some n) follows = (
+      best,
+      (chosen-able a.controlling (followed a) (selection_of a) best chosen).0,
+      named-by a.selected_pair best (subst (λ f. remains f best (selection_of a) ≡ true) follows stands),
+    )
 
   module _ (mac : H → List ℕ → List ℕ → List ℕ) (answers : P → CandidateRecord → ℕ → ℕ → Type 0) where
     module _ (first : AgentRecord H P) (s : Stream) (log : List (Logged P)) (fresh : IsFresh first) where

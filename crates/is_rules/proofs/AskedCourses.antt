@@ -24,11 +24,10 @@ use Rattle.is_rules.specs.Staying.{Stays}
 use Rattle.is_rules.specs.Steps.{Call, Entry, HandleTimeout, Step}
 use Rattle.is_rules.specs.Emitted.{issued_as}
 use Rattle.is_rules.proofs.Addresses.{both}
-use Rattle.is_rules.proofs.Announced.{named-at}
+use Rattle.is_rules.proofs.Announced.{one-named}
 use Rattle.is_rules.proofs.Announcing.{nominated-eligible}
 use Rattle.is_rules.proofs.AskedLaws.{back-on, uses-too}
 use Rattle.is_rules.proofs.EffectLaws.{path_law}
-use Rattle.is_rules.proofs.LogLaws.{none_pass}
 use Rattle.is_rules.proofs.RefusalLaws.{fresh_sound}
 use Rattle.is_rules.proofs.StayLaws.{pairs-stay}
 use Rattle.is_rules.proofs.Staying.{sound-course}
@@ -36,8 +35,7 @@ use Rattle.is_rules.proofs.Staying.{sound-course}
 module _ {H P : Type 0} where
   -- `selected_pair` names a pair, if one is eligible
   named : (a : AgentRecord H P) (q : PairRecord) → Has a.pairs q → is_eligible a.controlling q ≡ true → IsTopAnnounced a → (n : ℕ) × (a.selected_pair ≡ Some n)
-  named a q has able (None, none, stands) = absurd (none_pass (is_eligible a.controlling) a.pairs q none has able)
-  named a q has able (Some best, greatest, stands) = let k = named-at a.selected_pair best.priority a.pairs stands in (k.0.number, k.2)
+  named a q has able top = let k = one-named a q has able top in (k.0.number, k.2)
 
   -- a pair of the path passes
   abbrev Marked : Path → (PairRecord → Bool) → AgentRecord H P → Type 0

@@ -68,10 +68,10 @@ module _ {H P : Type 0} where
     module _ (first : AgentRecord H P) (s : Stream) (log : List (Logged P)) (fresh : IsFresh first) (path : Path) (before : List (Logged P)) (start : AgentRecord H P) (u : Stream)
         (led : Run mac answers first s before start u) (part : List (Logged P)) where
       -- a pair of the path passes
-      abbrev Marked : (PairRecord → Bool) → AgentRecord H P → Type 0
+      abbrev pub Marked : (PairRecord → Bool) → AgentRecord H P → Type 0
       Marked test a = (p : PairRecord) × Has a.pairs p × (test p ≡ true) × Joins a path p
 
-      abbrev Goes : Type 0
+      abbrev pub Goes : Type 0
       Goes = MayEndIn mac answers first s log part path
 
       -- one more entry
@@ -81,16 +81,16 @@ module _ {H P : Type 0} where
         here : Run mac answers first s (xs ++ before) mid v
         here = run-on mac answers first start mid s u v before xs led run
 
-        sound : IsSound mid
+        pub sound : IsSound mid
         sound = runs_sound mac answers (path_law mac answers) first mid s v (xs ++ before) fresh here
 
-        effect : PathEffect mac mid x.call x.entry last
+        pub effect : PathEffect mac mid x.call x.entry last
         effect = (path_law mac answers mid last v t x.call x.entry sound given step).0
 
-        point : Point mac answers first s log (xs ++ before) mid x last
+        pub point : Point mac answers first s log (xs ++ before) mid x last
         point = record { rest = over; split = split; at = v; led = here; number = number; given = given; behind = t; step = step }
 
-        next : (test : PairRecord → Bool) → ((p : PairRecord) (k : Stays mid p last) → test p ≡ true → test k.pair ≡ true) → Marked test mid → Marked test last ⊎ Goes
+        pub next : (test : PairRecord → Bool) → ((p : PairRecord) (k : Stays mid p last) → test p ≡ true → test k.pair ≡ true) → Marked test mid → Marked test last ⊎ Goes
         next test keeps (p, has, is, joins) = elim (pairs-stay mac answers mid last v t x.call x.entry p sound given step has) [
           | inl k ↦ inl (k.pair, k.there, keeps p k is, (ap (λ (w : Path). w.source) k.path ∙ joins.0, ap (λ (w : Path). w.destination) k.path ∙ joins.1))
           | inr ends ↦ inr (xs ++ before, mid, last, x, p, point, within, has, joins, ends)
@@ -115,7 +115,7 @@ module _ {H P : Type 0} where
             | inr goes ↦ inr goes
           ]
 
-      answered : (over xs : List (Logged P)) (last : AgentRecord H P) (t : Stream) → log ≡ over ++ (xs ++ before) → ((x : Logged P) → Has xs x → Has part x)
+      pub answered : (over xs : List (Logged P)) (last : AgentRecord H P) (t : Stream) → log ≡ over ++ (xs ++ before) → ((x : Logged P) → Has xs x → Has part x)
           → (run : RunsOn mac answers before start u xs last t) → (y : Logged P) → Has xs y → IsAnsweredOn y path → Marked is_valid last ⊎ Goes
       answered over [] last t split within run y has is = absurd has
       answered over (x ∷ xs) last t split within (mid, v, run, number, given, step) y (inl same) is =

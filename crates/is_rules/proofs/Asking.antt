@@ -1,11 +1,11 @@
 -- A check on a nominated path has USE-CANDIDATE.
-use Rattle.std.proofs.Common.{◌≡◌, ℕ, ◌≤◌, ◌&&◌, Bool, true, false, not, List, [], ◌∷◌, ◌++◌, length, Some, is_some, refl, ap, sym, ◌∙◌, subst, if◌then◌else◌}
+use Rattle.std.proofs.Common.{◌≡◌, ℕ, ◌≤◌, ◌&&◌, ◌||◌, Bool, true, false, not, List, [], ◌∷◌, ◌++◌, length, Some, is_some, refl, ap, sym, ◌∙◌, subst, if◌then◌else◌}
 use Rattle.is_proto.specs.Lists.{Has}
 use Rattle.is_proto.specs.Packets.{Packet}
 use Rattle.is_candidate.specs.Candidates.{CandidateRecord, candidate_at}
 use Rattle.is_candidate.specs.Priorities.{check_priority}
 use Rattle.is_pair.specs.Bag.{change_at, change_pair}
-use Rattle.is_pair.specs.Pairs.{PairRecord, checked, is_nominated}
+use Rattle.is_pair.specs.Pairs.{PairRecord, checked}
 use Rattle.is_stun.specs.declared.header.Class.TheVariants as class
 use Rattle.is_stun.specs.Checks.{binding_request}
 use Rattle.is_stun.specs.Laws.{ReadsBack, WrittenIsRead, FitsInto}
@@ -21,6 +21,7 @@ use Rattle.is_rules.specs.Carried.{CarriedAreServed, CarriedAsk}
 use Rattle.is_rules.specs.Delivery.{IsFragment, KnowEachOther}
 use Rattle.is_rules.specs.Fitting.{are_too_long}
 use Rattle.is_rules.specs.Issuing.{Says, via_out}
+use Rattle.is_rules.specs.Nominating.{is_named_by, stays_nominated}
 use Rattle.is_rules.specs.Request.{request_in}
 use Rattle.is_rules.specs.Sending.{path_of}
 use Rattle.is_rules.specs.Steps.{HandleTimeout}
@@ -34,7 +35,7 @@ use Rattle.is_rules.proofs.Serves.{Has-mapped}
 use Rattle.is_rules.proofs.Tells.{some_is}
 
 -- the last elements of two equal lists
-last_alike : {X : Type 0} (xs ys : List X) (x y : X) → xs ++ x ∷ [] ≡ ys ++ y ∷ [] → x ≡ y
+pub last_alike : {X : Type 0} (xs ys : List X) (x y : X) → xs ++ x ∷ [] ≡ ys ++ y ∷ [] → x ≡ y
 last_alike [] [] x y h = cc
 last_alike [] (z ∷ []) x y h = cc
 last_alike [] (z ∷ w ∷ ys) x y h = cc
@@ -45,7 +46,7 @@ last_alike (z ∷ xs) (w ∷ ys) x y h = last_alike xs ys x y (let same : z ∷ 
 module _ {H P : Type 0} (mac : H → List ℕ → List ℕ → List ℕ) (answers : P → CandidateRecord → ℕ → ℕ → Type 0) where
   -- the check nominates its path
   leads : (now : ℕ) (path : Path) (id : List ℕ) (sent : AgentRecord H P) → (c : Checks mac answers now path id sent) → sent.controlling ≡ true → AreNominatedOn sent path
-      → (c.old.controlling && is_nominated c.pair) ≡ true
+      → (c.old.controlling && stays_nominated c.old c.pair) ≡ true
   leads now path id sent c role nominated =
       let after : PairRecord = checked now c.old.timing c.old.controlling id c.pair in
       let made : AgentRecord H P = check_sent mac now c.remote c.pair id c.old in
@@ -54,8 +55,9 @@ module _ {H P : Type 0} (mac : H → List ℕ → List ℕ → List ℕ) (answer
       subst (λ (x : PairRecord). Has (change_pair c.pair.number (checked now c.old.timing c.old.controlling id) c.old.pairs) x) own
       (Has-mapped (change_at c.pair.number (checked now c.old.timing c.old.controlling id)) c.old.pairs c.pair c.has) in
       let each : AreNominatedOn made path = subst (λ (a : AgentRecord H P). AreNominatedOn a path) c.made nominated in
-      let asks : is_nominated c.pair ≡ true = sym (sent_nominated c.pair.nomination) ∙ each after there c.path in
-      ap (λ b. b && is_nominated c.pair) (ap (λ (a : AgentRecord H P). a.controlling) (sym c.made) ∙ role) ∙ asks
+      let asks : stays_nominated c.old c.pair ≡ true =
+      ap (λ n. n && (not c.old.renominates || is_named_by c.old.selected_pair c.pair)) (sym (sent_nominated c.pair.nomination)) ∙ each after there c.path in
+      ap (λ b. b && stays_nominated c.old c.pair) (ap (λ (a : AgentRecord H P). a.controlling) (sym c.made) ∙ role) ∙ asks
 
   module _ (read : (m : List ℕ → List ℕ → List ℕ) (key : List ℕ) (x : Message) → WrittenIsRead m key x)
       (fits : (key id username : List ℕ) (controlling : Bool) (tie_breaker priority : ℕ) (nominates : Bool)
@@ -87,7 +89,7 @@ module _ {H P : Type 0} (mac : H → List ℕ → List ℕ → List ℕ) (answer
               let x : Message = check_message c.old c.remote c.pair id in
               let it : c.remote ≡ b.local_creds = some_is c.remote b.local_creds (sym c.known ∙ know_old.mine) in
               let back : ReadsBack (mac c.old.provider) c.remote.pass (written (mac c.old.provider) (Some c.remote.pass) x) x =
-              check_reads mac answers read fits c.remote.pass c.old.local_creds c.remote id c.old.controlling (c.old.controlling && is_nominated c.pair) c.old.tie_breaker
+              check_reads mac answers read fits c.remote.pass c.old.local_creds c.remote id c.old.controlling (c.old.controlling && stays_nominated c.old c.pair) c.old.tie_breaker
               (check_priority (candidate_at c.old.local c.pair.local)) (mac c.old.provider) (written (mac c.old.provider) (Some c.remote.pass) x) know_old.twenty
               (subst (λ (y : IceCreds). are_too_long c.old.local_creds (Some y) ≡ false) (sym it) know_old.fit) know_old.own
               (subst (λ (y : IceCreds). IsFragment y.ufrag) (sym it) know_old.other) c.put in

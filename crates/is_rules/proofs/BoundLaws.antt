@@ -17,7 +17,7 @@ use Rattle.is_rules.specs.Restarting.{Restarts, Recreates, emptied, kept_local, 
 use Rattle.is_rules.specs.Credentials.{SetsLocal, SetsRemote}
 use Rattle.is_rules.specs.Settings.{SetsMtu}
 use Rattle.is_rules.specs.Runs.{IsFresh, Run, run_to}
-use Rattle.is_rules.specs.Steps.{Call, SetMtu, SetControlTieBreaker, SetMaxCandidatePairs, SetMaxDiscovered, SetIceLite, SetTimingAdvance, SetInitialStunRto, SetMaxStunRto, SetMaxStunRetransmits, SetLiteTimeout, SetLocalPreference, SetControlling, SetLocalCredentials, SetRemoteCredentials, SkipPairIds, AddLocalCandidate, AddRemoteCandidate, InvalidateCandidate, RestartIce, RecreateCandidatePairs, ReceivePacket, HandleTimeout, PollTransmit, PollTimeout, PollEvent, Entry, Step, MayDo}
+use Rattle.is_rules.specs.Steps.{Call, SetMtu, SetControlTieBreaker, SetMaxCandidatePairs, SetMaxDiscovered, SetIceLite, SetRenomination, SetTimingAdvance, SetInitialStunRto, SetMaxStunRto, SetMaxStunRetransmits, SetLiteTimeout, SetLocalPreference, SetControlling, SetLocalCredentials, SetRemoteCredentials, SkipPairIds, AddLocalCandidate, AddRemoteCandidate, InvalidateCandidate, RestartIce, RecreateCandidatePairs, ReceivePacket, HandleTimeout, PollTransmit, PollTimeout, PollEvent, Entry, Step, MayDo}
 use Rattle.is_rules.proofs.Enrolments.{by_adding_local, by_adding_remote, by_waking}
 use Rattle.is_rules.proofs.Frames.{either}
 use Rattle.is_rules.proofs.RefusalLaws.{mtu_kept, local_kept, remote_kept, restart_kept, recreation_kept, enrolment_kept, storing_kept}
@@ -138,6 +138,7 @@ module _ {H P : Type 0} where
     bounds (SetMaxCandidatePairs k) _ (is, made, drawn) = kept (ap (λ (a : AgentRecord H P). lists_of a) made)
     bounds (SetMaxDiscovered limit) _ (is, made, drawn) = relimited limit made
     bounds (SetIceLite lite) _ (is, made, drawn) = kept (ap (λ (a : AgentRecord H P). lists_of a) made)
+    bounds (SetRenomination on) _ (is, made, drawn) = kept (ap (λ (a : AgentRecord H P). lists_of a) made)
     bounds (SetTimingAdvance by) _ (is, made, drawn) = kept (ap (λ (a : AgentRecord H P). lists_of a) made)
     bounds (SetInitialStunRto rto) _ (is, made, drawn) = kept (ap (λ (a : AgentRecord H P). lists_of a) made)
     bounds (SetMaxStunRto rto) _ (is, made, drawn) = kept (ap (λ (a : AgentRecord H P). lists_of a) made)

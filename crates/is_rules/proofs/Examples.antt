@@ -115,6 +115,7 @@ module _ {H P : Type 0} (mac : H → List ℕ → List ℕ → List ℕ) (provid
     remote = peer_reflexive_candidate (Some TEMPORARY) Udp 1853824767 address_2 address_2 (codes "aaaa") ∷ [];
     pairs = record (new_pair 0 0 0 7962116751041232382) { nomination = Nominated; requests = 1; last_request = Some 0 } ∷ [];
     next_number = 1;
+    last_nominated = Some 0;
     packets = record {
       proto = Udp;
       source = address_1;

@@ -14,6 +14,7 @@ pub mod Addresses
 mod Examples
 mod RowLaws
 pub mod RefusalLaws
+pub mod Choosing
 pub mod Nominations
 pub mod Frames
 pub mod Vacant

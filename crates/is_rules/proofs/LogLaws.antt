@@ -1,6 +1,6 @@
 -- All theorems about one agent's log, from the theorem about paths only.
 use Rattle.std.proofs.Common.{◌≡◌, ℕ, ◌+◌, ◌<◌, ◌≤◌, ◌==◌, ◌&&◌, Bool, true, false, List, [], ◌∷◌, ◌++◌, Option, Some, None, inl, inr, ◌⊎◌, refl, ap, sym, ◌∙◌, subst, arith, append_assoc, if◌then◌else◌}
-use Rattle.std.specs.Prelude.{find, cond, filter}
+use Rattle.std.specs.Prelude.{filter}
 use Rattle.std.specs.Option.{option_or, option_map_or, option_and_then}
 use Rattle.std.proofs.lemmas.Bool.{eqb-true}
 use Rattle.rand_core.specs.Stream.{Stream}
@@ -17,9 +17,9 @@ use Rattle.is_rules.specs.Request.{RequestRecord}
 use Rattle.is_rules.specs.Steps.{Entry}
 use Rattle.is_rules.specs.Emitted.{reversed}
 use Rattle.is_rules.specs.Agent.{AgentRecord}
-use Rattle.is_pair.specs.Bag.{is_numbered, pair_numbered}
+use Rattle.is_pair.specs.Bag.{is_numbered, pair_numbered, IsGreatest}
 use Rattle.is_rules.specs.Sending.{path_of}
-use Rattle.is_rules.specs.Nominating.{is_eligible, stands_at}
+use Rattle.is_rules.specs.Nominating.{is_eligible, stands_at, followed, remains, selection_of, IsChosen}
 use Rattle.is_rules.specs.Steps.{Call, ReceivePacket}
 use Rattle.is_rules.specs.Sound.{IsSound}
 use Rattle.is_rules.specs.Brought.{Brings, IsBrought, IsServing, IsKept, IsValidOn, IsNominatedOn, IsAnswered, IsAskedFor}
@@ -28,6 +28,7 @@ use Rattle.is_rules.specs.Points.{IsNominationPoint, IsTopAnnounced}
 use Rattle.is_rules.specs.Effects.{remote_after, lite_set_by, last_of, PathEffect, PathLaw}
 use Rattle.is_rules.specs.Logs.{Logged, clears_at, remote_of, NeverLite, IsSent, last_announced, AnswersAt, Answered, IsAnsweredBy, AsksAt, AskedFor, replies, requests}
 use Rattle.is_rules.specs.Runs.{IsFresh, Run, Point, run_to, IsControlledSince, IsTopPath, EntriesArePoints, RunsAreSound, AnnouncedAreAnswered, AnnouncedAreAskedFor, PointsAreTop, TakersAreValid, AskedAreNominated, RepliesAreAmong}
+use Rattle.is_rules.proofs.Choosing.{chosen-able, chosen-none, found-in, named-by}
 use Rattle.is_rules.proofs.RefusalLaws.{fresh_sound}
 use Rattle.is_rules.proofs.Bags.{among_by_counts}
 use Rattle.is_rules.proofs.PathLaws.{below_is}
@@ -43,15 +44,6 @@ true_false b h k = let wrong : true ≡ false = sym h ∙ k in absurd (cc)
 Has-behind : {X : Type 0} (xs ys : List X) (x : X) → Has ys x → Has (xs ++ ys) x
 Has-behind [] ys x h = h
 Has-behind (y ∷ xs) ys x h = inr (Has-behind xs ys x h)
-
-found_by : (test : PairRecord → Bool) (x p : PairRecord) (xs : List PairRecord) (b : Bool) → test x ≡ b → (find test xs ≡ Some p → Has xs p × (test p ≡ true))
-    → cond b (Some x) (find test xs) ≡ Some p → Has (x ∷ xs) p × (test p ≡ true)
-found_by test x p xs true passes rest is = let same : x ≡ p = cc in (inl same, subst (λ (y : PairRecord). test y ≡ true) same passes)
-found_by test x p xs false passes rest is = let k = rest is in (inr k.0, k.1)
-
-found_in : (test : PairRecord → Bool) (ps : List PairRecord) (p : PairRecord) → find test ps ≡ Some p → Has ps p × (test p ≡ true)
-found_in test [] p is = let no : None ≡ Some p = is in absurd (cc)
-found_in test (x ∷ xs) p is = found_by test x p xs (test x) refl (λ k. found_in test xs p k) is
 
 kept_head : {X : Type 0} (b : Bool) (x : X) (xs : List X) → b ≡ true → (if b then x ∷ xs else xs) ≡ [] → ⊥
 kept_head true x xs passes none = let wrong : x ∷ xs ≡ [] = none in cc
@@ -204,7 +196,7 @@ module _ {H P : Type 0} (mac : H → List ℕ → List ℕ → List ℕ) (answer
         → (p : PairRecord) × Has a.pairs p × (a.selected_pair ≡ Some p.number) × (p.priority ≡ priority)
     at n None is named h = let no : false ≡ true = h in absurd (cc)
     at n (Some p) is named h =
-        let k = found_in (is_numbered n) a.pairs p is in
+        let k = found-in (is_numbered n) a.pairs p is in
         (p, k.0, named ∙ ap Some (sym (eqb-true p.number n k.1)), eqb-true p.priority priority h)
 
     by : (o : Option ℕ) → a.selected_pair ≡ o → option_map_or (λ (p : PairRecord). p.priority == priority) (option_and_then (λ number. pair_numbered number a.pairs) o) false ≡ true
@@ -221,19 +213,29 @@ module _ {H P : Type 0} (mac : H → List ℕ → List ℕ → List ℕ) (answer
 
   top_of : (provider : H) (log : List (Logged P)) (last : AgentRecord H P) (p : PairRecord) → Has last.pairs p → is_eligible last.controlling p ≡ true
       → Holds provider log last → IsTopAnnounced last → IsTopPath mac answers log last
-  top_of provider log last p has is after (None, none, _) = absurd (none_pass (is_eligible last.controlling) last.pairs p none has is)
-  top_of provider log last p has is after (Some best, (there, able, greatest), stands) =
-      let named = stands_with best.priority last stands in
-      let k = after.named named.0 named.1 named.2 in (
-        named.0,
-        named.1,
-        eligible last.controlling named.0 k.0 k.1,
-        k.2,
-        λ q has_q is_q. subst (λ n. q.priority ≤ n) (sym named.3) (greatest q has_q is_q),
-      )
+  top_of provider log last p has is after (None, none, _) =
+      absurd (none_pass (is_eligible last.controlling) last.pairs p (chosen-none last.controlling (followed last) (selection_of last) none) has is)
+  top_of provider log last p has is after (Some best, chosen, stands) = by (followed last) refl where
+    by : (o : Option ℕ) → followed last ≡ o → IsTopPath mac answers log last
+    by None none =
+        let most : IsGreatest (is_eligible last.controlling) last.pairs (Some best) = subst (λ f. IsChosen last.controlling f (selection_of last) (Some best)) none chosen in
+        let named = stands_with best.priority last (subst (λ f. remains f best (selection_of last) ≡ true) none stands) in
+        let k = after.named named.0 named.1 named.2 in
+        let able = eligible last.controlling named.0 k.0 k.1 in (
+          named.0,
+          named.1,
+          able,
+          k.2,
+          subst (λ f. IsChosen last.controlling f (selection_of last) (Some named.0)) (sym none)
+              (named.1, able, λ q has_q is_q. subst (λ n. q.priority ≤ n) (sym named.3) (most.2 q has_q is_q)),
+        )
+    by (Some n) follows =
+        let able = chosen-able last.controlling (followed last) (selection_of last) best chosen in
+        let k = after.named best able.0 (named-by last.selected_pair best (subst (λ f. remains f best (selection_of last) ≡ true) follows stands)) in
+        (best, able.0, able.1, k.2, chosen)
 
   module _ (first : AgentRecord H P) (s : Stream) (is_fresh : IsFresh first) where
-    holds : (log : List (Logged P)) (last : AgentRecord H P) (t : Stream) → Run mac answers first s log last t → Holds first.provider log last
+    pub holds : (log : List (Logged P)) (last : AgentRecord H P) (t : Stream) → Run mac answers first s log last t → Holds first.provider log last
     holds [] last t run = subst (λ (a : AgentRecord H P). Holds first.provider [] a) (sym run.0) (fresh_holds first is_fresh)
     holds (x ∷ before) last t (mid, u, run, number, based, step) =
         let h = holds before mid u run in

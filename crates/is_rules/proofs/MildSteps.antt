@@ -22,7 +22,7 @@ use Rattle.is_rules.specs.declared.roles.Conflict.TheVariants.{Absent, Insists, 
 use Rattle.is_rules.specs.declared.emitted.Path.{Path}
 use Rattle.is_rules.specs.declared.emitted.Emitted.{Emitted}
 use Rattle.is_rules.specs.Forming.{formed, with_pair, priority_between}
-use Rattle.is_rules.specs.Nominating.{nominated_by_self, stands_at, Nominates}
+use Rattle.is_rules.specs.Nominating.{nominated_by_self, Nominates, followed, remains, selection_of}
 use Rattle.is_rules.specs.Places.{local_place}
 use Rattle.is_rules.specs.Request.{RequestRecord, request_in}
 use Rattle.is_rules.specs.Roles.{conflict_of, switched, switched_sides, with_priority_in}
@@ -69,7 +69,7 @@ module _ {H P : Type 0} where
     nominates-goes old new path h = from (announces old new path h) where
       from : Announces old path new → Goes old new
       from (None, greatest, (is, made)) = goes-same old new made
-      from (Some top, greatest, k) = either (stands_at old.selected_pair top.priority old.pairs) k
+      from (Some top, greatest, k) = either (remains (followed old) top (selection_of old)) k
           (λ _ l. goes-same old new l.1)
           (λ _ l. goes-to old _ new (
             refl,

@@ -4,10 +4,11 @@ use Rattle.std.proofs.Common.{◌≡◌, ℕ, ◌||◌, Bool, true, List, Option
 use Rattle.rand_core.specs.Stream.{Stream}
 use Rattle.is_proto.specs.Lists.{Has}
 use Rattle.is_pair.specs.Checks.{Check}
-use Rattle.is_pair.specs.Pairs.{PairRecord, is_nominated}
+use Rattle.is_pair.specs.Pairs.{PairRecord}
 use Rattle.is_stun.specs.Message.{Message}
 use Rattle.is_stun.specs.declared.header.Class.TheVariants as class
 use Rattle.is_stun.specs.Laws.{IsPut}
+use Rattle.is_rules.specs.Nominating.{stays_nominated}
 use Rattle.is_rules.specs.declared.emitted.Path.{Path}
 use Rattle.is_rules.specs.declared.emitted.Emitted.{Emitted}
 use Rattle.is_rules.specs.Emitted.{issued_as, announced_in, announced_only}
@@ -86,13 +87,13 @@ module _ (asks met : Path → Type 0) (sent : Path → List ℕ → Bool → Typ
               id,
               remote,
               candidate_at old.local p.local,
-              old.controlling && is_nominated p,
+              old.controlling && stays_nominated old p,
               is,
               known,
               Has-at old.local p.local nowhere at,
               values,
               ap (λ (a : AgentRecord H P). a.packets) made,
-              λ uses. (both old.controlling (is_nominated p) uses).0,
+              λ uses. (both old.controlling (stays_nominated old p) uses).0,
             )
 
   check_number : (mac : H → List ℕ → List ℕ → List ℕ) (now : ℕ) (remote : Option IceCreds) (old new : AgentRecord H P) (s t : Stream) (issued : Option Issued)

@@ -10,11 +10,12 @@ use Rattle.is_rules.specs.Agent.{AgentRecord}
 use Rattle.is_pair.specs.Bag.{change_at, change_pair, is_numbered}
 use Rattle.is_rules.proofs.Rising.{AreRising}
 use Rattle.is_rules.specs.Sending.{path_of}
-use Rattle.is_rules.specs.Nominating.{is_eligible, nominated_by_self, stands_at, Nominates}
+use Rattle.is_rules.specs.Nominating.{is_eligible, nominated_by_self, Nominates, followed, remains, selection_of}
 use Rattle.is_rules.specs.Timeouts.{is_given_up, given_up_gone, GivesUp}
 use Rattle.is_rules.proofs.Frames.{either}
 use Rattle.is_rules.proofs.Tells.{Evaluates, evaluates_none, one_pair, some_is, none_is}
 use Rattle.is_rules.proofs.Onward.{Parts, path_in, Fit, IsStarted, IsNominatedIn, Stood, Onward, here, onward, thinned, Has-filter}
+use Rattle.is_rules.proofs.Choosing.{chosen-able}
 use Rattle.is_rules.proofs.Nominations.{announced, Announces, announces}
 
 pub Has-map : {X Y : Type 0} (f : X → Y) (xs : List X) (y : Y) → Has (map f xs) y → (x : X) × Has xs x × (f x ≡ y)
@@ -189,7 +190,7 @@ module _ (asks met : Path → Type 0) (sent : Path → List ℕ → Bool → Typ
       subst (λ (a : AgentRecord H P). Onward asks met sent (parts_of old) (parts_of a)) (sym same) (here asks met sent (parts_of old) fit),
       evaluates_none asks met sent (parts_of old) (parts_of new) old.selected_pair new.selected_pair path is (ap (λ (a : AgentRecord H P). a.selected_pair) same),
     )
-    announces_one old new path free fit (Some top, (has, eligible, greatest), h) = either (stands_at old.selected_pair top.priority old.pairs) h
+    announces_one old new path free fit (Some top, chosen, h) = either (remains (followed old) top (selection_of old)) h
         (λ _ k. (
           subst (λ (a : AgentRecord H P). Onward asks met sent (parts_of old) (parts_of a)) (sym k.1) (here asks met sent (parts_of old) fit),
           evaluates_none asks met sent (parts_of old) (parts_of new) old.selected_pair new.selected_pair path k.0 (ap (λ (a : AgentRecord H P). a.selected_pair) k.1),
@@ -203,6 +204,12 @@ module _ (asks met : Path → Type 0) (sent : Path → List ℕ → Bool → Typ
         )) where
           g : PairRecord → PairRecord
           g = nominated_by_self old.controlling old.lite
+
+          has : Has old.pairs top
+          has = (chosen-able old.controlling (followed old) (selection_of old) top chosen).0
+
+          eligible : is_eligible old.controlling top ≡ true
+          eligible = (chosen-able old.controlling (followed old) (selection_of old) top chosen).1
 
           facts : Kept_by_self top (nominated_by_self old.controlling old.lite top)
           facts = self_kept (not (is_nominated top) && (old.controlling || old.lite)) old.lite top

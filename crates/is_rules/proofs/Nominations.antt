@@ -4,9 +4,9 @@ use Rattle.std.specs.Prelude.{MatchBool}
 use Rattle.is_pair.specs.Pairs.{PairRecord}
 use Rattle.is_rules.specs.declared.emitted.Path.{Path}
 use Rattle.is_rules.specs.Agent.{AgentRecord}
-use Rattle.is_pair.specs.Bag.{change_pair, IsGreatest}
+use Rattle.is_pair.specs.Bag.{change_pair}
 use Rattle.is_rules.specs.Sending.{path_of}
-use Rattle.is_rules.specs.Nominating.{is_eligible, nominated_by_self, stands_at, Selection, selection, with_selection, nominated_emitted, Nominates}
+use Rattle.is_rules.specs.Nominating.{nominated_by_self, Selection, selection, with_selection, nominated_emitted, Nominates, followed, remains, selection_of, IsChosen}
 
 both_ways : (b : Bool) {P Q R S : Type 0} → MatchBool b P Q → (P → R) → (Q → S) → MatchBool b R S
 both_ways true h f g = f h
@@ -18,16 +18,16 @@ module _ {H P : Type 0} where
   announced p a =
       nominated_emitted (Some (path_of a p)) (with_selection (selection (change_pair p.number (nominated_by_self a.controlling a.lite) a.pairs) (Some p.number)) a)
 
-  -- nothing if no pair is eligible, or if the selected one has the greatest priority among the eligible
+  -- nothing if no pair is chosen, or if the selected one stays selected
   abbrev pub AnnouncesTop : Option PairRecord → AgentRecord H P → Option Path → AgentRecord H P → Type 0
   AnnouncesTop None old path new = (path ≡ None) × (new ≡ old)
   AnnouncesTop (Some top) old path new =
-      MatchBool (stands_at old.selected_pair top.priority old.pairs)
+      MatchBool (remains (followed old) top (selection_of old))
       ((path ≡ None) × (new ≡ old))
       ((path ≡ Some (path_of old top)) × (new ≡ announced top old))
 
   abbrev pub Announces : AgentRecord H P → Option Path → AgentRecord H P → Type 0
-  Announces old path new = (top : Option PairRecord) × IsGreatest (is_eligible old.controlling) old.pairs top × AnnouncesTop top old path new
+  Announces old path new = (top : Option PairRecord) × IsChosen old.controlling (followed old) (selection_of old) top × AnnouncesTop top old path new
 
   nothing : (old new : AgentRecord H P) (path : Option Path) (chosen : Selection) → path ≡ None → chosen ≡ selection old.pairs old.selected_pair
       → new ≡ nominated_emitted path (with_selection chosen old) → new ≡ old
@@ -39,7 +39,7 @@ module _ {H P : Type 0} where
   announces old new path (chosen, (Some top, greatest, h), made) = (
     Some top,
     greatest,
-    both_ways (stands_at old.selected_pair top.priority old.pairs) h
+    both_ways (remains (followed old) top (selection_of old)) h
         (λ k. (k.0, nothing old new path chosen k.0 k.1 made))
         (λ k. (
           k.0,

@@ -25,7 +25,7 @@ use Rattle.is_rules.specs.declared.emitted.Emitted.{Emitted}
 use Rattle.is_rules.specs.Emitted.{issued_as}
 use Rattle.is_rules.specs.Agent.{AgentRecord}
 use Rattle.is_rules.specs.Sending.{path_of}
-use Rattle.is_rules.specs.Nominating.{Nominates}
+use Rattle.is_rules.specs.Nominating.{Nominates, followed, selection_of}
 use Rattle.is_rules.specs.Checking.{all_asked, ChecksTop, MayCheck}
 use Rattle.is_rules.specs.Timeouts.{timeout_begun, at_moment, is_given_up, given_up_gone, GivesUp, MaintainsPairs}
 use Rattle.is_rules.specs.States.{evaluated}
@@ -37,6 +37,7 @@ use Rattle.is_rules.proofs.EffectLaws.{path_law}
 use Rattle.is_rules.proofs.Frames.{either}
 use Rattle.is_rules.proofs.Moves.{Has-map}
 use Rattle.is_rules.proofs.Onward.{Has-filter}
+use Rattle.is_rules.proofs.Choosing.{chosen-able}
 use Rattle.is_rules.proofs.Nominations.{Announces, announces}
 use Rattle.is_rules.proofs.Rising.{AllBelow, below-each}
 use Rattle.is_rules.proofs.Thinning.{Distinct, Base, base_of as agent_base, gives-up-has}
@@ -73,7 +74,9 @@ module _ {H P : Type 0} where
   nominates-nothing old new path none h = from (announces old new path h) where
     from : Announces old path new → new ≡ old
     from (None, greatest, (is, same)) = same
-    from (Some top, (has, is, most), k) = absurd (and-left (is_valid top) (old.controlling || is_nominated top) (none top has) is)
+    from (Some top, chosen, k) =
+        let able = chosen-able old.controlling (followed old) (selection_of old) top chosen in
+        absurd (and-left (is_valid top) (old.controlling || is_nominated top) (none top able.0) able.1)
 
   gives-up-sifts : (now : ℕ) (old new : AgentRecord H P) (path : Option Path) → NoneValid old.pairs → GivesUp now old path new
       → (agent_base new ≡ agent_base old) × Sifted old.pairs new.pairs

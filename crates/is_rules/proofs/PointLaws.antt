@@ -1,9 +1,9 @@
 -- If nomination is evaluated at the end of a step, the selected pair is a greatest one, and the pair that takes a
 -- response is valid.
 use Rattle.std.proofs.Common.{◌≡◌, ℕ, zero, suc, ◌<◌, ◌≤◌, ◌==◌, ◌&&◌, ◌||◌, Bool, true, false, not, List, [], ◌∷◌, map, filter, Option, Some, None, Result, Ok, Err, inl, inr, refl, ap, sym, ◌∙◌, subst, arith, cond, if◌then◌else◌}
-use Rattle.std.specs.Prelude.{find, slice_get, slice_set, MatchOption, IfSome}
+use Rattle.std.specs.Prelude.{find, option_map, slice_get, slice_set, MatchOption, IfSome}
 use Rattle.std.specs.List.{list_any}
-use Rattle.std.specs.Option.{option_map_or, option_and_then}
+use Rattle.std.specs.Option.{option_map_or, option_and_then, option_or}
 use Rattle.std.proofs.lemmas.Bool.{eq-eqb}
 use Rattle.rand_core.specs.Stream.{Stream}
 use Rattle.is_proto.specs.Lists.{Has, NonePass}
@@ -29,7 +29,7 @@ use Rattle.is_rules.specs.Steps.{answer_by, done, Done, Flag, Unparsed, Refused,
 use Rattle.is_rules.specs.Agent.{AgentRecord}
 use Rattle.is_pair.specs.Bag.{is_numbered, change_at, pair_numbered, IsGreatest, keeps_check}
 use Rattle.is_rules.specs.Sending.{path_of}
-use Rattle.is_rules.specs.Nominating.{is_eligible, nominated_by_self, stands_at, Nominates}
+use Rattle.is_rules.specs.Nominating.{is_eligible, nominated_by_self, Nominates, followed, remains, selection, selection_of, favored, if_eligible, eligible_numbered, IsChosen}
 use Rattle.is_rules.specs.Queue.{request_at}
 use Rattle.is_rules.specs.Answers.{goes_back, keeps_check_on, TakesSuccess}
 use Rattle.is_rules.specs.Accepting.{Takes}
@@ -92,8 +92,9 @@ abbrev Stands : ℕ → List PairRecord → Option ℕ → Type 0
 Stands priority ps number =
     option_map_or (λ (p : PairRecord). p.priority == priority) (option_and_then (λ n. pair_numbered n ps) number) false ≡ true
 
-abbrev TopIn : Bool → List PairRecord → Option ℕ → Type 0
-TopIn c ps number = (top : Option PairRecord) × IsGreatest (is_eligible c) ps top × IfSome top (λ best. Stands best.priority ps number)
+abbrev TopIn : Bool → Option ℕ → List PairRecord → Option ℕ → Type 0
+TopIn c followed ps number =
+    (top : Option PairRecord) × IsChosen c followed (selection ps number) top × IfSome top (λ best. remains followed best (selection ps number) ≡ true)
 
 priority_same : (a b k : ℕ) (o : Option PairRecord) (f : PairRecord → PairRecord) → ((p : PairRecord) → (f p).priority ≡ p.priority) → b ≡ a
     → option_map_or (λ (p : PairRecord). (f p).priority == b) o false ≡ option_map_or (λ (p : PairRecord). p.priority == a) o false
@@ -107,27 +108,82 @@ stands_mapped c f ps (Some n) best alike h =
     sym (find_mapped n f ps (λ (p : PairRecord). p.priority == (f best).priority) (λ p. (alike p).number))
     ∙ priority_same best.priority (f best).priority n (find (is_numbered n) ps) f (λ p. (alike p).priority) (alike best).priority ∙ h
 
-top_mapped : (c : Bool) (f : PairRecord → PairRecord) (ps : List PairRecord) (number : Option ℕ) → ((p : PairRecord) → Alike c p (f p)) → TopIn c ps number → TopIn c (map f ps) number
-top_mapped c f ps number alike (None, none, _) = (
-  None,
-  all_fail (is_eligible c) (map f ps) (λ p has is. (
-      let o = Has-map f ps p has in
-      none_pass (is_eligible c) ps o.0 none o.1 (sym (alike o.0).eligible ∙ ap (λ (x : PairRecord). is_eligible c x) o.2 ∙ is))),
-  tt,
+greatest_mapped : (c : Bool) (f : PairRecord → PairRecord) (ps : List PairRecord) (top : Option PairRecord) → ((p : PairRecord) → Alike c p (f p))
+    → IsGreatest (is_eligible c) ps top → IsGreatest (is_eligible c) (map f ps) (option_map f top)
+greatest_mapped c f ps None alike none =
+    all_fail (is_eligible c) (map f ps) (λ p has is. (
+    let o = Has-map f ps p has in
+    none_pass (is_eligible c) ps o.0 none o.1 (sym (alike o.0).eligible ∙ ap (λ (x : PairRecord). is_eligible c x) o.2 ∙ is)))
+greatest_mapped c f ps (Some best) alike (has, able, greatest) = (
+  Has-mapped f ps best has,
+  (alike best).eligible ∙ able,
+  λ p in_new is. (
+      let o = Has-map f ps p in_new in
+      let le : o.0.priority ≤ best.priority = greatest o.0 o.1 (sym (alike o.0).eligible ∙ ap (λ (x : PairRecord). is_eligible c x) o.2 ∙ is) in
+      let its : p.priority ≡ o.0.priority = ap (λ (x : PairRecord). x.priority) (sym o.2) ∙ (alike o.0).priority in
+      subst (λ n. n ≤ (f best).priority) (sym its) (subst (λ n. o.0.priority ≤ n) (sym (alike best).priority) le)),
 )
-top_mapped c f ps number alike (Some best, (has, able, greatest), stands) = (
-  Some (f best),
-  (
-    Has-mapped f ps best has,
-    (alike best).eligible ∙ able,
-    λ p in_new is. (
-        let o = Has-map f ps p in_new in
-        let le : o.0.priority ≤ best.priority = greatest o.0 o.1 (sym (alike o.0).eligible ∙ ap (λ (x : PairRecord). is_eligible c x) o.2 ∙ is) in
-        let its : p.priority ≡ o.0.priority = ap (λ (x : PairRecord). x.priority) (sym o.2) ∙ (alike o.0).priority in
-        subst (λ n. n ≤ (f best).priority) (sym its) (subst (λ n. o.0.priority ≤ n) (sym (alike best).priority) le)),
-  ),
-  stands_mapped c f ps number best alike stands,
-)
+
+-- ---- the favored pair
+
+numbered_mapped : (n : ℕ) (f : PairRecord → PairRecord) (ps : List PairRecord) → ((p : PairRecord) → (f p).number ≡ p.number)
+    → pair_numbered n (map f ps) ≡ option_map f (pair_numbered n ps)
+numbered_mapped n f [] number = refl
+numbered_mapped n f (x ∷ xs) number =
+    ap (λ b. cond b (Some (f x)) (find (is_numbered n) (map f xs))) (ap (λ k. k == n) (number x)) ∙ by (is_numbered n x) (numbered_mapped n f xs number) where
+      by : (b : Bool) → find (is_numbered n) (map f xs) ≡ option_map f (find (is_numbered n) xs)
+          → cond b (Some (f x)) (find (is_numbered n) (map f xs)) ≡ option_map f (cond b (Some x) (find (is_numbered n) xs))
+      by true rest = refl
+      by false rest = rest
+
+able_mapped : (c : Bool) (f : PairRecord → PairRecord) (o : Option PairRecord) → ((p : PairRecord) → Alike c p (f p))
+    → option_and_then (if_eligible c) (option_map f o) ≡ option_map f (option_and_then (if_eligible c) o)
+able_mapped c f None alike = refl
+able_mapped c f (Some p) alike = ap (λ b. if b then Some (f p) else None) (alike p).eligible ∙ by (is_eligible c p) where
+  by : (b : Bool) → (if b then Some (f p) else None) ≡ option_map f (if b then Some p else None)
+  by true = refl
+  by false = refl
+
+eligible_mapped : (c : Bool) (n : ℕ) (f : PairRecord → PairRecord) (ps : List PairRecord) → ((p : PairRecord) → Alike c p (f p))
+    → eligible_numbered c (map f ps) n ≡ option_map f (eligible_numbered c ps n)
+eligible_mapped c n f ps alike =
+    ap (λ (o : Option PairRecord). option_and_then (if_eligible c) o) (numbered_mapped n f ps (λ p. (alike p).number)) ∙ able_mapped c f (pair_numbered n ps) alike
+
+or_mapped : (f : PairRecord → PairRecord) (a b : Option PairRecord) → option_or (option_map f a) (option_map f b) ≡ option_map f (option_or a b)
+or_mapped f None b = refl
+or_mapped f (Some a) b = refl
+
+favored_mapped : (c : Bool) (followed : Option ℕ) (f : PairRecord → PairRecord) (ps : List PairRecord) (number : Option ℕ) → ((p : PairRecord) → Alike c p (f p))
+    → favored c followed (selection (map f ps) number) ≡ option_map f (favored c followed (selection ps number))
+favored_mapped c None f ps number alike = refl
+favored_mapped c (Some n) f ps number alike =
+    ap (λ (o : Option PairRecord). option_or o (option_and_then (eligible_numbered c (map f ps)) number)) (eligible_mapped c n f ps alike)
+    ∙ ap (λ (o : Option PairRecord). option_or (option_map f (eligible_numbered c ps n)) o) (selected number)
+    ∙ or_mapped f (eligible_numbered c ps n) (option_and_then (eligible_numbered c ps) number) where
+      selected : (m : Option ℕ) → option_and_then (eligible_numbered c (map f ps)) m ≡ option_map f (option_and_then (eligible_numbered c ps) m)
+      selected None = refl
+      selected (Some m) = eligible_mapped c m f ps alike
+
+chosen_mapped : (c : Bool) (followed : Option ℕ) (f : PairRecord → PairRecord) (ps : List PairRecord) (number : Option ℕ) (top : Option PairRecord)
+    → ((p : PairRecord) → Alike c p (f p)) → IsChosen c followed (selection ps number) top → IsChosen c followed (selection (map f ps) number) (option_map f top)
+chosen_mapped c followed f ps number top alike h =
+    subst (λ o. MatchOption o (IsGreatest (is_eligible c) (map f ps) (option_map f top)) (λ p. option_map f top ≡ Some p)) (sym (favored_mapped c followed f ps number alike))
+    (by (favored c followed (selection ps number)) h) where
+      by : (o : Option PairRecord) → MatchOption o (IsGreatest (is_eligible c) ps top) (λ p. top ≡ Some p)
+          → MatchOption (option_map f o) (IsGreatest (is_eligible c) (map f ps) (option_map f top)) (λ p. option_map f top ≡ Some p)
+      by None k = greatest_mapped c f ps top alike k
+      by (Some p) k = ap (λ (o : Option PairRecord). option_map f o) k
+
+remains_mapped : (c : Bool) (followed : Option ℕ) (f : PairRecord → PairRecord) (ps : List PairRecord) (number : Option ℕ) (best : PairRecord) → ((p : PairRecord) → Alike c p (f p))
+    → remains followed best (selection ps number) ≡ true → remains followed (f best) (selection (map f ps) number) ≡ true
+remains_mapped c None f ps number best alike h = stands_mapped c f ps number best alike h
+remains_mapped c (Some n) f ps number best alike h = ap (λ k. option_map_or (λ m. m == k) number false) (alike best).number ∙ h
+
+top_mapped : (c : Bool) (followed : Option ℕ) (f : PairRecord → PairRecord) (ps : List PairRecord) (number : Option ℕ) → ((p : PairRecord) → Alike c p (f p))
+    → TopIn c followed ps number → TopIn c followed (map f ps) number
+top_mapped c followed f ps number alike (None, none, _) = (None, chosen_mapped c followed f ps number None alike none, tt)
+top_mapped c followed f ps number alike (Some best, chosen, stands) =
+    (Some (f best), chosen_mapped c followed f ps number (Some best) alike chosen, remains_mapped c followed f ps number best alike stands)
 
 -- ---- checks leave it
 
@@ -168,15 +224,15 @@ module _ {H P : Type 0} where
   checks_top mac now None old new s t issued (is, made, drawn) top = subst (λ (a : AgentRecord H P). IsTopAnnounced a) (sym made) top
   checks_top mac now (Some remote) old new s t issued h top = either old.lite h
       (λ _ k. subst (λ (a : AgentRecord H P). IsTopAnnounced a) (sym k.1)
-      (top_mapped old.controlling (heard now) old.pairs old.selected_pair (λ p. heard_alike old.controlling now p.last_request p) top))
+      (top_mapped old.controlling (followed old) (heard now) old.pairs old.selected_pair (λ p. heard_alike old.controlling now p.last_request p) top))
       (λ _ k. next k.0 k.2) where
-        all_top : TopIn old.controlling (map (asked now old.timing) old.pairs) old.selected_pair
-        all_top = top_mapped old.controlling (asked now old.timing) old.pairs old.selected_pair (λ p. record { number = refl; priority = refl; eligible = refl }) top
+        all_top : TopIn old.controlling (followed old) (map (asked now old.timing) old.pairs) old.selected_pair
+        all_top = top_mapped old.controlling (followed old) (asked now old.timing) old.pairs old.selected_pair (λ p. record { number = refl; priority = refl; eligible = refl }) top
 
         next : (due : Option PairRecord) → ChecksTop mac now remote due (all_asked now old) s issued new t → IsTopAnnounced new
         next None (is, made, drawn) = subst (λ (a : AgentRecord H P). IsTopAnnounced a) (sym made) all_top
         next (Some p) (id, drawn, values, is, made) = subst (λ (a : AgentRecord H P). IsTopAnnounced a) (sym made)
-            (top_mapped old.controlling (change_at p.number (checked now old.timing old.controlling id)) (map (asked now old.timing) old.pairs) old.selected_pair
+            (top_mapped old.controlling (followed old) (change_at p.number (checked now old.timing old.controlling id)) (map (asked now old.timing) old.pairs) old.selected_pair
             (λ q. alike_if (is_numbered p.number q) old.controlling q (checked now old.timing old.controlling id q) (checked_alike old.controlling now old.timing old.controlling id q)) all_top)
 
   abbrev FitOf : AgentRecord H P → Type 0
@@ -210,7 +266,7 @@ module _ {H P : Type 0} where
 
   announces_still : (old new : AgentRecord H P) (path : Option Path) (p : PairRecord) → Has old.pairs p → Announces old path new → Still p old new
   announces_still old new path p has (None, none, (is, same)) = stays_still p old new has same
-  announces_still old new path p has (Some top, chosen, h) = either (stands_at old.selected_pair top.priority old.pairs) h
+  announces_still old new path p has (Some top, chosen, h) = either (remains (followed old) top (selection_of old)) h
       (λ _ k. stays_still p old new has k.1)
       (λ _ k. (
       let q : PairRecord = change_at top.number (nominated_by_self old.controlling old.lite) p in

@@ -26,7 +26,7 @@ use Rattle.is_rules.specs.Runs.{IsFresh, Run, IsTopPath}
 use Rattle.is_rules.specs.Sending.{path_of}
 use Rattle.is_rules.specs.Sound.{IsSound}
 use Rattle.is_rules.specs.Staying.{MayEnd, Stays}
-use Rattle.is_rules.specs.Steps.{Call, SetMtu, SetControlTieBreaker, SetMaxCandidatePairs, SetMaxDiscovered, SetTimingAdvance, SetLocalPreference, SetControlling, SetLocalCredentials, AddLocalCandidate, AddRemoteCandidate, Entry, ReceivePacket, HandleTimeout, PollTransmit, PollTimeout, PollEvent, Done, Step}
+use Rattle.is_rules.specs.Steps.{Call, SetMtu, SetControlTieBreaker, SetMaxCandidatePairs, SetMaxDiscovered, SetRenomination, SetTimingAdvance, SetLocalPreference, SetControlling, SetLocalCredentials, AddLocalCandidate, AddRemoteCandidate, Entry, ReceivePacket, HandleTimeout, PollTransmit, PollTimeout, PollEvent, Done, Step}
 use Rattle.is_rules.specs.Timeouts.{timeout_begun}
 use Rattle.is_rules.specs.Emitted.{issued_as}
 use Rattle.is_rules.proofs.AskedLaws.{asked-are-announced}
@@ -206,6 +206,7 @@ module _ {H P : Type 0} where
     between-goes at behind early x (SetControlTieBreaker tie) called old new s t known last p sound has number on is (told, made, drawn) = inr (inr (goes-to n by old _ new (refl, onward-same n by old.pairs old.next_number) made))
     between-goes at behind early x (SetMaxCandidatePairs k) called old new s t known last p sound has number on is (told, made, drawn) = inr (inr (goes-to n by old _ new (refl, onward-same n by old.pairs old.next_number) made))
     between-goes at behind early x (SetMaxDiscovered limit) called old new s t known last p sound has number on is (told, made, drawn) = inr (inr (goes-to n by old _ new (refl, onward-same n by old.pairs old.next_number) made))
+    between-goes at behind early x (SetRenomination renominates) called old new s t known last p sound has number on is (told, made, drawn) = inr (inr (goes-to n by old _ new (refl, onward-same n by old.pairs old.next_number) made))
     between-goes at behind early x (SetTimingAdvance advance) called old new s t known last p sound has number on is (told, made, drawn) = inr (inr (goes-to n by old _ new (refl, onward-same n by old.pairs old.next_number) made))
     between-goes at behind early x (SetLocalPreference object) called old new s t known last p sound has number on is (told, made, drawn) = inr (inr (goes-to n by old _ new (refl, onward-same n by old.pairs old.next_number) made))
     between-goes at behind early x (SetControlling controlling) called old new s t known last p sound has number on is (told, made, drawn) = inr (inr (goes-to n by old _ new (refl, onward-same n by old.pairs old.next_number) made))

@@ -22,7 +22,7 @@ use Rattle.is_rules.specs.ReachedCourses.{IsPassed, ChecksAmong, IsAnsweredAmong
 use Rattle.is_rules.specs.Rounds.{LoggedRound, entries_of, is_between, RunsOn}
 use Rattle.is_rules.specs.Sending.{path_of}
 use Rattle.is_rules.specs.Staying.{MayEnd}
-use Rattle.is_rules.specs.Steps.{Call, SetMtu, SetControlTieBreaker, SetMaxCandidatePairs, SetMaxDiscovered, SetTimingAdvance, SetLocalPreference, SetControlling, SetLocalCredentials, AddLocalCandidate, AddRemoteCandidate, ReceivePacket, HandleTimeout, PollTransmit, PollTimeout, PollEvent, Entry}
+use Rattle.is_rules.specs.Steps.{Call, SetMtu, SetControlTieBreaker, SetMaxCandidatePairs, SetMaxDiscovered, SetRenomination, SetTimingAdvance, SetLocalPreference, SetControlling, SetLocalCredentials, AddLocalCandidate, AddRemoteCandidate, ReceivePacket, HandleTimeout, PollTransmit, PollTimeout, PollEvent, Entry}
 use Rattle.is_rules.proofs.Addresses.{both, same_address-sound, same_protocol-sound}
 use Rattle.is_rules.proofs.Coursing.{entry_of, part_of, pushed, part_is, round_of, rounds_of, begun, as_many, either_has, anew, leads_on, courses-announce}
 use Rattle.is_rules.proofs.LogParts.{no-case}
@@ -58,6 +58,7 @@ module _ {P : Type 0} where
   between_in (SetControlTieBreaker tie_breaker) is = refl
   between_in (SetMaxCandidatePairs n) is = refl
   between_in (SetMaxDiscovered limit) is = refl
+  between_in (SetRenomination renominates) is = refl
   between_in (SetTimingAdvance by) is = refl
   between_in (SetLocalPreference object) is = refl
   between_in (SetControlling controlling) is = refl

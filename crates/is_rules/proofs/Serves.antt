@@ -63,7 +63,7 @@ first_at test cs l (Some k) is h =
 first_at test cs l None is h = let found = position-Some test cs l nowhere h in (found.0, found.1)
 
 -- the candidate that received the request sends from the destination address
-reached : (local : List CandidateRecord) (q : RequestRecord) (l : ℕ) → ((c : CandidateRecord) → Has local c → IsBased c) → local_place local q ≡ Some l
+pub reached : (local : List CandidateRecord) (q : RequestRecord) (l : ℕ) → ((c : CandidateRecord) → Has local c → IsBased c) → local_place local q ≡ Some l
     → (l < length local) × ((base_of (candidate_at local l) ≡ q.path.destination) × ((candidate_at local l).proto ≡ q.path.proto))
 reached local q l based h =
     let found = first_at (is_reached q) local l (position (is_live (is_reached q)) local) refl h in
@@ -74,7 +74,7 @@ reached local q l based h =
     (found.0, (base k.0 ∙ at.0, at.1))
 
 -- the sender of a request has the address that it came from
-known_at : (remote : List CandidateRecord) (q : RequestRecord) (r : ℕ) → IsRemotePlace remote q (Known r) → (r < length remote) × ((candidate_at remote r).addr ≡ q.path.source)
+pub known_at : (remote : List CandidateRecord) (q : RequestRecord) (r : ℕ) → IsRemotePlace remote q (Known r) → (r < length remote) × ((candidate_at remote r).addr ≡ q.path.source)
 known_at remote q r (Some k, greatest, is) =
     let same : r ≡ k = cc in
     let c = candidate_at remote k in
@@ -85,7 +85,7 @@ known_at remote q r (None, greatest, is) = absurd (none (list_any (is_sender q) 
   none true e = cc
   none false e = cc
 
-Has-last : {X : Type 0} (xs : List X) (x : X) → Has (xs ++ x ∷ []) x
+pub Has-last : {X : Type 0} (xs : List X) (x : X) → Has (xs ++ x ∷ []) x
 Has-last [] x = inl refl
 Has-last (y ∷ ys) x = inr (Has-last ys x)
 
@@ -107,7 +107,7 @@ served_at c l q p =
       validated_kept false p = (refl, refl)
 
 -- and nominates it if the request has USE-CANDIDATE
-served_nominated : (c l : Bool) (q : RequestRecord) (p : PairRecord) → c ≡ false → q.use_candidate ≡ true → is_nominated (served c l q p) ≡ true
+pub served_nominated : (c l : Bool) (q : RequestRecord) (p : PairRecord) → c ≡ false → q.use_candidate ≡ true → is_nominated (served c l q p) ≡ true
 served_nominated c l q p role uses =
     let v : PairRecord = validated_by_peer c l (with_request q.moment p) in
     by c q.use_candidate (is_nominated v) l v role uses refl where

@@ -24,7 +24,7 @@ use Rattle.is_rules.specs.Request.{RequestRecord, request_in}
 use Rattle.is_rules.specs.Agent.{AgentRecord}
 use Rattle.is_rules.specs.Places.{local_place}
 use Rattle.is_rules.specs.Forming.{formed, with_pair}
-use Rattle.is_rules.specs.Nominating.{nominated_by_self, stands_at, Nominates}
+use Rattle.is_rules.specs.Nominating.{nominated_by_self, Nominates, followed, remains, selection_of}
 use Rattle.is_rules.specs.Roles.{conflict_of, switched, switched_sides, with_priority_in}
 use Rattle.is_rules.specs.Serving.{served, is_misled, names_another, pair_served, request_counted, with_sender, with_sender_at, validated_by_peer, Drops, Queues, RecordsAndResponds, FindsOrAddsPair, AddsUnknownSender, CountsAndServes, ResolvesRoleConflictBy, ResolvesRoleConflict, Serves}
 use Rattle.is_rules.specs.Answers.{is_role_conflict, TakesSuccess, GivesUpRole, TakesFailure}
@@ -128,7 +128,7 @@ module _ {H P : Type 0} where
 
     from : Announces old path new → Left now old p new
     from (None, greatest, (is, made)) = as-it-was made
-    from (Some top, greatest, k) = either (stands_at old.selected_pair top.priority old.pairs) k
+    from (Some top, greatest, k) = either (remains (followed old) top (selection_of old)) k
         (λ _ l. as-it-was l.1)
         (λ _ l. (
         let s = self-kept old.controlling old.lite top.number p old.lite now old.timing in

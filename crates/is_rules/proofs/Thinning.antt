@@ -12,7 +12,7 @@ use Rattle.is_rules.specs.declared.credentials.IceCreds.{IceCreds}
 use Rattle.is_rules.specs.declared.emitted.Path.{Path}
 use Rattle.is_rules.specs.Request.{RequestRecord}
 use Rattle.is_rules.specs.Agent.{AgentRecord}
-use Rattle.is_rules.specs.Nominating.{nominated_by_self, stands_at, Nominates}
+use Rattle.is_rules.specs.Nominating.{nominated_by_self, Nominates, followed, remains, selection_of}
 use Rattle.is_rules.specs.Timeouts.{is_given_up, given_up_gone, GivesUp}
 use Rattle.is_rules.proofs.Frames.{either}
 use Rattle.is_rules.proofs.Moves.{Has-map}
@@ -192,7 +192,7 @@ module _ {H P : Type 0} where
   nominates-thins by old new path h = from (announces old new path h) where
     from : Announces old path new → Thins by old new
     from (None, none, (is, same)) = thins-same by old new same
-    from (Some top, greatest, k) = either (stands_at old.selected_pair top.priority old.pairs) k
+    from (Some top, greatest, k) = either (remains (followed old) top (selection_of old)) k
         (λ _ l. thins-same by old new l.1)
         (λ _ l. subst (λ (a : AgentRecord H P). Thins by old a) (sym l.1)
         (refl, thinned-map by (change_at top.number (nominated_by_self old.controlling old.lite)) old.pairs (at-alike top.number old.controlling old.lite)))
@@ -215,7 +215,7 @@ module _ {H P : Type 0} where
 
     from : Announces old path new → (q : PairRecord) × Has new.pairs q × Alike p q
     from (None, none, (is, e)) = same e
-    from (Some top, greatest, k) = either (stands_at old.selected_pair top.priority old.pairs) k
+    from (Some top, greatest, k) = either (remains (followed old) top (selection_of old)) k
         (λ _ l. same l.1)
         (λ _ l. subst (λ (a : AgentRecord H P). (q : PairRecord) × Has a.pairs q × Alike p q) (sym l.1) (
           change_at top.number (nominated_by_self old.controlling old.lite) p,

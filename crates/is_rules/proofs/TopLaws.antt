@@ -1,16 +1,17 @@
 -- After nomination the selected pair exists, and is a greatest one among the eligible.
 use Rattle.std.proofs.Common.{◌≡◌, ℕ, ◌≤◌, ◌==◌, ◌&&◌, ◌||◌, Bool, true, false, not, List, [], ◌∷◌, map, Option, Some, None, inl, inr, refl, ap, sym, ◌∙◌, subst, arith, cond, if◌then◌else◌}
-use Rattle.std.specs.Prelude.{find}
-use Rattle.std.specs.Option.{option_map_or}
+use Rattle.std.specs.Prelude.{find, MatchOption}
+use Rattle.std.specs.Option.{option_map_or, option_and_then, option_or}
 use Rattle.std.proofs.lemmas.Bool.{eqb-true, eq-eqb}
 use Rattle.is_proto.specs.Lists.{Has}
 use Rattle.is_pair.specs.Pairs.{PairRecord, is_valid, is_nominated, nominated}
 use Rattle.is_rules.specs.declared.emitted.Path.{Path}
 use Rattle.is_rules.specs.Agent.{AgentRecord}
-use Rattle.is_pair.specs.Bag.{is_numbered, change_at, change_pair}
+use Rattle.is_pair.specs.Bag.{is_numbered, change_at, change_pair, IsGreatest}
 use Rattle.is_rules.proofs.Rising.{AreRising}
-use Rattle.is_rules.specs.Nominating.{is_eligible, nominated_by_self, stands_at, Nominates}
+use Rattle.is_rules.specs.Nominating.{is_eligible, nominated_by_self, stands_at, Nominates, followed, remains, selection, selection_of, if_eligible, eligible_numbered, IsChosen}
 use Rattle.is_rules.specs.Points.{IsTopAnnounced}
+use Rattle.is_rules.proofs.Choosing.{chosen-able, no-some}
 use Rattle.is_rules.proofs.Frames.{either}
 use Rattle.is_rules.proofs.Moves.{Has-map}
 use Rattle.is_rules.proofs.Tells.{one_pair}
@@ -18,6 +19,25 @@ use Rattle.is_rules.proofs.Nominations.{announced, Announces, announces}
 
 false_true : false ≡ true → ⊥
 false_true h = cc
+
+and_right : (a b : Bool) → (a && b) ≡ true → b ≡ true
+and_right true b h = h
+and_right false b h = absurd (false_true h)
+
+-- only a controlled agent follows its peer
+controlled : (on c : Bool) (last : Option ℕ) (n : ℕ) → (if on && not c then last else None) ≡ Some n → c ≡ false
+controlled true false last n h = refl
+controlled true true last n h = absurd (no-some n h)
+controlled false c last n h = absurd (no-some n h)
+
+same_pairs : (n : ℕ) (g : PairRecord → PairRecord) (ps : List PairRecord) → ((q : PairRecord) → Has ps q → is_numbered n q ≡ true → g q ≡ q)
+    → map (change_at n g) ps ≡ ps
+same_pairs n g [] h = refl
+same_pairs n g (q ∷ qs) h =
+    ap (λ (x : PairRecord). x ∷ map (change_at n g) qs) (kept (is_numbered n q) refl) ∙ ap (λ (xs : List PairRecord). q ∷ xs) (same_pairs n g qs (λ x has. h x (inr has))) where
+      kept : (b : Bool) → is_numbered n q ≡ b → (if b then g q else q) ≡ q
+      kept true is = h q (inl refl) is
+      kept false is = refl
 
 Has-mapped : {X Y : Type 0} (f : X → Y) (xs : List X) (x : X) → Has xs x → Has (map f xs) (f x)
 Has-mapped f [] x h = absurd h
@@ -98,16 +118,78 @@ module _ {H P : Type 0} where
     it_stands = ap (λ (o : Option PairRecord). option_map_or (λ (p : PairRecord). p.priority == (g top).priority) o false)
         (found old.pairs top g rising has (same_pair old.controlling old.lite top).0) ∙ eq-eqb (g top).priority (g top).priority refl
 
-    announces_top : IsTopAnnounced (announced top old)
-    announces_top = (Some (g top), (it_has, still_eligible old.controlling old.lite (is_nominated top) (is_valid top) top refl refl eligible, it_greatest), it_stands)
+    announces_top : followed old ≡ None → IsTopAnnounced (announced top old)
+    announces_top is = (
+      Some (g top),
+      subst (λ f. IsChosen old.controlling f (selection_of (announced top old)) (Some (g top))) (sym is)
+          (it_has, still_eligible old.controlling old.lite (is_nominated top) (is_valid top) top refl refl eligible, it_greatest),
+      subst (λ f. remains f (g top) (selection_of (announced top old)) ≡ true) (sym is) it_stands,
+    )
+
+  -- an agent that follows its peer does not nominate, so the pairs stay as they were
+  module _ (old : AgentRecord H P) (top : PairRecord) (rising : AreRising old.pairs) (chosen : IsChosen old.controlling (followed old) (selection_of old) (Some top))
+      (n : ℕ) (follows : followed old ≡ Some n) where
+    abbrev by_self : PairRecord → PairRecord
+    by_self = nominated_by_self old.controlling old.lite
+
+    able : Has old.pairs top × (is_eligible old.controlling top ≡ true)
+    able = chosen-able old.controlling (followed old) (selection_of old) top chosen
+
+    was_nominated : is_nominated top ≡ true
+    was_nominated = and_right (is_valid top) (is_nominated top)
+        (subst (λ c. (is_valid top && (c || is_nominated top)) ≡ true) (controlled old.renominates old.controlling old.last_nominated n follows) able.1)
+
+    as_it_was : by_self top ≡ top
+    as_it_was = ap (λ b. if not b && (old.controlling || old.lite) then nominated old.lite top else top) was_nominated
+
+    pairs_same : change_pair top.number by_self old.pairs ≡ old.pairs
+    pairs_same = same_pairs top.number by_self old.pairs (λ q there is. (
+        let same : q ≡ top = one_pair old.pairs q top rising there able.0 (eqb-true q.number top.number is) in
+        subst (λ (x : PairRecord). by_self x ≡ x) (sym same) as_it_was))
+
+    own_found : eligible_numbered old.controlling old.pairs top.number ≡ Some top
+    own_found = ap (λ (ps : List PairRecord). eligible_numbered old.controlling ps top.number) (sym (same_pairs top.number (λ q. q) old.pairs (λ q _ _. refl)))
+        ∙ ap (λ (o : Option PairRecord). option_and_then (if_eligible old.controlling) o) (found old.pairs top (λ q. q) rising able.0 refl)
+        ∙ ap (λ b. if b then Some top else None) able.1
+
+    still_chosen : IsChosen old.controlling (Some n) (selection old.pairs (Some top.number)) (Some top)
+    still_chosen = by (eligible_numbered old.controlling old.pairs n) refl where
+      was : IsChosen old.controlling (Some n) (selection_of old) (Some top)
+      was = subst (λ f. IsChosen old.controlling f (selection_of old) (Some top)) follows chosen
+
+      by : (o : Option PairRecord) → eligible_numbered old.controlling old.pairs n ≡ o
+          → MatchOption (option_or (eligible_numbered old.controlling old.pairs n) (eligible_numbered old.controlling old.pairs top.number))
+          (IsGreatest (is_eligible old.controlling) old.pairs (Some top)) (λ p. Some top ≡ Some p)
+      by (Some p) is =
+          subst (λ o. MatchOption (option_or o (eligible_numbered old.controlling old.pairs top.number))
+          (IsGreatest (is_eligible old.controlling) old.pairs (Some top)) (λ p. Some top ≡ Some p)) (sym is)
+          (subst (λ o. MatchOption (option_or o (option_and_then (eligible_numbered old.controlling old.pairs) old.selected_pair))
+          (IsGreatest (is_eligible old.controlling) old.pairs (Some top)) (λ p. Some top ≡ Some p)) is was)
+      by None is =
+          subst (λ o. MatchOption (option_or o (eligible_numbered old.controlling old.pairs top.number))
+          (IsGreatest (is_eligible old.controlling) old.pairs (Some top)) (λ p. Some top ≡ Some p)) (sym is)
+          (subst (λ o. MatchOption o (IsGreatest (is_eligible old.controlling) old.pairs (Some top)) (λ p. Some top ≡ Some p)) (sym own_found) refl)
+
+    follows_top : IsTopAnnounced (announced top old)
+    follows_top = (
+      Some top,
+      subst (λ (ps : List PairRecord). IsChosen old.controlling (followed old) (selection ps (Some top.number)) (Some top)) (sym pairs_same)
+          (subst (λ f. IsChosen old.controlling f (selection old.pairs (Some top.number)) (Some top)) (sym follows) still_chosen),
+      subst (λ f. remains f top (selection_of (announced top old)) ≡ true) (sym follows) (eq-eqb top.number top.number refl),
+    )
 
   -- after nomination a greatest pair is selected, if any is eligible
   announces_greatest : (old new : AgentRecord H P) (path : Option Path) → AreRising old.pairs → Announces old path new → IsTopAnnounced new
   announces_greatest old new path rising (None, none, (is, same)) =
       subst (λ (a : AgentRecord H P). IsTopAnnounced a) (sym same) (None, none, tt)
-  announces_greatest old new path rising (Some top, (has, eligible, greatest), h) = either (stands_at old.selected_pair top.priority old.pairs) h
-      (λ stands k. subst (λ (a : AgentRecord H P). IsTopAnnounced a) (sym k.1) (Some top, (has, eligible, greatest), stands))
-      (λ _ k. subst (λ (a : AgentRecord H P). IsTopAnnounced a) (sym k.1) (announces_top old top rising has eligible greatest))
+  announces_greatest old new path rising (Some top, chosen, h) = either (remains (followed old) top (selection_of old)) h
+      (λ stands k. subst (λ (a : AgentRecord H P). IsTopAnnounced a) (sym k.1) (Some top, chosen, stands))
+      (λ _ k. subst (λ (a : AgentRecord H P). IsTopAnnounced a) (sym k.1) (by (followed old) refl)) where
+        by : (o : Option ℕ) → followed old ≡ o → IsTopAnnounced (announced top old)
+        by None is =
+            let most : IsGreatest (is_eligible old.controlling) old.pairs (Some top) = subst (λ f. IsChosen old.controlling f (selection_of old) (Some top)) is chosen in
+            announces_top old top rising most.0 most.1 most.2 is
+        by (Some n) is = follows_top old top rising chosen n is
 
   pub nominates_top : (old new : AgentRecord H P) (path : Option Path) → AreRising old.pairs → Nominates old path new → IsTopAnnounced new
   nominates_top old new path rising h = announces_greatest old new path rising (announces old new path h)

@@ -26,6 +26,8 @@ pub record AgentRecord (H P : Type 0) : Type 0 where
   pub timing : StunTiming
   pub timing_advance : ℕ
   pub lite : Bool
+  -- each nomination replaces the ones before (`Nominating`)
+  pub renominates : Bool
   -- the target MTU, and the packet length from which a warning is due
   pub mtu : ℕ
   pub mtu_warn : ℕ
@@ -42,6 +44,8 @@ pub record AgentRecord (H P : Type 0) : Type 0 where
   pub next_number : ℕ
   -- the number of the pair that was selected last (`NominatedSend`)
   pub selected_pair : Option ℕ
+  -- the number of the pair that the peer nominated last, as of the last request with USE-CANDIDATE that was served
+  pub last_nominated : Option ℕ
   -- the early requests: received before the remote credentials
   pub queue : List RequestRecord
   pub state : IceConnectionState
@@ -83,6 +87,7 @@ module _ {H P : Type 0} where
     timing = default_timing;
     timing_advance = 50 * MILLISECOND;
     lite = false;
+    renominates = false;
     mtu = 1150;
     mtu_warn = 1280;
     local_creds = creds;
@@ -94,6 +99,7 @@ module _ {H P : Type 0} where
     pairs = [];
     next_number = 0;
     selected_pair = None;
+    last_nominated = None;
     queue = [];
     state = New;
     last_moment = None;

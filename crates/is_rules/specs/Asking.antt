@@ -4,7 +4,7 @@ use Rattle.rand_core.specs.Stream.{Stream}
 use Rattle.is_proto.specs.Lists.{Has}
 use Rattle.is_proto.specs.Packets.{Packet}
 use Rattle.is_candidate.specs.Candidates.{CandidateRecord}
-use Rattle.is_pair.specs.Pairs.{PairRecord, is_nominated}
+use Rattle.is_pair.specs.Pairs.{PairRecord}
 use Rattle.is_stun.specs.declared.header.Class.TheVariants.{Request, Success}
 use Rattle.is_rules.specs.declared.emitted.Path.{Path}
 use Rattle.is_rules.specs.Agent.{AgentRecord}
@@ -12,6 +12,7 @@ use Rattle.is_rules.specs.Brought.{IsServing}
 use Rattle.is_rules.specs.Delivery.{KnowEachOther, IsReachedBy, Sends, Delivered}
 use Rattle.is_rules.specs.Exchange.{AreBetween, Course}
 use Rattle.is_rules.specs.Issuing.{via_out}
+use Rattle.is_rules.specs.Nominating.{stays_nominated}
 use Rattle.is_rules.specs.Request.{RequestRecord}
 use Rattle.is_rules.specs.Sending.{path_of}
 use Rattle.is_rules.specs.Sound.{IsSound}
@@ -19,9 +20,9 @@ use Rattle.is_rules.specs.Steps.{Call, Entry, HandleTimeout, ReceivePacket, Step
 use Rattle.is_rules.specs.Emitted.{issued_as, reversed}
 
 module _ {H P : Type 0} where
-  -- Each pair on the path is nominated.
+  -- Each pair on the path is nominated, and its nomination is not replaced by a later one.
   abbrev pub AreNominatedOn : AgentRecord H P → Path → Type 0
-  AreNominatedOn a path = (p : PairRecord) → Has a.pairs p → path_of a p ≡ path → is_nominated p ≡ true
+  AreNominatedOn a path = (p : PairRecord) → Has a.pairs p → path_of a p ≡ path → stays_nominated a p ≡ true
 
   -- The nomination is accepted: the transition serves a request with USE-CANDIDATE, and issues its success response on the path.
   abbrev pub Grants : AgentRecord H P → Call P → Entry → Path → Type 0

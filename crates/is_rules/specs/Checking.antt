@@ -4,7 +4,7 @@ use Rattle.rand_core.specs.Stream.{Stream, fill_bytes}
 use Rattle.is_proto.specs.Moments.{counted}
 use Rattle.is_candidate.specs.Candidates.{candidate_at}
 use Rattle.is_candidate.specs.Priorities.{check_priority}
-use Rattle.is_pair.specs.Pairs.{PairRecord, is_nominated, heard, checked}
+use Rattle.is_pair.specs.Pairs.{PairRecord, heard, checked}
 use Rattle.is_pair.specs.Due.{asked, IsNextDue}
 use Rattle.is_stun.specs.declared.header.Class.TheVariants.{Request}
 use Rattle.is_stun.specs.Message.{Message}
@@ -16,6 +16,7 @@ use Rattle.is_rules.specs.declared.emitted.Issued.{Issued}
 use Rattle.is_rules.specs.Emitted.{issued_as}
 use Rattle.is_pair.specs.Bag.{change_pair}
 use Rattle.is_rules.specs.Agent.{AgentRecord}
+use Rattle.is_rules.specs.Nominating.{stays_nominated}
 use Rattle.is_rules.specs.Sending.{with_packet, path_of}
 
 -- the peer's username fragment, a colon, and the agent's own username fragment (RFC 8445, section 7.2.2)
@@ -29,11 +30,12 @@ module _ {H P : Type 0} where
   abbrev pub all_heard : ℕ → AgentRecord H P → AgentRecord H P
   all_heard now a = record a { pairs = map (heard now) a.pairs }
 
-  -- The check has USE-CANDIDATE if the agent is controlling and the pair is nominated (RFC 8445, section 7.1).
+  -- The check has USE-CANDIDATE if the agent is controlling and the pair is nominated (RFC 8445, section 7.1), and its nomination
+  -- is not replaced by a later one.
   abbrev pub check_message : AgentRecord H P → IceCreds → PairRecord → List ℕ → Message
   check_message a remote p id =
       binding_request (username_between remote a.local_creds) id a.controlling a.tie_breaker
-      (check_priority (candidate_at a.local p.local)) (a.controlling && is_nominated p)
+      (check_priority (candidate_at a.local p.local)) (a.controlling && stays_nominated a p)
 
   module _ (mac : H → List ℕ → List ℕ → List ℕ) where
     -- The check is sent on the pair's path, signed with the remote password, and becomes a pending transaction.

@@ -15,6 +15,7 @@ use Rattle.is_rules.specs.declared.checking.Draft.{Draft}
 use Rattle.is_rules.specs.declared.emitted.Path.{Path}
 use Rattle.is_rules.specs.Agent.{AgentRecord}
 use Rattle.is_rules.specs.Answers.{keeps_check_on, success_counted}
+use Rattle.is_rules.specs.Nominating.{stays_nominated}
 use Rattle.is_rules.specs.Sending.{path_of}
 
 -- The agent may nominate the pair itself.
@@ -34,7 +35,7 @@ module _ {H P : Type 0} where
   -- The draft is that of a check of the pair.
   abbrev pub Drafts : AgentRecord H P → PairRecord → Draft → Type 0
   Drafts a p d =
-      (d.path ≡ path_of a p) × (d.priority ≡ check_priority (candidate_at a.local p.local)) × (d.nominated ≡ is_nominated p)
+      (d.path ≡ path_of a p) × (d.priority ≡ check_priority (candidate_at a.local p.local)) × (d.nominated ≡ stays_nominated a p)
 
   -- The agent may send a check at this time.
   abbrev pub may_fall_due : ℕ → AgentRecord H P → Bool

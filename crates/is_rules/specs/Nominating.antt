@@ -1,6 +1,6 @@
 -- Nomination, which is not final (RFC 8445, section 8.1.1).
-use Rattle.std.specs.Prelude.{◌≡◌, ℕ, ◌==◌, ◌&&◌, ◌||◌, Bool, false, not, List, [], ◌∷◌, ◌++◌, Option, Some, None, MatchBool, if◌then◌else◌}
-use Rattle.std.specs.Option.{option_map_or, option_and_then}
+use Rattle.std.specs.Prelude.{◌≡◌, ℕ, ◌==◌, ◌&&◌, ◌||◌, Bool, false, not, List, [], ◌∷◌, ◌++◌, Option, Some, None, MatchBool, MatchOption, if◌then◌else◌}
+use Rattle.std.specs.Option.{option_map_or, option_and_then, option_or}
 use Rattle.is_proto.specs.Moments.{counted}
 use Rattle.is_candidate.specs.Candidates.{base_of, candidate_at}
 use Rattle.is_pair.specs.Pairs.{PairRecord, is_valid, is_nominated, nominated}
@@ -26,6 +26,14 @@ pair_selected number pairs = option_and_then (λ n. pair_numbered n pairs) numbe
 abbrev pub stands_at : Option ℕ → ℕ → List PairRecord → Bool
 stands_at number priority pairs = option_map_or (λ (p : PairRecord). p.priority == priority) (pair_selected number pairs) false
 
+-- the pair, if it is eligible
+abbrev pub if_eligible : Bool → PairRecord → Option PairRecord
+if_eligible controlling p = if is_eligible controlling p then Some p else None
+
+-- the pair with this number, if it is eligible
+abbrev pub eligible_numbered : Bool → List PairRecord → ℕ → Option PairRecord
+eligible_numbered controlling pairs number = option_and_then (if_eligible controlling) (pair_numbered number pairs)
+
 -- the pairs, and the number of the pair that was selected last
 pub record Selection : Type 0 where
   pub pairs : List PairRecord
@@ -41,18 +49,53 @@ path_in s p = record {
   destination = (candidate_at s.remote p.remote).addr;
 }
 
--- An eligible pair with the greatest priority is selected, unless the pair that was selected last has that priority.
-abbrev pub NamesTop : SidesRecord → Option PairRecord → Selection → Option Path → Selection → Type 0
-NamesTop s None old emitted new = (emitted ≡ None) × (new ≡ old)
-NamesTop s (Some top) old emitted new =
-    MatchBool (stands_at old.selected_pair top.priority old.pairs)
+-- An agent that follows its peer: the pair that the peer nominated last, once it is eligible. Until then it is the pair that was
+-- selected last, if that one is eligible.
+abbrev pub favored : Bool → Option ℕ → Selection → Option PairRecord
+favored controlling None old = None
+favored controlling (Some number) old =
+    option_or (eligible_numbered controlling old.pairs number) (option_and_then (eligible_numbered controlling old.pairs) old.selected_pair)
+
+-- The favored pair is chosen. If there is none, an eligible pair with the greatest priority is.
+abbrev pub IsChosen : Bool → Option ℕ → Selection → Option PairRecord → Type 0
+IsChosen controlling followed old top =
+    MatchOption (favored controlling followed old) (IsGreatest (is_eligible controlling) old.pairs top) (λ p. top ≡ Some p)
+
+-- The pair has this number.
+abbrev pub is_named_by : Option ℕ → PairRecord → Bool
+is_named_by number p = option_map_or (λ n. n == p.number) number false
+
+-- The pair that was selected last stays selected: it has the priority of the chosen one. If the agent follows its peer, it is the
+-- chosen one.
+abbrev pub remains : Option ℕ → PairRecord → Selection → Bool
+remains None top old = stands_at old.selected_pair top.priority old.pairs
+remains (Some number) top old = is_named_by old.selected_pair top
+
+-- The chosen pair is selected, unless the pair that was selected last stays selected.
+abbrev pub NamesTop : SidesRecord → Option ℕ → Option PairRecord → Selection → Option Path → Selection → Type 0
+NamesTop s followed None old emitted new = (emitted ≡ None) × (new ≡ old)
+NamesTop s followed (Some top) old emitted new =
+    MatchBool (remains followed top old)
     ((emitted ≡ None) × (new ≡ old))
     ((emitted ≡ Some (path_in s top)) × (new ≡ selection (change_pair top.number (nominated_by_self s.controlling s.lite) old.pairs) (Some top.number)))
 
-abbrev pub Names : SidesRecord → Selection → Option Path → Selection → Type 0
-Names s old emitted new = (top : Option PairRecord) × IsGreatest (is_eligible s.controlling) old.pairs top × NamesTop s top old emitted new
+abbrev pub Names : SidesRecord → Option ℕ → Selection → Option Path → Selection → Type 0
+Names s followed old emitted new = (top : Option PairRecord) × IsChosen s.controlling followed old top × NamesTop s followed top old emitted new
 
 module _ {H P : Type 0} where
+  -- The agent follows its peer if it is controlled and nominations replace earlier ones: the number of the pair that the peer
+  -- nominated last.
+  abbrev pub followed : AgentRecord H P → Option ℕ
+  followed a = if a.renominates && not a.controlling then a.last_nominated else None
+
+  -- The pair is nominated. If nominations replace earlier ones, it is also the one that was selected last.
+  abbrev pub stays_nominated : AgentRecord H P → PairRecord → Bool
+  stays_nominated a p = is_nominated p && (not a.renominates || is_named_by a.selected_pair p)
+
+  -- the pairs, and the number of the pair that was selected last
+  abbrev pub selection_of : AgentRecord H P → Selection
+  selection_of a = selection a.pairs a.selected_pair
+
   -- the agent with these pairs and this selected number
   abbrev pub with_selection : Selection → AgentRecord H P → AgentRecord H P
   with_selection s a = record a { pairs = s.pairs; selected_pair = s.selected_pair }
@@ -68,7 +111,7 @@ module _ {H P : Type 0} where
   -- The selection, and the event for its path.
   abbrev pub Nominates : AgentRecord H P → Option Path → AgentRecord H P → Type 0
   Nominates old emitted new =
-      (chosen : Selection) × Names (sides_of old) (selection old.pairs old.selected_pair) emitted chosen × (new ≡ nominated_emitted emitted (with_selection chosen old))
+      (chosen : Selection) × Names (sides_of old) (followed old) (selection_of old) emitted chosen × (new ≡ nominated_emitted emitted (with_selection chosen old))
 
   -- Nomination is evaluated only if `evaluates` is true.
   abbrev pub NominatesWhere : Bool → AgentRecord H P → Option Path → AgentRecord H P → Type 0

@@ -8,19 +8,19 @@ use Rattle.is_stun.specs.Message.{Message}
 use Rattle.is_rules.specs.declared.emitted.Path.{Path}
 use Rattle.is_rules.specs.Steps.{Done, Entry}
 use Rattle.is_rules.specs.Agent.{AgentRecord}
-use Rattle.is_pair.specs.Bag.{IsGreatest}
-use Rattle.is_rules.specs.Nominating.{is_eligible, stands_at}
+use Rattle.is_rules.specs.Nominating.{followed, remains, selection_of, IsChosen}
 use Rattle.is_rules.specs.Queue.{request_at}
 use Rattle.is_rules.specs.Answers.{keeps_check_on}
 use Rattle.is_rules.specs.Steps.{Call, HandleTimeout}
 use Rattle.is_rules.specs.Brought.{Brings}
 
 module _ {H P : Type 0} where
-  -- If a pair is eligible, the selected pair exists, with the greatest priority of the eligible ones.
+  -- If a pair is eligible, the selected pair exists, with the greatest priority of the eligible ones. If the agent follows its
+  -- peer, it is the favored pair, if there is one.
   abbrev pub IsTopAnnounced : AgentRecord H P → Type 0
   IsTopAnnounced a =
-      (top : Option PairRecord) × IsGreatest (is_eligible a.controlling) a.pairs top
-      × IfSome top (λ best. stands_at a.selected_pair best.priority a.pairs ≡ true)
+      (top : Option PairRecord) × IsChosen a.controlling (followed a) (selection_of a) top
+      × IfSome top (λ best. remains (followed a) best (selection_of a) ≡ true)
 
   abbrev pub IsNominationPoint : AgentRecord H P → Call P → Entry → Type 0
   IsNominationPoint old (HandleTimeout now) e = (e.answer ≡ Done) × (request_at now old ≡ None)

@@ -20,7 +20,7 @@ use Rattle.is_rules.specs.Queue.{request_at}
 use Rattle.is_rules.specs.Rounds.{LoggedRound, entries_of, began_at, is_between, Part, RunsOn}
 use Rattle.is_rules.specs.Runs.{IsFresh, IsTopPath}
 use Rattle.is_rules.specs.Sending.{path_of}
-use Rattle.is_rules.specs.Steps.{Call, SetMtu, SetControlTieBreaker, SetMaxCandidatePairs, SetMaxDiscovered, SetTimingAdvance, SetLocalPreference, SetControlling, SetLocalCredentials, AddLocalCandidate, AddRemoteCandidate, HandleTimeout, Done}
+use Rattle.is_rules.specs.Steps.{Call, SetMtu, SetControlTieBreaker, SetMaxCandidatePairs, SetMaxDiscovered, SetRenomination, SetTimingAdvance, SetLocalPreference, SetControlling, SetLocalCredentials, AddLocalCandidate, AddRemoteCandidate, HandleTimeout, Done}
 use Rattle.is_rules.specs.Emitted.{issued_as}
 
 -- What may come between two `handle_timeout` calls: packets and polls, candidates that are added, and settings that change neither
@@ -30,6 +30,7 @@ is_in_round (SetMtu target warn) = true
 is_in_round (SetControlTieBreaker tie_breaker) = true
 is_in_round (SetMaxCandidatePairs n) = true
 is_in_round (SetMaxDiscovered limit) = true
+is_in_round (SetRenomination renominates) = true
 is_in_round (SetTimingAdvance by) = true
 is_in_round (SetLocalPreference object) = true
 is_in_round (SetControlling controlling) = true

@@ -1,5 +1,5 @@
 -- Executions of one agent from an abstract state, and what holds at each entry of their logs.
-use Rattle.std.specs.Prelude.{◌≡◌, ℕ, ◌≤◌, ◌⊎◌, true, false, List, [], ◌∷◌, ◌++◌, length, Some}
+use Rattle.std.specs.Prelude.{◌≡◌, ℕ, ◌⊎◌, true, false, List, [], ◌∷◌, ◌++◌, length, Some}
 use Rattle.rand_core.specs.Stream.{Stream}
 use Rattle.is_proto.specs.Lists.{Has}
 use Rattle.is_candidate.specs.Candidates.{CandidateRecord}
@@ -12,7 +12,7 @@ use Rattle.is_rules.specs.declared.emitted.Path.{Path}
 use Rattle.is_rules.specs.Emitted.{nothing_emitted}
 use Rattle.is_rules.specs.Agent.{AgentRecord, fresh}
 use Rattle.is_rules.specs.Sending.{path_of}
-use Rattle.is_rules.specs.Nominating.{is_eligible}
+use Rattle.is_rules.specs.Nominating.{followed, is_eligible, selection_of, IsChosen}
 use Rattle.is_rules.specs.Answers.{keeps_check_on}
 use Rattle.is_rules.specs.Steps.{Call, Entry, is_turned_down, Step}
 use Rattle.is_rules.specs.Sound.{IsSound, GivesBased}
@@ -81,11 +81,12 @@ module _ {H P : Type 0} (mac : H → List ℕ → List ℕ → List ℕ) (answer
       → IsControlledSince first s (x ∷ before) after point.behind (run_to first s log before mid x after point)
       → (path : Path) → Has x.entry.emitted.announced (Some path) → AskedFor (x ∷ before) path
 
-  -- The path that was selected last is that of an eligible pair with the greatest stored priority.
+  -- The path that was selected last is that of an eligible pair with the greatest stored priority. If the agent follows its peer,
+  -- it is that of the favored pair, if there is one.
   abbrev pub IsTopPath : List (Logged P) → AgentRecord H P → Type 0
   IsTopPath log a =
       (top : PairRecord) × Has a.pairs top × (is_eligible a.controlling top ≡ true) × (last_announced log ≡ Some (path_of a top))
-      × ((p : PairRecord) → Has a.pairs p → is_eligible a.controlling p ≡ true → p.priority ≤ top.priority)
+      × IsChosen a.controlling (followed a) (selection_of a) (Some top)
 
   -- This holds at each nomination point at which a pair is eligible.
   abbrev pub LastPathsAreTop : AgentRecord H P → Stream → List (Logged P) → Type 0

@@ -43,6 +43,10 @@ validated_by_peer controlling lite p = if lite && not controlling then validated
 abbrev pub nominated_by_peer : Bool → Bool → RequestRecord → PairRecord → PairRecord
 nominated_by_peer controlling lite q p = if not controlling && q.use_candidate && not (is_nominated p) then nominated lite p else p
 
+-- the pair that the peer nominated last, after a request at the pair with this number
+abbrev pub nominated_last : Bool → RequestRecord → ℕ → Option ℕ → Option ℕ
+nominated_last controlling q number last = if not controlling && q.use_candidate then Some number else last
+
 -- the pair records the peer's check, and may become valid and nominated
 abbrev pub served : Bool → Bool → RequestRecord → PairRecord → PairRecord
 served controlling lite q p = nominated_by_peer controlling lite q (validated_by_peer controlling lite (with_request q.moment p))
@@ -96,7 +100,10 @@ module _ {H P : Type 0} where
   with_sender_at r q s = record s { remote = slice_set s.remote r (sender_candidate s q) }
 
   abbrev pub pair_served : RequestRecord → ℕ → AgentRecord H P → AgentRecord H P
-  pair_served q number s = record s { pairs = change_pair number (served s.controlling s.lite q) s.pairs }
+  pair_served q number s = record s {
+    pairs = change_pair number (served s.controlling s.lite q) s.pairs;
+    last_nominated = nominated_last s.controlling q number s.last_nominated;
+  }
 
   -- ---- what serving prepares
 

@@ -33,6 +33,7 @@ pub data Call (P : Type 0) : Type 0 where
   SetMaxCandidatePairs : ℕ → Call P
   SetMaxDiscovered : Option ℕ → Call P
   SetIceLite : Bool → Call P
+  SetRenomination : Bool → Call P
   SetTimingAdvance : ℕ → Call P
   SetInitialStunRto : ℕ → Call P
   SetMaxStunRto : ℕ → Call P
@@ -140,6 +141,7 @@ module _ {H P : Type 0} (mac : H → List ℕ → List ℕ → List ℕ) (answer
   Step old s (SetMaxCandidatePairs n) e new t = Becomes (record old { max_pairs = n }) s e new t
   Step old s (SetMaxDiscovered limit) e new t = Becomes (record old { max_discovered = limit }) s e new t
   Step old s (SetIceLite lite) e new t = Becomes (record old { lite = lite }) s e new t
+  Step old s (SetRenomination renominates) e new t = Becomes (record old { renominates = renominates }) s e new t
   Step old s (SetTimingAdvance by) e new t = Becomes (record old { timing_advance = by }) s e new t
   Step old s (SetInitialStunRto rto) e new t = Becomes (with_rtos rto old.timing.max_rto.0 old) s e new t
   Step old s (SetMaxStunRto rto) e new t = Becomes (with_rtos old.timing.initial_rto.0 rto old) s e new t

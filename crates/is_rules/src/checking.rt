@@ -24,6 +24,6 @@ pub struct Draft {
     pub path: Path,
     /// The value of its PRIORITY.
     pub priority: u32,
-    /// The pair is nominated.
+    /// The pair is nominated, and its nomination is not replaced by a later one.
     pub nominated: bool,
 }

@@ -1,9 +1,10 @@
 //! Nomination (RFC 8445, section 8.1.1): which pair is selected; the agent's part: `is_agent::nomination`.
 //!
-//! Of the eligible pairs, one with the greatest priority is selected.
+//! Of the eligible pairs, one with the greatest priority is selected. An agent that follows its peer selects the pair that the peer
+//! nominated last.
 
 ghost use Rattle.std.specs.Prelude.{◌≡◌, ℕ, true};
-ghost use Rattle.std.specs.Option.{option_copied};
+ghost use Rattle.std.specs.Option.{option_and_then, option_copied};
 ghost use Rattle.std.specs.List.{list_any};
 ghost use Rattle.is_stun.specs.declared.timing.StunTiming.{StunTiming};
 ghost use Rattle.is_rules.specs.Due.{falls_due};
@@ -11,13 +12,21 @@ ghost use Rattle.is_rules.specs.FormingView.{sides_view};
 ghost use Rattle.is_pair.specs.Bag.{are_below, change_pair, IsGreatest};
 ghost use Rattle.is_pair.specs.Checklists as checklists;
 ghost use Rattle.is_pair.specs.Checklists.{bag_of, HasRoom};
-ghost use Rattle.is_rules.specs.Nominating.{is_eligible, nominated_by_self, pair_selected, stands_at, selection, path_in, Names};
+ghost use Rattle.is_rules.specs.Nominating.{eligible_numbered, favored, is_eligible, is_named_by, nominated_by_self, pair_selected, remains, stands_at};
+ghost use Rattle.is_rules.specs.Nominating.{selection, path_in, IsChosen, Names};
 
 use crate::emitted::Path;
 use crate::places::{address_at, base_at, proto_at};
 use crate::sides::Sides;
 use is_pair::checklist::{Checklist, PairChange, PairTest};
 use is_pair::pair::{CandidatePair, CheckState};
+
+/// The pair may be selected.
+fn is_eligible(pair: &CandidatePair, controlling: bool) -> bool
+    ensures { result ≡ is_eligible controlling pair.now }
+{
+    pair.state() == CheckState::Succeeded && (controlling || pair.is_nominated())
+}
 
 /// Whether a pair may be selected.
 #[derive(Clone, Copy)]
@@ -31,7 +40,7 @@ impl PairTest for Eligible {
     ghost passes = { λ t p. is_eligible t.controlling p };
 
     fn passes(&self, pair: &CandidatePair) -> bool {
-        pair.state() == CheckState::Succeeded && (self.controlling || pair.is_nominated())
+        is_eligible(pair, self.controlling)
     }
 }
 
@@ -59,6 +68,94 @@ fn stands_at(selected: Option<u64>, priority: u64, pairs: &Checklist) -> bool
     match pair_selected(selected, pairs) {
         Some(pair) => pair.prio() == priority,
         None => false,
+    }
+}
+
+/// The pair with this number, if it may be selected.
+fn eligible_numbered(pairs: &Checklist, controlling: bool, number: u64) -> Option<&CandidatePair>
+    ensures { option_copied result ≡ eligible_numbered controlling (bag_of pairs.now) number }
+{
+    match pairs.get(number) {
+        Some(pair) => {
+            if is_eligible(pair, controlling) {
+                Some(pair)
+            } else {
+                None
+            }
+        }
+        None => None,
+    }
+}
+
+/// The pair that was selected last, if it may be selected.
+fn still_eligible(
+    pairs: &Checklist,
+    controlling: bool,
+    selected: Option<u64>,
+) -> Option<&CandidatePair>
+    ensures { option_copied result ≡ option_and_then (eligible_numbered controlling (bag_of pairs.now)) selected }
+{
+    match selected {
+        Some(number) => eligible_numbered(pairs, controlling, number),
+        None => None,
+    }
+}
+
+/// If the agent follows its peer: the pair that the peer nominated last, or the one that was selected last.
+fn favored(
+    pairs: &Checklist,
+    controlling: bool,
+    followed: Option<u64>,
+    selected: Option<u64>,
+) -> Option<&CandidatePair>
+    ensures { option_copied result ≡ favored controlling followed (selection (bag_of pairs.now) selected) }
+{
+    match followed {
+        None => None,
+        Some(number) => match eligible_numbered(pairs, controlling, number) {
+            Some(pair) => Some(pair),
+            None => still_eligible(pairs, controlling, selected),
+        },
+    }
+}
+
+/// The pair to be selected: the favored one, or one with the greatest priority.
+fn chosen(
+    pairs: &Checklist,
+    controlling: bool,
+    followed: Option<u64>,
+    selected: Option<u64>,
+) -> Option<&CandidatePair>
+    ensures { IsChosen controlling followed (selection (bag_of pairs.now) selected) (option_copied result) }
+{
+    match favored(pairs, controlling, followed, selected) {
+        Some(pair) => Some(pair),
+        None => top_eligible(pairs, controlling),
+    }
+}
+
+/// The number is that of the pair.
+pub fn is_named_by(selected: Option<u64>, pair: &CandidatePair) -> bool
+    ensures { result ≡ is_named_by selected pair.now }
+{
+    match selected {
+        Some(number) => number == pair.id().0,
+        None => false,
+    }
+}
+
+/// The pair that was selected last stays selected, if this one is chosen.
+fn remains(
+    pairs: &Checklist,
+    followed: Option<u64>,
+    selected: Option<u64>,
+    top: &CandidatePair,
+) -> bool
+    ensures { result ≡ remains followed top.now (selection (bag_of pairs.now) selected) }
+{
+    match followed {
+        Some(_) => is_named_by(selected, top),
+        None => stands_at(selected, top.prio(), pairs),
     }
 }
 
@@ -101,13 +198,15 @@ pub(crate) fn path_in(sides: Sides<'_>, pair: &CandidatePair) -> Path
     }
 }
 
-/// Selects an eligible pair with the greatest priority, unless the pair that was selected last has that priority.
+/// Selects the chosen pair, unless the pair that was selected last stays selected. `followed` is the pair that the peer nominated
+/// last, if the agent follows its peer.
 pub fn select_pair(
     sides: Sides<'_>,
+    followed: Option<u64>,
     pairs: &mut Checklist,
     selected: &mut Option<u64>,
 ) -> Option<Path>
-    ensures named { Names (sides_view sides.entry) (selection (bag_of pairs.old) selected.old) result (selection (bag_of pairs.new) selected.new) }
+    ensures named { Names (sides_view sides.entry) followed (selection (bag_of pairs.old) selected.old) result (selection (bag_of pairs.new) selected.new) }
     ensures room { (n : ℕ) → HasRoom n pairs.old → HasRoom n pairs.new }
     ensures check_room { checklists.HasCheckRoom pairs.old → checklists.HasCheckRoom pairs.new }
     ensures below { (n : ℕ) → are_below n (bag_of pairs.old) ≡ true → are_below n (bag_of pairs.new) ≡ true }
@@ -116,10 +215,10 @@ pub fn select_pair(
 {
     pairs.numbers_rise();
     let controlling = sides.controlling;
-    match top_eligible(pairs, controlling) {
+    match chosen(pairs, controlling, followed, *selected) {
         None => None,
         Some(top) => {
-            if stands_at(*selected, top.prio(), pairs) {
+            if remains(pairs, followed, *selected, top) {
                 return None;
             }
             let number = top.id().0;

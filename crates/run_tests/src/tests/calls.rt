@@ -39,6 +39,7 @@ fn settings(alloc: Global) -> Option<Vec<Call>> {
             AgentCall::SetControlTieBreaker(3),
             AgentCall::SetMaxCandidatePairs(10),
             AgentCall::SetIceLite(false),
+            AgentCall::SetRenomination(true),
             AgentCall::SetTimingAdvance(Duration(50_000_000)),
             AgentCall::SetInitialStunRto(Duration(250_000_000)),
             AgentCall::SetMaxStunRto(Duration(3_000_000_000)),
@@ -54,9 +55,10 @@ fn settings(alloc: Global) -> Option<Vec<Call>> {
 }
 
 /// A call that fails has its log entry as any other, and the run continues.
-const SETTINGS_ANSWERS: [Answer; 14] = [
+const SETTINGS_ANSWERS: [Answer; 15] = [
     Answer::Done,
     Answer::Refused(IceError::MtuTooSmall),
+    Answer::Done,
     Answer::Done,
     Answer::Done,
     Answer::Done,

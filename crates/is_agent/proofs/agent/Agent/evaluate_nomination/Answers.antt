@@ -1,4 +1,4 @@
-use Rattle.std.proofs.Common.{is_some, not}
+use Rattle.std.proofs.Common.{is_some, not, subst}
 use Rattle.std.specs.List.{list_any}
 use Rattle.is_pair.specs.Checklists.{bag_of}
 use Rattle.is_rules.specs.Due.{falls_due}
@@ -11,7 +11,9 @@ use Rattle.is_agent.proofs.agent.Agent.evaluate_nomination.Goals as goal
 pub returns-clause-nominates : goal.returns-clause-nominates
 returns-clause-nominates g c =
     let self = c.args.self.now in let chosen = selection (bag_of c.select_pair-path.new.pairs) c.select_pair-path.new.selected in
-    let named : Names (sides_of (record_of self)) (selection (bag_of self.pairs) self.selected_pair) c.select_pair-path.result chosen = rw (c.deref.ensures.value, c.deref-2.ensures.value) at c.select_pair-path.ensures.named in
+    let by_result : Names (sides_of (record_of self)) c.followed-followed.result (selection (bag_of self.pairs) self.selected_pair) c.select_pair-path.result chosen =
+    rw (c.deref.ensures.value, c.deref-2.ensures.value) at c.select_pair-path.ensures.named in
+    let named = subst (λ f. Names (sides_of (record_of self)) f (selection (bag_of self.pairs) self.selected_pair) c.select_pair-path.result chosen) c.followed-followed.ensures by_result in
     (chosen, named, c.emit_nominated.ensures.emitted)
 
 pub returns-clause-checks : goal.returns-clause-checks

@@ -1,0 +1,34 @@
+//! Renomination: with the setting at both agents, both select one path.
+
+ghost use Rattle.is_laws.specs.Renominating.{BothSelectOnePath, FollowedAreSelected, LastAskedAreSelected, OnlySelectedAreNominated};
+
+use is_candidate::LocalPreference;
+use is_proto::Sha1HmacProvider;
+
+/// From a newly created agent: while nominations replace earlier ones, a check with USE-CANDIDATE is sent only on the path that was
+/// selected last.
+pub fn only_selected_are_nominated<H: Sha1HmacProvider, P: LocalPreference>()
+    ensures { OnlySelectedAreNominated H.mac P.answers }
+{}
+
+/// From a newly created agent: after an accepted success response, and after a `handle_timeout` call that serves no early request, a
+/// controlled agent with the setting has selected the pair that the peer nominated last, if that one is valid.
+pub fn followed_are_selected<H: Sha1HmacProvider, P: LocalPreference>()
+    ensures { FollowedAreSelected H.mac P.answers }
+{}
+
+/// From a newly created agent: the peer nominated a path last to a controlled agent with the setting, and a success response was
+/// received on it, in either order. Then this path is selected by the end of the next `handle_timeout` call that serves no early
+/// request, if only one pair uses its addresses and no pair that does may have been removed.
+pub fn last_asked_are_selected<H: Sha1HmacProvider, P: LocalPreference>()
+    ensures { LastAskedAreSelected H.mac P.answers }
+{}
+
+/// With the setting at both agents, once the last check with USE-CANDIDATE and a check of the controlled agent on its path succeeded,
+/// both selected this path last, whatever priorities each has.
+pub fn both_select_one_path<H: Sha1HmacProvider, P: LocalPreference>()
+    ensures { BothSelectOnePath H.mac P.answers }
+{
+    only_selected_are_nominated::<H, P>();
+    last_asked_are_selected::<H, P>();
+}
