@@ -12,14 +12,15 @@ use rand_pcg::Pcg32;
 use std::alloc::Global;
 use std::net::{Ipv4Addr, SocketAddr, SocketAddrV4};
 
-type Agent = IceAgent<DefaultSha1HmacProvider>;
+/// The agent that is measured.
+pub type Agent = IceAgent<DefaultSha1HmacProvider>;
 
 const PASSWORD: &str = "xJcE9AQAR7kczUDVOXRUCl";
 
 const PEER_PASSWORD: &str = "VOkJxbRl1RmTxUk/WvJxBt";
 
 /// When a case begins: late enough for a nominated pair to be due 60 s earlier than the others.
-const START: Instant = Instant(60_000_000_000);
+pub const START: Instant = Instant(60_000_000_000);
 
 /// The port of the first of several addresses. The others have the ports after it.
 const FIRST_PORT: u16 = 2000;
@@ -87,8 +88,8 @@ fn add_hosts(
     Ok(())
 }
 
-/// Makes an agent with so many pairs, and then runs so many rounds. Only this function and `host_candidates` own an
-/// agent; the others borrow it.
+/// Makes an agent with so many pairs, and then runs so many rounds. Only this function, `host_candidates` and `flood` own
+/// an agent; the others borrow it.
 pub fn turns(
     alloc: Global,
     turn: Turn,
@@ -101,17 +102,24 @@ pub fn turns(
     take_turns(&mut agent, turn, pairs, rounds, sum)
 }
 
-fn make(alloc: Global) -> Result<Box<Agent>, IceError> {
+/// A new agent, for which the request is.
+pub fn make(alloc: Global) -> Result<Box<Agent>, IceError> {
     let agent = Agent::new(alloc, creds(alloc, "p9KA", PASSWORD)?, 1)?;
     Ok(Box::new(alloc, agent)?)
 }
 
 /// Sets up the agent that the request is for, at 10.0.0.1:1000, with so many pairs.
 fn set_up(agent: &mut Agent, alloc: Global, pairs: u16) -> Result<(), IceError> {
-    agent.set_remote_credentials(creds(alloc, "SQAt", PEER_PASSWORD)?)?;
     agent.set_max_candidate_pairs(usize::from(pairs.max(100)));
-    let _ = agent.add_local_candidate(Candidate::host(alloc, at(1, 1000), Protocol::Udp)?)?;
+    introduce(agent, alloc)?;
     meet(agent, pairs)
+}
+
+/// The agent has its local candidate, and knows the peer.
+pub fn introduce(agent: &mut Agent, alloc: Global) -> Result<(), IceError> {
+    agent.set_remote_credentials(creds(alloc, "SQAt", PEER_PASSWORD)?)?;
+    let _ = agent.add_local_candidate(Candidate::host(alloc, at(1, 1000), Protocol::Udp)?)?;
+    Ok(())
 }
 
 /// A request arrives from each of so many ports of 10.0.0.2, so the agent has a pair for each.
@@ -220,7 +228,8 @@ fn creds(alloc: Global, ufrag: &str, pass: &str) -> Result<IceCreds, IceError> {
     })
 }
 
-fn at(host: u8, port: u16) -> SocketAddr {
+/// An address of the network 10.0.0.0/24.
+pub fn at(host: u8, port: u16) -> SocketAddr {
     SocketAddr::V4(SocketAddrV4::new(Ipv4Addr::new(10, 0, 0, host), port))
 }
 
@@ -233,19 +242,30 @@ fn port_of(pairs: u16) -> u16 {
 
 /// The bytes arrive from this port of 10.0.0.2. Returns whether they were for the agent.
 fn take(agent: &mut Agent, port: u16, bytes: &[u8]) -> Result<bool, IceError> {
+    take_from(agent, START, at(2, port), bytes)
+}
+
+/// They arrive at this time from this address.
+pub fn take_from(
+    agent: &mut Agent,
+    now: Instant,
+    source: SocketAddr,
+    bytes: &[u8],
+) -> Result<bool, IceError> {
     let Ok(message) = StunMessage::parse(bytes) else {
         return Ok(false);
     };
     let packet = StunPacket {
         proto: Protocol::Udp,
-        source: at(2, port),
+        source,
         destination: at(1, 1000),
         message,
     };
-    agent.handle_packet(START, packet)
+    agent.handle_packet(now, packet)
 }
 
-fn tell(agent: &mut Agent, now: Instant, rng: &mut Pcg32) -> Result<(), IceError> {
+/// It is this time.
+pub fn tell(agent: &mut Agent, now: Instant, rng: &mut Pcg32) -> Result<(), IceError> {
     agent.handle_timeout(now, rng)
 }
 
@@ -254,7 +274,7 @@ fn packet_of(agent: &mut Agent) -> Option<Transmit> {
 }
 
 /// Adds the next packet, if there is one, and whether there is an event.
-fn poll(agent: &mut Agent, sum: &mut Checksum) {
+pub fn poll(agent: &mut Agent, sum: &mut Checksum) {
     if let Some(packet) = agent.poll_transmit() {
         sum.add_bytes(&packet.contents);
     }

@@ -1,7 +1,7 @@
 //! The lines of the input, and the case that each names.
 
 use crate::checksum::Checksum;
-use crate::{agents, candidates, messages, pairs};
+use crate::{agents, candidates, floods, messages, pairs};
 use is_proto::IceError;
 use std::alloc::Global;
 use std::io::{Read, Write};
@@ -64,10 +64,21 @@ fn sum_of(alloc: Global, name: &str, rounds: u64) -> Result<Option<u64>, IceErro
         "print_json" => candidates::print_json(alloc, rounds, &mut sum)?,
         "pair" => pairs::pair(alloc, rounds, &mut sum)?,
         "candidates_1000" => agents::host_candidates(alloc, 1000, rounds, &mut sum)?,
-        _ => match agents::case_of(name) {
-            Some((turn, pairs)) => agents::turns(alloc, turn, pairs, rounds, &mut sum)?,
-            None => return Ok(None),
-        },
+        _ => return sum_of_agent(alloc, name, rounds),
     }
+    Ok(Some(sum.0))
+}
+
+/// The same of the cases of an agent whose names have a number.
+fn sum_of_agent(alloc: Global, name: &str, rounds: u64) -> Result<Option<u64>, IceError> {
+    let mut sum = Checksum(0);
+    if let Some(before) = floods::case_of(name) {
+        floods::flood(alloc, before, rounds, &mut sum)?;
+        return Ok(Some(sum.0));
+    }
+    let Some((turn, pairs)) = agents::case_of(name) else {
+        return Ok(None);
+    };
+    agents::turns(alloc, turn, pairs, rounds, &mut sum)?;
     Ok(Some(sum.0))
 }

@@ -7,6 +7,7 @@ mod agents;
 mod bench;
 mod candidates;
 mod checksum;
+mod floods;
 mod messages;
 mod pairs;
 

@@ -10,9 +10,10 @@ use Rattle.is_rules.specs.Steps as agent
 use Rattle.is.specs.declared.world.Side.{Side}
 use Rattle.is.specs.declared.world.Side.TheVariants.{A, B}
 use Rattle.is.specs.Deliveries.{Hands}
+use Rattle.is.specs.Sides.{only, received_as, acts}
 use Rattle.is.specs.World as world
 use Rattle.is.specs.World.{WorldRecord, Event, Logged, Turns, Happens, at, other}
-use Rattle.is.proofs.Owning.{only, handed_as, twice, acts, turn_step}
+use Rattle.is.proofs.Owning.{twice, turn_step}
 
 only_self : {X : Type 0} (side : Side) (x : X) → Has (only side (other (other side)) (x ∷ [])) x
 only_self A x = inl refl
@@ -36,7 +37,7 @@ module _ {H P : Type 0} (mac : H → List ℕ → List ℕ → List ℕ) (answer
       → Has (acts side w x.event x.outcome.entry) (agent.ReceivePacket h.now via packet.contents, x.outcome.entry)
   handed_has side via packet w x h =
       subst (λ (v : Event P). Has (acts side w v x.outcome.entry) (agent.ReceivePacket h.now via packet.contents, x.outcome.entry)) (sym h.event)
-      (subst (λ o. Has (handed_as {P = P} side h.now via x.outcome.entry o) (agent.ReceivePacket h.now via packet.contents, x.outcome.entry)) (sym h.sent)
+      (subst (λ o. Has (received_as {P = P} side h.now via x.outcome.entry o) (agent.ReceivePacket h.now via packet.contents, x.outcome.entry)) (sym h.sent)
       (only_self side (agent.ReceivePacket h.now via packet.contents, x.outcome.entry)))
 
   pub delivered : (side : Side) (via : Path) (packet : Packet) (w w' : WorldRecord H P) (s t : Stream) (x : Logged P) → (h : Hands side via packet w x) → Happens mac answers w s x.event x.outcome w' t

@@ -29,11 +29,12 @@ use Rattle.is.specs.Connections.{HasRounds, Succeeds, BothConnect}
 use Rattle.is.specs.Grantings.{Occurrence, IsAskedOver}
 use Rattle.is.specs.Deliveries.{MakesPolls}
 use Rattle.is.specs.Selections.{Round, all_of, times_in, state_after, IsKept, AreKept, MayEndInRounds, AreEnough, AreEachPolled, Checks}
+use Rattle.is.specs.Sides.{only, polled_as, received_as, acts}
 use Rattle.is.specs.World as world
 use Rattle.is.specs.World.{WorldRecord, InFlightRecord, Event, Logged, Happens, at, other, in_world}
 use Rattle.is.specs.WorldRoles.{IsNewAgent}
 use Rattle.is.proofs.Following.{Has-front, Has-rear, AreSound}
-use Rattle.is.proofs.Owning.{acts, only, only_own, handed_as, polled_as, course_on, turn_step}
+use Rattle.is.proofs.Owning.{only_own, course_on, turn_step}
 use Rattle.is.proofs.Occurring.{Follow, follows, cut, state_is, meet, acts_at, own, own_course, own_from, own_between, own_in_round, own_has, owned, Found}
 use Rattle.is.proofs.Granted.{apart_at, answered, announced_where}
 
@@ -203,7 +204,7 @@ module _ {H P : Type 0} (mac : H → List ℕ → List ℕ → List ℕ) (answer
         absurd (poll_accepts x.entry.outcome.entry.answer (at side x.before).packets path y
         (only_own side s (polled_as x.entry.outcome.entry.answer (at side x.before).packets) y there).0 accepts)
     by (world.Deliver n now via) is there = in_flight (slice_get x.before.bag n) refl there where
-      in_flight : (o : Option InFlightRecord) → slice_get x.before.bag n ≡ o → Has (handed_as side now via x.entry.outcome.entry o) y → Succeeds side path x
+      in_flight : (o : Option InFlightRecord) → slice_get x.before.bag n ≡ o → Has (received_as side now via x.entry.outcome.entry o) y → Succeeds side path x
       in_flight None sent here = absurd here
       in_flight (Some l) sent here = let o = only_own side (other l.sender) ((agent.ReceivePacket now via l.packet.contents, x.entry.outcome.entry) ∷ []) y here in elim o.0 [
         | inl same ↦ record {

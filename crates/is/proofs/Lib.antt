@@ -21,3 +21,5 @@ mod Meeting
 mod Connects
 mod Mirrored
 mod MarkLemmas
+mod OwnLogs
+mod Flooded

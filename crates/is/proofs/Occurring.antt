@@ -24,10 +24,11 @@ use Rattle.is.specs.declared.world.Side.TheVariants.{A, B}
 use Rattle.is.specs.Deliveries.{MakesPolls, MakesInRound, Hands}
 use Rattle.is.specs.Grantings.{is_of, check_count, Occurrence, HandedCheck, checks_of, IsReturned, MayEndAt, occurrences_in}
 use Rattle.is.specs.Selections.{state_after}
+use Rattle.is.specs.Sides.{only, polled_as, received_as, acts}
 use Rattle.is.specs.World as world
 use Rattle.is.specs.World.{WorldRecord, InFlightRecord, Event, Outcome, Logged, Turns, Stands, Happens, Run, at, other, in_world}
 use Rattle.is.proofs.Following.{Has-front, Has-rear, AreSound}
-use Rattle.is.proofs.Owning.{either_has, only, only_none, handed_as, polled_as, acts, acts_between, acts_in_round, course_on, turn_step, acts_course, sound_on}
+use Rattle.is.proofs.Owning.{either_has, only_none, acts_between, acts_in_round, course_on, turn_step, acts_course, sound_on}
 use Rattle.is.proofs.Connected.{rewritten, delivered}
 
 pub middle : {X : Type 0} (xs ys : List X) (x : X) → Has (xs ++ x ∷ ys) x
@@ -117,7 +118,7 @@ module _ {H P : Type 0} (mac : H → List ℕ → List ℕ → List ℕ) (answer
       → acts side w x.event x.outcome.entry ≡ (agent.ReceivePacket h.now via packet.contents, x.outcome.entry) ∷ []
   handed_is side via packet w x h =
       subst (λ (v : Event P). acts side w v x.outcome.entry ≡ (agent.ReceivePacket h.now via packet.contents, x.outcome.entry) ∷ []) (sym h.event)
-      (subst (λ o. handed_as {P = P} side h.now via x.outcome.entry o ≡ (agent.ReceivePacket h.now via packet.contents, x.outcome.entry) ∷ []) (sym h.sent)
+      (subst (λ o. received_as {P = P} side h.now via x.outcome.entry o ≡ (agent.ReceivePacket h.now via packet.contents, x.outcome.entry) ∷ []) (sym h.sent)
       (only_one side (agent.ReceivePacket h.now via packet.contents, x.outcome.entry)))
 
   -- ---- a check
@@ -212,7 +213,7 @@ module _ {H P : Type 0} (mac : H → List ℕ → List ℕ → List ℕ) (answer
     by false k = counts_none side z path (check_count side path e)
   counts_at side path w w' s t (world.Poll z) e k = counts_polled side z path e.entry.answer (at side w).packets (check_count side path e)
   counts_at side path w w' s t (world.Deliver place now via) e h = by (slice_get w.bag place) h where
-    by : (o : Option InFlightRecord) → world.Delivers mac answers w s o now via e w' t → checks_on {P = P} path (handed_as side now via e.entry o) ≤ check_count side path e
+    by : (o : Option InFlightRecord) → world.Delivers mac answers w s o now via e w' t → checks_on {P = P} path (received_as side now via e.entry o) ≤ check_count side path e
     by None k = omega arith
     by (Some l) k = counts_turn side (other l.sender) path (agent.ReceivePacket now via l.packet.contents) e k.side_is
 
@@ -263,8 +264,8 @@ module _ {H P : Type 0} (mac : H → List ℕ → List ℕ → List ℕ) (answer
     ends_at w (world.Poll s) e b course ends =
         let k = ends_only side s (polled_as e.answer (at side w).packets) (at side w) b course ends in absurd (ends_polled e.answer (at side w).packets (at side w) b k.1.0 k.1.1)
     ends_at w (world.Deliver place now via) e b course ends = by (slice_get w.bag place) course ends where
-      by : (o : Option InFlightRecord) (on : Course mac answers (handed_as side now via e o) (at side w) b)
-          → EndsAlong mac answers (handed_as side now via e o) (at side w) b on path → (d : agent.Call P) × (world.Deliver place now via ≡ world.Call side d) × Ends answers (at side w) d e path
+      by : (o : Option InFlightRecord) (on : Course mac answers (received_as side now via e o) (at side w) b)
+          → EndsAlong mac answers (received_as side now via e o) (at side w) b on path → (d : agent.Call P) × (world.Deliver place now via ≡ world.Call side d) × Ends answers (at side w) d e path
       by None on there = absurd there
       by (Some l) on there = elim (ends_only side (other l.sender) ((agent.ReceivePacket now via l.packet.contents, e) ∷ []) (at side w) b on there).1.1 [
         | inl here ↦ absurd here.3
@@ -324,7 +325,7 @@ module _ {H P : Type 0} (mac : H → List ℕ → List ℕ → List ℕ) (answer
       by false on = keeps_none limit side z (at side w) b on
     keeps_at limit w (world.Poll z) e b least course = keeps_polled limit side z e.answer (at side w).packets (at side w) b least course
     keeps_at limit w (world.Deliver place now via) e b least course = by (slice_get w.bag place) course where
-      by : (o : Option InFlightRecord) (on : Course mac answers (handed_as side now via e o) (at side w) b) → KeepsAlong mac answers limit (handed_as side now via e o) (at side w) b on
+      by : (o : Option InFlightRecord) (on : Course mac answers (received_as side now via e o) (at side w) b) → KeepsAlong mac answers limit (received_as side now via e o) (at side w) b on
       by None on = tt
       by (Some l) on = keeps_one limit side (other l.sender) (agent.ReceivePacket now via l.packet.contents, e) (at side w) b least on
 

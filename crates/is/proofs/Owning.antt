@@ -19,6 +19,7 @@ use Rattle.is_rules.specs.Steps.{Answer, Entry, Polled, Refused, quiet, Step}
 use Rattle.is.specs.declared.world.Side.{Side}
 use Rattle.is.specs.declared.world.Side.TheVariants.{A, B}
 use Rattle.is.specs.Deliveries.{MakesPolls, MakesInRound, Announces}
+use Rattle.is.specs.Sides.{only, first_packet, polled_as, received_as, acts}
 use Rattle.is.specs.World as world
 use Rattle.is.specs.World.{WorldRecord, InFlightRecord, Event, Outcome, Logged, PolledInto, Turns, Stands, Happens, at, other, in_world, roles_of}
 use Rattle.is.specs.WorldRoles.{role_at, role_in}
@@ -32,12 +33,6 @@ either_has (y ∷ xs) ys x (inl e) = inl (inl e)
 either_has (y ∷ xs) ys x (inr h) = elim (either_has xs ys x h) [ inl k ↦ inl (inr k) | inr k ↦ inr k ]
 
 -- ---- sides
-
-abbrev pub only : {X : Type 0} → Side → Side → List X → List X
-only A A xs = xs
-only B B xs = xs
-only A B xs = []
-only B A xs = []
 
 pub only_none : {X : Type 0} (side s : Side) → only {X = X} side s [] ≡ []
 only_none A A = refl
@@ -78,18 +73,6 @@ in_round_passes side (world.Deliver place now path) calls = tt
 
 -- ---- what a side does at an event
 
-abbrev first_of : List Packet → Option Packet
-first_of [] = None
-first_of (p ∷ ps) = Some p
-
-abbrev pub polled_as : {P : Type 0} → Answer → List Packet → List (agent.Call P × Entry)
-polled_as (Refused error) ps = []
-polled_as _ ps = (agent.PollTransmit, quiet (Polled (first_of ps))) ∷ []
-
-abbrev pub handed_as : {P : Type 0} → Side → ℕ → Path → Entry → Option InFlightRecord → List (agent.Call P × Entry)
-handed_as side now path e None = []
-handed_as side now path e (Some l) = only side (other l.sender) ((agent.ReceivePacket now path l.packet.contents, e) ∷ [])
-
 poll_emitted : {P : Type 0} (answer : Answer) (ps : List Packet) (y : agent.Call P × Entry) → Has (polled_as answer ps) y → is_some (last_of y.1.emitted.announced) ≡ true → ⊥
 poll_emitted (Refused error) ps y has emitted = has
 poll_emitted _ ps y (inl is) emitted = let no : false ≡ true = ap (λ (z : agent.Call _ × Entry). is_some (last_of z.1.emitted.announced)) is ∙ emitted in cc
@@ -101,11 +84,6 @@ polled_passes test polls _ ps y (inl is) = ap (λ (z : agent.Call _ × Entry). t
 polled_passes test polls _ ps y (inr none) = absurd none
 
 module _ {H P : Type 0} where
-  abbrev pub acts : Side → WorldRecord H P → Event P → Entry → List (agent.Call P × Entry)
-  acts side w (world.Call s c) e = only side s (if in_world c then (c, e) ∷ [] else [])
-  acts side w (world.Poll s) e = only side s (polled_as e.answer (at side w).packets)
-  acts side w (world.Deliver place now path) e = handed_as side now path e (slice_get w.bag place)
-
   acts_pass : (test : agent.Call P → Bool) → ((now : ℕ) (via : Path) (bytes : List ℕ) → test (agent.ReceivePacket now via bytes) ≡ true) → test agent.PollTransmit ≡ true
       → (side : Side) (w : WorldRecord H P) (v : Event P) (e : Entry) → Passes test side v → (y : agent.Call P × Entry) → Has (acts side w v e) y → test y.0 ≡ true
   acts_pass test packets polled side w (world.Call s c) e passes y has = by (in_world c) has where
@@ -118,7 +96,7 @@ module _ {H P : Type 0} where
   acts_pass test packets polled side w (world.Poll s) e passes y has =
       polled_passes test polled e.answer (at side w).packets y (only_own side s (polled_as e.answer (at side w).packets) y has).0
   acts_pass test packets polled side w (world.Deliver place now path) e passes y has = by (slice_get w.bag place) has where
-    by : (o : Option InFlightRecord) → Has (handed_as side now path e o) y → test y.0 ≡ true
+    by : (o : Option InFlightRecord) → Has (received_as side now path e o) y → test y.0 ≡ true
     by None k = absurd k
     by (Some l) k = elim (only_own side (other l.sender) ((agent.ReceivePacket now path l.packet.contents, e) ∷ []) y k).0 [
       | inl is ↦ ap (λ (z : agent.Call P × Entry). test z.0) (sym is) ∙ packets now path l.packet.contents
@@ -181,12 +159,12 @@ module _ {H P : Type 0} where
     still : (w w' : WorldRecord H P) (side : Side) → w' ≡ w → Acts [] (at side w) (at side w')
     still w w' side is = (ap (λ (v : WorldRecord H P). at side v) is, λ role. tt)
 
-    first_is : (given : Option Packet) (old new : List Packet) → IsPolled old given new → first_of old ≡ given
-    first_is None old new h = ap first_of h.0
-    first_is (Some p) old new h = ap first_of h
+    first_is : (given : Option Packet) (old new : List Packet) → IsPolled old given new → first_packet old ≡ given
+    first_is None old new h = ap first_packet h.0
+    first_is (Some p) old new h = ap first_packet h
 
     hands_out : (old new : AgentRecord H P) (given : Option Packet) (s : Stream) → PollsTransmit old given new
-        → Acts ((agent.PollTransmit, quiet (Polled (first_of old.packets))) ∷ []) old new
+        → Acts ((agent.PollTransmit, quiet (Polled (first_packet old.packets))) ∷ []) old new
     hands_out old new given s polled =
         ((new, s, s, tt, (given, ap (λ o. quiet (Polled o)) (first_is given old.packets new.packets polled.0), polled, refl), refl), λ role. (role, tt))
 
@@ -214,7 +192,7 @@ module _ {H P : Type 0} where
       by false k = subst (λ xs. Acts xs (at side w) (at side w')) (sym (only_none side z)) (still w w' side k.0)
     act w w' s t side (world.Poll z) e k = poll w w' s t side z e k
     act w w' s t side (world.Deliver place now path) e h = by (slice_get w.bag place) h where
-      by : (o : Option InFlightRecord) → world.Delivers mac answers w s o now path e w' t → Acts (handed_as side now path e.entry o) (at side w) (at side w')
+      by : (o : Option InFlightRecord) → world.Delivers mac answers w s o now path e w' t → Acts (received_as side now path e.entry o) (at side w) (at side w')
       by None k = still w w' side k.0
       by (Some l) k = turn w w' s t side (other l.sender) (agent.ReceivePacket now path l.packet.contents) e k
 
@@ -237,7 +215,7 @@ module _ {H P : Type 0} where
     acts_emitted w w' s t side x y (world.Poll z) k has emitted =
         absurd (poll_emitted x.outcome.entry.answer (at side w).packets y (only_own side z (polled_as x.outcome.entry.answer (at side w).packets) y has).0 emitted)
     acts_emitted w w' s t side x y (world.Deliver place now path) h has emitted = by (slice_get w.bag place) h has where
-      by : (o : Option InFlightRecord) → world.Delivers mac answers w s o now path x.outcome w' t → Has (handed_as side now path x.outcome.entry o) y → Announces side x
+      by : (o : Option InFlightRecord) → world.Delivers mac answers w s o now path x.outcome w' t → Has (received_as side now path x.outcome.entry o) y → Announces side x
       by None k there = absurd there
       by (Some l) k there = turn_emitted w w' s t side (other l.sender) (agent.ReceivePacket now path l.packet.contents) x y k there emitted
 

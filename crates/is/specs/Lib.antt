@@ -15,6 +15,8 @@ pub mod Connections
 pub mod Meetings
 pub mod Connects
 pub mod Mirrors
+pub mod Sides
+pub mod Floods
 pub mod WorldLaws
 pub use Rattle.is_proto.specs.Moments
 pub use Rattle.is_proto.specs.Packets

@@ -11,12 +11,14 @@ ghost use Rattle.is_laws.specs.OpenRounds.{OpenRoundsAnnounce};
 ghost use Rattle.is.specs.Log.{IsRunLog, log_of, EntriesStand};
 ghost use Rattle.is.specs.Accepted.{PacketsAreSettled};
 ghost use Rattle.is.specs.Queues.{OthersIssueNone, QueuesAreKept};
+ghost use Rattle.is.specs.Floods.{QueuesStayShort, DiscoveriesAreFew};
 
 use crate::calls::{AgentCall, Entry};
 use crate::steps::step;
 use is_agent::Agent;
 use is_candidate::LocalPreference;
 use is_laws::announcing::{due_rounds_announce, open_rounds_announce};
+use is_laws::flooding::{discoveries_stay_few, queues_are_short};
 use is_proto::Sha1HmacProvider;
 use is_rules::laws;
 use rand_core::Rng;
@@ -150,6 +152,17 @@ pub fn run<H: Sha1HmacProvider + Drop, P: LocalPreference, R: Rng>(
     ensures limited { IsFresh (record_of agent.old)
         → PairsAreBounded H.mac P.answers (record_of agent.old) (R.stream rng.old) (log_of calls.items result) }
 
+    // After each call, whatever was received: at most as many packets wait to be polled as packets were accepted and
+    // `handle_timeout` was called since none waited. Events wait likewise, `DiscoveredRecv` aside: at most two for each of these
+    // packets, five for each of these calls, and those of a clear. At most 100 early requests wait.
+    ensures waiting { IsFresh (record_of agent.old)
+        → QueuesStayShort H.mac P.answers (record_of agent.old) (R.stream rng.old) (log_of calls.items result) }
+
+    // With a limit on what packets bring, whenever a packet or a timeout comes: after each call at most as many `DiscoveredRecv`
+    // events wait, whatever was received, and however seldom events are polled.
+    ensures discovered { IsFresh (record_of agent.old)
+        → DiscoveriesAreFew H.mac P.answers (record_of agent.old) (R.stream rng.old) (log_of calls.items result) }
+
     // Packets and events are polled in the order in which they were issued, and an ICE restart empties both queues before its own
     // events.
     ensures order { QueuesAreKept H.mac P.answers (record_of agent.old) (R.stream rng.old) (log_of calls.items result) }
@@ -161,6 +174,8 @@ pub fn run<H: Sha1HmacProvider + Drop, P: LocalPreference, R: Rng>(
     laws::points_are_top::<H, P>();
     laws::limits_bound::<H, P>();
     laws::limits_pairs::<H, P>();
+    queues_are_short::<H, P>();
+    discoveries_stay_few::<H, P>();
     laws::answers_announce::<H, P>();
     laws::moments_announce::<H, P>();
     laws::parts_are_runs::<H, P>();

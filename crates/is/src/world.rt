@@ -21,6 +21,7 @@ ghost use Rattle.is.specs.Grantings.{GrantedPathsAnnounce};
 ghost use Rattle.is.specs.Connects.{BothSelect};
 ghost use Rattle.is.specs.Meetings.{RolesMeet};
 ghost use Rattle.is.specs.Mirrors.{LonePathsMirror};
+ghost use Rattle.is.specs.Floods.{BothAreBounded, BothHaveFewPairs, BothAreShort, BothDiscoverFew};
 
 use crate::calls::{AgentCall, Answer, Entry};
 use crate::steps::{quiet, step, take_packet};
@@ -31,6 +32,9 @@ use crate::world_laws::{
 };
 use is_agent::{Agent, IceCreds};
 use is_candidate::LocalPreference;
+use is_laws::flooding::{
+    discoveries_stay_few, lists_stay_bounded, pairs_stay_few, queues_are_short,
+};
 use is_proto::{IceError, Instant, Protocol, Sha1HmacProvider, Transmit};
 use is_rules::emitted::{Issued, Path};
 use is_stun::stun::{Class, StunMessage, TransId};
@@ -476,6 +480,18 @@ impl<H: Sha1HmacProvider + Drop, P: LocalPreference> TwoAgents<H, P> {
         // And on the same path: while neither is lite, all pairs of one are on a path, and all pairs of the other on the reverse
         // path, any two paths that they selected are the reverse of each other.
         ensures mirror { LonePathsMirror H.mac P.answers (world_of self.old) (R.stream rng.old) (logged events.items result.entries.items) }
+
+        // Each agent stores what `run` bounds, whatever the network delivers. With a limit on what packets bring, whenever it receives
+        // one or a timeout comes: at most as many local candidates as the limit and its own `add_local_candidate` calls together, as
+        // many remote ones as the limit and its `add_remote_candidate` calls, and as many sources as the limit.
+        ensures bounded { BothAreBounded H.mac P.answers (world_of self.old) (R.stream rng.old) (logged events.items result.entries.items) }
+
+        // Of pairs at most as many as its limit on pairs, plus its local candidates times its remote ones.
+        ensures few { BothHaveFewPairs H.mac P.answers (world_of self.old) (R.stream rng.old) (logged events.items result.entries.items) }
+
+        // Packets, events and early requests wait in it as in `run`, and with the limit at most as many `DiscoveredRecv` events.
+        ensures waiting { BothAreShort H.mac P.answers (world_of self.old) (R.stream rng.old) (logged events.items result.entries.items) }
+        ensures discovered { BothDiscoverFew H.mac P.answers (world_of self.old) (R.stream rng.old) (logged events.items result.entries.items) }
     {
         greater_keeps::<H, P>();
         lesser_yields_once::<H, P>();
@@ -487,6 +503,10 @@ impl<H: Sha1HmacProvider + Drop, P: LocalPreference> TwoAgents<H, P> {
         both_select::<H, P>();
         lone_paths_mirror::<H, P>();
         roles_meet::<H, P>();
+        lists_stay_bounded::<H, P>();
+        pairs_stay_few::<H, P>();
+        queues_are_short::<H, P>();
+        discoveries_stay_few::<H, P>();
         self.run_events(events, rng)
     }
 }

@@ -1,6 +1,7 @@
 //! Two agents and the packets between them.
 
 mod connect;
+mod floods;
 mod granted;
 mod meet;
 mod mirror;

@@ -1,6 +1,7 @@
 use Rattle.is.proofs.Logs.{run_of, entries_stand}
 use Rattle.is.proofs.AcceptedLemmas.{packets_are_settled}
 use Rattle.is.proofs.QueuesLemmas.{others_issue_none, queues_are_kept}
+use Rattle.is.proofs.Flooded.{queues_stay_short, discoveries_are_few}
 use Rattle.is.proofs.runs.run.Goals as goal
 
 pub returns-clause-entries : goal.returns-clause-entries
@@ -56,6 +57,12 @@ returns-clause-few g c = c.limits_pairs.ensures.few _ _ _
 
 pub returns-clause-limited : goal.returns-clause-limited
 returns-clause-limited g c = c.limits_pairs.ensures.bounded _ _ _
+
+pub returns-clause-waiting : goal.returns-clause-waiting
+returns-clause-waiting g c = queues_stay_short _ _ c.queues_are_short.ensures _ _ _
+
+pub returns-clause-discovered : goal.returns-clause-discovered
+returns-clause-discovered g c = discoveries_are_few _ _ c.discoveries_stay_few.ensures _ _ _
 
 pub returns-clause-order : goal.returns-clause-order
 returns-clause-order g c = queues_are_kept _ _ c.queues_are_kept.ensures _ _ _

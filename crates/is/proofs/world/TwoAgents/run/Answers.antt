@@ -1,3 +1,4 @@
+use Rattle.is.proofs.Flooded.{both_are_bounded, both_have_few_pairs, both_are_short, both_discover_few}
 use Rattle.is.proofs.world.TwoAgents.run.Goals as goal
 
 pub returns-clause-keeps : goal.returns-clause-keeps
@@ -29,3 +30,15 @@ returns-clause-mirror g c = c.lone_paths_mirror.ensures _ _ _
 
 pub returns-clause-both : goal.returns-clause-both
 returns-clause-both g c = c.both_select.ensures _ _ _
+
+pub returns-clause-bounded : goal.returns-clause-bounded
+returns-clause-bounded g c = both_are_bounded _ _ c.lists_stay_bounded.ensures _ _ _
+
+pub returns-clause-few : goal.returns-clause-few
+returns-clause-few g c = both_have_few_pairs _ _ c.pairs_stay_few.ensures _ _ _
+
+pub returns-clause-waiting : goal.returns-clause-waiting
+returns-clause-waiting g c = both_are_short _ _ c.queues_are_short.ensures _ _ _
+
+pub returns-clause-discovered : goal.returns-clause-discovered
+returns-clause-discovered g c = both_discover_few _ _ c.discoveries_stay_few.ensures _ _ _

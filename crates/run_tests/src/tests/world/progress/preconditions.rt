@@ -160,7 +160,10 @@ impl Play {
         let lists = [
             self.lacks_rounds(Side::A, c.asking, moment)
                 .map(Lacks::AskingRounds),
-            missing(!self.may_end_between(c.asking, moment, Side::A), Lacks::AskingStays),
+            missing(
+                !self.may_end_between(c.asking, moment, Side::A),
+                Lacks::AskingStays,
+            ),
             asks,
             self.lacks_rounds(Side::B, c.asked, moment)
                 .map(Lacks::AskedRounds),
@@ -189,7 +192,10 @@ impl Play {
             missing(self.fresh, Lacks::NewAgents),
             missing(apart, Lacks::Roles),
             rounds,
-            missing(!self.may_end_between(c.asking, ended, Side::A), Lacks::AskingStays),
+            missing(
+                !self.may_end_between(c.asking, ended, Side::A),
+                Lacks::AskingStays,
+            ),
             answers,
         ];
         joined((None, 0), &lists)

@@ -176,7 +176,9 @@ impl Play {
         };
         let due = u64::try_from(start.due).ok()?;
         let is_polled = kept.polls && kept.by < kept.from;
-        if is_polled && due <= kept.later.saturating_add(1) || self.suffices(kept, side, first, end) {
+        if is_polled && due <= kept.later.saturating_add(1)
+            || self.suffices(kept, side, first, end)
+        {
             None
         } else {
             Some(Rounds::Enough)
