@@ -6,31 +6,23 @@ from collections import Counter
 from collections.abc import Callable, Iterable, Sequence
 from dataclasses import dataclass, field, replace
 
-from .clauses import Session as Checked
-from .clauses import Verdict, granted, meet
+from .clauses import both, connect, due_rounds, granted, meet, rounds, world_rounds
+from .clauses.execution import Execution
+from .clauses.grantings import Network
+from .clauses.verdict import Verdict
 from .clock import BEGINNING, MILLISECOND
 from .figures import aligned, quantile
 from .guarantees import Broken
 from .log import Log
 from .pool import Fault, Portion
 from .replay import replay
-from .rounds import connect, rounds
 from .session import Session
 
-# The clauses; and, to see what preconditions cost, some of them without these (`Session.lacking`).
-CLAUSES: dict[str, tuple[Callable[[Checked], Verdict], tuple[str, ...]]] = {
-    "meet": (meet, ()),
-    "rounds": (rounds, ()),
-    "granted": (granted, ()),
-    "connect": (connect, ()),
-    "granted at once": (granted, ("moment",)),
-    "granted, kept": (granted, ("moment", "ends")),
-    "connect, due at": (connect, ("late",)),
-    "connect, calls": (connect, ("calls",)),
-    "connect, kept": (connect, ("calls", "ends")),
-    "connect, all": (connect, ("late", "calls", "ends")),
-    "rounds, all": (rounds, ("late", "calls")),
-}
+# The clauses of `World::run`, with its name, and those of `run`.
+WORLD: dict[str, Callable[[Network], Verdict]] = {"meet": meet.find, "rounds": world_rounds.find, "granted": granted.find,
+                                                  "connect": connect.find, "both": both.find}
+RUN: dict[str, Callable[[Execution], Verdict]] = {"run: rounds": rounds.find, "run: due_rounds": due_rounds.find}
+CLAUSES = (*WORLD, *RUN)
 
 
 @dataclass(frozen=True)
@@ -47,8 +39,10 @@ class Covered:
 def verdicts_of(log: Log) -> tuple[dict[str, Verdict], tuple[str, ...]]:
     """Applies the checkers to a log."""
     session = replay(log)
-    checked = Checked(session)
-    return {name: clause(checked.lacking(*without)) for name, (clause, without) in CLAUSES.items()}, tuple(session.differences)
+    execution = Execution(session)
+    network = Network(execution)
+    verdicts = {name: find(network) for name, find in WORLD.items()} | {name: find(execution) for name, find in RUN.items()}
+    return verdicts, tuple(session.differences)
 
 
 @dataclass(frozen=True)
@@ -69,7 +63,7 @@ class Play:
             except Broken as broken:
                 return Fault(scenario.name, seed, str(broken))
             covered = Covered(scenario.name, seed, outcome.first is not None, *verdicts_of(log))
-            if broken_clauses := [name for name, verdict in covered.verdicts.items() if not CLAUSES[name][1] and verdict.is_broken]:
+            if broken_clauses := [name for name, verdict in covered.verdicts.items() if verdict.is_broken]:
                 return Fault(scenario.name, seed, f"all preconditions of {broken_clauses[0]} held, and its conclusion did not")
             found.append(covered)
         return found
@@ -80,7 +74,6 @@ class Share:
     """What one clause covers of a scenario's connected sessions. Times are milliseconds from the first signaling message."""
 
     covered: int = 0
-    broken: int = 0  # the conclusion came later than the bound, as may happen if a precondition is left out
     since: list[float] = field(default_factory=list)
     bound: list[float] = field(default_factory=list)
     fact: list[float] = field(default_factory=list)
@@ -94,7 +87,6 @@ class Share:
             self.failed[verdict.failed] += 1
             return
         self.covered += 1
-        self.broken += verdict.is_broken
         assert verdict.since is not None and verdict.bound is not None
         since, bound = ((time - BEGINNING) / MILLISECOND for time in (verdict.since, verdict.bound))
         self.since.append(since)
@@ -142,7 +134,7 @@ def tables(told: Sequence[Coverage]) -> str:
 
 
 _SHARES = ["scenario", "sessions", "connected", *(f"{name} %" for name in CLAUSES), "model differs"]
-_TIMES = ["scenario", "clause", "covered", "since ms", "rounds", "bound ms", "happened ms", "bound / happened", "at most 2: %", "later"]
+_TIMES = ["scenario", "clause", "covered", "since ms", "rounds", "bound ms", "happened ms", "bound / happened", "at most 2: %"]
 _FAILED = ["clause", "precondition that failed first", "sessions", "of these scenarios"]
 
 
@@ -161,7 +153,7 @@ def _time_rows(c: Coverage) -> list[list[str]]:
         if share.covered:
             near = f"{100 * sum(r <= 2 for r in share.ratio) / c.connected:.1f}" if share.ratio else "-"
             rows.append([c.scenario, name, str(share.covered), median(share.since), median(share.rounds) if any(share.rounds) else "-",
-                         median(share.bound), median(share.fact), median(share.ratio, 2), near, str(share.broken)])
+                         median(share.bound), median(share.fact), median(share.ratio, 2), near])
     return rows
 
 

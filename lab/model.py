@@ -17,6 +17,8 @@ from .stun import message_of
 KINDS = {CandidateKind.HOST: "host", CandidateKind.SERVER_REFLEXIVE: "srflx", CandidateKind.RELAYED: "relay"}
 # How many early requests an agent stores.
 QUEUE_LIMIT = 100
+# How many candidates of each side packets may bring to an agent that the library makes.
+DISCOVERED_LIMIT = 32
 
 
 @dataclass(frozen=True)
@@ -61,6 +63,7 @@ class Agent:
     timing: Timing = Timing()
     advance: int = 50 * MILLISECOND
     max_pairs: int = 100
+    max_discovered: int | None = DISCOVERED_LIMIT
     local: tuple[Place, ...] = ()
     remote: tuple[Place, ...] = ()
     pairs: tuple[Pair, ...] = ()
@@ -68,6 +71,11 @@ class Agent:
     selected: int | None = None
     queue: tuple[Request, ...] = ()
     last: int | None = None
+
+    def with_timing(self, timing: Timing) -> Agent:
+        """Returns the agent with these settings. If an RTO changes, due times are computed again."""
+        is_same = (timing.initial, timing.greatest) == (self.timing.initial, self.timing.greatest)
+        return replace(self, timing=timing, pairs=self.pairs if is_same else tuple(replace(p, due=None) for p in self.pairs))
 
     # ---- questions
 
@@ -93,6 +101,15 @@ class Agent:
             queue = queue[1:]
         return queue
 
+    def is_below(self, count: int) -> bool:
+        """Whether packets may bring one more candidate of a side to which they brought so many."""
+        return self.max_discovered is None or count < self.max_discovered
+
+    def vacant_place(self) -> int | None:
+        """Returns the first index of a candidate that a request brought, and that no pair has."""
+        used = {p.remote for p in self.pairs}
+        return next((i for i, c in enumerate(self.remote) if c.is_found and i not in used), None)
+
     def place_to_discard(self, candidate: Place, places: tuple[Place, ...]) -> int | None:
         """Returns the index of the first equal candidate, if that one is live."""
         at = next((i for i, c in enumerate(places) if c.is_same_place(candidate) and c.is_same_origin(candidate)), None)
@@ -100,7 +117,8 @@ class Agent:
 
     # ---- forming pairs
 
-    def _priority(self, local: int, remote: int) -> int:
+    def priority_between(self, local: int, remote: int) -> int:
+        """Returns the priority of a pair of two candidates by their indices, in the present role."""
         own, other = self.local[local].priority, self.remote[remote].priority
         return pair_priority(own, other) if self.controlling else pair_priority(other, own)
 
@@ -115,7 +133,7 @@ class Agent:
 
     def _tried(self, local: int, remote: int) -> Agent:
         path = self.local[local].base, self.remote[remote].address
-        pair = Pair(self.next_number, local, remote, self._priority(local, remote))
+        pair = Pair(self.next_number, local, remote, self.priority_between(local, remote))
         found = max(self.on(path), key=lambda p: p.priority, default=None)
         if found is None:
             return replace(self, pairs=(*self.pairs, pair), next_number=self.next_number + 1)
@@ -167,14 +185,6 @@ class Agent:
         joined = self.with_remote(line)
         return self if joined is None else joined[0]._formed(joined[1])
 
-    def may_remove(self, pair: Pair, combinations: list[tuple[int, int]]) -> bool:
-        """Whether forming these combinations may remove the pair: by replacing it, or because too many rank with it
-        (`MayBeRemoved`)."""
-        path, new = self.path(pair), [(self.local[l].base, self.remote[r].address, self._priority(l, r)) for l, r in combinations]
-        is_replaced = any((base, address) == path and pair.priority < priority for base, address, priority in new)
-        ranks = sum(p.priority >= pair.priority for p in self.pairs) + sum(priority >= pair.priority for _, _, priority in new)
-        return is_replaced or ranks > self.max_pairs
-
     def invalidate(self, candidate: Candidate) -> Agent:
         """Discards a local candidate, and its pairs."""
         at = self.place_to_discard(local_place(candidate), self.local)
@@ -187,6 +197,11 @@ class Agent:
     def restart(self, creds: IceCreds, keeps: bool) -> Agent:
         """Makes an ICE restart."""
         return replace(self, creds=creds, peer=None, local=self.local if keeps else (), remote=(), pairs=())
+
+    def recreate(self) -> Agent:
+        """Forms the pairs again."""
+        live = [i for i, c in enumerate(self.local) if not c.is_discarded]
+        return replace(self, pairs=())._formed((i, r) for i in live for r in self._partners(self.local[i], self.remote))
 
     # ---- nomination
 
@@ -219,27 +234,34 @@ class Agent:
     def switched(self) -> Agent:
         """Switches the role, and computes all priorities again."""
         new = replace(self, controlling=not self.controlling)
-        return replace(new, pairs=tuple(replace(p, priority=new._priority(p.local, p.remote)) for p in self.pairs))
+        return replace(new, pairs=tuple(replace(p, priority=new.priority_between(p.local, p.remote)) for p in self.pairs))
 
     def _serve_at(self, q: Request, local: int) -> Result:
-        live = [i for i, c in enumerate(self.remote) if c.address == q.source and not c.is_discarded]
+        remote = self._place_of(q.source)
+        if remote is None:
+            return self, None, ()
         new = self
-        if not live:
-            if any(c.address == q.source for c in self.remote):
-                return self, None, ()
-            live = [len(self.remote)]
-            new = replace(self, remote=(*self.remote, Place("prflx", q.source, q.source, q.priority, is_found=True)))
-        remote = max(live, key=lambda i: new.remote[i].priority)
+        if remote == len(self.remote) or self.remote[remote].address != q.source:
+            new = replace(self, remote=_put(self.remote, remote, Place("prflx", q.source, q.source, q.priority, is_found=True)))
         pair = next((p for p in new.pairs if (p.local, p.remote) == (local, remote)), None)
         if pair is None:
             if new.local[local].is_discarded:
                 return new, None, ()
-            pair = Pair(new.next_number, local, remote, new._priority(local, remote))
+            pair = Pair(new.next_number, local, remote, new.priority_between(local, remote))
             new = replace(new, pairs=(*new.pairs, pair), next_number=new.next_number + 1)
         was_valid = pair.is_valid
         new = new._changed(pair.number, lambda p: self._served(new, p, q))
         new, told = new._nominate() if new.controlling and was_valid else (new, ())
         return new, Issued("success", (new.local[local].base, q.source), q.id), told
+
+    def _place_of(self, source: SocketAddress) -> int | None:
+        """Returns the index of a request's sender among the remote candidates, or the one that it gets; None if it gets none."""
+        live = [i for i, c in enumerate(self.remote) if c.address == source and not c.is_discarded]
+        if live:
+            return max(live, key=lambda i: self.remote[i].priority)
+        if any(c.address == source for c in self.remote):
+            return None
+        return len(self.remote) if self.is_below(sum(c.is_found for c in self.remote)) else self.vacant_place()
 
     @staticmethod
     def _served(agent: Agent, pair: Pair, q: Request) -> Pair:
@@ -269,8 +291,8 @@ class Agent:
         return chosen, None, told
 
     def _mapped(self, pair: Pair, contents: bytes) -> Agent:
-        mapped = StunMessage(contents).mapped_address
-        if mapped is None or any(c.address == mapped for c in self.local):
+        mapped, brought = StunMessage(contents).mapped_address, sum(c.kind == "prflx" for c in self.local)
+        if mapped is None or any(c.address == mapped for c in self.local) or not self.is_below(brought):
             return self
         own = self.local[pair.local]
         return replace(self, local=(*self.local, Place("prflx", mapped, own.base, own.check_priority)))

@@ -24,6 +24,7 @@ class Timing:
     initial: int = 250 * MILLISECOND
     greatest: int = 3000 * MILLISECOND
     retransmits: int = 9
+    lite: int = 15 * SECOND
 
     def delay(self, count: int) -> int:
         """Returns the delay after the last of `count` checks, in whole milliseconds: it doubles up to a bound."""
@@ -139,7 +140,7 @@ class Pair:
     def stays(self, now: int, timing: Timing, lite: bool) -> bool:
         """Whether its consent has not expired; for a lite agent, whether the peer's checks go on."""
         if lite:
-            return self.last_request is None or now - self.last_request < 15 * SECOND
+            return self.last_request is None or now - self.last_request < timing.lite
         if self.is_young(timing):
             return True
         is_heard = self.last_request is not None and now - self.last_request < 15 * SECOND
@@ -147,7 +148,7 @@ class Pair:
 
     def is_young(self, timing: Timing) -> bool:
         """Whether fewer than `max_retransmits` checks follow its last answered one."""
-        return len(self.checks) < timing.retransmits or unanswered(self.checks) < timing.retransmits
+        return unanswered(self.checks) < timing.retransmits
 
     # ---- what happens to it
 

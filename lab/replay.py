@@ -104,8 +104,9 @@ def _issued(log: Log) -> tuple[dict[int, Entry], dict[int, tuple[Path, ...]]]:
 
 
 SETTINGS = {"set_ice_lite": "lite", "set_timing_advance": "advance", "set_max_candidate_pairs": "max_pairs",
-            "set_remote_credentials": "peer"}
-TIMING = {"set_initial_stun_rto": "initial", "set_max_stun_rto": "greatest", "set_max_stun_retransmits": "retransmits"}
+            "set_max_discovered": "max_discovered", "set_local_credentials": "creds", "set_remote_credentials": "peer"}
+TIMING = {"set_initial_stun_rto": "initial", "set_max_stun_rto": "greatest", "set_max_stun_retransmits": "retransmits",
+          "set_lite_timeout": "lite"}
 
 
 def _next(agent: Agent, entry: Entry, seen: Issued | None, is_waiting: bool) -> tuple[Agent, tuple[object] | None]:
@@ -120,19 +121,22 @@ def _next(agent: Agent, entry: Entry, seen: Issued | None, is_waiting: bool) -> 
     if call == "handle_packet":
         new, issued, paths = agent.packet(*given[:4]) if entry.returned else (agent, None, ())
         return new, ((issued, paths),)
-    return _set(agent, entry), None
+    return after_setting(agent, entry), None
 
 
-def _set(agent: Agent, entry: Entry) -> Agent:
+def after_setting(agent: Agent, entry: Entry) -> Agent:
+    """Returns the agent after a call that issues nothing: a setting, a candidate, a restart."""
     call, given = entry.call, entry.given
     if call in SETTINGS:
         return replace(agent, **{SETTINGS[call]: given[0]})
     if call in TIMING:
-        return replace(agent, timing=replace(agent.timing, **{TIMING[call]: given[0]}))
+        return agent.with_timing(replace(agent.timing, **{TIMING[call]: given[0]}))
     if call == "add_local_candidate":
         return agent.add_local(given[0], entry.returned)
     if call == "add_remote_candidate":
         return agent.add_remote(given[0])
     if call == "invalidate_candidate":
         return agent.invalidate(given[0])
+    if call == "recreate_candidate_pairs":
+        return agent.recreate()
     return agent.restart(*given) if call == "ice_restart" else agent

@@ -3,19 +3,23 @@
 from __future__ import annotations
 
 from dataclasses import replace
+from typing import Any
 
 from is_ice import Candidate, IceCreds, NominatedSend, Protocol, SocketAddress, Transmit
+from lab.clauses.execution import Execution
+from lab.clauses.grantings import Network
 from lab.clock import BEGINNING, MILLISECOND
 from lab.log import Beginning, Entry, Log
 from lab.model import Agent, Issued
 from lab.pairs import Path
-from lab.replay import other
+from lab.replay import Replay, after_setting, other, replay
 
 A, B = SocketAddress("10.0.0.1", 1000), SocketAddress("10.0.0.2", 2000)
 COOKIE = bytes.fromhex("2112a442")
 USERNAME, XOR_MAPPED_ADDRESS, PRIORITY, USE_CANDIDATE, ICE_CONTROLLED, ICE_CONTROLLING = 0x0006, 0x0020, 0x0024, 0x0025, 0x8029, 0x802A
 TYPES = {"request": 0x0001, "success": 0x0101, "failure": 0x0111}
 LINE = "candidate:1 1 udp {} {} {} typ {}"
+TO_A, TO_B = (B, A), (A, B)  # the paths of b and of a
 
 
 def message(kind: str, id: bytes, attributes: dict[int, bytes]) -> bytes:
@@ -33,11 +37,13 @@ def mapped(address: SocketAddress) -> bytes:
 class Story:
     """Two agents with one host candidate each, and the log of what a test lets happen. Times are milliseconds from the beginning."""
 
-    def __init__(self, roles: tuple[bool, bool] = (True, False), known: bool = True, hosts: tuple[int, int] = (1, 1)) -> None:
+    def __init__(self, roles: tuple[bool, bool] = (True, False), known: bool = True, hosts: tuple[int, int] = (1, 1),
+                 ties: tuple[int, int] = (10, 5)) -> None:
         self.log = Log()
         self.agents: dict[str, Agent] = {}
-        self._ids = 0
-        for side, role, tie in zip("ab", roles, (10, 5)):
+        self.moments: dict[str, list[int]] = {"a": [], "b": []}  # the indices of the `handle_timeout` calls
+        self.ids = 0
+        for side, role, tie in zip("ab", roles, ties):
             creds = IceCreds(side * 4, side * 22)
             self.log.sides[side] = Beginning(creds, tie, role)
             self.agents[side] = Agent(creds, tie, role)
@@ -47,6 +53,30 @@ class Story:
         if known:
             self.know("a")
             self.know("b")
+
+    # ---- what the checkers get
+
+    @property
+    def end(self) -> int:
+        """The number of entries."""
+        return len(self.log.entries)
+
+    def session(self) -> Replay:
+        """Returns the log with its states. The model has to foresee each call."""
+        session = replay(self.log)
+        assert not session.differences, session.differences
+        return session
+
+    def network(self) -> Network:
+        """Returns the log as the checkers of `World::run` get it."""
+        return Network(Execution(self.session()))
+
+    def altered(self, at: int, side: str, **fields: Any) -> Network:
+        """Returns the same, with another state of the side before one entry."""
+        session = self.session()
+        step = session.steps[at]
+        session.steps[at] = replace(step, before={**step.before, side: replace(step.before[side], **fields)})
+        return Network(Execution(session))
 
     # ---- calls
 
@@ -64,16 +94,33 @@ class Story:
 
     def know(self, side: str, time: float = 0) -> None:
         """The side gets the other one's credentials and candidates."""
-        peer = self.agents[other(side)]
-        self.agents[side] = replace(self.agents[side], peer=peer.creds)
-        self._log(time, side, "set_remote_credentials", (peer.creds,))
-        for place in peer.local:
+        self.meet(side, time)
+        for place in self.agents[other(side)].local:
             self.remote(side, LINE.format(place.priority, place.address.ip, place.address.port, place.kind), time)
+
+    def meet(self, side: str, time: float = 0) -> None:
+        """The side gets the other one's credentials."""
+        self.set(side, "set_remote_credentials", self.agents[other(side)].creds, time)
+
+    def invalidate(self, side: str, candidate: Candidate, time: float = 0) -> None:
+        """The side removes a local candidate."""
+        old = self.agents[side]
+        self.agents[side] = old.invalidate(candidate)
+        self._log(time, side, "invalidate_candidate", (candidate,), self.agents[side] != old)
+
+    def set(self, side: str, name: str, value: object, time: float = 0) -> None:
+        """The side changes a setting."""
+        self._log(time, side, name, (value,))
+        self.agents[side] = after_setting(self.agents[side], self.log.entries[-1])
 
     def limit(self, side: str, pairs: int, time: float = 0) -> None:
         """The side limits its pairs, so that a further candidate may remove one."""
-        self.agents[side] = replace(self.agents[side], max_pairs=pairs)
-        self._log(time, side, "set_max_candidate_pairs", (pairs,))
+        self.set(side, "set_max_candidate_pairs", pairs, time)
+
+    def evict(self, side: str, time: float = 0) -> None:
+        """The side limits its pairs to one, and adds a remote candidate whose pair may remove the present one."""
+        self.limit(side, 1, time)
+        self.remote(side, LINE.format(126 << 24 | 65535 << 8 | 255, "10.9.9.9", 9, "host"), time)
 
     def remote(self, side: str, line: str, time: float = 0) -> None:
         """The side gets a remote candidate."""
@@ -82,11 +129,17 @@ class Story:
 
     def timeout(self, side: str, time: float) -> Transmit | None:
         """The side's `handle_timeout`, followed by its polls. Returns the check that it sends."""
-        self._ids += 1
-        now, id = BEGINNING + round(time * MILLISECOND), self._ids.to_bytes(12, "big")
+        self.ids += 1
+        now, id = BEGINNING + round(time * MILLISECOND), self.ids.to_bytes(12, "big")
         new, issued, paths = self.agents[side].timeout(now, id)
+        self.moments[side].append(self.end)
         self._log(time, side, "handle_timeout", (now, id))
         return self._polls(side, time, new, issued, paths, b"")
+
+    def passes(self, side: str, *times: float) -> None:
+        """Timeouts of the side whose checks are lost."""
+        for time in times:
+            self.timeout(side, time)
 
     def deliver(self, packet: Transmit | None, side: str, time: float, via: Path | None = None) -> Transmit | None:
         """Delivers a packet to the side, perhaps with other addresses. Returns the response that the side sends."""

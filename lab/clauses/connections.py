@@ -1,0 +1,92 @@
+"""Rounds of one of two agents that suffice for its pair on a path, and what the network delivers in them (`Connections`, `Connects`)."""
+
+from __future__ import annotations
+
+from bisect import bisect_left
+
+from ..pairs import Pair, Path
+from .execution import Execution, Lacks, Round, fewest, is_in_round, lacks
+from .grantings import ALL, Network
+from .progress import is_in_line
+from .selections import are_enough, are_kept, checks_in
+from .staying import may_end_in_rounds
+
+
+# ---- rounds that suffice
+
+def has_rounds_for(x: Execution, side: str, pair: Pair, rounds: list[Round], last: int) -> Lacks:
+    """The rounds up to the entry `last` suffice for this pair, which is due by the first one."""
+    first = rounds[0]
+    agent = x.state(first.moment, side)
+    by = min(pair.due_at(first.now, agent.timing), first.now)
+    return lacks(line=is_in_line(first.now, by, agent, pair), kept=are_kept(x, side, by, rounds), enough=are_enough(x, side, by, rounds, last))
+
+
+def has_rounds(x: Execution, side: str, path: Path, rounds: list[Round], last: int) -> Lacks:
+    """The side has rounds up to the entry `last` that suffice for a pair on the path (`HasRounds`)."""
+    if not rounds:
+        return ["rounds"]
+    pairs = x.state(rounds[0].moment, side).on(path)
+    return fewest([has_rounds_for(x, side, p, rounds, last) for p in pairs], ["on"])
+
+
+class Rows:
+    """The search for rounds of a side that begin as late as possible."""
+
+    def __init__(self, x: Execution, side: str) -> None:
+        self.x, self.side, self.timeouts = x, side, x.timeouts[side]
+        self._sizes = [(len(a.pairs), a.next_number) for a in (x.state(at, side) for at in self.timeouts)]
+        self._lines: dict[int, list[Path]] = {}
+
+    def latest(self, end: int, path: Path | None = None) -> tuple[int, Path] | None:
+        """Returns the latest `handle_timeout` call from which rounds up to `end` suffice for a pair on the path, or on any; and the path."""
+        stop = bisect_left(self.timeouts, end)
+        others = self.x.calls_besides(self.side, is_in_round)
+        before = bisect_left(others, end)
+        for place in range(stop - 1, bisect_left(self.timeouts, others[before - 1] if before else 0) - 1, -1):
+            if self._may_suffice(place, stop, end) and (found := self._path_at(place, end, path)) is not None:
+                return self.timeouts[place], found
+        return None
+
+    def _may_suffice(self, place: int, stop: int, end: int) -> bool:
+        """Whether `suffices` holds, if the pair is due before the first round."""
+        (first, old), later, last = self._sizes[place], stop - place - 1, self.x.state(end, self.side)
+        second, new = self._sizes[place + 1] if later else (len(last.pairs), last.next_number)
+        return first <= 1 or 2 * first + last.next_number <= later + 2 + old or 2 * second + last.next_number <= later + 1 + new
+
+    def _path_at(self, place: int, end: int, path: Path | None) -> Path | None:
+        lines = [p for p in self.lines(place) if path in (None, p)]
+        rounds = self.x.rounds(self.side, self.timeouts[place], end) if lines else []
+        fits = (p for p in lines if not has_rounds(self.x, self.side, p, rounds, end) and not may_end_in_rounds(self.x, self.side, p, rounds))
+        return next(fits, None)
+
+    def lines(self, place: int) -> list[Path]:
+        """Returns the paths of the pairs that are due by a `handle_timeout` call, by its place among them."""
+        if place not in self._lines:
+            moment = self.timeouts[place]
+            agent, now = self.x.state(moment, self.side), self.x.now(moment)
+            self._lines[place] = sorted({agent.path(p) for p in agent.pairs if p.due_at(now, agent.timing) <= now})
+        return self._lines[place]
+
+    def longest(self, end: int, path: Path, floor: int) -> tuple[int, Path]:
+        """Returns the first such call, from `floor` on, before which the side has a pair on the path: to show what is missing."""
+        return next((at for at in self.timeouts if floor <= at < end and self.x.state(at, self.side).on(path)), end), path
+
+
+# ---- deliveries in rounds
+
+def succeeds_in(x: Execution, side: str, path: Path, rounds: list[Round]) -> bool:
+    """Whether the side accepts a success response on the path after one of the `handle_timeout` calls (`Succeeds`)."""
+    return any(at in r.behind and x.steps[at].entry.given[1:3] == path[::-1] for r in rounds for at in x.successes(side))
+
+
+def is_active(x: Execution, side: str, path: Path, rounds: list[Round]) -> bool:
+    """Whether the side sends a check on the path in the rounds, or accepts a success response on it."""
+    return checks_in(x, side, path, rounds) or succeeds_in(x, side, path, rounds)
+
+
+def delivers(n: Network, side: str, path: Path, over: Path, rounds: list[Round], part: range) -> Lacks:
+    """If the side is active on the path, a check of the segment arrives as the path `over`, and its responses are back (`Delivers`)."""
+    if not is_active(n.x, side, path, rounds):
+        return []
+    return n.exists(side, part, lambda h: h.path == path and h.over == over, ALL, True)

@@ -1,0 +1,93 @@
+"""When a pair waits for its check, and how many rounds suffice for it (`Progress`, `Reached`, `FirstTimeouts`, `FirstChecks`)."""
+
+from __future__ import annotations
+
+from collections.abc import Sequence
+
+from ..clock import MILLISECOND
+from ..model import Agent
+from ..pairs import Pair, Path
+from .execution import Lacks, lacks
+
+
+# ---- one pair
+
+def is_there(agent: Agent, pair: Pair) -> bool:
+    """Whether it is one of the agent's pairs."""
+    return any(p.number == pair.number and p == pair for p in agent.pairs)
+
+
+def is_checking(agent: Agent) -> Lacks:
+    """The agent is not lite, and knows the remote credentials (`IsChecking`)."""
+    return lacks(full=not agent.lite, peer=agent.peer is not None)
+
+
+def is_paced(agent: Agent) -> bool:
+    """Whether checks are at least a millisecond apart, and a pair stores its last one (`IsPaced`)."""
+    return agent.timing.initial >= MILLISECOND and agent.timing.greatest >= MILLISECOND and agent.timing.retransmits > 0
+
+
+def awaits(at: int, by: int, agent: Agent, pair: Pair) -> Lacks:
+    """The pair waits for its check: its due time, computed at a time, is at most `by` (`Awaits`)."""
+    return lacks(checking=is_checking(agent), paced=is_paced(agent), queue=not agent.queue, there=is_there(agent, pair),
+                 due=pair.due_at(at, agent.timing) <= by)
+
+
+def is_unanswered(agent: Agent, pair: Pair) -> Lacks:
+    """No pair is valid yet, and this one will not be removed before its check (`IsUnanswered`)."""
+    return lacks(invalid=not any(p.is_valid for p in agent.pairs), young=pair.is_young(agent.timing))
+
+
+def is_in_line(at: int, by: int, agent: Agent, pair: Pair) -> Lacks:
+    """The pair waits for its check, and nothing nominates it first (`IsInLine`)."""
+    return lacks(checking=is_checking(agent), queue=not agent.queue, there=is_there(agent, pair), due=pair.due_at(at, agent.timing) <= by,
+                 settled=not pair.is_valid or pair.due is not None, young=pair.is_young(agent.timing))
+
+
+# ---- how many rounds suffice
+
+def due_by(by: int, now: int, agent: Agent) -> int:
+    """Returns how many pairs are due by a time, with due times computed now (`due_by`)."""
+    return sum(p.due_at(now, agent.timing) <= by for p in agent.pairs)
+
+
+def are_as_many_as_due(by: int, agent: Agent, times: Sequence[int]) -> bool:
+    """Whether there are as many times as pairs that are due, computed at the first of them (`AreAsManyAsDue`)."""
+    return bool(times) and due_by(by, times[0], agent) <= len(times)
+
+
+def suffice_for_due(by: int, now: int, first: Agent, second: Agent, later: Sequence[int]) -> bool:
+    """Whether rounds in which the agent only polls suffice for a pair that is due by a time (`SufficeForDue`)."""
+    if by < now and are_as_many_as_due(by, first, [now, *later]):
+        return True
+    return len(first.pairs) <= 1 or are_as_many_as_due(by, second, later)
+
+
+def suffices_from_due(first: Agent, second: Agent, last: Agent, later: int) -> bool:
+    """Whether so many rounds after the first one suffice for a pair that is due by the first one (`SufficesFromDue`)."""
+    return len(first.pairs) <= 1 or 2 * len(second.pairs) + last.next_number <= later + 1 + second.next_number
+
+
+def suffices(by: int, now: int, first: Agent, second: Agent, last: Agent, later: int) -> bool:
+    """The same; or the first one counts too, if the pair is due before it (`Suffices`)."""
+    is_early = by < now and 2 * len(first.pairs) + last.next_number <= later + 2 + first.next_number
+    return is_early or suffices_from_due(first, second, last, later)
+
+
+# ---- selection
+
+def is_alone(agent: Agent, path: Path) -> bool:
+    """Whether at most one pair uses the path's addresses (`IsAlone`)."""
+    return len(agent.on(path)) <= 1
+
+
+def are_nominated_on(agent: Agent, path: Path) -> bool:
+    """Whether each pair on the path is nominated (`AreNominatedOn`)."""
+    return all(p.is_nominated for p in agent.on(path))
+
+
+def has_announced(agent: Agent) -> bool:
+    """Whether a pair is eligible, and the selected pair is one of the greatest of the eligible ones (`HasAnnounced`)."""
+    eligible = [p for p in agent.pairs if agent.is_eligible(p)]
+    selected = [p for p in eligible if p.number == agent.selected]
+    return bool(selected) and all(p.priority <= selected[0].priority for p in eligible)

@@ -1,0 +1,73 @@
+"""Which calls may remove a pair of a path (`Staying`, `Removing`, `AskedCourses`)."""
+
+from __future__ import annotations
+
+from ..model import Agent, Joined, local_place
+from ..pairs import Pair, Path
+from ..replay import Step
+from .execution import Execution, Round, any_in, is_between
+
+
+def is_replaced_by(agent: Agent, pair: Pair, combination: tuple[int, int]) -> bool:
+    """Whether the combination is redundant with the pair, and has a greater priority (`is_replaced_by`)."""
+    local, remote = combination
+    path = agent.local[local].base, agent.remote[remote].address
+    return path == agent.path(pair) and pair.priority < agent.priority_between(local, remote)
+
+
+def rank_count(agent: Agent, combinations: list[tuple[int, int]], pair: Pair) -> int:
+    """Returns how many pairs have no smaller priority than the pair, at most, after these are formed (`rank_count`)."""
+    ranks = sum(pair.priority <= p.priority for p in agent.pairs)
+    return ranks + sum(pair.priority <= agent.priority_between(*c) for c in combinations)
+
+
+def may_be_removed(agent: Agent, combinations: list[tuple[int, int]], pair: Pair) -> bool:
+    """Whether forming these combinations may remove the pair (`MayBeRemoved`)."""
+    return any(is_replaced_by(agent, pair, c) for c in combinations) or agent.max_pairs < rank_count(agent, combinations, pair)
+
+
+def may_end_by_joining(joined: Joined | None, pair: Pair) -> bool:
+    """Whether an added candidate may remove the pair: an ignored one does not (`MayEndByRemote`, `MayEndByLocal`)."""
+    if joined is None:
+        return False
+    agent, combinations = joined
+    return pair not in agent.pairs or may_be_removed(agent, combinations, pair)
+
+
+def is_given_up(now: int, agent: Agent, pair: Pair) -> bool:
+    """Whether the pair's checks were not answered in time (`is_given_up`)."""
+    return not pair.stays(now, agent.timing, agent.lite)
+
+
+def may_end(step: Step, pair: Pair) -> bool:
+    """Whether the call may remove the pair of the side that makes it (`MayEnd`)."""
+    entry, agent = step.entry, step.before[step.entry.side]
+    if entry.call == "handle_timeout":
+        return agent.request_at(entry.given[0]) is None and is_given_up(entry.given[0], agent, pair)
+    if entry.call == "add_local_candidate":
+        return may_end_by_joining(agent.with_local(entry.given[0], entry.returned), pair)
+    if entry.call == "add_remote_candidate":
+        return may_end_by_joining(agent.with_remote(entry.given[0]), pair)
+    if entry.call == "invalidate_candidate":
+        return bool(entry.returned) and agent.place_to_discard(local_place(entry.given[0]), agent.local) == pair.local
+    return entry.call in ("ice_restart", "recreate_candidate_pairs")
+
+
+def ends(step: Step, path: Path) -> bool:
+    """Whether the call may remove a pair that uses the path's addresses (`Ends`)."""
+    return not is_between(step.entry.call) and any(may_end(step, p) for p in step.before[step.entry.side].on(path))
+
+
+def ends_of(x: Execution, side: str, path: Path) -> list[int]:
+    """Returns the indices at which a call of the side may remove a pair of the path (`MayEndAt`)."""
+    return x.indices(("ends", side, path), lambda s: s.entry.side == side and ends(s, path))
+
+
+def may_end_in(x: Execution, side: str, path: Path, part: range) -> bool:
+    """Whether a call of the side may remove a pair of the path at one of these entries (`MayEndAt`)."""
+    return any_in(ends_of(x, side, path), part)
+
+
+def may_end_in_rounds(x: Execution, side: str, path: Path, rounds: list[Round]) -> bool:
+    """Whether a call between the `handle_timeout` calls of the rounds may remove a pair of the path (`MayEndInRounds`)."""
+    return any(may_end_in(x, side, path, r.behind) for r in rounds)

@@ -1,0 +1,57 @@
+"""What a checker finds in a session."""
+
+from __future__ import annotations
+
+from collections.abc import Callable, Iterable
+from dataclasses import dataclass
+from typing import TypeVar
+
+from .execution import Execution, Lacks
+
+C = TypeVar("C")
+
+
+@dataclass(frozen=True)
+class Verdict:
+    """What a checker found. `since` and `bound` are times; the conclusion was due by `bound`. `failed`: preconditions, or "" if all held.
+
+    `fact`: when what the clause concludes came to be; None: it did not. `rounds`: how many rounds of one side the choice has."""
+
+    failed: str = ""
+    since: int | None = None
+    bound: int | None = None
+    fact: int | None = None
+    rounds: int = 0
+
+    @property
+    def held(self) -> bool:
+        """Whether all preconditions held."""
+        return not self.failed
+
+    @property
+    def is_broken(self) -> bool:
+        """Whether they held, and the conclusion was not true by its bound."""
+        return self.held and (self.bound is None or self.fact is None or self.fact > self.bound)
+
+
+def first_that_holds(choices: Iterable[C], lacking: Callable[[C], Lacks], verdict: Callable[[C], Verdict], otherwise: str) -> Verdict:
+    """Returns the verdict of the first choice that lacks nothing; or what the choice lacks that lacks least."""
+    least: Lacks | None = None
+    for choice in choices:
+        missing = lacking(choice)
+        if not missing:
+            return verdict(choice)
+        if least is None or len(missing) < len(least):
+            least = missing
+    return Verdict(", ".join(least) if least is not None else otherwise)
+
+
+def first_in(indices: list[int], part: range) -> int | None:
+    """Returns the first of the sorted indices that is in the range."""
+    return next((at for at in indices if at in part), None)
+
+
+def selects(x: Execution, side: str, part: range) -> int | None:
+    """Returns when the side first selects a path in the segment (`Announces`)."""
+    at = first_in(x.announces(side), part)
+    return None if at is None else x.time(at)

@@ -1,0 +1,300 @@
+"""Tests the checkers of `connect` and `both` of `World::run`: for each precondition, a log that lacks exactly it."""
+
+import unittest
+from dataclasses import replace
+
+from is_ice import SocketAddress
+from lab.clauses import both, connect
+from lab.clauses.grantings import Network
+from lab.clauses.verdict import Verdict
+from lab.clock import BEGINNING, MILLISECOND
+from lab.model import Request
+from lab.pairs import Check, Pair
+from stories import TO_A, TO_B, A, B, Story
+
+OUTSIDE = SocketAddress("203.0.113.1", 1000)
+REQUEST = Request(BEGINNING, A, B, bytes(12), 1, False, "aaaa", 1, None)
+
+
+def at(time: float) -> int:
+    return BEGINNING + round(time * MILLISECOND)
+
+
+def silent(pair: Pair) -> Pair:
+    """The pair after as many unanswered checks as it stores, when it is due."""
+    return replace(pair, due=BEGINNING, checks=tuple(Check(bytes(12), BEGINNING, False, True) for _ in range(9)))
+
+
+class Late(unittest.TestCase):
+    """A, which is controlling, selects at 10 ms, and nominates at 50 ms. B checks at 1 ms and at 400 ms. Each has a round with a late
+    timeout after that: A at 700 ms, B at 400 ms. The last timeout of B is at 800 ms."""
+
+    def story(self, roles: tuple[bool, bool] = (True, False)) -> Story:
+        story = Story(roles)
+        story.exchange("a", 0)
+        story.exchange("b", 1)
+        story.exchange("a", 50)
+        return self.end(story)
+
+    def end(self, story: Story, lasts: bool = True) -> Story:
+        story.timeout("b", 400)
+        story.timeout("a", 700)
+        if lasts:
+            story.timeout("b", 800)
+        return story
+
+    def rows(self, story: Story) -> dict[str, tuple[int, str]]:
+        """The first `handle_timeout` call of each side's rounds."""
+        return {"a": (story.moments["a"][-1], "a"), "b": (story.moments["b"][-2], "b")}
+
+    def altered(self, side: str) -> list[tuple[str, Network]]:
+        """Logs in which a part of `IsInLine` or of `AreEnough` does not hold of the side, with its name."""
+        story = self.story()
+        first, _ = self.rows(story)[side]
+        pair = story.session().steps[first].before[side].pairs[0]
+        changes: list[tuple[str, dict[str, object]]] = [
+            ("line.checking.full", {"lite": True}), ("line.checking.peer", {"peer": None}), ("line.queue", {"queue": (REQUEST,)}),
+            ("line.settled", {"pairs": (replace(pair, due=None, nomination="success"),)}), ("line.young", {"pairs": (silent(pair),)}),
+            ("line.due", {"pairs": (replace(pair, due=at(1000)),)}), ("enough", {"pairs": (pair, replace(pair, number=9, local=0))})]
+        return [(name, story.altered(first, side, **fields)) for name, fields in changes]
+
+
+class Connecting(Late):
+    def lacking(self, n: Network, its: tuple[SocketAddress, SocketAddress] = TO_B, asking: int = -1) -> list[str]:
+        a, b = n.x.timeouts["a"], n.x.timeouts["b"]
+        return connect.lacking(n, connect.Choice("b", TO_A, its, b[0], a[asking], b[-2], b[-1]))
+
+    def test_both_have_rounds_that_suffice(self) -> None:
+        self.assertEqual(self.lacking(self.story().network()), [])
+        self.assertEqual(connect.find(self.story().network()), Verdict("", at(1), at(400), at(400), 1))
+
+    def test_new_agents(self) -> None:
+        self.assertEqual(self.lacking(self.story().altered(0, "a", next_number=1)), ["IsNewAgent"])
+
+    def test_the_roles_differ(self) -> None:
+        story = self.story()
+        self.assertEqual(self.lacking(story.altered(story.moments["b"][-1], "a", controlling=False)), ["IsControlled"])
+        self.assertEqual(self.lacking(story.altered(story.moments["b"][-1], "b", controlling=True)), ["IsControlled"])
+
+    def test_each_part_of_the_rounds_of_the_controlling_agent(self) -> None:
+        for part, n in self.altered("a"):
+            self.assertEqual(self.lacking(n), [f"asking.{part}"])
+
+    def test_each_part_of_the_rounds_of_the_controlled_agent(self) -> None:
+        for part, n in self.altered("b"):
+            self.assertEqual(self.lacking(n), [f"asked.{part}"])
+
+    def test_a_pair_on_the_path(self) -> None:
+        self.assertEqual(self.lacking(self.story().network(), (A, OUTSIDE)), ["asking.on"])
+
+    def test_the_rounds_are_in_the_segment(self) -> None:
+        n = self.story().network()
+        a, b = n.x.timeouts["a"], n.x.timeouts["b"]
+        self.assertEqual(connect.lacking(n, connect.Choice("b", TO_A, TO_B, b[0], a[0], b[-2], b[-1])), ["split"])
+
+    def test_other_calls_in_the_rounds(self) -> None:
+        for side, name in (("a", "asking"), ("b", "asked")):
+            story = Story()
+            story.exchange("a", 0)
+            story.exchange("b", 1)
+            story.exchange("a", 50)
+            self.end(story, False)
+            story.set(side, "set_max_stun_retransmits", 9)
+            story.timeout("b", 800)
+            self.assertEqual(self.lacking(story.network()), [f"{name}.kept.kept.between"])
+
+    def test_candidates_may_be_added_in_the_rounds(self) -> None:
+        story = Story()
+        story.exchange("a", 0)
+        story.exchange("b", 1)
+        story.exchange("a", 50)
+        self.end(story, False)
+        for side in "ab":
+            story.remote(side, "candidate:1 1 udp 1 10.9.9.9 9 typ host", 710)
+        story.timeout("b", 800)
+        self.assertEqual(self.lacking(story.network()), [])
+
+    def test_the_nomination_is_delivered(self) -> None:
+        story = Story()
+        story.exchange("a", 0)
+        story.exchange("b", 1)
+        story.passes("a", 50, 100)  # the second one fixes when the pair is due
+        self.assertEqual(self.lacking(self.end(story).network()), ["Asks.asked.handed"])
+
+    def test_the_nomination_is_delivered_also_if_only_a_response_comes(self) -> None:
+        story = Story()
+        response = story.deliver(story.timeout("a", 0), "b", 5)
+        story.exchange("b", 1)
+        first = story.end
+        story.timeout("a", 20)  # sends nothing
+        story.deliver(response, "a", 30)
+        story.timeout("b", 400)
+        story.timeout("b", 800)
+        pair = story.session().steps[first].before["a"].pairs[0]
+        self.assertEqual(self.lacking(story.altered(first, "a", pairs=(replace(pair, due=at(10)),))), ["Asks.early.handed"])
+
+    def test_the_check_of_the_controlled_agent_is_answered(self) -> None:
+        story = Story()
+        story.exchange("a", 0)
+        response = story.deliver(story.timeout("b", 1), "a", 6)
+        story.exchange("a", 50)
+        self.assertEqual(self.lacking(self.end(story).network()), ["IsAnswered.comes"])
+        story.deliver(response, "b", 810)
+        story.timeout("b", 900)
+        self.assertEqual(self.lacking(story.network()), ["asked.line.due"])  # the round from 800 ms on
+
+    def test_a_timeout_that_serves_a_request(self) -> None:
+        story = self.story()
+        self.assertEqual(self.lacking(story.altered(story.moments["b"][-1], "b", queue=(REQUEST,))), ["request_at"])
+
+    def test_two_pairs_use_the_addresses(self) -> None:
+        story = self.story()
+        pair = story.agents["b"].pairs[0]
+        self.assertEqual(self.lacking(story.altered(story.moments["b"][-1] + 1, "b", pairs=(pair, replace(pair, number=9)))), ["IsAlone"])
+
+    def test_a_candidate_may_remove_a_pair(self) -> None:
+        for side, name in (("a", "MayEndInRounds"), ("b", "MayEndAt")):
+            story = Story()
+            story.exchange("a", 0)
+            story.exchange("b", 1)
+            story.exchange("a", 50)
+            self.end(story, False)
+            story.evict(side, 710)
+            story.timeout("b", 800)
+            self.assertEqual(self.lacking(story.network()), [name])
+
+    def test_what_is_missing_is_said(self) -> None:
+        story = Story()
+        story.exchange("a", 0)
+        story.exchange("b", 1)
+        self.assertEqual(connect.find(self.end(story).network()).failed, "Asks.asked.nominated")
+
+
+class Both(Late):
+    def lacking(self, n: Network, pair: int = 0, start: int | None = None, count: int = 1, leads: int = -1) -> list[str]:
+        a, b = n.x.timeouts["a"], n.x.timeouts["b"]
+        return both.lacking(n, both.Choice("b", TO_A, TO_B, a[0], pair, count, b[0] if start is None else start, a[leads], b[-2], b[-1]))
+
+    def test_from_creation_on(self) -> None:
+        self.assertEqual(self.lacking(self.story().network()), [])
+        self.assertEqual(both.find(self.story().network()), Verdict("", at(0), at(400), at(400), 1))
+
+    def test_a_fair_world(self) -> None:
+        story = self.story()
+        story.log.sides["b"] = replace(story.log.sides["b"], tie_breaker=10)
+        self.assertEqual(self.lacking(story.network()), ["IsFairWorld.tie"])
+
+    def test_they_agree_on_roles(self) -> None:
+        self.assertEqual(self.lacking(self.story().altered(0, "b", controlling=True)), ["AgreeOnRoles.IsMeeting"])
+
+    def test_after_a_role_conflict(self) -> None:
+        story = Story(roles=(True, True))
+        error = story.deliver(story.timeout("b", 0), "a", 5)
+        story.deliver(error, "b", 10)
+        story.exchange("a", 20)
+        story.exchange("b", 260)
+        story.exchange("a", 300)
+        story.timeout("b", 1000)
+        self.assertEqual(both.find(story.network()), Verdict("", at(20), at(1000), at(1000), 1))
+
+    def test_the_side_is_controlled(self) -> None:
+        story = self.story()
+        self.assertEqual(self.lacking(story.altered(story.moments["a"][0], "b", controlling=True)), ["controlled"])
+
+    def test_each_part_of_the_opening(self) -> None:
+        story = self.story()
+        first = story.moments["a"][0]
+        pair = story.session().steps[first].before["a"].pairs[0]
+        for part, pairs in (("IsUnanswered.young", (silent(pair),)), ("IsUnanswered.invalid", (pair, replace(pair, number=9, state="succeeded"))),
+                            ("Awaits.due", (replace(pair, due=at(9)),))):
+            missing = [f"Opens.{part}"] + ["Opens.enough.AreEachPolled.few", "Opens.enough.AreEnough"] * (len(pairs) > 1)
+            self.assertEqual(self.lacking(story.altered(first, "a", pairs=pairs)), missing)
+        self.assertEqual(self.lacking(story.altered(first, "a", queue=(REQUEST,))), ["Opens.Awaits.queue"])
+        self.assertEqual(self.lacking(story.altered(first, "a", lite=True)), ["Opens.Awaits.checking.full"])
+
+    def test_the_pair_of_the_opening_is_on_the_path(self) -> None:
+        story = self.story()
+        first = story.moments["a"][0]
+        agent = story.session().steps[first].before["a"]
+        remote, pair = replace(agent.remote[0], address=OUTSIDE), replace(agent.pairs[0], number=9, remote=1)
+        found = self.lacking(story.altered(first, "a", remote=(*agent.remote, remote), pairs=(*agent.pairs, pair)), 9)
+        self.assertEqual(found, ["Opens.on", "Opens.enough.AreEachPolled.few", "Opens.enough.AreEnough"])
+
+    def test_the_opening_ends_before_the_last_segment(self) -> None:
+        story = self.story()
+        self.assertEqual(self.lacking(story.network(), start=story.moments["a"][0] + 1), ["Opens.delivers.handed", "AreNominatedOn"])
+
+    def test_the_rounds_are_in_their_segments(self) -> None:
+        self.assertEqual(self.lacking(self.story().network(), count=2), ["Opens.split"])
+        self.assertEqual(self.lacking(self.story().network(), leads=0), ["split"])
+
+    def test_the_first_check_is_answered(self) -> None:
+        story = self.story()
+        n = story.network()
+        back = n.back_at(n.handed["a"][0], ("success",), True)
+        assert back is not None
+        self.assertEqual(self.lacking(story.altered(back, "a", peer=None)), ["Opens.delivers.returned.know.mine"])
+
+    def test_the_selected_path_stays_nominated(self) -> None:
+        story = self.story()
+        first = story.moments["b"][-2]
+        pair = story.session().steps[first].before["a"].pairs[0]
+        self.assertEqual(self.lacking(story.altered(first, "a", pairs=(replace(pair, nomination="none"),))), ["AreNominatedOn"])
+
+    def test_each_part_of_the_later_rounds(self) -> None:
+        for side, name in (("a", "leads"), ("b", "goes")):
+            for part, n in self.altered(side):
+                self.assertEqual(self.lacking(n), [f"{name}.rounds.{part}"])
+
+    def test_other_calls_in_the_later_rounds(self) -> None:
+        for side, name in (("a", "leads"), ("b", "goes")):
+            story = Story()
+            story.exchange("a", 0)
+            story.exchange("b", 1)
+            story.exchange("a", 50)
+            self.end(story, False)
+            story.set(side, "set_max_stun_retransmits", 9)
+            story.timeout("b", 800)
+            self.assertEqual(self.lacking(story.network()), [f"{name}.rounds.kept.kept.between"])
+
+    def test_the_nomination_and_its_response_are_delivered(self) -> None:
+        for is_handed, missing in ((False, "handed"), (True, "comes")):
+            story = Story()
+            story.exchange("a", 0)
+            story.exchange("b", 1)
+            check = story.timeout("a", 50)
+            if is_handed:
+                story.deliver(check, "b", 55)
+            story.timeout("a", 100)  # fixes when the pair is due
+            self.assertEqual(self.lacking(self.end(story).network()), [f"leads.delivers.{missing}"])
+
+    def test_the_check_of_the_controlled_agent_is_answered(self) -> None:
+        story = Story()
+        story.exchange("a", 0)
+        story.deliver(story.timeout("b", 1), "a", 6)
+        story.exchange("a", 50)
+        self.assertEqual(self.lacking(self.end(story).network()), ["goes.delivers.comes"])
+
+    def test_a_timeout_that_serves_a_request(self) -> None:
+        story = self.story()
+        self.assertEqual(self.lacking(story.altered(story.moments["b"][-1], "b", queue=(REQUEST,))), ["request_at"])
+
+    def test_two_pairs_use_the_addresses(self) -> None:
+        story = self.story()
+        pair = story.agents["b"].pairs[0]
+        self.assertEqual(self.lacking(story.altered(story.moments["b"][-1] + 1, "b", pairs=(pair, replace(pair, number=9)))), ["IsAlone"])
+
+    def test_a_candidate_may_remove_a_pair(self) -> None:
+        for side, name in (("a", "MayEndInRounds"), ("b", "MayEndAt")):
+            story = Story()
+            story.exchange("a", 0)
+            story.exchange("b", 1)
+            story.exchange("a", 50)
+            self.end(story, False)
+            story.evict(side, 710)
+            story.timeout("b", 800)
+            self.assertEqual(self.lacking(story.network()), [name])
+
+
+if __name__ == "__main__":
+    unittest.main()

@@ -1,0 +1,54 @@
+"""Tests that lab/README.md names functions that exist, and each part that a checker may call missing."""
+
+import ast
+import importlib
+import re
+import unittest
+from pathlib import Path
+
+LAB = Path(__file__).parent.parent
+README = (LAB / "README.md").read_text(encoding="utf-8")
+# Names of parts that the table has under the name of their definition.
+GROUPS = {"split", "first", "on", "rounds", "new", "empty", "tie", "distinct", "full", "peer", "mine", "its", "own", "other", "fit", "returned",
+          "reached", "there"}
+
+
+def names_in(path: Path) -> set[str]:
+    """The names of the parts that a module may call missing: the keywords of `lacks`, and the keys of dictionaries of parts."""
+    found: set[str] = set()
+    for node in ast.walk(ast.parse(path.read_text(encoding="utf-8"))):
+        if isinstance(node, ast.Call) and isinstance(node.func, ast.Name) and node.func.id == "lacks":
+            found |= {k.arg for k in node.keywords if k.arg is not None}
+            found |= {c.value for k in node.keywords if isinstance(k.value, ast.Dict) for c in k.value.keys if isinstance(c, ast.Constant)}
+        elif isinstance(node, ast.Return) and isinstance(node.value, ast.Dict):
+            found |= {c.value for c in node.value.keys if isinstance(c, ast.Constant) and isinstance(c.value, str)}
+    return found
+
+
+class Readme(unittest.TestCase):
+    def rows(self) -> list[list[str]]:
+        section = README.split("### Where each precondition is tested")[1]
+        table = section.split("| precondition |")[1].split("\n\n")[0]
+        return [[cell.strip() for cell in line.strip("|").split(" | ")] for line in table.splitlines()[2:]]
+
+    def test_each_function_exists(self) -> None:
+        for row in self.rows():
+            for module, path in re.findall(r"`(\w+)\.([\w.]+)`", row[2]):
+                found: object = importlib.import_module(f"lab.clauses.{module}")
+                for name in path.split("."):
+                    found = getattr(found, name)
+                self.assertTrue(callable(found), path)
+
+    def test_each_name_of_a_precondition_is_in_the_table(self) -> None:
+        listed = {name for row in self.rows() for name in re.findall(r"`(\w+)`", row[0])}
+        for path in sorted((LAB / "clauses").glob("*.py")):
+            self.assertEqual(names_in(path) - listed - GROUPS, set(), path.name)
+
+    def test_each_clause_has_a_row(self) -> None:
+        for path in ("meet", "world_rounds", "granted", "connect", "both", "rounds", "due_rounds"):
+            self.assertIn(f"| `{path}.py` |", README)
+            self.assertTrue(callable(importlib.import_module(f"lab.clauses.{path}").lacking))
+
+
+if __name__ == "__main__":
+    unittest.main()

@@ -1,0 +1,133 @@
+"""Tests that the searches of the checkers find the earliest bound, on random logs: all choices are tried one by one."""
+
+import unittest
+from collections.abc import Callable, Iterator
+from itertools import product
+from random import Random
+from typing import TypeVar
+
+from lab.clauses import both, connect, due_rounds, granted, meet, rounds, single, world_rounds
+from lab.clauses.execution import Lacks
+from lab.clauses.grantings import Network
+from lab.clauses.verdict import Verdict
+from lab.scenario import SIDES
+from stories import Story
+
+C = TypeVar("C")
+
+
+def random_story(seed: int) -> Story:
+    """Timeouts of both sides, packets that are lost, delayed or delivered, and perhaps a role conflict or added candidates."""
+    random = Random(seed)
+    story = Story(roles=(True, seed % 3 == 0), hosts=(1 + seed % 2, 1))
+    waiting: list[tuple[float, str, object]] = []
+    time = 0.0
+    for _ in range(9):
+        time += random.choice((1, 50, 250, 600))
+        side = random.choice("ab")
+        for packet in [w for w in waiting if w[0] <= time]:
+            waiting.remove(packet)
+            answer = story.deliver(packet[2], packet[1], time)  # type: ignore[arg-type]
+            if answer is not None and random.random() < 0.95:
+                story.deliver(answer, "b" if packet[1] == "a" else "a", time)
+        if random.random() < 0.1:
+            story.remote(side, f"candidate:1 1 udp 1 10.9.9.{random.randrange(1, 99)} 9 typ host", time)
+        packet_sent = story.timeout(side, time)
+        if packet_sent is not None and random.random() < 0.95:
+            waiting.append((time + random.choice((0, 0, 5, 60)), "b" if side == "a" else "a", packet_sent))
+    return story
+
+
+def paths_of(n: Network, side: str) -> list[tuple]:  # type: ignore[type-arg]
+    """The paths of a side's pairs."""
+    return sorted({s.before[side].path(p) for s in n.x.steps for p in s.before[side].pairs})
+
+
+def earliest(n: Network, choices: Iterator[C], lacking: Callable[[C], Lacks], end: Callable[[C], int]) -> int | None:
+    """The time of the earliest end of a choice that lacks nothing."""
+    ends = [end(c) for c in choices if not lacking(c)]
+    return n.x.time(min(ends)) if ends else None
+
+
+class Searches(unittest.TestCase):
+    SEEDS = range(20, 44)
+    FEWER = range(26, 36)  # for the clause with the most choices
+
+    def compare(self, clause: str, verdict: Callable[[Network], Verdict], found: Callable[[Network], int | None], seeds: range = SEEDS) -> None:
+        held = 0
+        for seed in seeds:
+            n = random_story(seed).network()
+            own = verdict(n)
+            held += own.held
+            self.assertEqual(own.bound, found(n), f"{clause}, seed {seed}: {own.failed}")
+            self.assertFalse(own.is_broken, f"{clause}, seed {seed}")
+        self.assertGreater(held, 2, clause)
+
+    def test_meet(self) -> None:
+        def found(n: Network) -> int | None:
+            every = (meet.Choice(side, path, 0, end) for side in SIDES for path in paths_of(n, side) for end in range(1, len(n.x) + 1))
+            return earliest(n, every, lambda c: meet.lacking(n, c), lambda c: c.end - 1)
+
+        self.compare("meet", meet.find, found)
+
+    def test_granted(self) -> None:
+        def found(n: Network) -> int | None:
+            starts = [0, *sorted(at for side in SIDES for at in n.x.timeouts[side])]
+            every = (granted.Choice(side, path, start, moment) for side in SIDES for path in paths_of(n, side)
+                     for start in starts for moment in n.x.timeouts[side] if start <= moment)
+            return earliest(n, every, lambda c: granted.lacking(n, c), lambda c: c.moment)
+
+        self.compare("granted", granted.find, found)
+
+    def test_connect(self) -> None:
+        def found(n: Network) -> int | None:
+            every = (connect.Choice(side, path, its, start, asking, asked, moment) for side, other in (("a", "b"), ("b", "a"))
+                     for path, its in product(paths_of(n, side), paths_of(n, other)) for moment in n.x.timeouts[side]
+                     for asking, asked in product(n.x.timeouts[other], n.x.timeouts[side]) if max(asking, asked) < moment
+                     for start in sorted(n.x.timeouts["a"] + n.x.timeouts["b"]) if start <= min(asking, asked))
+            return earliest(n, every, lambda c: connect.lacking(n, c), lambda c: c.moment)
+
+        self.compare("connect", connect.find, found)
+
+    def test_both(self) -> None:
+        def every(n: Network) -> Iterator[both.Choice]:
+            for side, other in (("a", "b"), ("b", "a")):
+                for opening, pair, count in self.openings(n, other):
+                    for path, its in product(paths_of(n, side), paths_of(n, other)):
+                        for moment, leads, goes in product(n.x.timeouts[side], n.x.timeouts[other], n.x.timeouts[side]):
+                            for start in (at for at in sorted(n.x.timeouts["a"] + n.x.timeouts["b"]) if opening < at <= min(leads, goes)):
+                                if max(leads, goes) < moment:
+                                    yield both.Choice(side, path, its, opening, pair, count, start, leads, goes, moment)
+
+        def found(n: Network) -> int | None:
+            return earliest(n, every(n), lambda c: both.lacking(n, c), lambda c: c.moment)
+
+        self.compare("both", both.find, found, self.FEWER)
+
+    @staticmethod
+    def openings(n: Network, side: str) -> list[tuple[int, int, int]]:
+        """The first `handle_timeout` call, the pair and the number of rounds of each row of rounds."""
+        row = n.x.timeouts[side]
+        return [(at, p.number, count) for place, at in enumerate(row) for p in n.x.state(at, side).pairs for count in range(1, len(row) - place + 1)]
+
+    def test_rounds_of_two_agents(self) -> None:
+        def found(n: Network) -> int | None:
+            every = (world_rounds.Choice(side, pair, first, count, end) for side in SIDES for first, pair, count in self.openings(n, side)
+                     for end in range(first + 1, len(n.x) + 1))
+            return earliest(n, every, lambda c: world_rounds.lacking(n, c), lambda c: c.end - 1)
+
+        self.compare("rounds", world_rounds.find, found)
+
+    def test_rounds_of_one_agent(self) -> None:
+        for name, clause in (("run: rounds", rounds), ("run: due_rounds", due_rounds)):
+
+            def found(n: Network, clause=clause) -> int | None:  # type: ignore[no-untyped-def]
+                every = (single.Choice(side, pair, first, end) for side in SIDES for first, pair, count in self.openings(n, side) if count == 1
+                         for end in range(first + 1, len(n.x) + 1))
+                return earliest(n, every, lambda c: clause.lacking(n.x, c), lambda c: c.end - 1)  # type: ignore[no-any-return]
+
+            self.compare(name, lambda n, clause=clause: clause.find(n.x), found)  # type: ignore[misc]
+
+
+if __name__ == "__main__":
+    unittest.main()
