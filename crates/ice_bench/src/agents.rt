@@ -12,6 +12,7 @@ use rand_pcg::Pcg32;
 use std::alloc::Global;
 use std::net::{Ipv4Addr, SocketAddr, SocketAddrV4};
 
+/// The agent that is measured.
 pub type Agent = IceAgent<DefaultSha1HmacProvider>;
 
 const PASSWORD: &str = "xJcE9AQAR7kczUDVOXRUCl";
@@ -101,6 +102,7 @@ pub fn turns(
     take_turns(&mut agent, turn, pairs, rounds, sum)
 }
 
+/// A new agent, for which the request is.
 pub fn make(alloc: Global) -> Result<Box<Agent>, IceError> {
     let agent = Agent::new(alloc, creds(alloc, "p9KA", PASSWORD)?, 1)?;
     Ok(Box::new(alloc, agent)?)
@@ -226,6 +228,7 @@ fn creds(alloc: Global, ufrag: &str, pass: &str) -> Result<IceCreds, IceError> {
     })
 }
 
+/// An address of the network 10.0.0.0/24.
 pub fn at(host: u8, port: u16) -> SocketAddr {
     SocketAddr::V4(SocketAddrV4::new(Ipv4Addr::new(10, 0, 0, host), port))
 }
@@ -261,6 +264,7 @@ pub fn take_from(
     agent.handle_packet(now, packet)
 }
 
+/// It is this time.
 pub fn tell(agent: &mut Agent, now: Instant, rng: &mut Pcg32) -> Result<(), IceError> {
     agent.handle_timeout(now, rng)
 }
