@@ -53,6 +53,7 @@ pub fn case_of(name: &str) -> Option<(Turn, u16)> {
         "10" => 10,
         "100" => 100,
         "1000" => 1000,
+        "10000" => 10000,
         _ => return None,
     };
     Some((turn, pairs))

@@ -64,6 +64,7 @@ fn sum_of(alloc: Global, name: &str, rounds: u64) -> Result<Option<u64>, IceErro
         "print_json" => candidates::print_json(alloc, rounds, &mut sum)?,
         "pair" => pairs::pair(alloc, rounds, &mut sum)?,
         "candidates_1000" => agents::host_candidates(alloc, 1000, rounds, &mut sum)?,
+        "candidates_10000" => agents::host_candidates(alloc, 10000, rounds, &mut sum)?,
         _ => return sum_of_agent(alloc, name, rounds),
     }
     Ok(Some(sum.0))

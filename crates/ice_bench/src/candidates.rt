@@ -40,7 +40,7 @@ pub fn read_json(alloc: Global, rounds: u64, sum: &mut Checksum) -> Result<(), I
 pub fn print_json(alloc: Global, rounds: u64, sum: &mut Checksum) -> Result<(), IceError> {
     let candidate = Candidate::from_sdp_string(alloc, LINE)?;
     for _ in 0..rounds {
-        let text = candidate.to_json(alloc)?.to_string(alloc)?;
+        let text = candidate.to_json_string(alloc)?;
         sum.add_bytes(text.as_bytes());
     }
     Ok(())

@@ -1,8 +1,4 @@
 //! Candidates as the JSON in which browsers signal them: the W3C's RTCIceCandidateInit.
-ghost use Rattle.std.specs.Prelude.{◌≡◌, IfOk, IsOkUnless, string_bytes};
-ghost use Rattle.serde_json.specs.Written.{compact_text};
-ghost use Rattle.is_candidate.specs.Infos.{info_of};
-ghost use Rattle.is_proto.specs.declared.error.IceError.TheVariants.{OutOfMemory};
 ghost use Rattle.is_c.specs.Infos.{ReadsInfoBytes, PutsInfo, TellsInfo, TellsLineOf, TellsOfInfo};
 
 use crate::candidate::line_candidate;
@@ -14,18 +10,10 @@ use is_candidate::{Candidate, JsonScratch};
 use is_proto::IceError;
 use std::alloc::Global;
 
-fn info_text(alloc: Global, candidate: &Candidate) -> Result<String, IceError>
-    ensures text { IfOk result (λ text. string_bytes text ≡ compact_text (info_of candidate.now)) }
-    ensures refusal { IsOkUnless result OutOfMemory }
-{
-    let value = candidate.to_json(alloc)?;
-    Ok(value.to_string(alloc)?)
-}
-
 fn put_info(alloc: Global, candidate: &Candidate, buffer: &mut [u8], length: &mut usize) -> i32
     ensures { PutsInfo candidate.now buffer.old length.old result buffer.new length.new }
 {
-    match info_text(alloc, candidate) {
+    match candidate.to_json_string(alloc) {
         Ok(text) => put(text.as_bytes(), buffer, length),
         Err(_) => codes::OUT_OF_MEMORY,
     }

@@ -13,6 +13,7 @@ pub mod Words
 pub mod Lines
 pub mod Faults
 pub mod Scanned
+pub mod InfoTexts
 pub mod Infos
 pub mod Flat
 pub mod RoundTrips

@@ -43,6 +43,9 @@ fn is_outdated(waiting: &Waiting, now: Instant, timing: &StunTiming) -> bool
 pub fn count_outdated(queue: &VecDeque<Waiting>, now: Instant, timing: &StunTiming) -> usize
     ensures { result ≡ length (take_while (λ q. is_outdated now.0 timing.now (waiting_view q)) queue.now.items) }
 {
+    if queue.is_empty() {
+        return 0;
+    }
     queue
         .iter()
         .take_while(|waiting| is_outdated(waiting, now, timing))

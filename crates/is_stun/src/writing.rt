@@ -44,6 +44,9 @@ fn put_padding(buf: &mut [u8], at: usize, len: usize) -> usize
     requires short { len < 2 ^ 16 }
     ensures { Puts buf.old buf.new at result (replicate (padded_len len - len) 0) }
 {
+    if len % 4 == 0 {
+        return at;
+    }
     put(buf, at, &[0; 3][..(len + 3) / 4 * 4 - len])
 }
 

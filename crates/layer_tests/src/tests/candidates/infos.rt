@@ -18,10 +18,15 @@ fn read(alloc: Global, text: &str) -> Option<Candidate> {
     }
 }
 
-/// The text of the candidate's JSON value.
+/// The candidate's JSON text, if it is also the text of its JSON value.
 fn written(alloc: Global, candidate: &Candidate) -> Result<String, Fail> {
+    let text = candidate.to_json_string(alloc)?;
     let value = candidate.to_json(alloc)?;
-    Ok(value.to_string(alloc)?)
+    if text.as_str() == value.to_string(alloc)?.as_str() {
+        Ok(text)
+    } else {
+        Err(Fail::from("the text is not that of the value"))
+    }
 }
 
 const INFO: &str =
