@@ -1,5 +1,5 @@
 """`World::run`, clause `both` (`BothSelect`): two new agents agree on roles, and the network delivers on one path of each. Then both
-select a path, each in its rounds."""
+select a path: the controlling one once its check is answered, the controlled one by a `handle_timeout` after its rounds."""
 
 from __future__ import annotations
 

@@ -15,8 +15,8 @@ from .verdict import Verdict, first_that_holds
 
 def lacking(x: Execution, c: Choice) -> Lacks:
     """Returns the preconditions that do not hold."""
-    rounds, by = c.rounds(x), min(due_of(x, c), x.now(c.first))
-    first = lacks(**{"from": by <= rounds[0].now}, between=are_in_round(x, c.side, rounds[0]))
+    rounds, by = c.rounds(x), min(due_of(x, c), x.now(c.first))  # so `by` is no later than the first call
+    first = lacks(between=are_in_round(x, c.side, rounds[0]))
     later: Lacks = next((missing for r in rounds[1:] if (missing := is_passing(x, c.side, by, r))), [])
     states = (x.state(at, c.side) for at in (c.first, rounds[0].behind.stop, c.end))
     return lacks(**shared(x, c, by), first=first, IsPassing=later, SufficesFromDue=suffices_from_due(*states, len(rounds) - 1))

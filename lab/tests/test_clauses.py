@@ -117,6 +117,12 @@ class Rounds(unittest.TestCase):
         self.assertEqual(self.lacking(n), [])
         self.assertEqual(world_rounds.find(n), Verdict("", at(0), at(10), at(10), 1))
 
+    def test_the_rounds_are_in_the_segment(self) -> None:
+        story = self.answered()
+        end = story.end
+        story.timeout("a", 50)
+        self.assertEqual(self.lacking(story.network(), 0, 2, end), ["split"])
+
     def test_new_agents(self) -> None:
         self.assertEqual(self.lacking(self.answered().altered(0, "a", next_number=1)), ["IsNewAgent"])
 

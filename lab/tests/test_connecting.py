@@ -171,9 +171,9 @@ class Connecting(Late):
 
 
 class Both(Late):
-    def lacking(self, n: Network, pair: int = 0, start: int | None = None) -> list[str]:
+    def lacking(self, n: Network, pair: int = 0, start: int | None = None, count: int = 1, leads: int = -1) -> list[str]:
         a, b = n.x.timeouts["a"], n.x.timeouts["b"]
-        return both.lacking(n, both.Choice("b", TO_A, TO_B, a[0], pair, 1, b[0] if start is None else start, a[-1], b[-2], b[-1]))
+        return both.lacking(n, both.Choice("b", TO_A, TO_B, a[0], pair, count, b[0] if start is None else start, a[leads], b[-2], b[-1]))
 
     def test_from_creation_on(self) -> None:
         self.assertEqual(self.lacking(self.story().network()), [])
@@ -223,6 +223,10 @@ class Both(Late):
     def test_the_opening_ends_before_the_last_segment(self) -> None:
         story = self.story()
         self.assertEqual(self.lacking(story.network(), start=story.moments["a"][0] + 1), ["Opens.delivers.handed", "AreNominatedOn"])
+
+    def test_the_rounds_are_in_their_segments(self) -> None:
+        self.assertEqual(self.lacking(self.story().network(), count=2), ["Opens.split"])
+        self.assertEqual(self.lacking(self.story().network(), leads=0), ["split"])
 
     def test_the_first_check_is_answered(self) -> None:
         story = self.story()

@@ -47,17 +47,22 @@ module _ {H P : Type 0} where
         → ((z : Side) → IsNewAgent (at z first)) → occurrences_in mac answers first s 0 log last t run ≡ (before ++ x ∷ []) ++ rest
         → Holds (before ++ x ∷ []) side (at side x.behind)
 
+    -- With its limit, a side has at most as many local candidates as the limit and its calls that add one together, likewise remote
+    -- candidates, and at most as many sources as the limit.
     abbrev pub BothAreBounded : WorldRecord H P → Stream → List (Logged P) → Type 0
     BothAreBounded first s log =
         AfterEach first s log (λ part side a. (most : ℕ) → IsLimitedFor side most part → IsBounded most (gathered_count (own_log side [] part)) (signal_count (own_log side [] part)) a)
 
+    -- A side has at most as many pairs as its limit on pairs, plus its local candidates times its remote ones.
     abbrev pub BothHaveFewPairs : WorldRecord H P → Stream → List (Logged P) → Type 0
     BothHaveFewPairs first s log =
         AfterEach first s log (λ part side a. (limit : ℕ) → FormsFewFor side limit part → length a.pairs ≤ limit + length a.local * length a.remote)
 
+    -- At most as much waits in a side as its own log says.
     abbrev pub BothAreShort : WorldRecord H P → Stream → List (Logged P) → Type 0
     BothAreShort first s log = AfterEach first s log (λ part side a. IsShort (own_log side [] part) a)
 
+    -- With its limit, at most as many `DiscoveredRecv` events wait in a side.
     abbrev pub BothDiscoverFew : WorldRecord H P → Stream → List (Logged P) → Type 0
     BothDiscoverFew first s log =
         AfterEach first s log (λ part side a. (most : ℕ) → IsLimitedFor side most part → discovery_count a.events ≤ most)

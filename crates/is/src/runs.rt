@@ -88,7 +88,7 @@ pub fn run<H: Sha1HmacProvider + Drop, P: LocalPreference, R: Rng>(
 
     // Nomination points are accepted success responses, and `handle_timeout` calls that served no early request. After each of
     // them, if a pair is eligible, the path that was selected last since the last clear is that of an eligible pair with the
-    // greatest stored priority.
+    // greatest stored priority. A controlled agent with renomination selects the pair that it follows instead (`IsChosen`).
     ensures nomination { IsFresh (record_of agent.old)
         → LastPathsAreTop H.mac P.answers (record_of agent.old) (R.stream rng.old) (log_of calls.items result) }
 
@@ -143,18 +143,19 @@ pub fn run<H: Sha1HmacProvider + Drop, P: LocalPreference, R: Rng>(
     ensures bounded { IsFresh (record_of agent.old)
         → ListsAreBounded H.mac P.answers (record_of agent.old) (R.stream rng.old) (log_of calls.items result) }
 
-    // After each call there are at most as many pairs as the limit on pairs, plus the local candidates times the remote ones,
-    // whatever was received.
+    // After each call there are at most as many pairs as the greatest limit on pairs that a call found (the first finds 100), plus
+    // the local candidates times the remote ones, whatever was received.
     ensures few { IsFresh (record_of agent.old)
         → PairsAreFew H.mac P.answers (record_of agent.old) (R.stream rng.old) (log_of calls.items result) }
 
-    // With both limits, a bound on the pairs that depends on the caller's settings and additions only, whatever was received.
+    // With both limits, a bound on the pairs that depends on the caller's settings and `add_*` calls only, whatever was received.
     ensures limited { IsFresh (record_of agent.old)
         → PairsAreBounded H.mac P.answers (record_of agent.old) (R.stream rng.old) (log_of calls.items result) }
 
     // After each call, whatever was received: at most as many packets wait to be polled as packets were accepted and
-    // `handle_timeout` was called since none waited. Events wait likewise, `DiscoveredRecv` aside: at most two for each of these
-    // packets, five for each of these calls, and those of a clear. At most 100 early requests wait.
+    // `handle_timeout` was called since `poll_transmit` returned None or the agent was restarted. Events wait likewise since
+    // `poll_event` returned None, `DiscoveredRecv` aside: at most two for each of these packets, five for each of these calls, and
+    // those of a clear. At most 100 early requests wait.
     ensures waiting { IsFresh (record_of agent.old)
         → QueuesStayShort H.mac P.answers (record_of agent.old) (R.stream rng.old) (log_of calls.items result) }
 

@@ -473,8 +473,9 @@ impl<H: Sha1HmacProvider + Drop, P: LocalPreference> TwoAgents<H, P> {
 
         // Together, for two new agents with different tie-breakers, in whatever roles they begin: one check of either is delivered,
         // and its 487 if it gets one. If then the network delivers on one path of each, in both directions and while checks are
-        // pending, the controlling agent selects a path in its rounds, as in `rounds`. If its pairs on this path are nominated from
-        // then on, the controlled agent selects one in its own rounds, as in `connect`.
+        // pending, the controlling agent selects a path once a check is answered, as in `rounds`. If its pairs on this path are
+        // nominated from then on, the controlled agent selects one by its next `handle_timeout` call after its rounds, as in
+        // `connect`.
         ensures both { BothSelect H.mac P.answers (world_of self.old) (R.stream rng.old) (logged events.items result.entries.items) }
 
         // And on the same path: while neither is lite, all pairs of one are on a path, and all pairs of the other on the reverse
@@ -486,7 +487,8 @@ impl<H: Sha1HmacProvider + Drop, P: LocalPreference> TwoAgents<H, P> {
         // many remote ones as the limit and its `add_remote_candidate` calls, and as many sources as the limit.
         ensures bounded { BothAreBounded H.mac P.answers (world_of self.old) (R.stream rng.old) (logged events.items result.entries.items) }
 
-        // Of pairs at most as many as its limit on pairs, plus its local candidates times its remote ones.
+        // Of pairs at most as many as the greatest limit on pairs that its calls found (the first finds 100), plus its local
+        // candidates times its remote ones.
         ensures few { BothHaveFewPairs H.mac P.answers (world_of self.old) (R.stream rng.old) (logged events.items result.entries.items) }
 
         // Packets, events and early requests wait in it as in `run`, and with the limit at most as many `DiscoveredRecv` events.

@@ -85,7 +85,8 @@ pub(crate) fn both_connect<H: Sha1HmacProvider, P: LocalPreference>()
     courses_reach_from_due::<H, P>();
 }
 
-/// In whatever roles two new agents begin: if the network delivers on one path of each, both select a path, each in its rounds.
+/// In whatever roles two new agents begin, if the network delivers on one path of each: the controlling one selects a path once its
+/// check is answered, and the controlled one by its next `handle_timeout` call after its rounds.
 pub(crate) fn both_select<H: Sha1HmacProvider, P: LocalPreference>()
     ensures { ConnectsLaw H.mac P.answers }
 {

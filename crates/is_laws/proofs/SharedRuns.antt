@@ -62,7 +62,8 @@ module _ {H P : Type 0} (mac : H → List ℕ → List ℕ → List ℕ) (answer
   pub lists_stay_bounded : ListsStayBounded {H = H} mac answers
   lists_stay_bounded most first last log new run limited =
       let w = within most first last log new run limited in
-      record { local = w.local.all; remote = w.remote.all; sources = w.sources }
+      let local = w.local.all in let remote = w.remote.all in let sources = w.sources in
+      record { local = omega (arith, local); remote = omega (arith, remote); sources = omega (arith, sources) }
 
   -- ---- pairs
 
@@ -71,7 +72,7 @@ module _ {H P : Type 0} (mac : H → List ℕ → List ℕ → List ℕ) (answer
   few_extras limit first last [] (creds, tie, role, is) run few =
       subst (λ (a : AgentRecord H P). surplus a ≤ limit) (sym (run ∙ is)) (omega arith)
   few_extras limit first last (x ∷ before) new (mid, s, t, run, based, step) (here, earlier) =
-      by (steps mac answers mid last s t x.entry (sound_run first mid before new run) x.call step) (few_extras limit first mid before new run earlier) here where
+      by (steps mac answers mid last s t x.entry (sound_run first mid before new run) x.call step) (few_extras limit first mid before new run earlier) (search here) where
         by : Fewer mid last ⊎ (length last.pairs ≤ mid.max_pairs) → surplus mid ≤ limit → mid.max_pairs ≤ limit → surplus last ≤ limit
         by (inl fewer) was most = omega (arith, fewer, was)
         by (inr formed) was most =

@@ -334,4 +334,4 @@ module _ {H P : Type 0} where
     discoveries_stay_few most first last [] (creds, tie, role, is) run limited =
         subst (λ (a : AgentRecord H P). discovery_count a.events ≤ most) (sym (run ∙ is)) (omega arith)
     discoveries_stay_few most first last (x ∷ before) new (mid, s, t, run, based, step) (here, earlier) =
-        (moves mid last s t x.entry x.call step).1 most here (discoveries_stay_few most first mid before new run earlier)
+        (moves mid last s t x.entry x.call step).1 most (λ is. search (here is)) (discoveries_stay_few most first mid before new run earlier)

@@ -15,7 +15,7 @@ pub fn announced_are_seen<H: Sha1HmacProvider, P: LocalPreference>()
     points_are_top::<H, P>();
 }
 
-/// The preconditions on two such agents can hold at once.
+/// The preconditions of `announced_match` on two such agents can hold at once.
 pub fn pairs_may_match<H: Sha1HmacProvider, P: LocalPreference>()
     ensures { PairsMayMatch H P }
 {}

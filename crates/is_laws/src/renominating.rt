@@ -24,8 +24,9 @@ pub fn last_asked_are_selected<H: Sha1HmacProvider, P: LocalPreference>()
     ensures { LastAskedAreSelected H.mac P.answers }
 {}
 
-/// With the setting at both agents, once the last check with USE-CANDIDATE and a check of the controlled agent on its path succeeded,
-/// both selected this path last, whatever priorities each has.
+/// With the setting at both agents, each with a random source of its own: the last check with USE-CANDIDATE and a check of the
+/// controlled agent on its path succeeded. By the end of the controlled agent's next `handle_timeout` call that serves no early request,
+/// both selected this path last, whatever priorities each has, unless a pair of the path may have been removed.
 pub fn both_select_one_path<H: Sha1HmacProvider, P: LocalPreference>()
     ensures { BothSelectOnePath H.mac P.answers }
 {

@@ -6,8 +6,9 @@ use is_candidate::LocalPreference;
 use is_proto::Sha1HmacProvider;
 use is_rules::laws::pairs_are_reached;
 
-/// From a newly created agent: in a segment with k `handle_timeout` calls, in which no candidate is added, requests add at most
-/// k / m pairs, and one for each pair that exists afterwards. Here m is the number of retransmits.
+/// From a newly created agent that is not lite: in a segment with k `handle_timeout` calls, in which the caller adds no candidate and
+/// removes no pair, requests add at most k / m pairs, and one for each pair that exists afterwards. Here m is the number of
+/// retransmits.
 pub fn requests_add_few<H: Sha1HmacProvider, P: LocalPreference>()
     ensures { RequestsAddFew H.mac P.answers }
 {}

@@ -1,7 +1,9 @@
 //! Both agents select the one path that works, in rounds: both make a `handle_timeout` call, and then the network
 //! delivers what is sent on that path. Each agent has two pairs, and the path is that of the lesser one. The
 //! controlling agent selects it in round two, and the controlled one at its first `handle_timeout` call after round
-//! three. The theorem guarantees this only by the call after 3n - 1 rounds, if each agent has n pairs.
+//! three. `rounds` and `connect` say this only of the call after 3n rounds, if each agent has n pairs, and if
+//! `poll_timeout` fixes the due times of the valid pairs, which the first two stories do not call. `world/progress` plays
+//! the third one too, and asserts each precondition.
 
 use super::premises::{crossing, moments};
 use super::*;

@@ -2,6 +2,9 @@
 //! definitions in `Grantings`, `Connections`, `Selections` and `Meetings`. For each clause a function returns the first
 //! precondition that an execution lacks, and how many it lacks. That a call may remove a pair counts as one, since the
 //! clause then says nothing else.
+//!
+//! Not looked at are preconditions that no story can lack: RTOs of at least 1 ms (`IsPaced`), one HMAC provider, credentials
+//! that fit, no discarded candidate, no limit on what packets bring (`IsReachedBy`), and times before the end of the clock.
 
 use super::entries::{back, is_timeout};
 use super::exchanges::{Exchange, Wanted};
