@@ -53,7 +53,7 @@ module _ {H P : Type 0} (mac : H → List ℕ → List ℕ → List ℕ) (answer
 
   -- ---- the side is nominated by the peer
 
-  grants : PathLaw {H = H} {P = P} mac answers → CarriedAsk {H = H} {P = P} mac answers → (from : Side) (path over : Path) (all : List (Occurrence H P)) (last : WorldRecord H P)
+  pub grants : PathLaw {H = H} {P = P} mac answers → CarriedAsk {H = H} {P = P} mac answers → (from : Side) (path over : Path) (all : List (Occurrence H P)) (last : WorldRecord H P)
       (k : HandedCheck mac from path over all)
       → Checked mac answers from path over all last k → AreNominatedOn (at from k.sent.behind) path → (at from k.sent.before).controlling ≡ true → (at (other from) k.comes.handed.before).controlling ≡ false
       → Grants (at (other from) k.comes.handed.before) (agent.ReceivePacket k.comes.hands.now over k.check.contents) k.comes.handed.entry.outcome.entry (reversed over)
@@ -100,7 +100,7 @@ module _ {H P : Type 0} (mac : H → List ℕ → List ℕ → List ℕ) (answer
         (granted xs ys x y.behind last c more (λ z has. among z (inr has)) is grants controlled))
 
   -- the role before the next one, and so after this one
-  role_next : (side : Side) (ys : List (Occurrence H P)) (w last : WorldRecord H P) → Follow mac answers w ys last → ((x : Occurrence H P) → Has ys x → (at side x.before).controlling ≡ false)
+  pub role_next : (side : Side) (ys : List (Occurrence H P)) (w last : WorldRecord H P) → Follow mac answers w ys last → ((x : Occurrence H P) → Has ys x → (at side x.before).controlling ≡ false)
       → (at side last).controlling ≡ false → (at side w).controlling ≡ false
   role_next side [] w last is roles role = subst (λ (v : WorldRecord H P). (at side v).controlling ≡ false) is role
   role_next side (y ∷ ys) w last follow roles role = subst (λ (v : WorldRecord H P). (at side v).controlling ≡ false) follow.0 (roles y (inl refl))

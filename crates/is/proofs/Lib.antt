@@ -23,3 +23,5 @@ mod Mirrored
 mod MarkLemmas
 mod OwnLogs
 mod Flooded
+mod SelectedLast
+mod Renominated

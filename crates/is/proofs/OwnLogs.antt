@@ -22,7 +22,7 @@ use Rattle.is.proofs.Owning.{acts_course}
 
 -- ---- one event: at most one call
 
-abbrev AtMostOne : {X : Type 0} → List X → Type 0
+abbrev pub AtMostOne : {X : Type 0} → List X → Type 0
 AtMostOne [] = Unit {0}
 AtMostOne (x ∷ []) = Unit {0}
 AtMostOne (x ∷ y ∷ rest) = ⊥
@@ -45,7 +45,7 @@ received_once : (P : Type 0) (side : Side) (now : ℕ) (path : Path) (e : Entry)
 received_once P side now path e None = tt
 received_once P side now path e (Some l) = of_one_side side (other l.sender) ((agent.ReceivePacket now path l.packet.contents, e) ∷ []) tt
 
-acts_once : {H P : Type 0} (side : Side) (w : WorldRecord H P) (v : Event P) (e : Entry) → AtMostOne (acts side w v e)
+pub acts_once : {H P : Type 0} (side : Side) (w : WorldRecord H P) (v : Event P) (e : Entry) → AtMostOne (acts side w v e)
 acts_once side w (world.Call s c) e = of_one_side side s (if in_world c then (c, e) ∷ [] else []) (called_once c e (in_world c))
 acts_once side w (world.Poll s) e = of_one_side side s (polled_as e.answer (at side w).packets) (polled_once _ e.answer (at side w).packets)
 acts_once side w (world.Deliver place now path) e = received_once _ side now path e (slice_get w.bag place)

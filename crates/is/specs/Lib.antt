@@ -17,6 +17,7 @@ pub mod Connects
 pub mod Mirrors
 pub mod Sides
 pub mod Floods
+pub mod Renominations
 pub mod WorldLaws
 pub use Rattle.is_proto.specs.Moments
 pub use Rattle.is_proto.specs.Packets

@@ -13,6 +13,7 @@ use Rattle.is.specs.Connections.{BothConnect}
 use Rattle.is.specs.Connects.{BothSelect}
 use Rattle.is.specs.Meetings.{RolesMeet}
 use Rattle.is.specs.Mirrors.{LonePathsMirror}
+use Rattle.is.specs.Renominations.{OnePathIsSelected}
 
 module _ {H P : Type 0} (mac : H → List ℕ → List ℕ → List ℕ) (answers : P → CandidateRecord → ℕ → ℕ → Type 0) where
   abbrev pub KeepsLaw : Type 0
@@ -53,3 +54,6 @@ module _ {H P : Type 0} (mac : H → List ℕ → List ℕ → List ℕ) (answer
 
   abbrev pub MirrorsLaw : Type 0
   MirrorsLaw = (first : WorldRecord H P) (s : Stream) (log : List (Logged P)) → LonePathsMirror mac answers first s log
+
+  abbrev pub RenominationsLaw : Type 0
+  RenominationsLaw = (first : WorldRecord H P) (s : Stream) (log : List (Logged P)) → OnePathIsSelected mac answers first s log

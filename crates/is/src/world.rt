@@ -21,6 +21,7 @@ ghost use Rattle.is.specs.Grantings.{GrantedPathsAnnounce};
 ghost use Rattle.is.specs.Connects.{BothSelect};
 ghost use Rattle.is.specs.Meetings.{RolesMeet};
 ghost use Rattle.is.specs.Mirrors.{LonePathsMirror};
+ghost use Rattle.is.specs.Renominations.{OnePathIsSelected};
 ghost use Rattle.is.specs.Floods.{BothAreBounded, BothHaveFewPairs, BothAreShort, BothDiscoverFew};
 
 use crate::calls::{AgentCall, Answer, Entry};
@@ -28,7 +29,7 @@ use crate::steps::{quiet, step, take_packet};
 use crate::world_laws::{
     announced_are_traced, both_connect, both_select, delivered_rounds_announce,
     granted_paths_announce, greater_keeps, lesser_yields_once, lone_paths_mirror,
-    roles_differ_once_met, roles_meet,
+    one_path_is_selected, roles_differ_once_met, roles_meet,
 };
 use is_agent::{Agent, IceCreds};
 use is_candidate::LocalPreference;
@@ -482,6 +483,12 @@ impl<H: Sha1HmacProvider + Drop, P: LocalPreference> TwoAgents<H, P> {
         // path, any two paths that they selected are the reverse of each other.
         ensures mirror { LonePathsMirror H.mac P.answers (world_of self.old) (R.stream rng.old) (logged events.items result.entries.items) }
 
+        // And on the same path, with several paths and through any NATs: both have renomination, and the controlling agent nominates a
+        // path last. This check is delivered, no nomination of another path comes after it, and the controlled agent's own check on the
+        // path is answered. Then each selected this path last, as it sees it, from the controlled agent's next `handle_timeout` call
+        // on that serves no early request. Preconditions on its pairs of the path are those of `granted`.
+        ensures one_path { OnePathIsSelected H.mac P.answers (world_of self.old) (R.stream rng.old) (logged events.items result.entries.items) }
+
         // Each agent stores what `run` bounds, whatever the network delivers. With a limit on what packets bring, whenever it receives
         // one or a timeout comes: at most as many local candidates as the limit and its own `add_local_candidate` calls together, as
         // many remote ones as the limit and its `add_remote_candidate` calls, and as many sources as the limit.
@@ -504,6 +511,7 @@ impl<H: Sha1HmacProvider + Drop, P: LocalPreference> TwoAgents<H, P> {
         both_connect::<H, P>();
         both_select::<H, P>();
         lone_paths_mirror::<H, P>();
+        one_path_is_selected::<H, P>();
         roles_meet::<H, P>();
         lists_stay_bounded::<H, P>();
         pairs_stay_few::<H, P>();

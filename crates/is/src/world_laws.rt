@@ -1,9 +1,10 @@
 //! The theorems of each execution of the two-agent network model. Each is the contract of a function that does nothing.
 
-ghost use Rattle.is.specs.WorldLaws.{KeepsLaw, YieldsLaw, DiffersLaw, TracedLaw, DeliveriesLaw, GrantingsLaw, ConnectionsLaw, ConnectsLaw, MeetingsLaw, MirrorsLaw};
+ghost use Rattle.is.specs.WorldLaws.{KeepsLaw, YieldsLaw, DiffersLaw, TracedLaw, DeliveriesLaw, GrantingsLaw, ConnectionsLaw, ConnectsLaw, MeetingsLaw, MirrorsLaw, RenominationsLaw};
 
 use is_candidate::LocalPreference;
 use is_laws::reaching::{courses_check_from_due, courses_reach_from_due};
+use is_laws::renominating::{last_granted_are_last, nominated_are_last};
 use is_proto::Sha1HmacProvider;
 use is_rules::laws::{
     checks_ask, conflicts_settle, exchanges_succeed_later, fresh_is_sound, granted_are_announced,
@@ -119,4 +120,17 @@ pub(crate) fn lone_paths_mirror<H: Sha1HmacProvider, P: LocalPreference>()
 {
     path_effect::<H, P>();
     fresh_is_sound::<H, P>();
+}
+
+/// With renomination at both agents: if the controlling one nominates a path last, and the controlled one's own check on it is
+/// answered, both selected this path last, unless a pair of the path may have been removed.
+pub(crate) fn one_path_is_selected<H: Sha1HmacProvider, P: LocalPreference>()
+    ensures { RenominationsLaw H.mac P.answers }
+{
+    path_effect::<H, P>();
+    fresh_is_sound::<H, P>();
+    checks_ask::<H, P>();
+    exchanges_succeed_later::<H, P>();
+    nominated_are_last::<H, P>();
+    last_granted_are_last::<H, P>();
 }

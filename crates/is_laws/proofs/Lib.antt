@@ -13,3 +13,4 @@ pub mod Waited
 pub mod SeenPaths
 pub mod LastNominated
 pub mod OnePath
+pub mod OneCourse

@@ -110,7 +110,7 @@ module _ {H P : Type 0} (mac : H → List ℕ → List ℕ → List ℕ) (answer
       ∙ ap (λ (o : Option PairRecord). option_or o (option_and_then (eligible_numbered a.controlling a.pairs) a.selected_pair)) able in
       subst (λ (o : Option PairRecord). MatchOption o (IsGreatest (is_eligible a.controlling) a.pairs top) (λ q. top ≡ Some q)) is chosen
 
-  selects-followed : (a : AgentRecord H P) (number : ℕ) (p : PairRecord) → followed a ≡ Some number → eligible_numbered a.controlling a.pairs number ≡ Some p → IsTopAnnounced a
+  pub selects-followed : (a : AgentRecord H P) (number : ℕ) (p : PairRecord) → followed a ≡ Some number → eligible_numbered a.controlling a.pairs number ≡ Some p → IsTopAnnounced a
       → a.selected_pair ≡ Some number
   selects-followed a number p follows able (None, chosen, stands) = absurd (no-some p (chosen-is a number p None follows able chosen))
   selects-followed a number p follows able (Some best, chosen, stands) =

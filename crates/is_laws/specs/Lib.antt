@@ -8,3 +8,4 @@ pub mod Shared
 pub mod Waiting
 pub mod Limited
 pub mod Renominating
+pub mod RenominatingCourses

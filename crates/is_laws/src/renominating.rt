@@ -1,6 +1,7 @@
 //! Renomination: with the setting at both agents, both select one path.
 
 ghost use Rattle.is_laws.specs.Renominating.{BothSelectOnePath, FollowedAreSelected, LastAskedAreSelected, OnlySelectedAreNominated};
+ghost use Rattle.is_laws.specs.RenominatingCourses.{LastGrantedAreLast, NominatedAreLast};
 
 use is_candidate::LocalPreference;
 use is_proto::Sha1HmacProvider;
@@ -33,3 +34,16 @@ pub fn both_select_one_path<H: Sha1HmacProvider, P: LocalPreference>()
     only_selected_are_nominated::<H, P>();
     last_asked_are_selected::<H, P>();
 }
+
+/// A controlling agent with the setting, which may share its random source, sends a check on a path whose pairs are nominated. Then
+/// this path is the one that it selected last.
+pub fn nominated_are_last<H: Sha1HmacProvider, P: LocalPreference>()
+    ensures { NominatedAreLast H.mac P.answers }
+{}
+
+/// A controlled agent with the setting, which may share its random source, accepted the nomination of a path last, and received a
+/// success response on it. Then it selected this path last, from its next `handle_timeout` call on that serves no early request, if
+/// only one pair uses this path's addresses and no pair that does may have been removed.
+pub fn last_granted_are_last<H: Sha1HmacProvider, P: LocalPreference>()
+    ensures { LastGrantedAreLast H.mac P.answers }
+{}

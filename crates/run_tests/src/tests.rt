@@ -177,6 +177,7 @@ enum Step {
     Controlling(bool),
     TieBreaker(u64),
     Lite,
+    Renomination(bool),
     /// The limit of pairs.
     Pairs(usize),
     /// The limit on candidates that packets bring.
@@ -258,6 +259,7 @@ fn call(alloc: Global, side: Side, step: Step) -> Option<Call> {
         Step::Controlling(controlling) => Some(AgentCall::SetControlling(controlling)),
         Step::TieBreaker(number) => Some(AgentCall::SetControlTieBreaker(number)),
         Step::Lite => Some(AgentCall::SetIceLite(true)),
+        Step::Renomination(renominates) => Some(AgentCall::SetRenomination(renominates)),
         Step::Pairs(limit) => Some(AgentCall::SetMaxCandidatePairs(limit)),
         Step::Discovered(limit) => Some(AgentCall::SetMaxDiscovered(Some(limit))),
         Step::Checks(limit) => Some(AgentCall::SetMaxStunRetransmits(limit)),

@@ -6,6 +6,7 @@ mod entries;
 mod exchanges;
 mod granted;
 mod meet;
+mod one_path;
 mod play;
 mod preconditions;
 mod rounds;
@@ -44,9 +45,11 @@ impl Subject for Progress {
                 script::tell(stage, &mut play, granted::of_alike_roles())?;
                 script::tell(stage, &mut play, connect::stories())?;
                 script::tell(stage, &mut play, selections::stories())?;
+                script::tell(stage, &mut play, one_path::stories())?;
                 script::tell(stage, &mut play, meet::stories(Side::A))?;
                 script::tell(stage, &mut play, meet::stories(Side::B))?;
                 script::tell(stage, &mut play, meet::of_equal_tie_breakers())?;
+                one_path::play(stage, &mut play)?;
                 sessions::play(stage, &mut play)
             }
             None => Story("boxed").holds(&[false]),

@@ -28,6 +28,9 @@ returns-clause-connect g c = c.both_connect.ensures _ _ _
 pub returns-clause-mirror : goal.returns-clause-mirror
 returns-clause-mirror g c = c.lone_paths_mirror.ensures _ _ _
 
+pub returns-clause-one_path : goal.returns-clause-one_path
+returns-clause-one_path g c = c.one_path_is_selected.ensures _ _ _
+
 pub returns-clause-both : goal.returns-clause-both
 returns-clause-both g c = c.both_select.ensures _ _ _
 

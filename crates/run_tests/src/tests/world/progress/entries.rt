@@ -124,6 +124,41 @@ impl Play {
 }
 
 impl Note {
+    /// The call clears the side's pairs.
+    fn clears(&self, side: Side) -> bool {
+        let clears = match self.event {
+            Event::Do(s, Step::Restart | Step::Recreate) => s == side,
+            _ => false,
+        };
+        clears && self.done
+    }
+
+    /// The side selects no path here, and does not clear its pairs (`KeepsSelected`).
+    pub(super) fn keeps_selected(&self, side: Side) -> bool {
+        self.acts() != Some(side) || (self.announced == [None, None] && !self.clears(side))
+    }
+
+    /// Here the side receives no nomination on another path, and serves no early request (`NominatesNoOther`).
+    pub(super) fn nominates_no_other(&self, side: Side, over: Path) -> bool {
+        let comes = self.nominates && self.acts() == Some(side) && way_of(self.event) != Some(over);
+        let seen = of(side, self.before);
+        let serves = is_timeout(self, side) && seen.early > 0 && seen.peer.is_some();
+        !comes && !serves
+    }
+
+    /// The path that the side selected last, if it was this one before.
+    pub(super) fn selected(&self, side: Side, before: Option<Path>) -> Option<Path> {
+        if self.acts() != Some(side) {
+            return before;
+        }
+        let [first, second] = self.announced;
+        match (second, first) {
+            (Some(path), _) => Some(path),
+            (None, Some(path)) => Some(path),
+            (None, None) => { if self.clears(side) { None } else { before } }
+        }
+    }
+
     /// The side that is called, polled or delivered to.
     pub(super) fn acts(&self) -> Option<Side> {
         match self.event {

@@ -19,6 +19,10 @@ pub(super) enum Exchange {
     Reached,
     /// The pairs on the path are nominated after the check.
     AreNominated,
+    /// After it was sent, its sender selects no path, and does not clear its pairs.
+    KeepsSelected,
+    /// After it was delivered, its receiver is nominated no other path.
+    NoOther,
     /// The response is delivered back, on the reverse path.
     Returned,
     /// The two know each other then.
@@ -34,6 +38,8 @@ pub(super) enum Exchange {
 pub(super) enum Wanted {
     /// None; but the pairs of its path are nominated, and it arrives on this path.
     Nomination(Path),
+    /// The same, and this nomination is the last one (`IsNominatedLast`).
+    LastNomination(Path),
     Success,
     /// The same, and until then no pair of the path may be removed.
     SuccessInTime,
@@ -91,6 +97,21 @@ impl Play {
         Some(missed)
     }
 
+    /// What the check lacks to be the last nomination.
+    fn lacks_of_last(&self, s: Search, handed: usize, over: Path) -> Option<Exchange> {
+        for (number, note) in self.notes.iter().enumerate().take(s.end) {
+            if number > s.sent && !note.keeps_selected(s.side) {
+                return Some(Exchange::KeepsSelected);
+            }
+        }
+        for (number, note) in self.notes.iter().enumerate().take(s.end) {
+            if number > handed && !note.nominates_no_other(other(s.side), over) {
+                return Some(Exchange::NoOther);
+            }
+        }
+        None
+    }
+
     /// What the check lacks that is delivered at this entry.
     fn lacks_at(&self, s: Search, handed: usize, note: &Note) -> Option<Exchange> {
         if !know(self.before(s.sent, s.side), of(other(s.side), note.before)) {
@@ -100,11 +121,13 @@ impl Play {
             return Some(Exchange::Reached);
         }
         match s.wanted {
-            Wanted::Nomination(_) => {
-                if self.before(s.sent.saturating_add(1), s.side).nominated {
-                    None
-                } else {
+            Wanted::Nomination(over) | Wanted::LastNomination(over) => {
+                if !self.before(s.sent.saturating_add(1), s.side).nominated {
                     Some(Exchange::AreNominated)
+                } else if s.wanted == Wanted::LastNomination(over) {
+                    self.lacks_of_last(s, handed, over)
+                } else {
+                    None
                 }
             }
             Wanted::Success | Wanted::SuccessInTime => {
@@ -119,7 +142,9 @@ impl Play {
         let mut missed = Exchange::Comes;
         for (number, note) in self.notes.iter().enumerate().take(s.end) {
             let over = match s.wanted {
-                Wanted::Nomination(over) => way_of(note.event) == Some(over),
+                Wanted::Nomination(over) | Wanted::LastNomination(over) => {
+                    way_of(note.event) == Some(over)
+                }
                 _ => true,
             };
             if number > s.sent && hands(note, other(s.side), check) && over {

@@ -13,6 +13,8 @@ pub(super) struct Note {
     pub(super) roles: [bool; 2],
     /// The sender of the packet that is delivered, and what it is.
     pub(super) packet: Option<(Side, Issued)>,
+    /// That packet is a check with USE-CANDIDATE.
+    pub(super) nominates: bool,
     /// The path of that packet reaches its receiver.
     pub(super) reached: bool,
     /// The call returned Ok, and added what it was to add.
@@ -79,6 +81,14 @@ fn what(packet: &Transmit) -> Option<Issued> {
         class: message.class(),
         id: message.trans_id(),
     })
+}
+
+/// The packet is a check with USE-CANDIDATE.
+fn nominates(packet: &Transmit) -> bool {
+    match StunMessage::parse(&packet.contents) {
+        Ok(message) => message.class() == Class::Request && message.use_candidate(),
+        Err(_) => false,
+    }
 }
 
 /// A new agent of the side, as `World::new` makes it.
@@ -158,6 +168,7 @@ impl Play {
             before: [self.looks(Side::A, now), self.looks(Side::B, now)],
             roles: [self.a.controlling(), self.b.controlling()],
             packet: None,
+            nominates: false,
             reached: false,
             done: false,
             refused: false,
@@ -172,6 +183,7 @@ impl Play {
         let sent = self.bag.get(packet)?;
         let to = other(sent.sender);
         note.packet = Some((sent.sender, sent.what));
+        note.nominates = nominates(&sent.packet);
         note.reached = is_reached(self.agent(to), way);
         let mut bytes = Vec::new(self.alloc);
         bytes.extend_from_slice(&sent.packet.contents).ok()?;

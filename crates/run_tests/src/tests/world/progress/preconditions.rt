@@ -1,5 +1,5 @@
-//! The preconditions of the clauses `granted`, `connect`, `rounds` and `meet` of `World::run`, by the names of their
-//! definitions in `Grantings`, `Connections`, `Selections` and `Meetings`. For each clause a function returns the first
+//! The preconditions of the clauses `granted`, `connect`, `rounds`, `meet` and `one_path` of `World::run`, by the names of
+//! their definitions in `Grantings`, `Connections`, `Selections`, `Meetings` and `Renominations`. For each clause a function returns the first
 //! precondition that an execution lacks, and how many it lacks. That a call may remove a pair counts as one, since the
 //! clause then says nothing else.
 //!
@@ -23,6 +23,8 @@ pub(super) enum Lacks {
     DistinctIds,
     /// One side is controlled, and the other is controlling (`IsControlled`, `IsControlling`).
     Roles,
+    /// Both have renomination (`Renominate`).
+    Renomination,
     /// The rounds of the controlling side (`HasRounds`; in `rounds` `Awaits` and `IsUnanswered`).
     AskingRounds(Rounds),
     /// Its check that nominates (`IsAskedOver`).
@@ -47,7 +49,7 @@ pub(super) enum Lacks {
     AskingStays,
 }
 
-/// A clause. In stories A is controlling in `rounds`, and B is controlled in `granted` and `connect`.
+/// A clause. In stories A is controlling in `rounds`, and B is controlled in `granted`, `connect` and `one_path`.
 #[derive(Clone, Copy)]
 pub(super) enum Clause {
     Granted,
@@ -55,6 +57,7 @@ pub(super) enum Clause {
     Rounds,
     /// For a check of this side.
     Meet(Side),
+    OnePath,
 }
 
 /// The entries of a claim: the segment's first one; those with which the rounds of the controlling and of the controlled
@@ -117,6 +120,23 @@ impl Play {
         Some(Lacks::Asks(missed))
     }
 
+    fn lacks_last_asking(&self, c: Claim, moment: usize) -> Option<Lacks> {
+        let over = Wanted::LastNomination(back(of(Side::B, self.paths)));
+        let missed = self.lacks(Side::A, over, c.first, moment)?;
+        Some(Lacks::Asks(missed))
+    }
+
+    /// After each of these entries both have renomination.
+    fn renominates(&self, first: usize, end: usize) -> bool {
+        for number in first..end {
+            let next = number.saturating_add(1);
+            if !self.before(next, Side::A).renominates || !self.before(next, Side::B).renominates {
+                return false;
+            }
+        }
+        true
+    }
+
     fn lacks_exchange(&self, c: Claim, moment: usize) -> Option<Lacks> {
         let missed = self.lacks(Side::B, Wanted::Success, c.first, moment)?;
         Some(Lacks::Exchanges(missed))
@@ -145,6 +165,17 @@ impl Play {
     /// The preconditions of `granted` (`GrantedPathsAnnounce`) that are missing.
     pub(super) fn granted_lacks(&self, c: Claim, moment: usize) -> Missing {
         let lists = [self.lacks_asking(c, moment), self.lacks_exchange(c, moment)];
+        joined(joined((None, 0), &lists), &self.lacks_around(c, moment))
+    }
+
+    /// The preconditions of `one_path` (`OnePathIsSelected`) that are missing.
+    pub(super) fn one_path_lacks(&self, c: Claim, moment: usize) -> Missing {
+        let renominates = self.renominates(c.first, moment.saturating_add(1));
+        let lists = [
+            missing(renominates, Lacks::Renomination),
+            self.lacks_last_asking(c, moment),
+            self.lacks_exchange(c, moment),
+        ];
         joined(joined((None, 0), &lists), &self.lacks_around(c, moment))
     }
 
@@ -235,7 +266,7 @@ impl Play {
         joined((None, 0), &lists)
     }
 
-    /// The preconditions that a story lacks. Its last entry is the `handle_timeout` call of `granted` and `connect`.
+    /// The preconditions that a story lacks. Its last entry is the `handle_timeout` call of `granted`, `connect` and `one_path`.
     pub(super) fn lacks_of(&self, clause: Clause) -> Missing {
         let end = self.notes.len();
         let moment = end.saturating_sub(1);
@@ -244,6 +275,7 @@ impl Play {
             Clause::Connect => self.connect_lacks(self.claim, moment),
             Clause::Rounds => self.rounds_lacks(self.claim, end),
             Clause::Meet(side) => self.meet_lacks(side),
+            Clause::OnePath => self.one_path_lacks(self.claim, moment),
         }
     }
 
@@ -257,6 +289,21 @@ impl Play {
         false
     }
 
+    /// Before this entry the path that the side selected last.
+    pub(super) fn selected_by(&self, side: Side, end: usize) -> Option<Path> {
+        let mut path = None;
+        for note in self.notes.iter().take(end) {
+            path = note.selected(side, path);
+        }
+        path
+    }
+
+    /// Each side selected its own path last.
+    pub(super) fn are_on_one_path(&self, end: usize) -> bool {
+        let [a, b] = self.paths;
+        self.selected_by(Side::A, end) == Some(a) && self.selected_by(Side::B, end) == Some(b)
+    }
+
     /// The conclusion of the clause.
     pub(super) fn happens(&self, clause: Clause) -> bool {
         let end = self.notes.len();
@@ -267,6 +314,7 @@ impl Play {
                 let [a, b] = self.roles_before(end);
                 a != b
             }
+            Clause::OnePath => self.are_on_one_path(end),
         }
     }
 }

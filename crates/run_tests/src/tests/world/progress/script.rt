@@ -4,11 +4,13 @@
 //! | word | event |
 //! |---|---|
 //! | `open` | both get each other's credentials and candidate, and A sends a check at time 0 |
+//! | `links` | both have renomination, and get each other's credentials and two candidates; B prefers the second one |
 //! | `A.peer` | a call of A: see `step_of` |
 //! | `A@50` | a `handle_timeout` call of A, at 50 ms |
 //! | `A?`, `A>` | `poll_timeout` and `poll_transmit` of A |
 //! | `4@60` | packet 4, counted from 0 over both sides, arrives at 60 ms |
 //! | `4~60` | it arrives from an address that the receiver does not know |
+//! | `4^60` | it arrives on the second link, from the sender's mapped address |
 //!
 //! Marks between the events say where the segment `[` and the rounds `A:` and `B:` begin, and where A's rounds end `]`. At
 //! `cut` a new log of the same agents begins.
@@ -23,6 +25,14 @@ pub(super) struct Table {
     pub(super) clause: Clause,
     pub(super) start: Start,
     pub(super) stories: &'static str,
+}
+
+/// The address from which a packet arrives.
+#[derive(Clone, Copy)]
+enum Origin {
+    Home,
+    Mapped,
+    Unknown,
 }
 
 fn side_of(word: &str) -> Option<Side> {
@@ -45,6 +55,10 @@ fn again(side: Side) -> &'static str {
     }
 }
 
+/// A's mapped address, with a greater priority than its own one.
+const PREFERRED: &str =
+    "candidate:2 1 udp 2130706432 10.0.0.101 1000 typ srflx raddr 10.0.0.1 rport 1000";
+
 /// A call by its word.
 fn step_of(side: Side, word: &str) -> Option<Step> {
     match word {
@@ -62,19 +76,21 @@ fn step_of(side: Side, word: &str) -> Option<Step> {
         "one" => Some(Step::Checks(1)),
         "nine" => Some(Step::Checks(9)),
         "lite" => Some(Step::Lite),
+        "renominates" => Some(Step::Renomination(true)),
+        "stops" => Some(Step::Renomination(false)),
         "clears" => Some(Step::Recreate),
         _ => None,
     }
 }
 
 impl Play {
-    /// Packet `packet` arrives directly, or from an unknown address.
-    fn arrival(&self, packet: usize, ms: u64, is_known: bool) -> Option<Event> {
+    /// Packet `packet` arrives, from the sender's own address, its mapped one, or an unknown one.
+    fn arrival(&self, packet: usize, ms: u64, from: Origin) -> Option<Event> {
         let to = other(self.sender(packet)?);
-        let from = if is_known {
-            home(other(to))
-        } else {
-            at(5, 2000)
+        let from = match from {
+            Origin::Home => home(other(to)),
+            Origin::Mapped => session::mapped(other(to)),
+            Origin::Unknown => at(5, 2000),
         };
         Some(Event::Deliver {
             packet,
@@ -89,12 +105,16 @@ impl Play {
             let ms = ms.parse::<u64>().ok()?;
             return match side_of(who) {
                 Some(side) => Some(Event::Do(side, Step::Moment(ms))),
-                None => self.arrival(who.parse::<usize>().ok()?, ms, true),
+                None => self.arrival(who.parse::<usize>().ok()?, ms, Origin::Home),
             };
         }
         if let Some((packet, ms)) = word.split_once('~') {
             let ms = ms.parse::<u64>().ok()?;
-            return self.arrival(packet.parse::<usize>().ok()?, ms, false);
+            return self.arrival(packet.parse::<usize>().ok()?, ms, Origin::Unknown);
+        }
+        if let Some((packet, ms)) = word.split_once('^') {
+            let ms = ms.parse::<u64>().ok()?;
+            return self.arrival(packet.parse::<usize>().ok()?, ms, Origin::Mapped);
         }
         if let Some((who, step)) = word.split_once('.') {
             let side = side_of(who)?;
@@ -115,6 +135,27 @@ impl Play {
         self.plays(&[a, b, c, d, e, f, g])
     }
 
+    /// Two links, on which the agents have different preferences, and renomination.
+    fn has_links(&mut self) -> bool {
+        for side in [Side::A, Side::B] {
+            let second = match side {
+                Side::A => sessions::mapped_line(Side::B),
+                Side::B => Step::PeerLine(PREFERRED),
+            };
+            let events = [
+                Event::Do(side, Step::Renomination(true)),
+                Event::Do(side, Step::Remote),
+                Event::Do(side, Step::Host(home(side))),
+                Event::Do(side, Step::Peer(home(other(side)))),
+                Event::Do(side, second),
+            ];
+            if !self.plays(&events) {
+                return false;
+            }
+        }
+        true
+    }
+
     /// Plays a word. False if it is none.
     fn reads(&mut self, word: &str) -> bool {
         let here = self.notes.len();
@@ -125,6 +166,7 @@ impl Play {
             "]" => self.claim.ended = here,
             "cut" => self.continues(),
             "open" => return self.opens(),
+            "links" => return self.has_links(),
             _ => {
                 return match self.event_of(word) {
                     Some(event) => self.acts(event),

@@ -31,8 +31,10 @@ pub(super) struct Seen {
     pub(super) numbers: u64,
     /// Its pairs that use the addresses of its path.
     pub(super) joined: usize,
-    /// Each of its pairs on the path is nominated.
+    /// Each of its pairs on the path is nominated, and with renomination is the selected one.
     pub(super) nominated: bool,
+    /// It has renomination.
+    pub(super) renominates: bool,
     pub(super) awaited: Option<Awaited>,
     /// Its pairs that are due no later than that one.
     pub(super) due: usize,
@@ -140,6 +142,7 @@ pub(super) fn settings(agent: &Agent, limit: usize) -> Seen {
         numbers: 0,
         joined: 0,
         nominated: true,
+        renominates: agent.renomination(),
         awaited: None,
         due: 0,
         is_valid: false,
@@ -160,7 +163,8 @@ fn path_seen(agent: &Agent, path: Path, now: Instant, limit: usize) -> Seen {
             if remote.addr() == path.destination {
                 seen.joined = seen.joined.saturating_add(1);
                 if remote.proto() == path.proto {
-                    seen.nominated = seen.nominated && pair.is_nominated();
+                    let stays = !agent.renomination() || agent.is_selected_pair(pair);
+                    seen.nominated = seen.nominated && pair.is_nominated() && stays;
                     seen.awaited = pair_seen(pair, now, limit);
                 }
             }

@@ -5,11 +5,12 @@ use super::seen::of;
 use super::*;
 
 /// Delivers each packet after `delay` ms that is sent to an address at which it finds the other agent: its own, or, if
-/// both are behind NATs, the mapped one.
+/// both are behind NATs, the mapped one. If there are two links, either one.
 #[derive(Clone, Copy)]
 pub(super) struct Network {
     pub(super) delay: u64,
     pub(super) nats: bool,
+    pub(super) links: bool,
 }
 
 /// The address of the side as the other one sees it through NATs.
@@ -23,14 +24,14 @@ pub(super) fn mapped(side: Side) -> SocketAddr {
 impl Network {
     /// The path on which a packet of the side arrives.
     fn way(self, side: Side, path: Path) -> Option<Path> {
-        let (source, found) = if self.nats {
-            (mapped(side), mapped(other(side)))
+        let found = path.destination;
+        let source = if self.nats && found == mapped(other(side)) {
+            mapped(side)
+        } else if (self.links || !self.nats) && found == home(other(side)) {
+            home(side)
         } else {
-            (home(side), home(other(side)))
-        };
-        if path.destination != found {
             return None;
-        }
+        };
         Some(Path {
             proto: path.proto,
             source,

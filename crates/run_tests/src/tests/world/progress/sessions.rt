@@ -6,10 +6,10 @@ use super::session::{Network, mapped};
 use super::*;
 
 /// Both sessions begin at 60 s, B's 3 ms later.
-const START: u64 = 60_000;
+pub(super) const START: u64 = 60_000;
 
 /// The mapped address of the side, as a server-reflexive candidate of the other one's peer.
-fn mapped_line(of: Side) -> Step {
+pub(super) fn mapped_line(of: Side) -> Step {
     Step::PeerLine(match of {
         Side::A => {
             "candidate:2 1 udp 1694498815 10.0.0.101 1000 typ srflx raddr 10.0.0.1 rport 1000"
@@ -87,7 +87,7 @@ struct Times {
 
 impl Play {
     /// The time of the event, if it has one.
-    fn ms_of(&self, number: usize) -> Option<u64> {
+    pub(super) fn ms_of(&self, number: usize) -> Option<u64> {
         let ms = match self.notes.get(number)?.event {
             Event::Do(_, Step::Moment(ms)) => ms,
             Event::Deliver { ms, .. } | Event::Arrive { ms, .. } => ms,
@@ -106,7 +106,7 @@ impl Play {
     }
 
     /// The latest beginning of a segment up to this entry: the roles are different in it, and no pair may be removed.
-    fn settled_since(&self, side: Side, moment: usize) -> usize {
+    pub(super) fn settled_since(&self, side: Side, moment: usize) -> usize {
         let mut since = 0usize;
         for (number, note) in self.notes.iter().enumerate().take(moment) {
             let apart = !of(side, note.roles) && of(other(side), note.roles);
@@ -128,7 +128,7 @@ impl Play {
         found
     }
 
-    fn is_timeout_of(&self, number: usize, side: Side) -> bool {
+    pub(super) fn is_timeout_of(&self, number: usize, side: Side) -> bool {
         match self.notes.get(number) {
             Some(note) => is_timeout(note, side),
             None => false,
@@ -199,7 +199,7 @@ impl Play {
     }
 }
 
-fn until(ms: u64) -> u64 {
+pub(super) fn until(ms: u64) -> u64 {
     START.saturating_add(ms)
 }
 
@@ -230,7 +230,11 @@ fn covered(a: u64, b: u64, rounds: Option<u64>, granted: u64, connect: Option<u6
 fn plain(delay: u64, nats: bool) -> Session {
     Session {
         start: A_CONTROLS,
-        network: Network { delay, nats },
+        network: Network {
+            delay,
+            nats,
+            links: false,
+        },
         call: None,
     }
 }

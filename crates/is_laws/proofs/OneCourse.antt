@@ -1,0 +1,280 @@
+-- Renomination in executions of one agent that may share its random source. The preconditions that refused/laws changes are read by
+-- tactics where they are used: if one of them is weaker, that goal stays unproved.
+use Rattle.std.proofs.Common.{◌≡◌, ℕ, ◌<◌, ◌≤◌, ◌&&◌, ◌||◌, Bool, true, false, not, List, [], ◌∷◌, ◌++◌, Option, Some, None, inl, inr, ◌⊎◌, refl, ap, sym, ◌∙◌, subst, arith, if◌then◌else◌}
+use Rattle.std.specs.Option.{option_and_then, option_or}
+use Rattle.rand_core.specs.Stream.{Stream}
+use Rattle.is_proto.specs.Lists.{Has}
+use Rattle.is_candidate.specs.Candidates.{CandidateRecord}
+use Rattle.is_pair.specs.Bag.{change_at, change_pair, keeps_check}
+use Rattle.is_pair.specs.Pairs.{PairRecord, checked, is_nominated, is_valid}
+use Rattle.is_rules.specs.declared.emitted.Path.{Path}
+use Rattle.is_rules.specs.Agent.{AgentRecord}
+use Rattle.is_rules.specs.Answers.{goes_back}
+use Rattle.is_rules.specs.Asked.{IsAlone, Joins}
+use Rattle.is_rules.specs.AskedCourses.{AcceptsSuccessOn, Ends, EndsAlong, IsAnsweredAlong}
+use Rattle.is_rules.specs.Asking.{AreNominatedOn, Grants}
+use Rattle.is_rules.specs.Checking.{check_sent}
+use Rattle.is_rules.specs.Effects.{PathEffect, clears, last_of}
+use Rattle.is_rules.specs.Exchange.{Course}
+use Rattle.is_rules.specs.Issuing.{via_out}
+use Rattle.is_rules.specs.Logs.{Logged}
+use Rattle.is_rules.specs.Nominating.{eligible_numbered, followed, if_eligible, is_named_by, stays_nominated}
+use Rattle.is_rules.specs.Points.{IsTopAnnounced}
+use Rattle.is_rules.specs.Queue.{request_at}
+use Rattle.is_rules.specs.Sending.{path_of}
+use Rattle.is_rules.specs.Sound.{IsSound, GivesBased}
+use Rattle.is_rules.specs.Steps.{Call, Entry, HandleTimeout, Step}
+use Rattle.is_rules.proofs.Addresses.{both}
+use Rattle.is_rules.proofs.Announcing.{nominated-eligible}
+use Rattle.is_rules.proofs.AskedCourses.{course_on}
+use Rattle.is_rules.proofs.AskedLaws.{back-on}
+use Rattle.is_rules.proofs.Choosing.{named-by, no-some}
+use Rattle.is_rules.proofs.EffectLaws.{path_law, trade_law}
+use Rattle.is_rules.proofs.KeptChecks.{Checks, checks-as, number_same}
+use Rattle.is_rules.proofs.NumberLemmas.{numbered-found}
+use Rattle.is_rules.proofs.PathLaws.{below_is}
+use Rattle.is_rules.proofs.Serves.{Has-mapped}
+use Rattle.is_rules.proofs.StayLaws.{pairs-stay}
+use Rattle.is_rules.proofs.Staying.{sound-course}
+use Rattle.is_laws.specs.RenominatingCourses.{selected_along, GrantsLastAlong, GrantsOnlyAlong, LastGrantedAreLast, NominatedAreLast}
+use Rattle.is_laws.specs.Shared.{IsNew}
+use Rattle.is_laws.proofs.LastNominated.{IsRecordedOn, Records, records-by}
+use Rattle.is_laws.proofs.OnePath.{selects-followed}
+use Rattle.is_laws.proofs.SharedRuns.{sound_run}
+
+abbrev logged_once : {P : Type 0} → Call P → Entry → Logged P
+logged_once call e = record { number = 0; call = call; entry = e }
+
+module _ {H P : Type 0} where
+  -- `selected_pair` names a pair on this path
+  abbrev IsNamed : Option Path → AgentRecord H P → Type 0
+  IsNamed path a = (p : PairRecord) → Has a.pairs p → a.selected_pair ≡ Some p.number → path ≡ Some (path_of a p)
+
+  -- a pair of the path's addresses is valid
+  abbrev IsValidAt : Path → AgentRecord H P → Type 0
+  IsValidAt path a = (p : PairRecord) × Has a.pairs p × (is_valid p ≡ true) × Joins a path p
+
+  names-new : (a : AgentRecord H P) → IsNew a → IsNamed None a
+  names-new a (creds, tie, role, is) = subst (λ (x : AgentRecord H P). IsNamed None x) (sym is) (λ p has. absurd has)
+
+  module _ (mac : H → List ℕ → List ℕ → List ℕ) (answers : P → CandidateRecord → ℕ → ℕ → Type 0) where
+    new-sound : (a : AgentRecord H P) → IsNew a → IsSound a
+    new-sound a new = sound_run mac answers a a [] new refl
+
+    -- ---- the path that was selected last
+
+    names-next : (old new : AgentRecord H P) (s t : Stream) (call : Call P) (e : Entry) (path : Option Path) → IsSound old → GivesBased call → Step mac answers old s call e new t
+        → IsNamed path old → IsNamed (option_or (last_of e.emitted.announced) (if clears call e.answer then None else path)) new
+    names-next old new s t call e path sound based step was = by (last_of e.emitted.announced) refl where
+      f : PathEffect mac old call e new
+      f = (path_law mac answers old new s t call e sound based step).0
+
+      below : (n : ℕ) → old.selected_pair ≡ Some n → n < old.next_number
+      below n is = below_is old.next_number n old.selected_pair sound.announced is
+
+      later : {A : Type 0} → (p : PairRecord) → old.selected_pair ≡ Some p.number → old.next_number ≤ p.number → A
+      later p named le = let lt : p.number < old.next_number = below p.number named in absurd (let none : ⊥ = omega (arith, lt, le) in none)
+
+      stands : (b : Bool) → clears call e.answer ≡ b → (p : PairRecord) → Has new.pairs p → old.selected_pair ≡ Some p.number → (if b then None else path) ≡ Some (path_of new p)
+      stands true is p has named = later p named (f.cleared_pairs is p has).0
+      stands false is p has named = elim (f.numbers p has) [
+        | inl (q, there, number, same, valid, nominated) ↦ was q there (named ∙ ap Some (sym number)) ∙ ap Some same
+        | inr n ↦ later p named n.0
+      ]
+
+      by : (o : Option Path) → last_of e.emitted.announced ≡ o → IsNamed (option_or o (if clears call e.answer then None else path)) new
+      by (Some one) is p has named = ap Some (sym (f.number_names one is p has named).0)
+      by None is p has named = stands (clears call e.answer) refl p has (sym (f.number_stays is) ∙ named)
+
+    names-along : (xs : List (Call P × Entry)) (old new : AgentRecord H P) (path : Option Path) → IsSound old → Course mac answers xs old new → IsNamed path old
+        → IsNamed (selected_along path xs) new
+    names-along [] old new path sound is was = subst (λ (a : AgentRecord H P). IsNamed path a) (sym is) was
+    names-along (x ∷ rest) old new path sound (mid, s, t, based, step, more) was =
+        names-along rest mid new (option_or (last_of x.1.emitted.announced) (if clears x.0 x.1.answer then None else path))
+        (path_law mac answers old mid s t x.0 x.1 sound based step).1 more (names-next old mid s t x.0 x.1 path sound based step was)
+
+    -- the same from a new agent on
+    names : (xs : List (Call P × Entry)) (first last : AgentRecord H P) → IsNew first → Course mac answers xs first last → IsNamed (selected_along None xs) last
+    names xs first last new course = names-along xs first last None (new-sound first new) course (names-new first new)
+
+    -- ---- the controlling agent
+
+    pub nominated-last : NominatedAreLast mac answers
+    nominated-last first old sent before s t now moment check id new led step sends set nominated =
+        by (checks-as mac answers old sent s t now (via_out check) id moment sends.emitted step) where
+          whole : Course mac answers (before ++ (HandleTimeout now, moment) ∷ []) first sent
+          whole = course_on mac answers before ((HandleTimeout now, moment) ∷ []) first old sent led (sent, s, t, tt, step, refl)
+
+          by : Checks mac answers now (via_out check) id sent → selected_along None (before ++ (HandleTimeout now, moment) ∷ []) ≡ Some (via_out check)
+          by c =
+              let after : PairRecord = checked now c.old.timing c.old.controlling id c.pair in
+              let own : change_at c.pair.number (checked now c.old.timing c.old.controlling id) c.pair ≡ after = ap (λ b. if b then after else c.pair) (number_same c.pair.number) in
+              let kept : Has (check_sent mac now c.remote c.pair id c.old).pairs after =
+              subst (λ (z : PairRecord). Has (change_pair c.pair.number (checked now c.old.timing c.old.controlling id) c.old.pairs) z) own
+              (Has-mapped (change_at c.pair.number (checked now c.old.timing c.old.controlling id)) c.old.pairs c.pair c.has) in
+              let there : Has sent.pairs after = subst (λ (a : AgentRecord H P). Has a.pairs after) (sym c.made) kept in
+              let on : path_of sent after ≡ via_out check = ap (λ (a : AgentRecord H P). path_of a after) c.made ∙ c.path in
+              let renominates : sent.renominates ≡ true = search set in
+              let each : AreNominatedOn sent (via_out check) = search nominated in
+              let stays : stays_nominated sent after ≡ true = each after there on in
+              let named : is_named_by sent.selected_pair after ≡ true =
+              subst (λ r. (not r || is_named_by sent.selected_pair after) ≡ true) renominates
+              (both (is_nominated after) (not sent.renominates || is_named_by sent.selected_pair after) stays).1 in
+              names (before ++ (HandleTimeout now, moment) ∷ []) first sent new whole after there (named-by sent.selected_pair after named) ∙ ap Some on
+
+    -- ---- the controlled agent
+
+    module _ (path : Path) where
+      -- a valid pair stays, or may end
+      valid-next : (old new : AgentRecord H P) (s t : Stream) (call : Call P) (e : Entry) → IsSound old → GivesBased call → Step mac answers old s call e new t
+          → IsValidAt path old → IsValidAt path new ⊎ Ends answers old call e path
+      valid-next old new s t call e sound based step (p, has, valid, joins) = elim (pairs-stay mac answers old new s t call e p sound based step has) [
+        | inl k ↦ inl (k.pair, k.there, k.valid valid, (ap (λ (w : Path). w.source) k.path ∙ joins.0, ap (λ (w : Path). w.destination) k.path ∙ joins.1))
+        | inr ends ↦ inr (p, has, joins, ends)
+      ]
+
+      valid-along : (xs : List (Call P × Entry)) (old new : AgentRecord H P) → IsSound old → (course : Course mac answers xs old new) → IsValidAt path old
+          → IsValidAt path new ⊎ EndsAlong mac answers xs old new course path
+      valid-along [] old new sound is valid = inl (subst (λ (a : AgentRecord H P). IsValidAt path a) (sym is) valid)
+      valid-along (x ∷ rest) old new sound (mid, s, t, based, step, more) valid =
+          elim (valid-next old mid s t x.0 x.1 sound based step valid) [
+            | inl k ↦ elim (valid-along rest mid new (path_law mac answers old mid s t x.0 x.1 sound based step).1 more k) [ inl m ↦ inl m | inr ends ↦ inr (inr ends) ]
+            | inr ends ↦ inr (inl ends)
+          ]
+
+      valid-now : (old new : AgentRecord H P) (call : Call P) (e : Entry) → PathEffect mac old call e new → AcceptsSuccessOn call e path → IsValidAt path new
+      valid-now old new call e f (at, by, m, brings, success, back) =
+          let k = f.taken at by m brings success in
+          let on = both (keeps_check m.id k.0) (goes_back by (path_of new k.0)) k.2 in
+          (k.0, k.1, k.3, back-on by (path_of new k.0) path on.1 back)
+
+      answered-valid : (xs : List (Call P × Entry)) (old new : AgentRecord H P) → IsSound old → (course : Course mac answers xs old new)
+          → (y : Call P × Entry) → Has xs y → AcceptsSuccessOn y.0 y.1 path → IsValidAt path new ⊎ EndsAlong mac answers xs old new course path
+      answered-valid [] old new sound course y has is = absurd has
+      answered-valid (x ∷ rest) old new sound (mid, s, t, based, step, more) y (inl same) is =
+          let law = path_law mac answers old mid s t x.0 x.1 sound based step in
+          let now : AcceptsSuccessOn x.0 x.1 path = subst (λ (z : Call P × Entry). AcceptsSuccessOn z.0 z.1 path) (sym same) is in
+          elim (valid-along rest mid new law.1 more (valid-now old mid x.0 x.1 law.0 now)) [ inl m ↦ inl m | inr ends ↦ inr (inr ends) ]
+      answered-valid (x ∷ rest) old new sound (mid, s, t, based, step, more) y (inr has) is =
+          elim (answered-valid rest mid new (path_law mac answers old mid s t x.0 x.1 sound based step).1 more y has is) [ inl m ↦ inl m | inr ends ↦ inr (inr ends) ]
+
+      -- ---- the pair that the peer nominated last
+
+      module _ (old new : AgentRecord H P) (s t : Stream) (call : Call P) (e : Entry) (sound : IsSound old) (based : GivesBased call) (step : Step mac answers old s call e new t) where
+        records : Records old (logged_once call e) new
+        records = records-by mac answers old new s t (logged_once call e) sound call refl step
+
+        recorded-on : new.last_nominated ≡ old.last_nominated → IsRecordedOn old path → IsRecordedOn new path ⊎ Ends answers old call e path
+        recorded-on kept (p, has, last_is, on, nominated) = elim (pairs-stay mac answers old new s t call e p sound based step has) [
+          | inl k ↦ inl (k.pair, k.there, kept ∙ last_is ∙ ap Some (sym k.number), k.path ∙ on, k.nominated nominated)
+          | inr ends ↦ inr (p, has, (ap (λ (w : Path). w.source) on, ap (λ (w : Path). w.destination) on), ends)
+        ]
+
+        -- a nomination that is accepted here is of the path
+        recorded-next : ((one : Path) → Grants old call e one → one ≡ path) → IsRecordedOn old path → IsRecordedOn new path ⊎ Ends answers old call e path
+        recorded-next only was = by records where
+          by : Records old (logged_once call e) new → IsRecordedOn new path ⊎ Ends answers old call e path
+          by (inl (kept, none)) = recorded-on kept was
+          by (inr (one, recorded, rest, (q, id, serving, uses, out, controlled))) =
+              inl (subst (λ w. IsRecordedOn new w) (only one (q, id, serving, uses, out)) recorded)
+
+        recorded-now : Grants old call e path → new.controlling ≡ false → IsRecordedOn new path
+        recorded-now (q, id, serving, uses, out) controlled = by records where
+          by : Records old (logged_once call e) new → IsRecordedOn new path
+          by (inl (kept, none)) = absurd (none path (q, id, serving, uses, out, controlled))
+          by (inr (one, recorded, only, asked)) = subst (λ w. IsRecordedOn new w) (sym (only path (q, id, serving, uses, out, controlled))) recorded
+
+      recorded-along : (xs : List (Call P × Entry)) (old new : AgentRecord H P) → IsSound old → (course : Course mac answers xs old new) → GrantsOnlyAlong mac answers xs old new course path
+          → IsRecordedOn old path → IsRecordedOn new path ⊎ EndsAlong mac answers xs old new course path
+      recorded-along [] old new sound is only was = inl (subst (λ (a : AgentRecord H P). IsRecordedOn a path) (sym is) was)
+      recorded-along (x ∷ rest) old new sound (mid, s, t, based, step, more) (only, later) was =
+          let here : (one : Path) → Grants old x.0 x.1 one → one ≡ path = λ one grants. search (only one grants) in
+          elim (recorded-next old mid s t x.0 x.1 sound based step here was) [
+            | inl k ↦ elim (recorded-along rest mid new (path_law mac answers old mid s t x.0 x.1 sound based step).1 more later k) [ inl m ↦ inl m | inr ends ↦ inr (inr ends) ]
+            | inr ends ↦ inr (inl ends)
+          ]
+
+      recorded-last : (xs : List (Call P × Entry)) (old new : AgentRecord H P) → IsSound old → (course : Course mac answers xs old new) → GrantsLastAlong mac answers xs old new course path
+          → IsRecordedOn new path ⊎ EndsAlong mac answers xs old new course path
+      recorded-last [] old new sound course asks = absurd asks
+      recorded-last (x ∷ rest) old new sound (mid, s, t, based, step, more) (inl (grants, controlled, later)) =
+          let role : mid.controlling ≡ false = search controlled in
+          elim (recorded-along rest mid new (path_law mac answers old mid s t x.0 x.1 sound based step).1 more later (recorded-now old mid s t x.0 x.1 sound based step grants role)) [
+            | inl m ↦ inl m
+            | inr ends ↦ inr (inr ends)
+          ]
+      recorded-last (x ∷ rest) old new sound (mid, s, t, based, step, more) (inr asks) =
+          elim (recorded-last rest mid new (path_law mac answers old mid s t x.0 x.1 sound based step).1 more asks) [ inl m ↦ inl m | inr ends ↦ inr (inr ends) ]
+
+      -- ---- it is selected
+
+      -- the recorded pair is followed, and eligible
+      selected-is : (a : AgentRecord H P) (p : PairRecord) → IsSound a → a.renominates ≡ true → a.controlling ≡ false → Has a.pairs p → a.last_nominated ≡ Some p.number → is_valid p ≡ true → is_nominated p ≡ true
+          → IsTopAnnounced a → a.selected_pair ≡ Some p.number
+      selected-is a p sound set role has last_is valid nominated top =
+          let follows : followed a ≡ Some p.number =
+          ap (λ b. if b && not a.controlling then a.last_nominated else None) set ∙ (ap (λ c. if not c then a.last_nominated else None) role ∙ last_is) in
+          let able : eligible_numbered a.controlling a.pairs p.number ≡ Some p =
+          ap (λ (o : Option PairRecord). option_and_then (if_eligible a.controlling) o) (numbered-found a.pairs p sound.rising has)
+          ∙ ap (λ b. if b then Some p else None) (nominated-eligible a.controlling p valid nominated) in
+          selects-followed mac answers a p.number p follows able top
+
+    -- without an early request a `handle_timeout` call accepts no nomination
+    none-granted : (a : AgentRecord H P) (now : ℕ) (e : Entry) (path one : Path) → request_at now a ≡ None → Grants a (HandleTimeout now) e one → one ≡ path
+    none-granted a now e path one none (q, id, serving, uses, out) = absurd (no-some q (sym none ∙ serving.0))
+
+    -- nor does it change the role
+    role-stays : (a b : AgentRecord H P) (s t : Stream) (now : ℕ) (e : Entry) → IsSound a → Step mac answers a s (HandleTimeout now) e b t → request_at now a ≡ None
+        → b.controlling ≡ a.controlling
+    role-stays a b s t now e sound step none = elim (trade_law mac answers a b s t (HandleTimeout now) e sound tt step).role [
+      | inl same ↦ same
+      | inr (inl (q, serving, yields, is)) ↦ absurd (no-some q (sym none ∙ serving.0))
+      | inr (inr (inl refused)) ↦ absurd refused.5
+      | inr (inr (inr set)) ↦ absurd set
+    ]
+
+    pub last-granted : LastGrantedAreLast mac answers
+    last-granted first start near last before xs s t now moment path new led course step done none set controlled asks replied alone =
+        by (sound-course mac answers before first start (new-sound first new) led) where
+          Said : Type 0
+          Said = (selected_along None (before ++ (xs ++ (HandleTimeout now, moment) ∷ [])) ≡ Some path)
+              ⊎ (EndsAlong mac answers xs start near course path ⊎ Ends answers near (HandleTimeout now) moment path)
+
+          whole : Course mac answers (before ++ (xs ++ (HandleTimeout now, moment) ∷ [])) first last
+          whole = course_on mac answers before (xs ++ (HandleTimeout now, moment) ∷ []) first start last led
+              (course_on mac answers xs ((HandleTimeout now, moment) ∷ []) start near last course (last, s, t, tt, step, refl))
+
+          at_last : IsSound near → IsRecordedOn last path → IsValidAt path last → Said
+          at_last sound r w =
+              let law = path_law mac answers near last s t (HandleTimeout now) moment sound tt step in
+              let one_pair : IsAlone last path = search alone in
+              let idle : request_at now near ≡ None = search none in
+              let renominates : last.renominates ≡ true = search set in
+              let role : last.controlling ≡ false = role-stays near last s t now moment sound step idle ∙ search controlled in
+              let one : w.0 ≡ r.0 = one_pair w.0 r.0 w.1 r.1 w.3 (ap (λ (z : Path). z.source) r.3, ap (λ (z : Path). z.destination) r.3) in
+              let valid : is_valid r.0 ≡ true = subst (λ (p : PairRecord). is_valid p ≡ true) one w.2 in
+              let selected = selected-is path last r.0 law.1 renominates role r.1 r.2 valid r.4 (law.0.points (done, idle)) in
+              inl (names (before ++ (xs ++ (HandleTimeout now, moment) ∷ [])) first last new whole r.0 r.1 selected ∙ ap Some r.3)
+
+          at_moment : IsSound near → IsRecordedOn near path → IsValidAt path near → Said
+          at_moment sound r w =
+              let idle : request_at now near ≡ None = search none in
+              elim (recorded-next path near last s t (HandleTimeout now) moment sound tt step (λ one. none-granted near now moment path one idle) r) [
+                | inr ends ↦ inr (inr ends)
+                | inl m ↦ elim (valid-next path near last s t (HandleTimeout now) moment sound tt step w) [
+                  | inr ends ↦ inr (inr ends)
+                  | inl u ↦ at_last sound m u
+                ]
+              ]
+
+          by : IsSound start → Said
+          by sound =
+              let sound_near = sound-course mac answers xs start near sound course in
+              let heard : IsAnsweredAlong xs path = search replied in
+              elim (recorded-last path xs start near sound course asks) [
+                | inr ends ↦ inr (inl ends)
+                | inl r ↦ elim (answered-valid path xs start near sound course heard.0 heard.1 heard.2) [
+                  | inr ends ↦ inr (inl ends)
+                  | inl w ↦ at_moment sound_near r w
+                ]
+              ]
