@@ -62,8 +62,8 @@ pub fn limits_bound<H: Sha1HmacProvider, P: LocalPreference>()
     ensures { LimitsBound H.mac P.answers }
 {}
 
-/// There are never more pairs than the limit on pairs plus the number of local candidates times that of remote ones. With a limit on
-/// what packets bring too, the bound depends on the caller only.
+/// There are never more pairs than the greatest limit on pairs that was in force when pairs could be formed, plus the number of local
+/// candidates times that of remote ones. With a limit on what packets bring too, the bound depends on the caller only.
 pub fn limits_pairs<H: Sha1HmacProvider, P: LocalPreference>()
     ensures few { LimitsPairs H.mac P.answers }
     ensures bounded { BoundsPairs H.mac P.answers }
@@ -297,7 +297,8 @@ pub fn courses_check<H: Sha1HmacProvider, P: LocalPreference>()
     ensures { CoursesCheck H.mac P.answers }
 {}
 
-/// A controlling agent, which may share its random source, selects a path by its first accepted success response.
+/// A controlling agent, which may share its random source, selects a path by its first accepted success response, and the one that it
+/// selected last is that of an eligible pair of greatest priority.
 pub fn successes_select<H: Sha1HmacProvider, P: LocalPreference>()
     ensures { SuccessesSelect H.mac P.answers }
 {}
@@ -322,8 +323,9 @@ pub fn checks_ask<H: Sha1HmacProvider, P: LocalPreference>()
 }
 
 /// A controlled agent, which may share its random source, accepted the nomination of a path and received a success response on
-/// it. Then a path is selected by the end of the next `handle_timeout` call that serves no early request, if only one pair uses
-/// this path's addresses and no pair that does may have been removed.
+/// it. Then a path is selected by the end of the next `handle_timeout` call that serves no early request, and the one that was
+/// selected last is that of an eligible pair of greatest priority, if only one pair uses this path's addresses and no pair that does
+/// may have been removed.
 pub fn granted_are_announced<H: Sha1HmacProvider, P: LocalPreference>()
     ensures { GrantedAreAnnounced H.mac P.answers }
 {}
