@@ -9,7 +9,7 @@ from dataclasses import dataclass
 from ..pairs import Path, reversed_path
 from ..replay import other
 from ..scenario import SIDES
-from .connections import Rows, delivers, has_rounds, is_active
+from .connections import Rows, by_last_call, delivers, has_rounds, is_active
 from .execution import Execution, Lacks, Round, lacks
 from .fair import is_fair_world
 from .grantings import ALL, Network, serves_no_request
@@ -148,12 +148,7 @@ class Search:
 
 def choices(n: Network) -> Iterator[Choice]:
     """Proposes choices by the time of the last `handle_timeout` call; at the end some that show what is missing."""
-    searches = {side: Search(n, side) for side in SIDES}
-    moments = sorted((at, side) for side in SIDES for at in n.x.timeouts[side])
-    for moment, side in moments:
-        yield from searches[side].at(moment)
-    for moment, side in {side: (at, side) for at, side in moments}.values():
-        yield from searches[side].whole(moment)
+    return by_last_call(n.x, {side: Search(n, side) for side in SIDES})
 
 
 def both_selected_by(n: Network, c: Choice) -> int | None:

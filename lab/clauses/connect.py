@@ -9,7 +9,7 @@ from dataclasses import dataclass
 from ..pairs import Path
 from ..replay import other
 from ..scenario import SIDES
-from .connections import Rows, has_rounds, succeeds_in
+from .connections import Rows, by_last_call, has_rounds, succeeds_in
 from .execution import Lacks, Round, lacks
 from .fair import are_new_agents
 from .granted import latest_ask, latest_exchange, nominated_paths, reached_paths, selected_by
@@ -95,12 +95,7 @@ class Search:
 
 def choices(n: Network) -> Iterator[Choice]:
     """Proposes choices by the time of the last `handle_timeout` call; at the end some that show what is missing."""
-    searches = {side: Search(n, side) for side in SIDES}
-    moments = sorted((at, side) for side in SIDES for at in n.x.timeouts[side])
-    for moment, side in moments:
-        yield from searches[side].at(moment)
-    for moment, side in {side: (at, side) for at, side in moments}.values():
-        yield from searches[side].whole(moment)
+    return by_last_call(n.x, {side: Search(n, side) for side in SIDES})
 
 
 def find(n: Network) -> Verdict:

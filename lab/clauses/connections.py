@@ -3,6 +3,8 @@
 from __future__ import annotations
 
 from bisect import bisect_left
+from collections.abc import Iterator, Mapping
+from typing import Protocol
 
 from ..pairs import Pair, Path
 from .execution import Execution, Lacks, Round, fewest, is_in_round, lacks
@@ -10,6 +12,7 @@ from .grantings import ALL, Network
 from .progress import is_in_line
 from .selections import are_enough, are_kept, checks_in
 from .staying import may_end_in_rounds
+from .verdict import C, C_co
 
 
 # ---- rounds that suffice
@@ -90,3 +93,22 @@ def delivers(n: Network, side: str, path: Path, over: Path, rounds: list[Round],
     if not is_active(n.x, side, path, rounds):
         return []
     return n.exists(side, part, lambda h: h.path == path and h.over == over, ALL, True)
+
+
+# ---- choices by their last call
+
+class Proposing(Protocol[C_co]):
+    """A search for choices of one side that end with a `handle_timeout` call."""
+
+    def at(self, moment: int) -> Iterator[C_co]: ...
+
+    def whole(self, moment: int) -> Iterator[C_co]: ...
+
+
+def by_last_call(x: Execution, searches: Mapping[str, Proposing[C]]) -> Iterator[C]:
+    """Proposes choices by the time of the last `handle_timeout` call; at the end some that show what is missing."""
+    moments = sorted((at, side) for side in searches for at in x.timeouts[side])
+    for moment, side in moments:
+        yield from searches[side].at(moment)
+    for moment, side in {side: (at, side) for at, side in moments}.values():
+        yield from searches[side].whole(moment)

@@ -9,6 +9,7 @@ from typing import TypeVar
 from .execution import Execution, Lacks
 
 C = TypeVar("C")
+C_co = TypeVar("C_co", covariant=True)
 
 
 @dataclass(frozen=True)
