@@ -87,6 +87,6 @@ def are_nominated_on(agent: Agent, path: Path) -> bool:
 
 
 def has_announced(agent: Agent) -> bool:
-    """Whether a pair is eligible, and the chosen pair is selected or has the priority of the selected one (`HasAnnounced`)."""
+    """Whether the selected pair is eligible, and the chosen one or, unless the agent follows its peer, as great (`HasAnnounced`)."""
     top = agent.chosen()
-    return top is not None and agent.remains(top)
+    return top is not None and agent.remains(top) and any(p.number == agent.selected and agent.is_eligible(p) for p in agent.pairs)

@@ -372,6 +372,8 @@ class Announced(unittest.TestCase):
         greater = replace(agent.pairs[0], number=9, priority=1 << 64, state="succeeded")
         self.assertFalse(has_announced(replace(agent, pairs=(*agent.pairs, greater))))
         self.assertFalse(has_announced(replace(agent, selected=None)))
+        alike = replace(agent.chosen(), number=9, state="waiting")
+        self.assertFalse(has_announced(replace(agent, pairs=(*agent.pairs, alike), selected=9)))
 
 
 if __name__ == "__main__":

@@ -11,9 +11,9 @@ use Rattle.is_rules.specs.AskedCourses.{GrantedAreAnnounced, SuccessesSelect}
 use Rattle.is_rules.specs.Carried.{CarriedAsk, CarriedSucceedLater, CarriedSettle}
 use Rattle.is_rules.specs.Effects.{PathLaw}
 use Rattle.is_rules.specs.Emitted.{reversed}
-use Rattle.is_rules.specs.Progress.{HasAnnounced}
 use Rattle.is_rules.specs.Queue.{request_at}
 use Rattle.is_rules.specs.RoleView.{RoleLaw}
+use Rattle.is_rules.specs.Runs.{IsTopPath}
 use Rattle.is_rules.specs.Sending.{path_of}
 use Rattle.is_rules.specs.Sound.{FreshIsSound}
 use Rattle.is_laws.specs.FirstChecks.{CoursesCheckFromDue}
@@ -23,6 +23,7 @@ use Rattle.is.specs.Connections.{Asks, IsAnswered}
 use Rattle.is.specs.Connects.{Delivers, SelectsIn, BothSelect}
 use Rattle.is.specs.Grantings.{Occurrence, HandedCheck, IsControlled, IsAskedOver, MayEndAt, occurrences_in}
 use Rattle.is.specs.Selections.{Round, all_of, IsControlling, IsAnsweredInTime, Checks, MayEndInRounds}
+use Rattle.is.specs.Sides.{own_log}
 use Rattle.is.specs.World.{WorldRecord, Logged, at, other}
 use Rattle.is.proofs.Connecting.{both_connect}
 use Rattle.is.proofs.Following.{Has-front, Has-rear}
@@ -105,13 +106,17 @@ module _ {H P : Type 0} (mac : H → List ℕ → List ℕ → List ℕ) (answer
               | inr ended ↦ inr (subst (λ via. MayEndInRounds answers (other side) via (opens.first ∷ opens.later)) opens.on ended)
             ]
 
-        connected : (SelectsIn side (meeting ++ (opening ++ (part ++ moment ∷ []))) × HasAnnounced (at side moment.behind))
+        connected : (SelectsIn side (meeting ++ (opening ++ (part ++ moment ∷ [])))
+            × IsTopPath mac answers (own_log side [] (meeting ++ (opening ++ (part ++ moment ∷ [])))) (at side moment.behind))
             ⊎ (((x : Occurrence H P) × Has (part ++ moment ∷ []) x × MayEndAt answers side path x)
             ⊎ MayEndInRounds answers (other side) its (leads.rounds.first ∷ leads.rounds.later))
         connected =
             elim (both_connect mac answers paths new_sound asks succeeds announce reach first s log last t run (meeting ++ opening) part rest moment now side path its fair.new split_part obeys
             leads.rounds (asks_in side path its (leads.rounds.first ∷ leads.rounds.later) part leads.delivers nominated)
             follows.rounds (answered_in side path (reversed its) (follows.rounds.first ∷ follows.rounds.later) part follows.delivers) comes done idle lone) [
-              | inl ((x, has, said), top) ↦ inl ((x, subst (λ xs. Has xs x) (append_assoc meeting opening (part ++ moment ∷ [])) has, said), top)
+              | inl ((x, has, said), top) ↦ inl (
+                (x, subst (λ xs. Has xs x) (append_assoc meeting opening (part ++ moment ∷ [])) has, said),
+                subst (λ xs. IsTopPath mac answers (own_log side [] xs) (at side moment.behind)) (append_assoc meeting opening (part ++ moment ∷ [])) top,
+              )
               | inr ended ↦ inr ended
             ]

@@ -1,7 +1,7 @@
 -- A path of the controlled one of two agents that was nominated by the peer and answered is selected by its next
 -- `handle_timeout` call. The preconditions that refused/laws changes are read by tactics where they are used: if one
 -- of them is weaker, that goal stays unproved.
-use Rattle.std.proofs.Common.{◌≡◌, ℕ, true, false, not, List, [], ◌∷◌, ◌++◌, Some, None, is_some, inl, inr, ◌⊎◌, refl, ap, sym, ◌∙◌, subst, append_assoc}
+use Rattle.std.proofs.Common.{◌≡◌, ℕ, true, false, not, List, [], ◌∷◌, ◌++◌, Option, Some, None, is_some, inl, inr, ◌⊎◌, refl, ap, sym, ◌∙◌, subst, append_assoc}
 use Rattle.rand_core.specs.Stream.{Stream}
 use Rattle.is_proto.specs.Lists.{Has}
 use Rattle.is_proto.specs.Packets.{Packet}
@@ -10,7 +10,6 @@ use Rattle.is_stun.specs.declared.header.Class.TheVariants.{Success}
 use Rattle.is_rules.specs.declared.emitted.Path.{Path}
 use Rattle.is_rules.specs.Agent.{AgentRecord, fresh}
 use Rattle.is_rules.specs.Asked.{IsAlone}
-use Rattle.is_rules.specs.Progress.{HasAnnounced}
 use Rattle.is_rules.specs.AskedCourses.{IsAnsweredAlong, AnnouncesAlong, EndsAlong, GrantsAlong, GrantedAreAnnounced}
 use Rattle.is_rules.specs.Asking.{AreNominatedOn, Grants}
 use Rattle.is_rules.specs.Carried.{CarriedAsk, CarriedSucceedLater}
@@ -19,7 +18,9 @@ use Rattle.is_rules.specs.Effects.{PathLaw, last_of}
 use Rattle.is_rules.specs.Exchange.{Course}
 use Rattle.is_rules.specs.Issuing.{via_out}
 use Rattle.is_rules.specs.Pending.{IsValidBy}
+use Rattle.is_rules.specs.Points.{HasAnnounced}
 use Rattle.is_rules.specs.Queue.{request_at}
+use Rattle.is_rules.specs.Runs.{IsTopPath}
 use Rattle.is_rules.specs.Sound.{FreshIsSound}
 use Rattle.is_rules.specs.Steps as agent
 use Rattle.is_rules.specs.Steps.{Entry, Done, quiet}
@@ -27,7 +28,9 @@ use Rattle.is_rules.specs.Emitted.{reversed}
 use Rattle.is.specs.declared.world.Side.{Side}
 use Rattle.is.specs.declared.world.Side.TheVariants.{A, B}
 use Rattle.is.specs.Deliveries.{Announces}
-use Rattle.is.specs.Grantings.{Occurrence, IsControlled, HandedCheck, IsAskedOver, IsReturned, IsExchangedOver, MayEndAt, GrantedPathsAnnounce}
+use Rattle.is.specs.Grantings.{Occurrence, IsControlled, HandedCheck, IsAskedOver, IsReturned, IsExchangedOver, MayEndAt}
+use Rattle.is.specs.Granted.{GrantedPathsAnnounce}
+use Rattle.is.specs.Sides.{own_log}
 use Rattle.is.specs.World as world
 use Rattle.is.specs.World.{WorldRecord, Event, Logged, Turns, Happens, at, other}
 use Rattle.is.specs.WorldRoles.{IsNewAgent}
@@ -36,6 +39,7 @@ use Rattle.is.proofs.Settled.{sound_new}
 use Rattle.is.proofs.Owning.{either_has, turn_step, acts_emitted}
 use Rattle.is.proofs.Connected.{rewritten, handed_has, delivered}
 use Rattle.is.proofs.Occurring.{middle, Follow, follows, cut, meet, sound_along, acts_at, own, own_course, own_has, handed_is, Checked, checked, sent_in, behind_in, Found, Owned, act_owned, owned, awaited, Awaited, awaits, removed, awaited_in}
+use Rattle.is.proofs.SelectedLast.{selected_call}
 
 module _ {H P : Type 0} (mac : H → List ℕ → List ℕ → List ℕ) (answers : P → CandidateRecord → ℕ → ℕ → Type 0) where
   pub own_emitted : (side : Side) (xs : List (Occurrence H P)) (w last : WorldRecord H P) → Follow mac answers w xs last → (y : agent.Call P × Entry) → Has (own mac answers side xs) y
@@ -187,7 +191,8 @@ module _ {H P : Type 0} (mac : H → List ℕ → List ℕ → List ℕ) (answer
       → IsAskedOver mac side path part × (IsAnsweredAlong (own mac answers side part) path ⊎ Found mac answers side path (part ++ moment ∷ [])))
       → moment.entry.event ≡ world.Call side (agent.HandleTimeout now) → moment.entry.outcome.entry.answer ≡ Done → request_at now (at side moment.before) ≡ None
       → IsAlone (at side moment.behind) path
-      → (((x : Occurrence H P) × Has (before ++ (part ++ moment ∷ [])) x × Announces side x.entry) × HasAnnounced (at side moment.behind))
+      → (((x : Occurrence H P) × Has (before ++ (part ++ moment ∷ [])) x × Announces side x.entry)
+      × IsTopPath mac answers (own_log side [] (before ++ (part ++ moment ∷ []))) (at side moment.behind))
       ⊎ ((x : Occurrence H P) × Has (part ++ moment ∷ []) x × MayEndAt answers side path x)
   announced_where paths new_sound asks succeeds announce first last s before part rest moment now side path new follow roles happened comes done none alone =
       let led = cut mac answers before ((part ++ moment ∷ []) ++ rest) first last follow in
@@ -207,7 +212,10 @@ module _ {H P : Type 0} (mac : H → List ℕ → List ℕ → List ℕ) (answer
             (own mac answers side part) m.s m.t now moment.entry.outcome.entry path (n.0, n.1, refl)
             (at side first, s, s, tt, (refl, n.3, refl), own_course mac answers side before first start led.1)
             g.0 (turn_step mac answers moment.before moment.behind m.s m.t side (agent.HandleTimeout now) moment.entry.outcome turn) done none g.2 replied alone) [
-              | inl emitted ↦ inl (emitted_back side before part moment first start moment.before (agent.SetControlling n.2) (agent.HandleTimeout now) led.1 m.led turn.side_is emitted.0, emitted.1)
+              | inl emitted ↦ inl (
+                emitted_back side before part moment first start moment.before (agent.SetControlling n.2) (agent.HandleTimeout now) led.1 m.led turn.side_is emitted.0,
+                subst (λ (o : Option Path). HasAnnounced o (at side moment.behind)) (sym (selected_call mac answers side before part moment now comes)) emitted.1,
+              )
               | inr ends ↦ inr (elim ends [
                 | inl e ↦ g.1 e
                 | inr e ↦ (moment, middle part [] moment, (agent.HandleTimeout now, comes, e))

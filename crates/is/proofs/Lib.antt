@@ -14,6 +14,8 @@ mod Traced
 mod Owning
 mod Connected
 mod Occurring
+mod OwnLogs
+mod SelectedLast
 mod Granted
 mod Connecting
 mod Selected
@@ -21,7 +23,5 @@ mod Meeting
 mod Connects
 mod Mirrored
 mod MarkLemmas
-mod OwnLogs
 mod Flooded
-mod SelectedLast
 mod Renominated

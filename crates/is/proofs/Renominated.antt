@@ -12,25 +12,24 @@ use Rattle.is_rules.specs.declared.emitted.Issued.{Issued}
 use Rattle.is_rules.specs.declared.emitted.Path.{Path}
 use Rattle.is_rules.specs.Agent.{AgentRecord}
 use Rattle.is_rules.specs.Asked.{IsAlone}
-use Rattle.is_rules.specs.AskedCourses.{EndsAlong, IsAnsweredAlong}
+use Rattle.is_rules.specs.AskedCourses.{selected_along, EndsAlong, IsAnsweredAlong}
 use Rattle.is_rules.specs.Asking.{AreNominatedOn, Grants}
 use Rattle.is_rules.specs.Brought.{IsNominatedOn, IsServing}
 use Rattle.is_rules.specs.Carried.{CarriedAsk, CarriedSucceedLater}
 use Rattle.is_rules.specs.Effects.{PathEffect, PathLaw}
 use Rattle.is_rules.specs.Emitted.{issued_as, reversed}
 use Rattle.is_rules.specs.Exchange.{Course}
-use Rattle.is_rules.specs.Logs.{last_announced}
 use Rattle.is_rules.specs.Queue.{request_at}
 use Rattle.is_rules.specs.Request.{RequestRecord}
 use Rattle.is_rules.specs.Sound.{FreshIsSound}
 use Rattle.is_rules.specs.Steps as agent
 use Rattle.is_rules.specs.Steps.{Answer, Done, Entry, Refused}
-use Rattle.is_laws.specs.RenominatingCourses.{selected_along, GrantsLastAlong, GrantsOnlyAlong, LastGrantedAreLast, NominatedAreLast}
+use Rattle.is_laws.specs.RenominatingCourses.{GrantsLastAlong, GrantsOnlyAlong, LastGrantedAreLast, NominatedAreLast}
 use Rattle.is.specs.declared.world.Side.{Side}
 use Rattle.is.specs.declared.world.Side.TheVariants.{A, B}
 use Rattle.is.specs.Grantings.{Occurrence, HandedCheck, IsControlled, IsExchangedOver}
 use Rattle.is.specs.Renominations.{IsSelectedLast, KeepsSelected, NominatesNoOther, OnePathIsSelected}
-use Rattle.is.specs.Sides.{only, own_log, polled_as, received_as, acts}
+use Rattle.is.specs.Sides.{only, polled_as, received_as, acts}
 use Rattle.is.specs.World as world
 use Rattle.is.specs.World.{WorldRecord, InFlightRecord, Event, Logged, Turns, Stands, Happens, at, other, in_world}
 use Rattle.is.specs.WorldRoles.{IsNewAgent}
@@ -40,7 +39,7 @@ use Rattle.is.proofs.Owning.{only_own, sound_on, turn_step, twice}
 use Rattle.is.proofs.Occurring.{middle, Follow, follows, cut, meet, sound_along, acts_at, own, own_course, handed_is, checked, sent_in, behind_in, Found, Owned, act_owned}
 use Rattle.is.proofs.Granted.{answered, apart_at, grants, role_next}
 use Rattle.is.proofs.OwnLogs.{AtMostOne, acts_once}
-use Rattle.is.proofs.SelectedLast.{selected_both, own_both, selected_own, called_is, called_not, nominated_selected}
+use Rattle.is.proofs.SelectedLast.{called_not, nominated_selected, selected_call, selected_parts}
 
 sender_is : (sender side : Side) → other sender ≡ side → sender ≡ other side
 sender_is A side is = ap other is
@@ -195,20 +194,6 @@ module _ {H P : Type 0} (mac : H → List ℕ → List ℕ → List ℕ) (answer
         (grants mac answers paths asks from its over part last k c nominated (roles k.sent (sent_in mac answers from its over part k)).1 (roles handed (behind_in mac answers from its over part k handed (inl refl))).0)
         controlled)
 
-    -- the log of a side, part by part
-    selected_parts : (side : Side) (before part : List (Occurrence H P)) (moment : Occurrence H P)
-        → last_announced (own_log side [] (before ++ (part ++ moment ∷ [])))
-        ≡ selected_along (selected_along (selected_along None (own mac answers side before)) (own mac answers side part)) (acts_at mac answers side moment)
-    selected_parts side before part moment =
-        let start : Option Path = selected_along None (own mac answers side before) in
-        let near : Option Path = selected_along start (own mac answers side part) in
-        selected_own mac answers side (before ++ (part ++ moment ∷ [])) []
-        ∙ (ap (λ ys. selected_along None ys) (own_both mac answers side before (part ++ moment ∷ []))
-        ∙ (selected_both None (own mac answers side before) (own mac answers side (part ++ moment ∷ []))
-        ∙ (ap (λ ys. selected_along start ys) (own_both mac answers side part (moment ∷ []))
-        ∙ (selected_both start (own mac answers side part) (own mac answers side (moment ∷ []))
-        ∙ selected_both near (acts_at mac answers side moment) []))))
-
     module _ (from : Side) (its over : Path) (before part rest : List (Occurrence H P)) (moment : Occurrence H P) (now : ℕ) (first last : WorldRecord H P)
         (new : (x : Side) → IsNewAgent (at x first)) (follow : Follow mac answers first (before ++ ((part ++ moment ∷ []) ++ rest)) last)
         (roles : (x : Occurrence H P) → Has (part ++ moment ∷ []) x → ((at (other from) x.before).controlling ≡ false) × ((at from x.before).controlling ≡ true))
@@ -230,7 +215,7 @@ module _ {H P : Type 0} (mac : H → List ℕ → List ℕ → List ℕ) (answer
           let sent_has = Has-front part (moment ∷ []) k.sent (sent_in mac answers from its over part k) in
           let quiet_there : acts_at mac answers from moment ≡ [] = subst (λ z. acts_at mac answers z moment ≡ []) (twice from) (called_not mac answers (other from) moment now comes) in
           let start_is : Option Path = selected_along None (own mac answers from before) in
-          selected_parts from before part moment
+          selected_parts mac answers from before part moment
           ∙ (ap (λ xs. selected_along (selected_along start_is (own mac answers from part)) xs) quiet_there
           ∙ nominated_selected mac answers paths nominates from its over before part first start moment.before (new from) led sound on k (set k.sent sent_has from) nominated keeps)
 
@@ -239,7 +224,6 @@ module _ {H P : Type 0} (mac : H → List ℕ → List ℕ → List ℕ) (answer
       follows_it start u v led sound on happens =
           let side : Side = other from in
           let path : Path = reversed over in
-          let call : agent.Call P × Entry = (agent.HandleTimeout now, moment.entry.outcome.entry) in
           let earlier : List (agent.Call P × Entry) = own mac answers side before in
           let here : List (agent.Call P × Entry) = own mac answers side part in
           let turn : Turns mac answers moment.before u side (agent.HandleTimeout now) moment.entry.outcome moment.behind v =
@@ -256,9 +240,7 @@ module _ {H P : Type 0} (mac : H → List ℕ → List ℕ → List ℕ) (answer
                     | inl e ↦ g.1 e
                     | inr e ↦ (moment, middle part [] moment, (agent.HandleTimeout now, comes, e))
                   ])
-                  | inl is ↦ inl (selected_parts side before part moment
-                      ∙ (ap (λ xs. selected_along (selected_along (selected_along None earlier) here) xs) (called_is mac answers side moment now comes)
-                      ∙ (sym (selected_both (selected_along None earlier) here (call ∷ [])) ∙ (sym (selected_both None earlier (here ++ call ∷ [])) ∙ is))))
+                  | inl is ↦ inl (selected_call mac answers side before part moment now comes ∙ is)
                 ]
           ]
 

@@ -8,6 +8,7 @@ use Rattle.is_proto.specs.Lists.{Has}
 use Rattle.is_proto.specs.Packets.{Packet}
 use Rattle.is_candidate.specs.Candidates.{CandidateRecord}
 use Rattle.is_rules.specs.declared.emitted.Path.{Path}
+use Rattle.is_rules.specs.AskedCourses.{selected_along}
 use Rattle.is_rules.specs.Asking.{AreNominatedOn}
 use Rattle.is_rules.specs.Effects.{PathLaw, clears, last_of}
 use Rattle.is_rules.specs.Issuing.{via_out}
@@ -15,7 +16,7 @@ use Rattle.is_rules.specs.Logs as agent_log
 use Rattle.is_rules.specs.Logs.{last_announced}
 use Rattle.is_rules.specs.Steps as agent
 use Rattle.is_rules.specs.Steps.{Answer, Entry, Refused}
-use Rattle.is_laws.specs.RenominatingCourses.{selected_along, NominatedAreLast}
+use Rattle.is_laws.specs.RenominatingCourses.{NominatedAreLast}
 use Rattle.is.specs.declared.world.Side.{Side}
 use Rattle.is.specs.declared.world.Side.TheVariants.{A, B}
 use Rattle.is.specs.Grantings.{Occurrence, HandedCheck}
@@ -31,7 +32,7 @@ use Rattle.is.proofs.OwnLogs.{AtMostOne, acts_once}
 
 -- ---- the path that was selected last
 
-pub selected_both : {P : Type 0} (path : Option Path) (xs ys : List (agent.Call P × Entry)) → selected_along path (xs ++ ys) ≡ selected_along (selected_along path xs) ys
+selected_both : {P : Type 0} (path : Option Path) (xs ys : List (agent.Call P × Entry)) → selected_along path (xs ++ ys) ≡ selected_along (selected_along path xs) ys
 selected_both path [] ys = refl
 selected_both path (x ∷ xs) ys = selected_both (option_or (last_of x.1.emitted.announced) (if clears x.0 x.1.answer then None else path)) xs ys
 
@@ -56,13 +57,13 @@ selected_still path c e none kept =
     ap (λ o. option_or o (if clears c e.answer then None else path)) none ∙ ap (λ b. if b then None else path) kept
 
 module _ {H P : Type 0} (mac : H → List ℕ → List ℕ → List ℕ) (answers : P → CandidateRecord → ℕ → ℕ → Type 0) where
-  pub own_both : (side : Side) (xs ys : List (Occurrence H P)) → own mac answers side (xs ++ ys) ≡ own mac answers side xs ++ own mac answers side ys
+  own_both : (side : Side) (xs ys : List (Occurrence H P)) → own mac answers side (xs ++ ys) ≡ own mac answers side xs ++ own mac answers side ys
   own_both side [] ys = refl
   own_both side (x ∷ xs) ys =
       ap (λ zs. acts_at mac answers side x ++ zs) (own_both side xs ys) ∙ sym (append_assoc (acts_at mac answers side x) (own mac answers side xs) (own mac answers side ys))
 
   -- the log of a side is that of its calls
-  pub selected_own : (side : Side) (xs : List (Occurrence H P)) (log : List (agent_log.Logged P))
+  selected_own : (side : Side) (xs : List (Occurrence H P)) (log : List (agent_log.Logged P))
       → last_announced (own_log side log xs) ≡ selected_along (last_announced log) (own mac answers side xs)
   selected_own side [] log = refl
   selected_own side (x ∷ rest) log =
@@ -72,7 +73,7 @@ module _ {H P : Type 0} (mac : H → List ℕ → List ℕ → List ℕ) (answer
       ∙ sym (selected_both (last_announced log) (acts_at mac answers side x) (own mac answers side rest)))
 
   -- a `handle_timeout` call is one of its side
-  pub called_is : (side : Side) (x : Occurrence H P) (now : ℕ) → x.entry.event ≡ world.Call side (agent.HandleTimeout now)
+  called_is : (side : Side) (x : Occurrence H P) (now : ℕ) → x.entry.event ≡ world.Call side (agent.HandleTimeout now)
       → acts_at mac answers side x ≡ (agent.HandleTimeout now, x.entry.outcome.entry) ∷ []
   called_is side x now is =
       subst (λ (v : Event P). acts side x.before v x.entry.outcome.entry ≡ (agent.HandleTimeout now, x.entry.outcome.entry) ∷ []) (sym is)
@@ -82,6 +83,32 @@ module _ {H P : Type 0} (mac : H → List ℕ → List ℕ → List ℕ) (answer
   called_not side x now is =
       subst (λ (v : Event P). acts (other side) x.before v x.entry.outcome.entry ≡ []) (sym is)
       (only_other side ((agent.HandleTimeout now, x.entry.outcome.entry) ∷ []))
+
+  -- the log of a side, part by part
+  pub selected_parts : (side : Side) (before part : List (Occurrence H P)) (moment : Occurrence H P)
+      → last_announced (own_log side [] (before ++ (part ++ moment ∷ [])))
+      ≡ selected_along (selected_along (selected_along None (own mac answers side before)) (own mac answers side part)) (acts_at mac answers side moment)
+  selected_parts side before part moment =
+      let start : Option Path = selected_along None (own mac answers side before) in
+      let near : Option Path = selected_along start (own mac answers side part) in
+      selected_own side (before ++ (part ++ moment ∷ [])) []
+      ∙ (ap (λ ys. selected_along None ys) (own_both side before (part ++ moment ∷ []))
+      ∙ (selected_both None (own mac answers side before) (own mac answers side (part ++ moment ∷ []))
+      ∙ (ap (λ ys. selected_along start ys) (own_both side part (moment ∷ []))
+      ∙ (selected_both start (own mac answers side part) (own mac answers side (moment ∷ []))
+      ∙ selected_both near (acts_at mac answers side moment) []))))
+
+  -- if the last entry is a `handle_timeout` call of the side
+  pub selected_call : (side : Side) (before part : List (Occurrence H P)) (moment : Occurrence H P) (now : ℕ) → moment.entry.event ≡ world.Call side (agent.HandleTimeout now)
+      → last_announced (own_log side [] (before ++ (part ++ moment ∷ [])))
+      ≡ selected_along None (own mac answers side before ++ (own mac answers side part ++ (agent.HandleTimeout now, moment.entry.outcome.entry) ∷ []))
+  selected_call side before part moment now comes =
+      let earlier : List (agent.Call P × Entry) = own mac answers side before in
+      let here : List (agent.Call P × Entry) = own mac answers side part in
+      let call : agent.Call P × Entry = (agent.HandleTimeout now, moment.entry.outcome.entry) in
+      selected_parts side before part moment
+      ∙ (ap (λ xs. selected_along (selected_along (selected_along None earlier) here) xs) (called_is side moment now comes)
+      ∙ (sym (selected_both (selected_along None earlier) here (call ∷ [])) ∙ sym (selected_both None earlier (here ++ call ∷ []))))
 
   -- ---- the controlling side selects no path
 

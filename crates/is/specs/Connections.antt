@@ -8,15 +8,16 @@ use Rattle.is_pair.specs.Pairs.{PairRecord}
 use Rattle.is_rules.specs.declared.emitted.Path.{Path}
 use Rattle.is_rules.specs.Asked.{IsAlone}
 use Rattle.is_rules.specs.AskedCourses.{AcceptsSuccessOn}
-use Rattle.is_rules.specs.Progress.{HasAnnounced}
 use Rattle.is_rules.specs.Queue.{request_at}
 use Rattle.is_rules.specs.Reached.{IsInLine}
+use Rattle.is_rules.specs.Runs.{IsTopPath}
 use Rattle.is_rules.specs.Sending.{path_of}
 use Rattle.is_rules.specs.Steps as agent
 use Rattle.is.specs.declared.world.Side.{Side}
 use Rattle.is.specs.Deliveries.{Announces}
 use Rattle.is.specs.Grantings.{Occurrence, IsControlled, IsAskedOver, IsExchangedOver, MayEndAt, occurrences_in}
 use Rattle.is.specs.Selections.{Round, all_of, AreKept, MayEndInRounds, AreEnough, Checks}
+use Rattle.is.specs.Sides.{own_log}
 use Rattle.is.specs.World.{WorldRecord, InFlightRecord, Call, Deliver, Logged, Run, at, other}
 use Rattle.is.specs.WorldRoles.{IsNewAgent}
 
@@ -63,9 +64,9 @@ module _ {H P : Type 0} where
     -- `its`. If it sends checks on `its` in them, one that nominates is delivered on the reverse of the controlled side's path. The
     -- controlled side has rounds that suffice for a pair on its path. If it sends checks on it in them, one is answered. Both may
     -- happen at any time in the segment, and through NATs. A `handle_timeout` call of the controlled side that serves no early
-    -- request follows. By then the controlled side selected a path, if only one of its pairs uses this path's addresses, unless one
-    -- of its calls may have removed such a pair, or a candidate that the controlling side adds in its rounds one of `its`. This
-    -- holds whatever else happens.
+    -- request follows. By then the controlled side selected a path, and the one that it selected last is that of an eligible pair with
+    -- the greatest stored priority (`IsTopPath`), if only one of its pairs uses this path's addresses, unless one of its calls may have
+    -- removed such a pair, or a candidate that the controlling side adds in its rounds one of `its`. This holds whatever else happens.
     abbrev pub BothConnect : WorldRecord H P → Stream → List (Logged P) → Type 0
     BothConnect first s log =
         (last : WorldRecord H P) (t : Stream) (run : Run mac answers first s 0 log last t) (before part rest : List (Occurrence H P)) (moment : Occurrence H P)
@@ -78,6 +79,7 @@ module _ {H P : Type 0} where
         → ((r : Round H P) → Has (asked.first ∷ asked.later) r → IsAnswered mac side path part r)
         → moment.entry.event ≡ Call side (agent.HandleTimeout now) → moment.entry.outcome.entry.answer ≡ agent.Done → request_at now (at side moment.before) ≡ None
         → IsAlone (at side moment.behind) path
-        → (((x : Occurrence H P) × Has (before ++ (part ++ moment ∷ [])) x × Announces side x.entry) × HasAnnounced (at side moment.behind))
+        → (((x : Occurrence H P) × Has (before ++ (part ++ moment ∷ [])) x × Announces side x.entry)
+        × IsTopPath mac answers (own_log side [] (before ++ (part ++ moment ∷ []))) (at side moment.behind))
         ⊎ (((x : Occurrence H P) × Has (part ++ moment ∷ []) x × MayEndAt answers side path x)
         ⊎ MayEndInRounds answers (other side) its (asking.first ∷ asking.later))

@@ -12,8 +12,9 @@ use Rattle.is_rules.specs.Asked.{IsAlone}
 use Rattle.is_rules.specs.Asking.{AreNominatedOn}
 use Rattle.is_rules.specs.Delivery.{Sends}
 use Rattle.is_rules.specs.Emitted.{reversed}
-use Rattle.is_rules.specs.Progress.{Awaits, IsUnanswered, HasAnnounced}
+use Rattle.is_rules.specs.Progress.{Awaits, IsUnanswered}
 use Rattle.is_rules.specs.Queue.{request_at}
+use Rattle.is_rules.specs.Runs.{IsTopPath}
 use Rattle.is_rules.specs.Sending.{path_of}
 use Rattle.is_rules.specs.Steps as agent
 use Rattle.is.specs.declared.world.Side.{Side}
@@ -22,6 +23,7 @@ use Rattle.is.specs.Deliveries.{Announces}
 use Rattle.is.specs.Grantings.{Occurrence, HandedCheck, IsReturnedInTime, MayEndAt, occurrences_in}
 use Rattle.is.specs.Meetings.{IsMeeting}
 use Rattle.is.specs.Selections.{Round, all_of, state_after, AreKept, MayEndInRounds, AreEachPolled, AreEnough, Checks}
+use Rattle.is.specs.Sides.{own_log}
 use Rattle.is.specs.World.{WorldRecord, Call, Logged, Run, at, other}
 use Rattle.is.specs.WorldRoles.{IsFairWorld}
 
@@ -70,8 +72,9 @@ module _ {H P : Type 0} where
     -- that is controlled then, and `its` one of the other side: what one sends on its own arrives on the reverse of the other's. Next
     -- the controlling side has rounds for its path, and the network delivers on it. Then it selects a path by then. After that its
     -- pairs on this path are nominated, each side has rounds for its path, and the network delivers on both. A `handle_timeout`
-    -- call of the controlled side that serves no early request follows. By then this side selected a path, too, if only one of its
-    -- pairs uses the path's addresses. An exception is that an added candidate, or another call, may have removed the pair of a path.
+    -- call of the controlled side that serves no early request follows. By then this side selected a path, too, and the one that it
+    -- selected last is that of an eligible pair with the greatest stored priority (`IsTopPath`), if only one of its pairs uses the
+    -- path's addresses. An exception is that an added candidate, or another call, may have removed the pair of a path.
     abbrev pub BothSelect : WorldRecord H P → Stream → List (Logged P) → Type 0
     BothSelect first s log =
         (greater side : Side) (last : WorldRecord H P) (t : Stream) (run : Run mac answers first s 0 log last t) (meeting opening part rest : List (Occurrence H P))
@@ -84,6 +87,7 @@ module _ {H P : Type 0} where
         → moment.entry.event ≡ Call side (agent.HandleTimeout now) → moment.entry.outcome.entry.answer ≡ agent.Done → request_at now (at side moment.before) ≡ None
         → IsAlone (at side moment.behind) path
         → (SelectsIn (other side) opening ⊎ MayEndInRounds answers (other side) its (opens.first ∷ opens.later))
-        × ((SelectsIn side (meeting ++ (opening ++ (part ++ moment ∷ []))) × HasAnnounced (at side moment.behind))
+        × ((SelectsIn side (meeting ++ (opening ++ (part ++ moment ∷ [])))
+        × IsTopPath mac answers (own_log side [] (meeting ++ (opening ++ (part ++ moment ∷ [])))) (at side moment.behind))
         ⊎ (((x : Occurrence H P) × Has (part ++ moment ∷ []) x × MayEndAt answers side path x)
         ⊎ MayEndInRounds answers (other side) its (leads.rounds.first ∷ leads.rounds.later)))

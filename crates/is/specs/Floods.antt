@@ -34,7 +34,7 @@ module _ {H P : Type 0} where
   abbrev pub IsLimitedFor : Side → ℕ → List (Occurrence H P) → Type 0
   IsLimitedFor side most part = (z : Occurrence H P) → Has part z → (y : agent.Logged P) → Has (own_at side z) y → IsLimitedAt most (at side z.before) y
 
-  -- The side's limit on pairs is at most this one at each of its calls.
+  -- The side's limit on pairs is at most this one whenever it may form pairs.
   abbrev pub FormsFewFor : Side → ℕ → List (Occurrence H P) → Type 0
   FormsFewFor side limit part = (z : Occurrence H P) → Has part z → (y : agent.Logged P) → Has (own_at side z) y → FormsFewAt limit (at side z.before) y
 

@@ -1,6 +1,6 @@
--- How the controlled one of two agents selects a path: the other one nominates it, and its own check on it is answered (RFC 8445,
--- sections 7.2.5.3.2 and 7.3.1.5).
-use Rattle.std.specs.Prelude.{◌≡◌, ℕ, suc, ◌+◌, ◌<◌, ◌≤◌, ◌&&◌, Bool, true, false, List, [], ◌∷◌, ◌++◌, Option, Some, None, ◌⊎◌, if◌then◌else◌}
+-- What makes the controlled one of two agents select a path: the other one nominates it, and its own check on it is answered (RFC
+-- 8445, sections 7.2.5.3.2 and 7.3.1.5).
+use Rattle.std.specs.Prelude.{◌≡◌, ℕ, suc, ◌+◌, ◌<◌, ◌≤◌, ◌&&◌, Bool, true, false, List, [], ◌∷◌, ◌++◌, Option, Some, if◌then◌else◌}
 use Rattle.rand_core.specs.Stream.{Stream}
 use Rattle.is_proto.specs.Lists.{Has}
 use Rattle.is_proto.specs.Packets.{Packet}
@@ -8,21 +8,17 @@ use Rattle.is_candidate.specs.Candidates.{CandidateRecord}
 use Rattle.is_stun.specs.declared.header.Class.TheVariants.{Request, Success}
 use Rattle.is_rules.specs.declared.emitted.Path.{Path}
 use Rattle.is_rules.specs.Answers.{goes_back}
-use Rattle.is_rules.specs.Asked.{IsAlone}
 use Rattle.is_rules.specs.AskedCourses.{Ends}
 use Rattle.is_rules.specs.Asking.{AreNominatedOn}
 use Rattle.is_rules.specs.Delivery.{KnowEachOther, IsReachedBy, Sends}
 use Rattle.is_rules.specs.Issuing.{via_out}
 use Rattle.is_rules.specs.Pending.{is_check_on}
-use Rattle.is_rules.specs.Progress.{HasAnnounced}
-use Rattle.is_rules.specs.Queue.{request_at}
 use Rattle.is_rules.specs.Steps as agent
 use Rattle.is_rules.specs.Emitted.{reversed}
 use Rattle.is.specs.declared.world.Side.{Side}
 use Rattle.is.specs.declared.world.Side.TheVariants.{A, B}
-use Rattle.is.specs.Deliveries.{Announces, Hands}
+use Rattle.is.specs.Deliveries.{Hands}
 use Rattle.is.specs.World.{WorldRecord, Call, Outcome, Logged, Run, at, other}
-use Rattle.is.specs.WorldRoles.{IsNewAgent}
 
 -- a log entry, with the states of the network model before and after it
 pub record Occurrence (H P : Type 0) : Type 0 where
@@ -117,18 +113,3 @@ module _ {H P : Type 0} where
         → List (Occurrence H P)
     occurrences_in w s n [] last t run = []
     occurrences_in w s n (x ∷ rest) last t run = record { before = w; entry = x; behind = run.0 } ∷ occurrences_in run.0 run.1 (suc n) rest last t run.4
-
-    -- Two agents are newly created. In a segment of the log the peer nominates a path to the controlled side, and the controlled
-    -- side's own check on it is answered, in either order and at any time, also through NATs. A `handle_timeout` call of the
-    -- controlled side that serves no early request follows. By then it selected a path, if only one of its pairs uses this path's
-    -- addresses, unless one of its calls may have removed such a pair.
-    abbrev pub GrantedPathsAnnounce : WorldRecord H P → Stream → List (Logged P) → Type 0
-    GrantedPathsAnnounce first s log =
-        (last : WorldRecord H P) (t : Stream) (run : Run mac answers first s 0 log last t) (before part rest : List (Occurrence H P)) (moment : Occurrence H P)
-        (now : ℕ) (side : Side) (path : Path)
-        → ((x : Side) → IsNewAgent (at x first)) → occurrences_in first s 0 log last t run ≡ before ++ ((part ++ moment ∷ []) ++ rest)
-        → IsControlled side (part ++ moment ∷ []) → IsAskedOver mac side path part → IsExchangedOver mac side path part
-        → moment.entry.event ≡ Call side (agent.HandleTimeout now) → moment.entry.outcome.entry.answer ≡ agent.Done → request_at now (at side moment.before) ≡ None
-        → IsAlone (at side moment.behind) path
-        → (((x : Occurrence H P) × Has (before ++ (part ++ moment ∷ [])) x × Announces side x.entry) × HasAnnounced (at side moment.behind))
-        ⊎ ((x : Occurrence H P) × Has (part ++ moment ∷ []) x × MayEndAt answers side path x)

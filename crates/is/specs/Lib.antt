@@ -16,6 +16,7 @@ pub mod Meetings
 pub mod Connects
 pub mod Mirrors
 pub mod Sides
+pub mod Granted
 pub mod Floods
 pub mod Renominations
 pub mod WorldLaws
@@ -37,6 +38,7 @@ pub use Rattle.is_rules.specs.Accepting
 pub use Rattle.is_rules.specs.Serving
 pub use Rattle.is_rules.specs.Steps
 pub use Rattle.is_rules.specs.Logs
+pub use Rattle.is_rules.specs.Points
 pub use Rattle.is_rules.specs.Runs
 pub use Rattle.is_rules.specs.Progress
 pub use Rattle.is_rules.specs.Rounds

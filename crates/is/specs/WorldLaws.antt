@@ -8,7 +8,7 @@ use Rattle.is.specs.World.{WorldRecord, Logged, logged, IsWorldLog}
 use Rattle.is.specs.WorldRoles.{GreaterKeeps, LesserYieldsOnce, RolesDifferOnceMet}
 use Rattle.is.specs.Traces.{AnnouncedAreTraced}
 use Rattle.is.specs.Selections.{DeliveredRoundsAnnounce}
-use Rattle.is.specs.Grantings.{GrantedPathsAnnounce}
+use Rattle.is.specs.Granted.{GrantedPathsAnnounce}
 use Rattle.is.specs.Connections.{BothConnect}
 use Rattle.is.specs.Connects.{BothSelect}
 use Rattle.is.specs.Meetings.{RolesMeet}

@@ -143,8 +143,8 @@ pub fn run<H: Sha1HmacProvider + Drop, P: LocalPreference, R: Rng>(
     ensures bounded { IsFresh (record_of agent.old)
         → ListsAreBounded H.mac P.answers (record_of agent.old) (R.stream rng.old) (log_of calls.items result) }
 
-    // After each call there are at most as many pairs as the greatest limit on pairs that a call found (the first finds 100), plus
-    // the local candidates times the remote ones, whatever was received.
+    // After each call there are at most as many pairs as the greatest limit on pairs that was in force when a candidate was added or
+    // the pairs were re-created, plus the local candidates times the remote ones, whatever was received.
     ensures few { IsFresh (record_of agent.old)
         → PairsAreFew H.mac P.answers (record_of agent.old) (R.stream rng.old) (log_of calls.items result) }
 

@@ -17,7 +17,7 @@ ghost use Rattle.is.specs.WorldRoles.{GreaterKeeps, LesserYieldsOnce, RolesDiffe
 ghost use Rattle.is.specs.Traces.{AnnouncedAreTraced};
 ghost use Rattle.is.specs.Selections.{DeliveredRoundsAnnounce};
 ghost use Rattle.is.specs.Connections.{BothConnect};
-ghost use Rattle.is.specs.Grantings.{GrantedPathsAnnounce};
+ghost use Rattle.is.specs.Granted.{GrantedPathsAnnounce};
 ghost use Rattle.is.specs.Connects.{BothSelect};
 ghost use Rattle.is.specs.Meetings.{RolesMeet};
 ghost use Rattle.is.specs.Mirrors.{LonePathsMirror};
@@ -462,8 +462,9 @@ impl<H: Sha1HmacProvider + Drop, P: LocalPreference> TwoAgents<H, P> {
         // Progress of the controlled agent: the controlling agent checks a path whose pairs it nominated, and the check arrives on
         // the reverse of a path that the controlled agent checks. The network delivers the first check, the second, and its success
         // response, at any time while the second is pending, and through any NATs. Then the controlled agent selected a path by its
-        // next `handle_timeout` call that serves no early request. Precondition: only one of its pairs uses the path's
-        // addresses, and none of its calls may have removed such a pair.
+        // next `handle_timeout` call that serves no early request, and the path that it selected last is that of an eligible pair of
+        // greatest priority. Precondition: only one of its pairs uses the path's addresses, and none of its calls may have removed
+        // such a pair.
         ensures granted { GrantedPathsAnnounce H.mac P.answers (world_of self.old) (R.stream rng.old) (logged events.items result.entries.items) }
 
         // Progress of both: the controlling agent has a nominated pair, and the controlled agent a pair. Each has rounds that
@@ -494,7 +495,7 @@ impl<H: Sha1HmacProvider + Drop, P: LocalPreference> TwoAgents<H, P> {
         // many remote ones as the limit and its `add_remote_candidate` calls, and as many sources as the limit.
         ensures bounded { BothAreBounded H.mac P.answers (world_of self.old) (R.stream rng.old) (logged events.items result.entries.items) }
 
-        // Of pairs at most as many as the greatest limit on pairs that its calls found (the first finds 100), plus its local
+        // Of pairs at most as many as the greatest limit on pairs that was in force when it added a candidate, plus its local
         // candidates times its remote ones.
         ensures few { BothHaveFewPairs H.mac P.answers (world_of self.old) (R.stream rng.old) (logged events.items result.entries.items) }
 

@@ -62,7 +62,8 @@ pub(crate) fn delivered_rounds_announce<H: Sha1HmacProvider, P: LocalPreference>
 }
 
 /// If the peer nominates a path to the controlled agent, and the agent's own check on it is answered, a path is selected by its
-/// next `handle_timeout` call that serves no early request, unless a pair of the path may have been removed.
+/// next `handle_timeout` call that serves no early request, and the last one is that of an eligible pair of greatest priority,
+/// unless a pair of the path may have been removed.
 pub(crate) fn granted_paths_announce<H: Sha1HmacProvider, P: LocalPreference>()
     ensures { GrantingsLaw H.mac P.answers }
 {

@@ -68,7 +68,8 @@ impl<H: Sha1HmacProvider + Drop, P: LocalPreference> Agent<H, P> {
     /// At the limit an unknown sender replaces the first such candidate that has no pair. If each has one, its request is
     /// dropped without a response. A known sender is always served. A response counts as ever at the limit, and its mapped
     /// address is left out. At most as many sources are remembered for `DiscoveredRecv`: the newest ones. No such event is
-    /// emitted while as many events wait to be polled. Set it before the first packet: what is there already stays.
+    /// emitted while as many events wait to be polled. Set it before the first packet and the first timeout: what is there
+    /// already stays.
     pub fn set_max_discovered(&mut self, limit: Option<usize>)
         ensures { record_of self.new ≡ record (record_of self.old) { max_discovered = limit } }
     {

@@ -14,13 +14,14 @@ use Rattle.is_stun.specs.declared.timing.StunTiming.{StunTiming}
 use Rattle.is_stun.specs.Message.{Message}
 use Rattle.is_stun.specs.Reading.{Reads}
 use Rattle.is_rules.specs.Agent.{AgentRecord}
-use Rattle.is_rules.specs.AskedCourses.{AnnouncesAlong, SuccessesSelect}
+use Rattle.is_rules.specs.AskedCourses.{selected_along, AnnouncesAlong, SuccessesSelect}
 use Rattle.is_rules.specs.Courses.{CourseRound, AcceptsSuccess, AnnouncesAmong, ControlsAlong, CourseRounds}
 use Rattle.is_rules.specs.declared.emitted.Path.{Path}
 use Rattle.is_rules.specs.Effects.{last_of}
 use Rattle.is_rules.specs.Exchange.{AreBetween, Course}
 use Rattle.is_rules.specs.Polls.{PollsTimeout}
-use Rattle.is_rules.specs.Progress.{Awaits, IsUnanswered, HasAnnounced}
+use Rattle.is_rules.specs.Points.{HasAnnounced}
+use Rattle.is_rules.specs.Progress.{Awaits, IsUnanswered}
 use Rattle.is_rules.specs.Reached.{IsInLine}
 use Rattle.is_rules.specs.ReachedCourses.{IsPassed, ChecksAmong, CoursesCheck}
 use Rattle.is_rules.specs.Rounds.{is_between}
@@ -103,7 +104,7 @@ module _ {H P : Type 0} where
           → NoneValid old.pairs → Step mac answers old s (ReceivePacket now via bytes) e new t → new.controlling ≡ true → Reads bytes m → e.answer ≡ Flag true → m.class ≡ class.Success
           → Selects (ReceivePacket now via bytes) e
       selects now via bytes e m old new s t zs led none step role reads flag success = ((now, via, m, (refl, refl, reads, flag), success), of-said said.0) where
-        said : AnnouncesAlong {P = P} ([] ++ (ReceivePacket now via bytes, e) ∷ []) × HasAnnounced new
+        said : AnnouncesAlong {P = P} ([] ++ (ReceivePacket now via bytes, e) ∷ []) × HasAnnounced (selected_along None (zs ++ ([] ++ (ReceivePacket now via bytes, e) ∷ []))) new
         said = select first old old new zs [] s t now via bytes e m fresh led none refl step (refl, refl, reads, flag) success role
 
         of-said : AnnouncesAlong {P = P} ((ReceivePacket now via bytes, e) ∷ []) → is_some (last_of e.emitted.announced) ≡ true

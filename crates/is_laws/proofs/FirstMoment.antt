@@ -22,9 +22,8 @@ use Rattle.is_rules.specs.Nominating.{followed, is_eligible, nominated_by_self, 
 use Rattle.is_rules.specs.Progress.{ChecksOn}
 use Rattle.is_rules.specs.Sending.{path_of}
 use Rattle.is_rules.specs.Timeouts.{at_moment, is_given_up, given_up_gone, GivesUp, MaintainsPairs}
-use Rattle.is_rules.proofs.Choosing.{chosen-able}
+use Rattle.is_rules.proofs.Choosing.{chosen-able, none_pass}
 use Rattle.is_rules.proofs.Frames.{either}
-use Rattle.is_rules.proofs.LogLaws.{none_pass}
 use Rattle.is_rules.proofs.Mild.{Fixed}
 use Rattle.is_rules.proofs.Moves.{Has-map}
 use Rattle.is_rules.proofs.Moving.{fixed-is, same-path, next-check}

@@ -1,7 +1,7 @@
 -- Renomination in executions of one agent that may share its random source. The preconditions that refused/laws changes are read by
 -- tactics where they are used: if one of them is weaker, that goal stays unproved.
-use Rattle.std.proofs.Common.{◌≡◌, ℕ, ◌<◌, ◌≤◌, ◌&&◌, ◌||◌, Bool, true, false, not, List, [], ◌∷◌, ◌++◌, Option, Some, None, inl, inr, ◌⊎◌, refl, ap, sym, ◌∙◌, subst, arith, if◌then◌else◌}
-use Rattle.std.specs.Option.{option_and_then, option_or}
+use Rattle.std.proofs.Common.{◌≡◌, ℕ, ◌&&◌, ◌||◌, true, false, not, List, [], ◌∷◌, ◌++◌, Option, Some, None, inl, inr, ◌⊎◌, refl, ap, sym, ◌∙◌, subst, if◌then◌else◌}
+use Rattle.std.specs.Option.{option_and_then}
 use Rattle.rand_core.specs.Stream.{Stream}
 use Rattle.is_proto.specs.Lists.{Has}
 use Rattle.is_candidate.specs.Candidates.{CandidateRecord}
@@ -11,10 +11,10 @@ use Rattle.is_rules.specs.declared.emitted.Path.{Path}
 use Rattle.is_rules.specs.Agent.{AgentRecord}
 use Rattle.is_rules.specs.Answers.{goes_back}
 use Rattle.is_rules.specs.Asked.{IsAlone, Joins}
-use Rattle.is_rules.specs.AskedCourses.{AcceptsSuccessOn, Ends, EndsAlong, IsAnsweredAlong}
+use Rattle.is_rules.specs.AskedCourses.{selected_along, AcceptsSuccessOn, Ends, EndsAlong, IsAnsweredAlong}
 use Rattle.is_rules.specs.Asking.{AreNominatedOn, Grants}
 use Rattle.is_rules.specs.Checking.{check_sent}
-use Rattle.is_rules.specs.Effects.{PathEffect, clears, last_of}
+use Rattle.is_rules.specs.Effects.{PathEffect}
 use Rattle.is_rules.specs.Exchange.{Course}
 use Rattle.is_rules.specs.Issuing.{via_out}
 use Rattle.is_rules.specs.Logs.{Logged}
@@ -26,17 +26,17 @@ use Rattle.is_rules.specs.Sound.{IsSound, GivesBased}
 use Rattle.is_rules.specs.Steps.{Call, Entry, HandleTimeout, Step}
 use Rattle.is_rules.proofs.Addresses.{both}
 use Rattle.is_rules.proofs.Announcing.{nominated-eligible}
-use Rattle.is_rules.proofs.AskedCourses.{course_on}
+use Rattle.is_rules.proofs.AskedCourses.{course_on, names-from}
 use Rattle.is_rules.proofs.AskedLaws.{back-on}
 use Rattle.is_rules.proofs.Choosing.{named-by, no-some}
 use Rattle.is_rules.proofs.EffectLaws.{path_law, trade_law}
 use Rattle.is_rules.proofs.KeptChecks.{Checks, checks-as, number_same}
+use Rattle.is_rules.proofs.NamedPairs.{IsNamed}
 use Rattle.is_rules.proofs.NumberLemmas.{numbered-found}
-use Rattle.is_rules.proofs.PathLaws.{below_is}
 use Rattle.is_rules.proofs.Serves.{Has-mapped}
 use Rattle.is_rules.proofs.StayLaws.{pairs-stay}
 use Rattle.is_rules.proofs.Staying.{sound-course}
-use Rattle.is_laws.specs.RenominatingCourses.{selected_along, GrantsLastAlong, GrantsOnlyAlong, LastGrantedAreLast, NominatedAreLast}
+use Rattle.is_laws.specs.RenominatingCourses.{GrantsLastAlong, GrantsOnlyAlong, LastGrantedAreLast, NominatedAreLast}
 use Rattle.is_laws.specs.Shared.{IsNew}
 use Rattle.is_laws.proofs.LastNominated.{IsRecordedOn, Records, records-by}
 use Rattle.is_laws.proofs.OnePath.{selects-followed}
@@ -46,16 +46,9 @@ abbrev logged_once : {P : Type 0} → Call P → Entry → Logged P
 logged_once call e = record { number = 0; call = call; entry = e }
 
 module _ {H P : Type 0} where
-  -- `selected_pair` names a pair on this path
-  abbrev IsNamed : Option Path → AgentRecord H P → Type 0
-  IsNamed path a = (p : PairRecord) → Has a.pairs p → a.selected_pair ≡ Some p.number → path ≡ Some (path_of a p)
-
   -- a pair of the path's addresses is valid
   abbrev IsValidAt : Path → AgentRecord H P → Type 0
   IsValidAt path a = (p : PairRecord) × Has a.pairs p × (is_valid p ≡ true) × Joins a path p
-
-  names-new : (a : AgentRecord H P) → IsNew a → IsNamed None a
-  names-new a (creds, tie, role, is) = subst (λ (x : AgentRecord H P). IsNamed None x) (sym is) (λ p has. absurd has)
 
   module _ (mac : H → List ℕ → List ℕ → List ℕ) (answers : P → CandidateRecord → ℕ → ℕ → Type 0) where
     new-sound : (a : AgentRecord H P) → IsNew a → IsSound a
@@ -63,39 +56,8 @@ module _ {H P : Type 0} where
 
     -- ---- the path that was selected last
 
-    names-next : (old new : AgentRecord H P) (s t : Stream) (call : Call P) (e : Entry) (path : Option Path) → IsSound old → GivesBased call → Step mac answers old s call e new t
-        → IsNamed path old → IsNamed (option_or (last_of e.emitted.announced) (if clears call e.answer then None else path)) new
-    names-next old new s t call e path sound based step was = by (last_of e.emitted.announced) refl where
-      f : PathEffect mac old call e new
-      f = (path_law mac answers old new s t call e sound based step).0
-
-      below : (n : ℕ) → old.selected_pair ≡ Some n → n < old.next_number
-      below n is = below_is old.next_number n old.selected_pair sound.announced is
-
-      later : {A : Type 0} → (p : PairRecord) → old.selected_pair ≡ Some p.number → old.next_number ≤ p.number → A
-      later p named le = let lt : p.number < old.next_number = below p.number named in absurd (let none : ⊥ = omega (arith, lt, le) in none)
-
-      stands : (b : Bool) → clears call e.answer ≡ b → (p : PairRecord) → Has new.pairs p → old.selected_pair ≡ Some p.number → (if b then None else path) ≡ Some (path_of new p)
-      stands true is p has named = later p named (f.cleared_pairs is p has).0
-      stands false is p has named = elim (f.numbers p has) [
-        | inl (q, there, number, same, valid, nominated) ↦ was q there (named ∙ ap Some (sym number)) ∙ ap Some same
-        | inr n ↦ later p named n.0
-      ]
-
-      by : (o : Option Path) → last_of e.emitted.announced ≡ o → IsNamed (option_or o (if clears call e.answer then None else path)) new
-      by (Some one) is p has named = ap Some (sym (f.number_names one is p has named).0)
-      by None is p has named = stands (clears call e.answer) refl p has (sym (f.number_stays is) ∙ named)
-
-    names-along : (xs : List (Call P × Entry)) (old new : AgentRecord H P) (path : Option Path) → IsSound old → Course mac answers xs old new → IsNamed path old
-        → IsNamed (selected_along path xs) new
-    names-along [] old new path sound is was = subst (λ (a : AgentRecord H P). IsNamed path a) (sym is) was
-    names-along (x ∷ rest) old new path sound (mid, s, t, based, step, more) was =
-        names-along rest mid new (option_or (last_of x.1.emitted.announced) (if clears x.0 x.1.answer then None else path))
-        (path_law mac answers old mid s t x.0 x.1 sound based step).1 more (names-next old mid s t x.0 x.1 path sound based step was)
-
-    -- the same from a new agent on
     names : (xs : List (Call P × Entry)) (first last : AgentRecord H P) → IsNew first → Course mac answers xs first last → IsNamed (selected_along None xs) last
-    names xs first last new course = names-along xs first last None (new-sound first new) course (names-new first new)
+    names xs first last new course = names-from mac answers xs first last (new-sound first new) (ap (λ (a : AgentRecord H P). a.pairs) new.3) course
 
     -- ---- the controlling agent
 
@@ -120,7 +82,7 @@ module _ {H P : Type 0} where
               let named : is_named_by sent.selected_pair after ≡ true =
               subst (λ r. (not r || is_named_by sent.selected_pair after) ≡ true) renominates
               (both (is_nominated after) (not sent.renominates || is_named_by sent.selected_pair after) stays).1 in
-              names (before ++ (HandleTimeout now, moment) ∷ []) first sent new whole after there (named-by sent.selected_pair after named) ∙ ap Some on
+              (names (before ++ (HandleTimeout now, moment) ∷ []) first sent new whole after there (named-by sent.selected_pair after named)).2 ∙ ap Some on
 
     -- ---- the controlled agent
 
@@ -254,7 +216,7 @@ module _ {H P : Type 0} where
               let one : w.0 ≡ r.0 = one_pair w.0 r.0 w.1 r.1 w.3 (ap (λ (z : Path). z.source) r.3, ap (λ (z : Path). z.destination) r.3) in
               let valid : is_valid r.0 ≡ true = subst (λ (p : PairRecord). is_valid p ≡ true) one w.2 in
               let selected = selected-is path last r.0 law.1 renominates role r.1 r.2 valid r.4 (law.0.points (done, idle)) in
-              inl (names (before ++ (xs ++ (HandleTimeout now, moment) ∷ [])) first last new whole r.0 r.1 selected ∙ ap Some r.3)
+              inl ((names (before ++ (xs ++ (HandleTimeout now, moment) ∷ [])) first last new whole r.0 r.1 selected).2 ∙ ap Some r.3)
 
           at_moment : IsSound near → IsRecordedOn near path → IsValidAt path near → Said
           at_moment sound r w =

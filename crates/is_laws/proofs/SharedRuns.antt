@@ -12,8 +12,8 @@ use Rattle.is_rules.specs.Sound.{IsSound}
 use Rattle.is_rules.proofs.BoundFrames.{lists_of}
 use Rattle.is_rules.proofs.BoundLaws.{bounds}
 use Rattle.is_rules.proofs.BoundLists.{Within, fits-none, is_own}
-use Rattle.is_rules.proofs.CellLaws.{steps}
-use Rattle.is_rules.proofs.CellSteps.{Fewer, own_at, surplus}
+use Rattle.is_rules.proofs.CellLaws.{Stays, steps}
+use Rattle.is_rules.proofs.CellSteps.{own_at, surplus}
 use Rattle.is_rules.proofs.Cells.{cell_of, cells, extras-length, owned, pairs-in-grid}
 use Rattle.is_rules.proofs.EffectLaws.{path_law}
 use Rattle.is_rules.proofs.RefusalLaws.{fresh_sound}
@@ -72,10 +72,11 @@ module _ {H P : Type 0} (mac : H → List ℕ → List ℕ → List ℕ) (answer
   few_extras limit first last [] (creds, tie, role, is) run few =
       subst (λ (a : AgentRecord H P). surplus a ≤ limit) (sym (run ∙ is)) (omega arith)
   few_extras limit first last (x ∷ before) new (mid, s, t, run, based, step) (here, earlier) =
-      by (steps mac answers mid last s t x.entry (sound_run first mid before new run) x.call step) (few_extras limit first mid before new run earlier) (search here) where
-        by : Fewer mid last ⊎ (length last.pairs ≤ mid.max_pairs) → surplus mid ≤ limit → mid.max_pairs ≤ limit → surplus last ≤ limit
-        by (inl fewer) was most = omega (arith, fewer, was)
-        by (inr formed) was most =
+      by (steps mac answers mid last s t x.entry (sound_run first mid before new run) x.call step) (few_extras limit first mid before new run earlier) here where
+        by : Stays x.call mid last → surplus mid ≤ limit → FormsFewAt limit mid x → surplus last ≤ limit
+        by (inl fewer) was few_at = omega (arith, fewer, was)
+        by (inr (forms, formed)) was few_at =
+            let most : mid.max_pairs ≤ limit = search (few_at forms) in
             let all : length (cells last.pairs) ≡ length last.pairs = length-map last.pairs cell_of in
             let some = extras-length (own_at last.local) (cells last.pairs) in
             omega (arith, formed, most, all, some)

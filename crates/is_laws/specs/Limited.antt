@@ -2,7 +2,7 @@
 use Rattle.std.specs.Prelude.{◌≡◌, ℕ, ◌+◌, ◌*◌, ◌≤◌, true, List, length}
 use Rattle.is_candidate.specs.Candidates.{CandidateRecord}
 use Rattle.is_rules.specs.Agent.{AgentRecord}
-use Rattle.is_rules.specs.Bounds.{gathered_count, IsBounded, IsWithin, may_serve, signal_count}
+use Rattle.is_rules.specs.Bounds.{gathered_count, IsBounded, IsWithin, may_form, may_serve, signal_count}
 use Rattle.is_rules.specs.Logs.{Logged}
 use Rattle.is_laws.specs.Shared.{IsNew, SharedRun, BeforeEach}
 use Rattle.is_laws.specs.Waiting.{discovery_count}
@@ -12,9 +12,9 @@ module _ {H P : Type 0} where
   abbrev pub IsLimitedAt : ℕ → AgentRecord H P → Logged P → Type 0
   IsLimitedAt most a x = may_serve x.call ≡ true → IsWithin most a.max_discovered
 
-  -- The limit on pairs is at most this one.
+  -- The limit on pairs is at most this one if pairs may be formed.
   abbrev pub FormsFewAt : ℕ → AgentRecord H P → Logged P → Type 0
-  FormsFewAt limit a x = a.max_pairs ≤ limit
+  FormsFewAt limit a x = may_form x.call ≡ true → a.max_pairs ≤ limit
 
   module _ (mac : H → List ℕ → List ℕ → List ℕ) (answers : P → CandidateRecord → ℕ → ℕ → Type 0) where
     -- At most as many candidates of each side as the limit and the caller's together, and at most as many sources as the limit.

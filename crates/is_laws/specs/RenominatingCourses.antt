@@ -1,7 +1,6 @@
 -- Renomination in executions of one agent that may share its random source, as each of two agents does: what the controlling agent
 -- nominated last is what it selected last, and so it is with what the controlled agent was nominated last.
-use Rattle.std.specs.Prelude.{◌≡◌, ℕ, ◌⊎◌, true, false, List, [], ◌∷◌, ◌++◌, Option, None, Some, if◌then◌else◌}
-use Rattle.std.specs.Option.{option_or}
+use Rattle.std.specs.Prelude.{◌≡◌, ℕ, ◌⊎◌, true, false, List, [], ◌∷◌, ◌++◌, None, Some}
 use Rattle.rand_core.specs.Stream.{Stream}
 use Rattle.is_proto.specs.Packets.{Packet}
 use Rattle.is_candidate.specs.Candidates.{CandidateRecord}
@@ -9,20 +8,14 @@ use Rattle.is_stun.specs.declared.header.Class.TheVariants.{Request}
 use Rattle.is_rules.specs.declared.emitted.Path.{Path}
 use Rattle.is_rules.specs.Agent.{AgentRecord}
 use Rattle.is_rules.specs.Asked.{IsAlone}
-use Rattle.is_rules.specs.AskedCourses.{Ends, EndsAlong, IsAnsweredAlong}
+use Rattle.is_rules.specs.AskedCourses.{selected_along, Ends, EndsAlong, IsAnsweredAlong}
 use Rattle.is_rules.specs.Asking.{AreNominatedOn, Grants}
 use Rattle.is_rules.specs.Delivery.{Sends}
-use Rattle.is_rules.specs.Effects.{clears, last_of}
 use Rattle.is_rules.specs.Exchange.{Course}
 use Rattle.is_rules.specs.Issuing.{via_out}
 use Rattle.is_rules.specs.Queue.{request_at}
 use Rattle.is_rules.specs.Steps.{Call, Entry, HandleTimeout, Done, Step}
 use Rattle.is_laws.specs.Shared.{IsNew}
-
--- the path that was selected last since the last clear, if it was this one before these calls
-abbrev pub selected_along : {P : Type 0} → Option Path → List (Call P × Entry) → Option Path
-selected_along path [] = path
-selected_along path (x ∷ rest) = selected_along (option_or (last_of x.1.emitted.announced) (if clears x.0 x.1.answer then None else path)) rest
 
 module _ {H P : Type 0} (mac : H → List ℕ → List ℕ → List ℕ) (answers : P → CandidateRecord → ℕ → ℕ → Type 0) where
   -- ---- the controlling agent

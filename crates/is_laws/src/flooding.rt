@@ -24,8 +24,8 @@ pub fn lists_stay_bounded<H: Sha1HmacProvider, P: LocalPreference>()
     ensures { ListsStayBounded H.mac P.answers }
 {}
 
-/// From a newly created agent: at most as many pairs as the greatest limit on pairs, which is 100 at first, plus the local candidates
-/// times the remote ones.
+/// From a newly created agent: at most as many pairs as the greatest limit on pairs that was in force when a candidate was added or
+/// the pairs were re-created, plus the local candidates times the remote ones.
 pub fn pairs_stay_few<H: Sha1HmacProvider, P: LocalPreference>()
     ensures { PairsStayFew H.mac P.answers }
 {}

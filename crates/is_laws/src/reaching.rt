@@ -16,10 +16,10 @@ pub fn open_courses_reach<H: Sha1HmacProvider, P: LocalPreference>()
     pairs_are_reached::<H, P>();
 }
 
-/// From a newly created agent: a pair is due by a `handle_timeout` call. If it is the only pair, a check is sent on its path in this
-/// call. Otherwise it is sent in the call's round, or in one of 2m - 1 later ones, and one more for each pair that is added in
-/// these, unless a success response is received on the path in one of them, or a candidate that is added in them may remove a
-/// pair of the path. Here m is the number of pairs when the second call comes.
+/// From a newly created agent: a pair is due by a `handle_timeout` call. Then a check is sent on its path in this call's round, or in
+/// one of 2m - 1 later ones, and one more for each pair that is added in these. If the pair is the only one, the call's round
+/// suffices. The exceptions are that a success response is received on the path in one of these rounds, or that a candidate that is
+/// added in them may remove a pair of the path. Here m is the number of pairs when the second call comes.
 pub fn reached_from_due<H: Sha1HmacProvider, P: LocalPreference>()
     ensures { PairsAreReachedFromDue H.mac P.answers }
 {

@@ -1,39 +1,24 @@
 -- An accepted success response selects a path, if no pair was valid before.
-use Rattle.std.proofs.Common.{◌≡◌, ℕ, ◌<◌, ◌≤◌, ◌==◌, true, false, List, [], ◌∷◌, Option, Some, None, is_some, inl, inr, refl, ap, sym, ◌∙◌, subst, arith}
-use Rattle.std.specs.Option.{option_map_or}
-use Rattle.std.proofs.lemmas.Bool.{eqb-true}
+use Rattle.std.proofs.Common.{◌≡◌, ℕ, true, false, List, Option, Some, None, is_some, refl, sym, ◌∙◌, subst}
 use Rattle.rand_core.specs.Stream.{Stream}
 use Rattle.is_proto.specs.Lists.{Has}
 use Rattle.is_candidate.specs.Candidates.{CandidateRecord}
 use Rattle.is_pair.specs.Pairs.{PairRecord, is_valid}
-use Rattle.is_pair.specs.Bag.{is_numbered, pair_numbered}
 use Rattle.is_rules.specs.declared.emitted.Path.{Path}
 use Rattle.is_rules.specs.Agent.{AgentRecord}
-use Rattle.is_rules.specs.Nominating.{is_eligible, stands_at, followed, remains, selection_of}
+use Rattle.is_rules.specs.Nominating.{is_eligible, followed, remains, selection_of}
 use Rattle.is_rules.specs.Sound.{IsSound}
 use Rattle.is_rules.specs.Points.{IsTopAnnounced}
 use Rattle.is_rules.specs.Effects.{last_of, PathEffect}
 use Rattle.is_rules.specs.Logs.{Logged}
 use Rattle.is_rules.specs.Runs.{IsFresh, Run, Point}
 use Rattle.is_rules.specs.Rounds.{BringsSuccess, AnnouncesIn}
-use Rattle.is_rules.proofs.Choosing.{chosen-able, chosen-none, found-in, named-by}
-use Rattle.is_rules.proofs.PathLaws.{below_is}
+use Rattle.is_rules.proofs.Choosing.{chosen-able, chosen-none, named-by, none_pass}
 use Rattle.is_rules.proofs.EffectLaws.{path_law}
-use Rattle.is_rules.proofs.LogLaws.{none_pass, runs_sound}
+use Rattle.is_rules.proofs.LogLaws.{holds, runs_sound}
+use Rattle.is_rules.proofs.NamedPairs.{stands-with, was-named}
 use Rattle.is_rules.proofs.Arriving.{NoneValid}
 use Rattle.is_rules.proofs.Announcing.{eligible, point-of, answers-announce}
-use Rattle.is_rules.proofs.LogParts.{no-case}
-
--- ---- the pair that `selected_pair` names
-
-pub named-at : (announced : Option ℕ) (priority : ℕ) (pairs : List PairRecord) → stands_at announced priority pairs ≡ true
-    → (p : PairRecord) × Has pairs p × (announced ≡ Some p.number)
-named-at None priority pairs h = no-case h
-named-at (Some n) priority pairs h = by (pair_numbered n pairs) refl h where
-  by : (o : Option PairRecord) → pair_numbered n pairs ≡ o → option_map_or (λ (p : PairRecord). p.priority == priority) o false ≡ true
-      → (p : PairRecord) × Has pairs p × (Some n ≡ Some p.number)
-  by None is k = no-case k
-  by (Some p) is k = let f = found-in (is_numbered n) pairs p is in (p, f.0, ap Some (sym (eqb-true p.number n f.1)))
 
 module _ {H P : Type 0} where
   -- if a pair is eligible, `selected_pair` names one
@@ -43,7 +28,7 @@ module _ {H P : Type 0} where
       absurd (none_pass (is_eligible a.controlling) a.pairs q (chosen-none a.controlling (followed a) (selection_of a) none) has able)
   one-named a q has able (Some best, chosen, stands) = by (followed a) refl where
     by : (o : Option ℕ) → followed a ≡ o → (p : PairRecord) × Has a.pairs p × (a.selected_pair ≡ Some p.number)
-    by None none = named-at a.selected_pair best.priority a.pairs (subst (λ f. remains f best (selection_of a) ≡ true) none stands)
+    by None none = let k = stands-with best.priority a (subst (λ f. remains f best (selection_of a) ≡ true) none stands) in (k.0, k.1, k.2)
     by (Some n) follows = (
       best,
       (chosen-able a.controlling (followed a) (selection_of a) best chosen).0,
@@ -54,28 +39,10 @@ module _ {H P : Type 0} where
     module _ (first : AgentRecord H P) (s : Stream) (log : List (Logged P)) (fresh : IsFresh first) where
       -- ---- an accepted success response selects
 
-      named-on : (mid last : AgentRecord H P) (x : Logged P) → PathEffect mac mid x.call x.entry last → IsSound mid
-          → ((p : PairRecord) → Has mid.pairs p → mid.selected_pair ≡ Some p.number → is_valid p ≡ true)
-          → (o : Option Path) → last_of x.entry.emitted.announced ≡ o → (p : PairRecord) → Has last.pairs p → last.selected_pair ≡ Some p.number → is_valid p ≡ true
-      named-on mid last x f sound were (Some path) is p has named = (f.number_names path is p has named).1
-      named-on mid last x f sound were None is p has named =
-          let was : mid.selected_pair ≡ Some p.number = sym (f.number_stays is) ∙ named in
-          elim (f.numbers p has) [
-            | inl (q, there, number, path, valid, nominated) ↦ valid (were q there (was ∙ ap Some (sym number)))
-            | inr n ↦
-                (let lt : p.number < mid.next_number = below_is mid.next_number p.number mid.selected_pair sound.announced was in
-                let le : mid.next_number ≤ p.number = n.0 in
-                absurd (let no : ⊥ = omega (arith, lt, le) in no))
-          ]
-
       -- `selected_pair` names no pair that is not valid
       named-valid : (before : List (Logged P)) (last : AgentRecord H P) (t : Stream) → Run mac answers first s before last t
           → (p : PairRecord) → Has last.pairs p → last.selected_pair ≡ Some p.number → is_valid p ≡ true
-      named-valid [] last t run p has named = absurd (subst (λ (a : AgentRecord H P). Has a.pairs p) (run.0 ∙ fresh.2) has)
-      named-valid (x ∷ before) last t (mid, u, run, number, based, step) p has named =
-          let sound = runs_sound mac answers (path_law mac answers) first mid s u before fresh run in
-          let f = (path_law mac answers mid last u t x.call x.entry sound based step).0 in
-          named-on mid last x f sound (named-valid before mid u run) (last_of x.entry.emitted.announced) refl p has named
+      named-valid before last t run p has named = ((holds mac answers (path_law mac answers) first s fresh before last t run).named p has named).0
 
       -- if no pair was valid, a pair that `selected_pair` names was selected now
       named-now : (mid after : AgentRecord H P) (x : Logged P) → PathEffect mac mid x.call x.entry after → IsSound mid → NoneValid mid.pairs
@@ -83,15 +50,8 @@ module _ {H P : Type 0} where
           → (o : Option Path) → last_of x.entry.emitted.announced ≡ o → (p : PairRecord) → Has after.pairs p → after.selected_pair ≡ Some p.number → is_some o ≡ true
       named-now mid after x f sound none were (Some path) is p has named = refl
       named-now mid after x f sound none were None is p has named =
-          let was : mid.selected_pair ≡ Some p.number = sym (f.number_stays is) ∙ named in
-          elim (f.numbers p has) [
-            | inl (q, there, number, path, valid, nominated) ↦
-                (let no : false ≡ true = sym (none q there) ∙ were q there (was ∙ ap Some (sym number)) in no)
-            | inr n ↦
-                (let lt : p.number < mid.next_number = below_is mid.next_number p.number mid.selected_pair sound.announced was in
-                let le : mid.next_number ≤ p.number = n.0 in
-                absurd (let no : ⊥ = omega (arith, lt, le) in no))
-          ]
+          let w = was-named mac mid after x.call x.entry f sound is p has named in
+          let no : false ≡ true = sym (none w.0.0 w.0.1) ∙ were w.0.0 w.0.1 w.1 in no
 
       pub announces-at : (before part : List (Logged P)) (mid after : AgentRecord H P) (x : Logged P) → Point mac answers first s log before mid x after
           → NoneValid mid.pairs → after.controlling ≡ true → BringsSuccess x → Has part x → AnnouncesIn mac answers first s log part

@@ -1,5 +1,6 @@
 -- If a path was nominated and answered in a per-agent execution, the next `handle_timeout` call selects it.
-use Rattle.std.proofs.Common.{◌≡◌, ℕ, Bool, true, false, List, [], ◌∷◌, ◌++◌, Option, Some, None, is_some, inl, inr, ◌⊎◌, refl, ap, sym, ◌∙◌, subst}
+use Rattle.std.proofs.Common.{◌≡◌, ℕ, Bool, true, false, List, [], ◌∷◌, ◌++◌, Option, Some, None, is_some, inl, inr, ◌⊎◌, refl, ap, sym, ◌∙◌, subst, if◌then◌else◌}
+use Rattle.std.specs.Option.{option_or}
 use Rattle.rand_core.specs.Stream.{Stream}
 use Rattle.is_proto.specs.Lists.{Has}
 use Rattle.is_candidate.specs.Candidates.{CandidateRecord}
@@ -11,32 +12,43 @@ use Rattle.is_rules.specs.declared.emitted.Path.{Path}
 use Rattle.is_rules.specs.Agent.{AgentRecord}
 use Rattle.is_rules.specs.Answers.{goes_back}
 use Rattle.is_rules.specs.Asked.{Joins}
-use Rattle.is_rules.specs.AskedCourses.{AcceptsSuccessOn, AnnouncesAlong, Ends, EndsAlong, GrantsAlong, GrantedAreAnnounced}
+use Rattle.is_rules.specs.AskedCourses.{selected_along, AcceptsSuccessOn, AnnouncesAlong, Ends, EndsAlong, GrantsAlong, GrantedAreAnnounced}
 use Rattle.is_rules.specs.Asking.{Grants}
-use Rattle.is_rules.specs.Effects.{PathEffect, last_of}
+use Rattle.is_rules.specs.Effects.{PathEffect, clears, last_of}
 use Rattle.is_rules.specs.Exchange.{Course}
-use Rattle.is_rules.specs.Nominating.{is_eligible}
-use Rattle.is_rules.specs.Points.{IsTopAnnounced}
-use Rattle.is_rules.specs.Progress.{HasAnnounced}
+use Rattle.is_rules.specs.Points.{HasAnnounced}
 use Rattle.is_rules.specs.Sending.{path_of}
 use Rattle.is_rules.specs.Sound.{IsSound, GivesBased}
 use Rattle.is_rules.specs.Staying.{Stays}
 use Rattle.is_rules.specs.Steps.{Call, Entry, HandleTimeout, Step}
 use Rattle.is_rules.specs.Emitted.{issued_as}
 use Rattle.is_rules.proofs.Addresses.{both}
-use Rattle.is_rules.proofs.Announced.{one-named}
 use Rattle.is_rules.proofs.Announcing.{nominated-eligible}
 use Rattle.is_rules.proofs.AskedLaws.{back-on, uses-too}
+use Rattle.is_rules.proofs.Choosing.{no-some}
 use Rattle.is_rules.proofs.EffectLaws.{path_law}
+use Rattle.is_rules.proofs.NamedPairs.{IsNamed, names-best, names-next}
 use Rattle.is_rules.proofs.RefusalLaws.{fresh_sound}
 use Rattle.is_rules.proofs.StayLaws.{pairs-stay}
 use Rattle.is_rules.proofs.Staying.{sound-course}
 
-module _ {H P : Type 0} where
-  -- `selected_pair` names a pair, if one is eligible
-  named : (a : AgentRecord H P) (q : PairRecord) → Has a.pairs q → is_eligible a.controlling q ≡ true → IsTopAnnounced a → (n : ℕ) × (a.selected_pair ≡ Some n)
-  named a q has able top = let k = one-named a q has able top in (k.0.number, k.2)
+-- a path that was selected last was selected in one of the calls
+selected-in : {P : Type 0} (xs : List (Call P × Entry)) (was : Option Path) (path : Path) → selected_along was xs ≡ Some path → AnnouncesAlong xs ⊎ (was ≡ Some path)
+selected-in [] was path is = inr is
+selected-in (x ∷ rest) was path is =
+    elim (selected-in rest (option_or (last_of x.1.emitted.announced) (if clears x.0 x.1.answer then None else was)) path is) [
+      | inl k ↦ inl (k.0, inr k.1, k.2)
+      | inr k ↦ by (last_of x.1.emitted.announced) refl k
+    ] where
+      before : (b : Bool) → (if b then None else was) ≡ Some path → was ≡ Some path
+      before true k = absurd (no-some path k)
+      before false k = k
 
+      by : (o : Option Path) → last_of x.1.emitted.announced ≡ o → option_or o (if clears x.0 x.1.answer then None else was) ≡ Some path → AnnouncesAlong (x ∷ rest) ⊎ (was ≡ Some path)
+      by (Some one) here k = inl (x, inl refl, ap (λ (o : Option Path). is_some o) here)
+      by None here k = inr (before (clears x.0 x.1.answer) k)
+
+module _ {H P : Type 0} where
   -- a pair of the path passes
   abbrev Marked : Path → (PairRecord → Bool) → AgentRecord H P → Type 0
   Marked path test a = (p : PairRecord) × Has a.pairs p × (test p ≡ true) × Joins a path p
@@ -46,17 +58,18 @@ module _ {H P : Type 0} where
     course_on [] ys a b c is more = subst (λ (z : AgentRecord H P). Course mac answers ys z c) is more
     course_on (x ∷ xs) ys a b c (mid, s, t, based, step, on) more = (mid, s, t, based, step, course_on xs ys mid b c on more)
 
-    -- if `selected_pair` becomes a number, a path is selected along the way
-    emitted_along : (xs : List (Call P × Entry)) (old new : AgentRecord H P) (n : ℕ) → IsSound old → Course mac answers xs old new → old.selected_pair ≡ None → new.selected_pair ≡ Some n → AnnouncesAlong xs
-    emitted_along [] old new n sound is none some =
-        absurd (let wrong : None ≡ Some n = sym none ∙ (sym (ap (λ (a : AgentRecord H P). a.selected_pair) is) ∙ some) in cc)
-    emitted_along (x ∷ rest) old new n sound (mid, s, t, based, step, more) none some =
+    -- the pair that `selected_pair` names, and the path that was selected last
+    names-along : (xs : List (Call P × Entry)) (old new : AgentRecord H P) (path : Option Path) → IsSound old → Course mac answers xs old new → IsNamed path old → IsNamed (selected_along path xs) new
+    names-along [] old new path sound is were = subst (λ (a : AgentRecord H P). IsNamed path a) (sym is) were
+    names-along (x ∷ rest) old new path sound (mid, s, t, based, step, more) were =
         let law = path_law mac answers old mid s t x.0 x.1 sound based step in
-        by (last_of x.1.emitted.announced) refl law.0.number_stays (λ (quiet : mid.selected_pair ≡ None). emitted_along rest mid new n law.1 more quiet some) where
-          by : (o : Option Path) → last_of x.1.emitted.announced ≡ o → (last_of x.1.emitted.announced ≡ None → mid.selected_pair ≡ old.selected_pair)
-              → (mid.selected_pair ≡ None → AnnouncesAlong rest) → AnnouncesAlong (x ∷ rest)
-          by (Some path) is stays later = (x, inl refl, ap (λ (o : Option Path). is_some o) is)
-          by None is stays later = let k = later (stays is ∙ none) in (k.0, inr k.1, k.2)
+        names-along rest mid new (option_or (last_of x.1.emitted.announced) (if clears x.0 x.1.answer then None else path)) law.1 more
+        (names-next mac old mid x.0 x.1 path law.0 sound were)
+
+    -- the same from a new agent on
+    pub names-from : (xs : List (Call P × Entry)) (first last : AgentRecord H P) → IsSound first → first.pairs ≡ [] → Course mac answers xs first last → IsNamed (selected_along None xs) last
+    names-from xs first last sound none course =
+        names-along xs first last None sound course (λ p has is. absurd (subst (λ (ps : List PairRecord). Has ps p) none has))
 
     module _ (path : Path) where
       next : (test : PairRecord → Bool) (old new : AgentRecord H P) (s t : Stream) (call : Call P) (e : Entry) → ((p : PairRecord) (k : Stays old p new) → test p ≡ true → test k.pair ≡ true)
@@ -117,18 +130,20 @@ module _ {H P : Type 0} where
         (course_on xs ((HandleTimeout now, moment) ∷ []) start near last course (last, s, t, tt, step, refl)) in
         by sound_first sound_near whole (granted path xs start near sound_start course asks) (answered path xs start near sound_start course y has is) where
           Said : Type 0
-          Said = (AnnouncesAlong (before ++ (xs ++ (HandleTimeout now, moment) ∷ [])) × HasAnnounced last) ⊎ (EndsAlong mac answers xs start near course path ⊎ Ends answers near (HandleTimeout now) moment path)
+          Said = (AnnouncesAlong (before ++ (xs ++ (HandleTimeout now, moment) ∷ []))
+              × HasAnnounced (selected_along None (before ++ (xs ++ (HandleTimeout now, moment) ∷ []))) last)
+              ⊎ (EndsAlong mac answers xs start near course path ⊎ Ends answers near (HandleTimeout now) moment path)
 
           at_last : IsSound first → IsSound near → Course mac answers (before ++ (xs ++ (HandleTimeout now, moment) ∷ [])) first last → Marked path is_nominated last → Marked path is_valid last → Said
           at_last sound_first sound_near whole n w =
               let one : w.0 ≡ n.0 = alone w.0 n.0 w.1 n.1 w.3 n.3 in
               let valid : is_valid n.0 ≡ true = subst (λ (p : PairRecord). is_valid p ≡ true) one w.2 in
               let effect = (path_law mac answers near last s t (HandleTimeout now) moment sound_near tt step).0 in
-              let number = named last n.0 n.1 (nominated-eligible last.controlling n.0 valid n.2) (effect.points (done, none)) in
-              inl (
-                emitted_along (before ++ (xs ++ (HandleTimeout now, moment) ∷ [])) first last number.0 sound_first whole (ap (λ (a : AgentRecord H P). a.selected_pair) fresh.2) number.1,
-                (effect.points (done, none), (n.0, n.1, nominated-eligible last.controlling n.0 valid n.2)),
-              )
+              let able = nominated-eligible last.controlling n.0 valid n.2 in
+              let all = before ++ (xs ++ (HandleTimeout now, moment) ∷ []) in
+              let named = names-from all first last sound_first (ap (λ (a : AgentRecord H P). a.pairs) fresh.2) whole in
+              let top : HasAnnounced (selected_along None all) last = names-best last (selected_along None all) n.0 n.1 able named (effect.points (done, none)) in
+              elim (selected-in all None (path_of last top.0) top.3) [ inl selected ↦ inl (selected, top) | inr was ↦ absurd (no-some (path_of last top.0) was) ]
 
           by : IsSound first → IsSound near → Course mac answers (before ++ (xs ++ (HandleTimeout now, moment) ∷ [])) first last
               → Marked path is_nominated near ⊎ EndsAlong mac answers xs start near course path → Marked path is_valid near ⊎ EndsAlong mac answers xs start near course path → Said

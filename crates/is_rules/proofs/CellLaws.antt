@@ -14,7 +14,7 @@ use Rattle.is_pair.specs.Due.{asked}
 use Rattle.is_pair.specs.Pairs.{PairRecord, undue}
 use Rattle.is_rules.specs.declared.credentials.IceCreds.{IceCreds}
 use Rattle.is_rules.specs.Agent.{AgentRecord}
-use Rattle.is_rules.specs.Bounds.{FormsFew, LimitsPairs}
+use Rattle.is_rules.specs.Bounds.{may_form, FormsFew, LimitsPairs}
 use Rattle.is_rules.specs.Discarding.{discarded, is_local_at, is_remote_at, local_discarded, place_to_discard, remote_discarded, InvalidatesAt}
 use Rattle.is_rules.specs.Forming.{Combination}
 use Rattle.is_rules.specs.Local.{AddsLocal}
@@ -66,92 +66,92 @@ unless_undue true ps = refl
 unless_undue false ps = cells-map undue (λ p. refl) ps
 
 module _ {H P : Type 0} where
-  -- no more of them, or the limit holds
-  abbrev Stays : AgentRecord H P → AgentRecord H P → Type 0
-  Stays old new = Fewer old new ⊎ (length new.pairs ≤ old.max_pairs)
+  -- no more of them, or the call forms pairs and the limit holds
+  abbrev pub Stays : Call P → AgentRecord H P → AgentRecord H P → Type 0
+  Stays call old new = Fewer old new ⊎ ((may_form call ≡ true) × (length new.pairs ≤ old.max_pairs))
 
   -- ---- calls
 
   module _ (mac : H → List ℕ → List ℕ → List ℕ) (answers : P → CandidateRecord → ℕ → ℕ → Type 0) (old new : AgentRecord H P) (s t : Stream) (e : Entry) where
-    kept : new ≡ old → Stays old new
-    kept made = inl (unchanged old new made)
+    kept : new ≡ old → Fewer old new
+    kept made = unchanged old new made
 
-    placed : grid_of new ≡ grid_of old → Stays old new
-    placed is = inl (alike old new is)
+    placed : grid_of new ≡ grid_of old → Fewer old new
+    placed is = alike old new is
 
     cells_in : (wanted : AgentRecord H P) → new ≡ wanted → grid_of new ≡ grid_of wanted
     cells_in wanted made = ap (λ (a : AgentRecord H P). grid_of a) made
 
-    may : (Does : Result (Unit {0}) IceError → AgentRecord H P → Type 0) → (Does (Ok _) new → Stays old new) → ((error : IceError) → Does (Err error) new → new ≡ old) → MayDo Does s e new t → Stays old new
+    may : (Does : Result (Unit {0}) IceError → AgentRecord H P → Type 0) → (Does (Ok _) new → Fewer old new) → ((error : IceError) → Does (Err error) new → new ≡ old) → MayDo Does s e new t → Fewer old new
     may Does done failed (Ok _, is, h, drawn) = done h
     may Does done failed (Err error, is, h, drawn) = kept (failed error h)
 
-    restarts : (creds : IceCreds) (keep : Bool) → MayDo (Restarts old creds keep) s e new t → Stays old new
+    restarts : (creds : IceCreds) (keep : Bool) → MayDo (Restarts old creds keep) s e new t → Fewer old new
     restarts creds keep (Ok _, is, (fits, made), drawn) =
         let none : cells new.pairs ≡ [] = ap (λ (a : AgentRecord H P). cells a.pairs) made in
-        inl (subst (λ (cs : List Combination). extras (own_at new.local) cs ≤ surplus old) (sym none) (omega arith))
+        subst (λ (cs : List Combination). extras (own_at new.local) cs ≤ surplus old) (sym none) (omega arith)
     restarts creds keep (Err error, is, h, drawn) = kept (restart_kept old new creds keep error h)
 
-    discards : (l r : Option ℕ) (found : Bool) → InvalidatesAt l r old found new → Stays old new
+    discards : (l r : Option ℕ) (found : Bool) → InvalidatesAt l r old found new → Fewer old new
     discards (Some place) r found (is, made) =
-        inl (made-as old (local_discarded place old) new made (
+        made-as old (local_discarded place old) new made (
         let gone = extras-filter (own_at (local_discarded place old).local) (λ p. not (is_local_at place p)) old.pairs in
         let same = extras-agree (own_at (local_discarded place old).local) (own_at old.local) (cells old.pairs)
         (λ c has. ap (λ (kind : CandidateKind). not (same_kind kind PeerReflexive)) (kinds-put old.local place c.0 (discarded (candidate_at old.local place)) refl)) in
-        omega (arith, gone, same)))
+        omega (arith, gone, same))
     discards None (Some place) found (is, made) =
-        inl (made-as old (remote_discarded place old) new made (extras-filter (own_at old.local) (λ p. not (is_remote_at place p)) old.pairs))
+        made-as old (remote_discarded place old) new made (extras-filter (own_at old.local) (λ p. not (is_remote_at place p)) old.pairs)
     discards None None found (is, made) = kept made
 
-    signals : (c : CandidateRecord) → MayDo (AddsRemote old c) s e new t → Stays old new
+    signals : (c : CandidateRecord) → MayDo (AddsRemote old c) s e new t → Stays (AddRemoteCandidate c) old new
     signals c (Ok _, is, h, drawn) = by_adding_remote old new c h
-        (λ made. kept made)
-        (λ f. inr (forms_few _ new _ f))
-        (λ k lt addr f. inr (forms_few _ new _ f))
-    signals c (Err error, is, h, drawn) = kept (storing_kept old new c error h)
+        (λ made. inl (kept made))
+        (λ f. inr (refl, forms_few _ new _ f))
+        (λ k lt addr f. inr (refl, forms_few _ new _ f))
+    signals c (Err error, is, h, drawn) = inl (kept (storing_kept old new c error h))
 
-    recreates : MayDo (Recreates old) s e new t → Stays old new
-    recreates (Ok _, is, (enough, f), drawn) = inr (forms_few (emptied old) new _ f)
-    recreates (Err error, is, h, drawn) = kept (recreation_kept old new error h)
+    recreates : MayDo (Recreates old) s e new t → Stays RecreateCandidatePairs old new
+    recreates (Ok _, is, (enough, f), drawn) = let forms : may_form {P = P} RecreateCandidatePairs ≡ true = cc in inr (forms, forms_few (emptied old) new _ f)
+    recreates (Err error, is, h, drawn) = inl (kept (recreation_kept old new error h))
 
-    adds_local : (c : CandidateRecord) (r : Result (Option ℕ) IceError) → AddsLocal answers old c r new → Stays old new
+    adds_local : (c : CandidateRecord) (r : Result (Option ℕ) IceError) → AddsLocal answers old c r new → Stays (AddLocalCandidate c) old new
     adds_local c (Ok place) h = by_adding_local old new answers c place h
-        (λ made. kept made)
-        (λ x based f. inr (forms_few _ new _ f))
-        (λ k lt f. inr (forms_few _ new _ f))
-        (λ x based k f. inr (forms_few _ new _ f))
-    adds_local c (Err error) h = kept (enrolment_kept answers old new c error h)
+        (λ made. inl (kept made))
+        (λ x based f. inr (refl, forms_few _ new _ f))
+        (λ k lt f. inr (refl, forms_few _ new _ f))
+        (λ x based k f. inr (refl, forms_few _ new _ f))
+    adds_local c (Err error) h = inl (kept (enrolment_kept answers old new c error h))
 
-    pub steps : IsSound old → (call : Call P) → Step mac answers old s call e new t → Stays old new
-    steps sound (SetMtu target warn) h = may (SetsMtu old target warn) (λ k. placed (cells_in _ k.1)) (mtu_kept old new target warn) h
-    steps sound (SetControlTieBreaker tie) (is, made, drawn) = placed (cells_in _ made)
-    steps sound (SetMaxCandidatePairs k) (is, made, drawn) = placed (cells_in _ made)
-    steps sound (SetMaxDiscovered limit) (is, made, drawn) = placed (cells_in _ made)
-    steps sound (SetIceLite lite) (is, made, drawn) = placed (cells_in _ made)
-    steps sound (SetRenomination on) (is, made, drawn) = placed (cells_in _ made)
-    steps sound (SetTimingAdvance by) (is, made, drawn) = placed (cells_in _ made)
-    steps sound (SetInitialStunRto rto) (is, made, drawn) = placed (cells_in _ made ∙ recast old _ (unless_undue (old.timing.initial_rto.0 == rto && old.timing.max_rto.0 == old.timing.max_rto.0) old.pairs))
-    steps sound (SetMaxStunRto rto) (is, made, drawn) = placed (cells_in _ made ∙ recast old _ (unless_undue (old.timing.initial_rto.0 == old.timing.initial_rto.0 && old.timing.max_rto.0 == rto) old.pairs))
-    steps sound (SetMaxStunRetransmits k) h = either (k == 0) h (λ _ x. kept x.1) (λ _ x. placed (cells_in _ x.1))
-    steps sound (SetLiteTimeout timeout) (is, made, drawn) = placed (cells_in _ made)
-    steps sound (SetLocalPreference object) (is, made, drawn) = placed (cells_in _ made)
-    steps sound (SetControlling controlling) (is, made, drawn) = placed (cells_in _ made)
-    steps sound (SetLocalCredentials creds) h = may (SetsLocal old creds) (λ k. placed (cells_in _ k.1)) (local_kept old new creds) h
-    steps sound (SetRemoteCredentials creds) h = may (SetsRemote old creds) (λ k. placed (cells_in _ k.1)) (remote_kept old new creds) h
-    steps sound (SkipPairIds k) (is, made, drawn) = placed (cells_in _ made)
+    pub steps : IsSound old → (call : Call P) → Step mac answers old s call e new t → Stays call old new
+    steps sound (SetMtu target warn) h = inl (may (SetsMtu old target warn) (λ k. placed (cells_in _ k.1)) (mtu_kept old new target warn) h)
+    steps sound (SetControlTieBreaker tie) (is, made, drawn) = inl (placed (cells_in _ made))
+    steps sound (SetMaxCandidatePairs k) (is, made, drawn) = inl (placed (cells_in _ made))
+    steps sound (SetMaxDiscovered limit) (is, made, drawn) = inl (placed (cells_in _ made))
+    steps sound (SetIceLite lite) (is, made, drawn) = inl (placed (cells_in _ made))
+    steps sound (SetRenomination on) (is, made, drawn) = inl (placed (cells_in _ made))
+    steps sound (SetTimingAdvance by) (is, made, drawn) = inl (placed (cells_in _ made))
+    steps sound (SetInitialStunRto rto) (is, made, drawn) = inl (placed (cells_in _ made ∙ recast old _ (unless_undue (old.timing.initial_rto.0 == rto && old.timing.max_rto.0 == old.timing.max_rto.0) old.pairs)))
+    steps sound (SetMaxStunRto rto) (is, made, drawn) = inl (placed (cells_in _ made ∙ recast old _ (unless_undue (old.timing.initial_rto.0 == old.timing.initial_rto.0 && old.timing.max_rto.0 == rto) old.pairs)))
+    steps sound (SetMaxStunRetransmits k) h = inl (either (k == 0) h (λ _ x. kept x.1) (λ _ x. placed (cells_in _ x.1)))
+    steps sound (SetLiteTimeout timeout) (is, made, drawn) = inl (placed (cells_in _ made))
+    steps sound (SetLocalPreference object) (is, made, drawn) = inl (placed (cells_in _ made))
+    steps sound (SetControlling controlling) (is, made, drawn) = inl (placed (cells_in _ made))
+    steps sound (SetLocalCredentials creds) h = inl (may (SetsLocal old creds) (λ k. placed (cells_in _ k.1)) (local_kept old new creds) h)
+    steps sound (SetRemoteCredentials creds) h = inl (may (SetsRemote old creds) (λ k. placed (cells_in _ k.1)) (remote_kept old new creds) h)
+    steps sound (SkipPairIds k) (is, made, drawn) = inl (placed (cells_in _ made))
     steps sound (AddLocalCandidate c) (r, is, h, drawn) = adds_local c r h
     steps sound (AddRemoteCandidate c) h = signals c h
-    steps sound (InvalidateCandidate c) (found, is, h, drawn) = discards (place_to_discard c old.local) (place_to_discard c old.remote) found h
-    steps sound (RestartIce creds keep) h = restarts creds keep h
+    steps sound (InvalidateCandidate c) (found, is, h, drawn) = inl (discards (place_to_discard c old.local) (place_to_discard c old.remote) found h)
+    steps sound (RestartIce creds keep) h = inl (restarts creds keep h)
     steps sound RecreateCandidatePairs h = recreates h
     steps sound (ReceivePacket now via bytes) (h, drawn) = inl (received mac answers now old new via bytes e (λ p has. (sound.placed p has).0) h)
     steps sound (HandleTimeout now) (r, emitted, is, h) = inl (timed mac now old new s t r emitted h)
-    steps sound PollTransmit (given, is, (polled, made), drawn) = placed (cells_in _ made)
-    steps sound PollTimeout (wake, is, h, drawn) = by_waking old new wake h
+    steps sound PollTransmit (given, is, (polled, made), drawn) = inl (placed (cells_in _ made))
+    steps sound PollTimeout (wake, is, h, drawn) = inl (by_waking old new wake h
         (λ made. kept made)
-        (λ at made. inl (made-as old (record old { pairs = map (asked at old.timing) old.pairs }) new made
+        (λ at made. made-as old (record old { pairs = map (asked at old.timing) old.pairs }) new made
         (alike old (record old { pairs = map (asked at old.timing) old.pairs }) (recast old (map (asked at old.timing) old.pairs) (cells-map (asked at old.timing) (λ p. refl) old.pairs)))))
-    steps sound PollEvent (given, is, (polled, made), drawn) = placed (cells_in _ made)
+    steps sound PollEvent (given, is, (polled, made), drawn) = inl (placed (cells_in _ made))
 
   -- ---- executions
 
@@ -164,9 +164,10 @@ module _ {H P : Type 0} where
         by (steps mac answers mid last u t x.entry (runs_sound mac answers (path_law mac answers) first mid s u before is_fresh led) x.call step)
         (few_extras limit first s before mid u is_fresh (λ b m a y p. few b m a y (later_point mac answers first s x before b m y a p)) led)
         (few before mid last x (record { rest = []; split = refl; at = u; led = led; number = number; given = given; behind = t; step = step })) where
-          by : Stays mid last → surplus mid ≤ limit → mid.max_pairs ≤ limit → surplus last ≤ limit
-          by (inl fewer) was most = omega (arith, fewer, was)
-          by (inr formed) was most =
+          by : Stays x.call mid last → surplus mid ≤ limit → (may_form x.call ≡ true → mid.max_pairs ≤ limit) → surplus last ≤ limit
+          by (inl fewer) was few_at = omega (arith, fewer, was)
+          by (inr (forms, formed)) was few_at =
+              let most = few_at forms in
               let all : length (cells last.pairs) ≡ length last.pairs = length-map last.pairs cell_of in
               let some = extras-length (own_at last.local) (cells last.pairs) in
               omega (arith, formed, most, all, some)

@@ -1,12 +1,25 @@
 -- Which pair is chosen.
 use Rattle.std.proofs.Common.{◌≡◌, ℕ, Bool, true, false, List, [], ◌∷◌, Option, Some, None, inl, inr, refl, ap, sym, ◌∙◌, subst, cond, if◌then◌else◌}
-use Rattle.std.specs.Prelude.{find, MatchOption}
+use Rattle.std.specs.Prelude.{filter, find, MatchOption}
 use Rattle.std.specs.Option.{option_and_then, option_or}
 use Rattle.std.proofs.lemmas.Bool.{eqb-true}
 use Rattle.is_proto.specs.Lists.{Has, NonePass}
 use Rattle.is_pair.specs.Pairs.{PairRecord}
 use Rattle.is_pair.specs.Bag.{is_numbered, pair_numbered}
 use Rattle.is_rules.specs.Nominating.{is_eligible, if_eligible, eligible_numbered, favored, is_named_by, IsChosen, Selection}
+
+kept_head : {X : Type 0} (b : Bool) (x : X) (xs : List X) → b ≡ true → (if b then x ∷ xs else xs) ≡ [] → ⊥
+kept_head true x xs passes none = let wrong : x ∷ xs ≡ [] = none in cc
+kept_head false x xs passes none = let wrong : false ≡ true = passes in cc
+
+kept_tail : {X : Type 0} (b : Bool) (x : X) (xs : List X) → (if b then x ∷ xs else xs) ≡ [] → xs ≡ []
+kept_tail true x xs none = let wrong : x ∷ xs ≡ [] = none in absurd (cc)
+kept_tail false x xs none = none
+
+pub none_pass : {X : Type 0} (test : X → Bool) (xs : List X) (x : X) → NonePass test xs → Has xs x → test x ≡ true → ⊥
+none_pass test [] x none has passes = absurd has
+none_pass test (y ∷ ys) x none (inl is) passes = kept_head (test y) y (filter test ys) (ap test is ∙ passes) none
+none_pass test (y ∷ ys) x none (inr has) passes = none_pass test ys x (kept_tail (test y) y (filter test ys) none) has passes
 
 pub by-option : {X : Type 0} (o : Option X) {P R : Type 0} {Q : X → Type 0} → MatchOption o P Q → (o ≡ None → P → R) → ((x : X) → o ≡ Some x → Q x → R) → R
 by-option None h f g = f refl h

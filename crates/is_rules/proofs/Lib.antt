@@ -37,6 +37,7 @@ pub mod PathLaws
 pub mod TopLaws
 pub mod BringLaws
 pub mod Bags
+pub mod NamedPairs
 pub mod LogLaws
 pub mod PartPoints
 pub mod BoundLists

@@ -1,10 +1,7 @@
 -- All theorems about one agent's log, from the theorem about paths only.
-use Rattle.std.proofs.Common.{◌≡◌, ℕ, ◌+◌, ◌<◌, ◌≤◌, ◌==◌, ◌&&◌, Bool, true, false, List, [], ◌∷◌, ◌++◌, Option, Some, None, inl, inr, ◌⊎◌, refl, ap, sym, ◌∙◌, subst, arith, append_assoc, if◌then◌else◌}
-use Rattle.std.specs.Prelude.{filter}
-use Rattle.std.specs.Option.{option_or, option_map_or, option_and_then}
-use Rattle.std.proofs.lemmas.Bool.{eqb-true}
+use Rattle.std.proofs.Common.{◌≡◌, ℕ, ◌+◌, ◌≤◌, Bool, true, false, List, [], ◌∷◌, ◌++◌, Some, None, inl, inr, ◌⊎◌, refl, ap, sym, ◌∙◌, subst, arith, append_assoc}
 use Rattle.rand_core.specs.Stream.{Stream}
-use Rattle.is_proto.specs.Lists.{Has, NonePass}
+use Rattle.is_proto.specs.Lists.{Has}
 use Rattle.is_candidate.specs.Candidates.{CandidateRecord}
 use Rattle.is_pair.specs.Pairs.{PairRecord, is_valid, is_nominated}
 use Rattle.is_pair.specs.Checks.{Check}
@@ -17,21 +14,18 @@ use Rattle.is_rules.specs.Request.{RequestRecord}
 use Rattle.is_rules.specs.Steps.{Entry}
 use Rattle.is_rules.specs.Emitted.{reversed}
 use Rattle.is_rules.specs.Agent.{AgentRecord}
-use Rattle.is_pair.specs.Bag.{is_numbered, pair_numbered, IsGreatest}
-use Rattle.is_rules.specs.Sending.{path_of}
-use Rattle.is_rules.specs.Nominating.{is_eligible, stands_at, followed, remains, selection_of, IsChosen}
+use Rattle.is_rules.specs.Nominating.{is_eligible}
 use Rattle.is_rules.specs.Steps.{Call, ReceivePacket}
 use Rattle.is_rules.specs.Sound.{IsSound}
 use Rattle.is_rules.specs.Brought.{Brings, IsBrought, IsServing, IsKept, IsValidOn, IsNominatedOn, IsAnswered, IsAskedFor}
 use Rattle.is_rules.specs.Owed.{Transaction, count, owed, reply_of, request_of}
-use Rattle.is_rules.specs.Points.{IsNominationPoint, IsTopAnnounced}
-use Rattle.is_rules.specs.Effects.{remote_after, lite_set_by, last_of, PathEffect, PathLaw}
+use Rattle.is_rules.specs.Points.{IsNominationPoint}
+use Rattle.is_rules.specs.Effects.{remote_after, lite_set_by, PathEffect, PathLaw}
 use Rattle.is_rules.specs.Logs.{Logged, clears_at, remote_of, NeverLite, IsSent, last_announced, AnswersAt, Answered, IsAnsweredBy, AsksAt, AskedFor, replies, requests}
 use Rattle.is_rules.specs.Runs.{IsFresh, Run, Point, run_to, IsControlledSince, IsTopPath, EntriesArePoints, RunsAreSound, AnnouncedAreAnswered, AnnouncedAreAskedFor, PointsAreTop, TakersAreValid, AskedAreNominated, RepliesAreAmong}
-use Rattle.is_rules.proofs.Choosing.{chosen-able, chosen-none, found-in, named-by}
+use Rattle.is_rules.proofs.NamedPairs.{IsNamed, names-best, names-next}
 use Rattle.is_rules.proofs.RefusalLaws.{fresh_sound}
 use Rattle.is_rules.proofs.Bags.{among_by_counts}
-use Rattle.is_rules.proofs.PathLaws.{below_is}
 
 -- a Boolean, with what it implies
 emitted_apart : {A : Type 0} (b : Bool) → (b ≡ true → A) → (b ≡ false → A) → A
@@ -44,19 +38,6 @@ true_false b h k = let wrong : true ≡ false = sym h ∙ k in absurd (cc)
 Has-behind : {X : Type 0} (xs ys : List X) (x : X) → Has ys x → Has (xs ++ ys) x
 Has-behind [] ys x h = h
 Has-behind (y ∷ xs) ys x h = inr (Has-behind xs ys x h)
-
-kept_head : {X : Type 0} (b : Bool) (x : X) (xs : List X) → b ≡ true → (if b then x ∷ xs else xs) ≡ [] → ⊥
-kept_head true x xs passes none = let wrong : x ∷ xs ≡ [] = none in cc
-kept_head false x xs passes none = let wrong : false ≡ true = passes in cc
-
-kept_tail : {X : Type 0} (b : Bool) (x : X) (xs : List X) → (if b then x ∷ xs else xs) ≡ [] → xs ≡ []
-kept_tail true x xs none = let wrong : x ∷ xs ≡ [] = none in absurd (cc)
-kept_tail false x xs none = none
-
-pub none_pass : {X : Type 0} (test : X → Bool) (xs : List X) (x : X) → NonePass test xs → Has xs x → test x ≡ true → ⊥
-none_pass test [] x none has passes = absurd has
-none_pass test (y ∷ ys) x none (inl is) passes = kept_head (test y) y (filter test ys) (ap test is ∙ passes) none
-none_pass test (y ∷ ys) x none (inr has) passes = none_pass test ys x (kept_tail (test y) y (filter test ys) none) has passes
 
 count-append : (test : Transaction → Bool) (xs ys : List Transaction) → count test (xs ++ ys) ≡ count test xs + count test ys
 count-append test [] ys = omega arith
@@ -73,7 +54,7 @@ module _ {H P : Type 0} (mac : H → List ℕ → List ℕ → List ℕ) (answer
     pub valid : NeverLite log → (path : Path) → IsValidOn a path → Answered mac provider log path
     pub queued : (q : RequestRecord) → Has a.queue q → q.use_candidate ≡ true → AskedFor log (reversed q.path)
     -- `selected_pair` names the pair that was selected last
-    pub named : (p : PairRecord) → Has a.pairs p → a.selected_pair ≡ Some p.number → (is_valid p ≡ true) × (is_nominated p ≡ true) × (last_announced log ≡ Some (path_of a p))
+    pub named : IsNamed (last_announced log) a
 
   fresh_holds : (first : AgentRecord H P) → IsFresh first → Holds first.provider [] first
   fresh_holds first (creds, tie, is) = subst (λ (a : AgentRecord H P). Holds first.provider [] a) (sym is) (record {
@@ -116,37 +97,6 @@ module _ {H P : Type 0} (mac : H → List ℕ → List ℕ → List ℕ) (answer
     asked_now : (path : Path) → IsAskedFor old x.call x.entry path → AskedFor (x ∷ before) path
     asked_now path (q, serving, uses, on) = subst (λ p. AskedFor (x ∷ before) p) on (queued_asks q (f.serves q serving) uses)
 
-    old_below : (n : ℕ) → old.selected_pair ≡ Some n → n < old.next_number
-    old_below n is = below_is old.next_number n old.selected_pair h.sound.announced is
-
-    -- after a clear, the earlier `selected_pair` names no pair
-    none_named : clears_at x ≡ true → (p : PairRecord) → Has new.pairs p → old.selected_pair ≡ Some p.number → ⊥
-    none_named clear p has is =
-        let lt : p.number < old.next_number = old_below p.number is in
-        let le : old.next_number ≤ p.number = (f.cleared_pairs clear p has).0 in
-        omega (arith, lt, le)
-
-    held_named : (o : Option Path) → last_of x.entry.emitted.announced ≡ o → (p : PairRecord) → Has new.pairs p → new.selected_pair ≡ Some p.number
-        → (is_valid p ≡ true) × (is_nominated p ≡ true) × (last_announced (x ∷ before) ≡ Some (path_of new p))
-    held_named (Some path) is p has named =
-        let k = f.number_names path is p has named in
-        (k.1, k.2, ap (λ o. option_or o (if clears_at x then None else last_announced before)) is ∙ ap Some (sym k.0))
-    held_named None is p has named =
-        let was : old.selected_pair ≡ Some p.number = sym (f.number_stays is) ∙ named in
-        emitted_apart (clears_at x) (λ clear. absurd (none_named clear p has was)) (λ kept. stands kept was) where
-          stands : clears_at x ≡ false → old.selected_pair ≡ Some p.number
-              → (is_valid p ≡ true) × (is_nominated p ≡ true) × (last_announced (x ∷ before) ≡ Some (path_of new p))
-          stands kept was = elim (f.numbers p has) [
-            | inl (q, there, number, path, valid, nominated) ↦ (
-                let k = h.named q there (was ∙ ap Some (sym number)) in (
-                  valid k.0,
-                  nominated k.1,
-                  ap (λ o. option_or o (if clears_at x then None else last_announced before)) is
-                      ∙ ap (λ b. if b then None else last_announced before) kept ∙ k.2 ∙ ap Some path,
-                ))
-            | inr n ↦ (let lt : p.number < old.next_number = old_below p.number was in let le : old.next_number ≤ p.number = n.0 in absurd (let none : ⊥ = omega (arith, lt, le) in none))
-          ]
-
     lite_before : NeverLite (x ∷ before) → old.lite ≡ false
     lite_before never_lite = h.lite_is never_lite.1
 
@@ -166,7 +116,7 @@ module _ {H P : Type 0} (mac : H → List ℕ → List ℕ → List ℕ) (answer
           (λ clear. true_false (is_valid k.0) k.2 (f.cleared_pairs clear k.0 k.1).1)
           (λ kept. elim (f.valid (lite_before never_lite) path k) [ inl was ↦ inr (kept, h.valid never_lite.1 path was) | inr now ↦ inl (answers_at path now) ]);
       queued = λ q has uses. queued_asks q (f.queue q has) uses;
-      named = held_named (last_of x.entry.emitted.announced) refl;
+      named = names-next mac old new x.call x.entry (last_announced before) f h.sound h.named;
     }
 
   -- ---- executions
@@ -184,55 +134,12 @@ module _ {H P : Type 0} (mac : H → List ℕ → List ℕ → List ℕ) (answer
   no_paths path (inr (inl is)) = let no : None ≡ Some path = is in cc
   no_paths path (inr (inr h)) = absurd h
 
-  -- a valid and nominated pair is eligible in either role
-  eligible : (c : Bool) (p : PairRecord) → is_valid p ≡ true → is_nominated p ≡ true → is_eligible c p ≡ true
-  eligible true p v n = ap (λ b. b && true) v
-  eligible false p v n = ap (λ b. b && is_nominated p) v ∙ n
-
-  -- the pair that `selected_pair` names
-  stands_with : (priority : ℕ) (a : AgentRecord H P) → stands_at a.selected_pair priority a.pairs ≡ true → (p : PairRecord) × Has a.pairs p × (a.selected_pair ≡ Some p.number) × (p.priority ≡ priority)
-  stands_with priority a h = by a.selected_pair refl h where
-    at : (n : ℕ) (o : Option PairRecord) → pair_numbered n a.pairs ≡ o → a.selected_pair ≡ Some n → option_map_or (λ (p : PairRecord). p.priority == priority) o false ≡ true
-        → (p : PairRecord) × Has a.pairs p × (a.selected_pair ≡ Some p.number) × (p.priority ≡ priority)
-    at n None is named h = let no : false ≡ true = h in absurd (cc)
-    at n (Some p) is named h =
-        let k = found-in (is_numbered n) a.pairs p is in
-        (p, k.0, named ∙ ap Some (sym (eqb-true p.number n k.1)), eqb-true p.priority priority h)
-
-    by : (o : Option ℕ) → a.selected_pair ≡ o → option_map_or (λ (p : PairRecord). p.priority == priority) (option_and_then (λ number. pair_numbered number a.pairs) o) false ≡ true
-        → (p : PairRecord) × Has a.pairs p × (a.selected_pair ≡ Some p.number) × (p.priority ≡ priority)
-    by None is h = let no : false ≡ true = h in absurd (cc)
-    by (Some n) is h = at n (pair_numbered n a.pairs) refl is h
-
   -- a path that the peer nominates is nominated
   asking : (mid : AgentRecord H P) (call : Call P) (entry : Entry) (at : ℕ) (by : Path) (m : Message) → Brings call entry at by m → m.attributes.use_candidate ≡ true
       → (q : RequestRecord) → IsServing mid call entry q → q.use_candidate ≡ true
   asking mid (ReceivePacket now path bytes) entry at by m brings uses q (at2, by2, m2, brings2, request, known, is) =
       ap (λ (y : RequestRecord). y.use_candidate) is ∙ (ap (λ (n : Message). n.attributes.use_candidate) (brings2.2.spelled ∙ sym brings.2.spelled) ∙ uses)
   asking mid _ entry at by m brings uses q serving = absurd brings
-
-  top_of : (provider : H) (log : List (Logged P)) (last : AgentRecord H P) (p : PairRecord) → Has last.pairs p → is_eligible last.controlling p ≡ true
-      → Holds provider log last → IsTopAnnounced last → IsTopPath mac answers log last
-  top_of provider log last p has is after (None, none, _) =
-      absurd (none_pass (is_eligible last.controlling) last.pairs p (chosen-none last.controlling (followed last) (selection_of last) none) has is)
-  top_of provider log last p has is after (Some best, chosen, stands) = by (followed last) refl where
-    by : (o : Option ℕ) → followed last ≡ o → IsTopPath mac answers log last
-    by None none =
-        let most : IsGreatest (is_eligible last.controlling) last.pairs (Some best) = subst (λ f. IsChosen last.controlling f (selection_of last) (Some best)) none chosen in
-        let named = stands_with best.priority last (subst (λ f. remains f best (selection_of last) ≡ true) none stands) in
-        let k = after.named named.0 named.1 named.2 in
-        let able = eligible last.controlling named.0 k.0 k.1 in (
-          named.0,
-          named.1,
-          able,
-          k.2,
-          subst (λ f. IsChosen last.controlling f (selection_of last) (Some named.0)) (sym none)
-              (named.1, able, λ q has_q is_q. subst (λ n. q.priority ≤ n) (sym named.3) (most.2 q has_q is_q)),
-        )
-    by (Some n) follows =
-        let able = chosen-able last.controlling (followed last) (selection_of last) best chosen in
-        let k = after.named best able.0 (named-by last.selected_pair best (subst (λ f. remains f best (selection_of last) ≡ true) follows stands)) in
-        (best, able.0, able.1, k.2, chosen)
 
   module _ (first : AgentRecord H P) (s : Stream) (is_fresh : IsFresh first) where
     pub holds : (log : List (Logged P)) (last : AgentRecord H P) (t : Stream) → Run mac answers first s log last t → Holds first.provider log last
@@ -309,8 +216,8 @@ module _ {H P : Type 0} (mac : H → List ℕ → List ℕ → List ℕ) (answer
 
       top : IsNominationPoint mid x.call x.entry → (p : PairRecord) → Has after.pairs p → is_eligible after.controlling p ≡ true → IsTopPath mac answers (x ∷ before) after
       top nominates p has is =
-          top_of first.provider (x ∷ before) after p has is
-          (holds (x ∷ before) after point.behind (run_to mac answers first s log before mid x after point)) (effect.points nominates)
+          names-best after (last_announced (x ∷ before)) p has is
+          (holds (x ∷ before) after point.behind (run_to mac answers first s log before mid x after point)).named (effect.points nominates)
 
       nominated : (at : ℕ) (by : Path) (m : Message) (issued : Issued) → Brings x.call x.entry at by m → m.attributes.use_candidate ≡ true
           → x.entry.emitted.issued ≡ Some issued → issued.class ≡ class.Success → after.controlling ≡ false → IsNominatedOn after issued.path

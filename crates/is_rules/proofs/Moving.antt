@@ -27,7 +27,7 @@ use Rattle.is_rules.specs.Checking.{all_asked, all_heard, check_sent, ChecksTop,
 use Rattle.is_rules.specs.Timeouts.{at_moment, MaintainsPairs}
 use Rattle.is_rules.proofs.Moves.{Has-map}
 use Rattle.is_rules.proofs.Serves.{Has-mapped}
-use Rattle.is_rules.proofs.LogLaws.{none_pass}
+use Rattle.is_rules.proofs.Choosing.{none_pass}
 use Rattle.is_pair.specs.Turns.{IsPaced, is_due_by, due_by}
 use Rattle.is_pair.proofs.Fewer.{no-more, fewer-due}
 use Rattle.is_rules.specs.Progress.{IsGone, ChecksOn}

@@ -46,7 +46,7 @@ use Rattle.is_rules.proofs.Moves.{Kept_by_self, self_kept, Has-map, parts_of, no
 use Rattle.is_rules.proofs.Checks.{Has-get, sent_nominated, records, put_at}
 use Rattle.is_rules.proofs.Serves.{Has-mapped}
 use Rattle.is_rules.proofs.TopLaws.{nominates_top}
-use Rattle.is_rules.proofs.LogLaws.{none_pass}
+use Rattle.is_rules.proofs.Choosing.{none_pass}
 use Rattle.is_rules.proofs.Nominations.{Announces, announces}
 
 -- ---- lists

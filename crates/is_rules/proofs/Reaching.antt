@@ -27,12 +27,11 @@ use Rattle.is_rules.specs.Timeouts.{at_moment, is_given_up, given_up_gone, Gives
 use Rattle.is_rules.specs.Emitted.{issued_as}
 use Rattle.is_rules.proofs.Frames.{either}
 use Rattle.is_rules.proofs.Leads.{lead, leads, own, own-le, weight, weight-sent, weight-sent-no-more, lead-asked, lead-checked-is, leads-map, leads-less, leads-filter, is_early, sent_by}
-use Rattle.is_rules.proofs.LogLaws.{none_pass}
 use Rattle.is_rules.proofs.Mild.{Fixed}
 use Rattle.is_rules.proofs.MildSteps.{nominates-goes}
 use Rattle.is_rules.proofs.Moves.{Has-map}
 use Rattle.is_rules.proofs.Moving.{fixed-is, same-path, next-check}
-use Rattle.is_rules.proofs.Choosing.{chosen-able}
+use Rattle.is_rules.proofs.Choosing.{chosen-able, none_pass}
 use Rattle.is_rules.proofs.Nominations.{Announces, announces}
 use Rattle.is_rules.proofs.Serves.{Has-mapped}
 use Rattle.is_rules.proofs.Thinning.{Distinct, Alike, Base, base_of as agent_base, Has-kept, stays-young, thinned-filter, nominates-thins, gives-up-thins, nominates-has}

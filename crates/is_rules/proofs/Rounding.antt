@@ -24,7 +24,7 @@ use Rattle.is_rules.proofs.EffectLaws.{path_law}
 use Rattle.rand_core.specs.Stream.{Stream}
 use Rattle.is_rules.proofs.Frames.{either}
 use Rattle.is_pair.specs.Turns.{IsPaced, due_by}
-use Rattle.is_rules.specs.Progress.{Passes, MayBeAsked, Arrival, IsMet, Round, IsSuccess, HasAnnounced, Arrives, Rounds, AnnouncesBehind, AnnouncesIn, AnsweredAnnounce}
+use Rattle.is_rules.specs.Progress.{Passes, MayBeAsked, Arrival, IsMet, Round, IsSuccess, MatchesTop, Arrives, Rounds, AnnouncesBehind, AnnouncesIn, AnsweredAnnounce}
 use Rattle.is_rules.proofs.Passing.{Calm, Stands, Waits, polled-sound, asked-sound, begins, stands, passed, pass-on, never}
 use Rattle.is_rules.proofs.Arriving.{Core, DueAlike, Held, Arrived, arrived-same, receives, spares-map}
 use Rattle.is_rules.proofs.Announcing.{eligible}
@@ -130,7 +130,7 @@ module _ {H P : Type 0} where
 
     -- after an accepted success response a path is selected
     announces : (x : Arrival) (old new : AgentRecord H P) (s t : Stream) → IsSound old → new.controlling ≡ true
-        → Step mac answers old s (ReceivePacket x.at x.via x.bytes) x.entry new t → IsSuccess x → HasAnnounced new
+        → Step mac answers old s (ReceivePacket x.at x.via x.bytes) x.entry new t → IsSuccess x → MatchesTop new
     announces x old new s t sound role step (m, reads, flag, success) =
         let effect = (path_law mac answers old new s t (ReceivePacket x.at x.via x.bytes) x.entry sound tt step).0 in
         let p = effect.taken x.at x.via m (refl, refl, reads, flag) success in

@@ -1,7 +1,8 @@
 -- When an agent selects a path in an execution. A controlled agent: if it accepted the peer's nomination of a path, and a success
 -- response was received on the path, by the end of the next `handle_timeout` call. A controlling agent: by its first accepted
 -- success response.
-use Rattle.std.specs.Prelude.{◌≡◌, ℕ, ◌⊎◌, true, false, List, [], ◌∷◌, ◌++◌, None, is_some}
+use Rattle.std.specs.Prelude.{◌≡◌, ℕ, ◌⊎◌, true, false, List, [], ◌∷◌, ◌++◌, Option, None, is_some, if◌then◌else◌}
+use Rattle.std.specs.Option.{option_or}
 use Rattle.rand_core.specs.Stream.{Stream}
 use Rattle.is_proto.specs.Lists.{Has}
 use Rattle.is_candidate.specs.Candidates.{CandidateRecord}
@@ -14,9 +15,9 @@ use Rattle.is_rules.specs.Answers.{goes_back}
 use Rattle.is_rules.specs.Asked.{Joins, IsAlone}
 use Rattle.is_rules.specs.Asking.{Grants}
 use Rattle.is_rules.specs.Brought.{Brings}
-use Rattle.is_rules.specs.Effects.{last_of}
+use Rattle.is_rules.specs.Effects.{clears, last_of}
 use Rattle.is_rules.specs.Exchange.{Course}
-use Rattle.is_rules.specs.Progress.{HasAnnounced}
+use Rattle.is_rules.specs.Points.{HasAnnounced}
 use Rattle.is_rules.specs.Queue.{request_at}
 use Rattle.is_rules.specs.Runs.{IsFresh}
 use Rattle.is_rules.specs.Staying.{MayEnd}
@@ -32,6 +33,11 @@ IsAnsweredAlong xs path = (x : Call _ × Entry) × Has xs x × AcceptsSuccessOn 
 
 abbrev pub AnnouncesAlong : {P : Type 0} → List (Call P × Entry) → Type 0
 AnnouncesAlong xs = (x : Call _ × Entry) × Has xs x × (is_some (last_of x.1.emitted.announced) ≡ true)
+
+-- the path that was selected last since the last clear, if it was this one before these calls
+abbrev pub selected_along : {P : Type 0} → Option Path → List (Call P × Entry) → Option Path
+selected_along path [] = path
+selected_along path (x ∷ rest) = selected_along (option_or (last_of x.1.emitted.announced) (if clears x.0 x.1.answer then None else path)) rest
 
 module _ {H P : Type 0} where
   -- The transition may remove a pair that uses the path's addresses.
@@ -50,23 +56,27 @@ module _ {H P : Type 0} where
         (Grants old x.0 x.1 path × (course.0.controlling ≡ false)) ⊎ GrantsAlong rest course.0 new course.5 path
 
     -- In a segment of an execution the agent accepted the nomination of a path and received a success response on it, in either
-    -- order. A `handle_timeout` call that serves no early request follows. If only one pair uses the path's addresses then, a
-    -- path was selected by the end of this call, unless a pair that uses them may have been removed.
+    -- order. A `handle_timeout` call that serves no early request follows. If only one pair uses the path's addresses then, the
+    -- agent has selected a path by the end of this call, and the last one is that of an eligible pair with the greatest stored
+    -- priority, unless a pair that uses them may have been removed.
     abbrev pub GrantedAreAnnounced : Type 0
     GrantedAreAnnounced =
         (first start near last : AgentRecord H P) (before xs : List (Call P × Entry)) (s t : Stream) (now : ℕ) (moment : Entry) (path : Path)
         → IsFresh first → Course mac answers before first start → (course : Course mac answers xs start near)
         → Step mac answers near s (HandleTimeout now) moment last t → moment.answer ≡ Done → request_at now near ≡ None
         → GrantsAlong xs start near course path → IsAnsweredAlong xs path → IsAlone last path
-        → (AnnouncesAlong (before ++ (xs ++ (HandleTimeout now, moment) ∷ [])) × HasAnnounced last) ⊎ (EndsAlong xs start near course path ⊎ Ends answers near (HandleTimeout now) moment path)
+        → (AnnouncesAlong (before ++ (xs ++ (HandleTimeout now, moment) ∷ []))
+        × HasAnnounced (selected_along None (before ++ (xs ++ (HandleTimeout now, moment) ∷ []))) last)
+        ⊎ (EndsAlong xs start near course path ⊎ Ends answers near (HandleTimeout now) moment path)
 
     -- A controlling agent: no pair is valid when a segment of an execution begins. An accepted success response ends the segment,
-    -- and the agent is controlling afterwards. Then a path was selected in the segment, and an eligible pair exists afterwards,
-    -- of which the selected pair is one of the greatest.
+    -- and the agent is controlling afterwards. Then a path was selected in the segment, and the last one is that of an eligible
+    -- pair with the greatest stored priority.
     abbrev pub SuccessesSelect : Type 0
     SuccessesSelect =
         (first start near last : AgentRecord H P) (before xs : List (Call P × Entry)) (s t : Stream) (now : ℕ) (via : Path) (bytes : List ℕ) (e : Entry) (m : Message)
         → IsFresh first → Course mac answers before first start → ((p : PairRecord) → Has start.pairs p → is_valid p ≡ false)
         → Course mac answers xs start near → Step mac answers near s (ReceivePacket now via bytes) e last t
         → Brings {P = P} (ReceivePacket now via bytes) e now via m → m.class ≡ class.Success → last.controlling ≡ true
-        → AnnouncesAlong (xs ++ (ReceivePacket now via bytes, e) ∷ []) × HasAnnounced last
+        → AnnouncesAlong (xs ++ (ReceivePacket now via bytes, e) ∷ [])
+        × HasAnnounced (selected_along None (before ++ (xs ++ (ReceivePacket now via bytes, e) ∷ []))) last

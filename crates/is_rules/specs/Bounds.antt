@@ -7,13 +7,20 @@ use Rattle.is_candidate.specs.Equality.{is_temporary}
 use Rattle.is_rules.specs.Agent.{AgentRecord}
 use Rattle.is_rules.specs.Logs.{Logged}
 use Rattle.is_rules.specs.Runs.{IsFresh, AtEach}
-use Rattle.is_rules.specs.Steps.{Call, AddLocalCandidate, AddRemoteCandidate, ReceivePacket, HandleTimeout}
+use Rattle.is_rules.specs.Steps.{Call, AddLocalCandidate, AddRemoteCandidate, RecreateCandidatePairs, ReceivePacket, HandleTimeout}
 
 -- A packet or a timeout comes: only then a request is served, or a response is taken.
 abbrev pub may_serve : {P : Type 0} → Call P → Bool
 may_serve (ReceivePacket _ _ _) = true
 may_serve (HandleTimeout _) = true
 may_serve _ = false
+
+-- A candidate is added, or the pairs are recreated: only then pairs are formed, and the limit on pairs is applied.
+abbrev pub may_form : {P : Type 0} → Call P → Bool
+may_form (AddLocalCandidate _) = true
+may_form (AddRemoteCandidate _) = true
+may_form RecreateCandidatePairs = true
+may_form _ = false
 
 abbrev pub is_gathered : {P : Type 0} → Call P → Bool
 is_gathered (AddLocalCandidate _) = true
@@ -69,9 +76,9 @@ module _ {H P : Type 0} where
 
     -- ---- pairs
 
-    -- At each call the limit on pairs is at most this one.
+    -- The limit on pairs is at most this one whenever pairs may be formed. Packets and timeouts do not form pairs.
     abbrev pub FormsFew : ℕ → AgentRecord H P → Stream → List (Logged P) → Type 0
-    FormsFew limit first s log = AtEach mac answers first s log (λ before mid x after. mid.max_pairs ≤ limit)
+    FormsFew limit first s log = AtEach mac answers first s log (λ before mid x after. may_form x.call ≡ true → mid.max_pairs ≤ limit)
 
     -- Forming leaves at most that many pairs. Then a request adds a pair only of two candidates that have none. So there are at most
     -- as many pairs as the limit plus the number of local candidates times that of remote ones.

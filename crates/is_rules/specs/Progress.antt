@@ -69,9 +69,10 @@ module _ {H P : Type 0} where
   IsOfUse old emitted new =
       ((p : PairRecord) × Has old.pairs p × (ChecksOn old emitted p ⊎ IsGone p.number new.pairs)) ⊎ (length new.queue < length old.queue)
 
-  -- A pair is eligible, and the selected pair is one of the greatest of the eligible ones.
-  abbrev pub HasAnnounced : AgentRecord H P → Type 0
-  HasAnnounced a = IsTopAnnounced a × ((p : PairRecord) × Has a.pairs p × (is_eligible a.controlling p ≡ true))
+  -- A pair is eligible, and the selected pair exists, with the greatest priority of the eligible ones. In a state that no execution
+  -- leads to it may be another one of this priority that is not eligible.
+  abbrev pub MatchesTop : AgentRecord H P → Type 0
+  MatchesTop a = IsTopAnnounced a × ((p : PairRecord) × Has a.pairs p × (is_eligible a.controlling p ≡ true))
 
   -- ---- polling cycles
 
@@ -147,7 +148,7 @@ module _ {H P : Type 0} where
       -- After one of the packets, which is an accepted success response, a path is selected.
       abbrev pub AnnouncesBehind : (arrivals : List Arrival) (old new : AgentRecord H P) → Arrives arrivals old new → Type 0
       AnnouncesBehind [] old new came = ⊥
-      AnnouncesBehind (x ∷ rest) old new came = (IsSuccess x × HasAnnounced came.0) ⊎ AnnouncesBehind rest came.2 new came.11
+      AnnouncesBehind (x ∷ rest) old new came = (IsSuccess x × MatchesTop came.0) ⊎ AnnouncesBehind rest came.2 new came.11
 
       -- This holds in one of the rounds.
       abbrev pub AnnouncesIn : (rounds : List Round) (old new : AgentRecord H P) → Rounds rounds old new → Type 0

@@ -11,14 +11,13 @@ use Rattle.is_rules.specs.declared.emitted.Issued.{Issued}
 use Rattle.is_rules.specs.declared.emitted.Path.{Path}
 use Rattle.is_rules.specs.Emitted.{nothing_emitted}
 use Rattle.is_rules.specs.Agent.{AgentRecord, fresh}
-use Rattle.is_rules.specs.Sending.{path_of}
-use Rattle.is_rules.specs.Nominating.{followed, is_eligible, selection_of, IsChosen}
+use Rattle.is_rules.specs.Nominating.{is_eligible}
 use Rattle.is_rules.specs.Answers.{keeps_check_on}
 use Rattle.is_rules.specs.Steps.{Call, Entry, is_turned_down, Step}
 use Rattle.is_rules.specs.Sound.{IsSound, GivesBased}
 use Rattle.is_rules.specs.Brought.{Brings, IsNominatedOn}
 use Rattle.is_rules.specs.Owed.{AreAmong}
-use Rattle.is_rules.specs.Points.{IsNominationPoint}
+use Rattle.is_rules.specs.Points.{HasAnnounced, IsNominationPoint}
 use Rattle.is_rules.specs.Effects.{IsTurnedDown}
 use Rattle.is_rules.specs.Logs.{Logged, clears_at, NeverLite, last_announced, requests, replies, IsAnsweredBy, AskedFor}
 
@@ -84,9 +83,7 @@ module _ {H P : Type 0} (mac : H → List ℕ → List ℕ → List ℕ) (answer
   -- The path that was selected last is that of an eligible pair with the greatest stored priority. If the agent follows its peer,
   -- it is that of the favored pair, if there is one.
   abbrev pub IsTopPath : List (Logged P) → AgentRecord H P → Type 0
-  IsTopPath log a =
-      (top : PairRecord) × Has a.pairs top × (is_eligible a.controlling top ≡ true) × (last_announced log ≡ Some (path_of a top))
-      × IsChosen a.controlling (followed a) (selection_of a) (Some top)
+  IsTopPath log a = HasAnnounced (last_announced log) a
 
   -- This holds at each nomination point at which a pair is eligible.
   abbrev pub LastPathsAreTop : AgentRecord H P → Stream → List (Logged P) → Type 0

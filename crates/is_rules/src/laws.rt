@@ -55,15 +55,16 @@ pub fn runs_are_sound<H: Sha1HmacProvider, P: LocalPreference>()
     ensures { RunsAreSound H.mac P.answers }
 {}
 
-/// If the limit on what packets bring is at most this one whenever a packet or a timeout comes, neither list of candidates is ever
-/// longer than the limit plus the candidates that the caller added to it, and that of remembered sources is never longer than the
-/// limit.
+/// From a newly created agent: if the limit on what packets bring is at most this one whenever a packet or a timeout comes, neither
+/// list of candidates is ever longer than this limit plus the calls that added a candidate to it, or tried to, and that of remembered
+/// sources is never longer than this limit.
 pub fn limits_bound<H: Sha1HmacProvider, P: LocalPreference>()
     ensures { LimitsBound H.mac P.answers }
 {}
 
-/// There are never more pairs than the limit on pairs plus the number of local candidates times that of remote ones. With a limit on
-/// what packets bring too, the bound depends on the caller only.
+/// From a newly created agent: there are never more pairs than the greatest limit on pairs that was in force when pairs could be
+/// formed, plus the number of local candidates times that of remote ones. With a limit on what packets bring too, the bound depends
+/// on the caller only.
 pub fn limits_pairs<H: Sha1HmacProvider, P: LocalPreference>()
     ensures few { LimitsPairs H.mac P.answers }
     ensures bounded { BoundsPairs H.mac P.answers }
@@ -87,7 +88,7 @@ pub fn announced_are_asked_for<H: Sha1HmacProvider, P: LocalPreference>()
 {}
 
 /// At each nomination point at which a pair is eligible, the path that was selected last is that of one with the greatest stored
-/// priority.
+/// priority. With renomination a controlled agent selects the pair that was nominated last instead, once it is eligible.
 pub fn points_are_top<H: Sha1HmacProvider, P: LocalPreference>()
     ensures { PointsAreTop H.mac P.answers }
 {}
@@ -297,7 +298,8 @@ pub fn courses_check<H: Sha1HmacProvider, P: LocalPreference>()
     ensures { CoursesCheck H.mac P.answers }
 {}
 
-/// A controlling agent, which may share its random source, selects a path by its first accepted success response.
+/// A controlling agent, which may share its random source, selects a path by its first accepted success response, and the one that it
+/// selected last is that of an eligible pair of greatest priority.
 pub fn successes_select<H: Sha1HmacProvider, P: LocalPreference>()
     ensures { SuccessesSelect H.mac P.answers }
 {}
@@ -322,8 +324,9 @@ pub fn checks_ask<H: Sha1HmacProvider, P: LocalPreference>()
 }
 
 /// A controlled agent, which may share its random source, accepted the nomination of a path and received a success response on
-/// it. Then a path is selected by the end of the next `handle_timeout` call that serves no early request, if only one pair uses
-/// this path's addresses and no pair that does may have been removed.
+/// it. Then a path is selected by the end of the next `handle_timeout` call that serves no early request, and the one that was
+/// selected last is that of an eligible pair of greatest priority, if only one pair uses this path's addresses and no pair that does
+/// may have been removed.
 pub fn granted_are_announced<H: Sha1HmacProvider, P: LocalPreference>()
     ensures { GrantedAreAnnounced H.mac P.answers }
 {}

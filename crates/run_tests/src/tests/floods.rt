@@ -68,8 +68,8 @@ fn a_flood_adds_pairs_past_their_limit(stage: &mut Stage) -> Told {
         Step::Peer(at(3, 3000)),
     ];
     Story("a_flood_adds_pairs_past_their_limit").holds(&[
-        // the limit is 1, and 1 * 3 pairs join the local candidate and a remote one; in `few` the limit counts as
-        // 100, which the first call finds
+        // the limit is 1 before a candidate is added, and 1 * 3 pairs join the local candidate and a remote one: so `few`
+        // allows 4
         stage.plays(&[&steps, &flood]),
         has(stage, 3, 3),
         // the next added candidate removes all but the pair of greatest priority

@@ -1,7 +1,7 @@
 //! The preconditions of the clauses `granted`, `connect`, `rounds`, `meet` and `one_path` of `World::run`, by the names of
-//! their definitions in `Grantings`, `Connections`, `Selections`, `Meetings` and `Renominations`. For each clause a function returns the first
-//! precondition that an execution lacks, and how many it lacks. That a call may remove a pair counts as one, since the
-//! clause then says nothing else.
+//! their definitions in `Granted`, `Grantings`, `Connections`, `Selections`, `Meetings` and `Renominations`. For each
+//! clause a function returns the first precondition that an execution lacks, and how many it lacks. That a call may
+//! remove a pair counts as one, since the clause then says nothing else.
 //!
 //! Not looked at are preconditions that no story can lack: RTOs of at least 1 ms (`IsPaced`), one HMAC provider, credentials
 //! that fit, no discarded candidate, no limit on what packets bring (`IsReachedBy`), and times before the end of the clock.
