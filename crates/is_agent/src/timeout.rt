@@ -253,7 +253,19 @@ impl<H: Sha1HmacProvider + Drop, P: LocalPreference> Agent<H, P> {
         self.contents.resize(MTU_FLOOR, 0)
     }
 
-    /// Reserves capacity for a packet, and for one more check of any pair, if a check may be due at time `now`.
+    /// Reserves capacity for a packet, and for one more check of any pair. It is a separate function, so that calls without a
+    /// check do not pay for it.
+    #[inline(never)]
+    fn reserve_check(&mut self) -> Result<(), AllocError>
+        ensures record { record_of self.new ≡ record_of self.old }
+        ensures room { OnOk result (HasCheckRoom self.new) }
+    {
+        self.prepare_check()?;
+        self.packets.reserve(1)?;
+        self.pairs.reserve_check()
+    }
+
+    /// Does this if a check may be due at time `now`.
     fn take_check_room(&mut self, now: Instant) -> Result<(), AllocError>
         ensures record { record_of self.new ≡ record_of self.old }
         ensures room { OnOk result (HasCheckRoomAt now.0 self.new) }
@@ -261,12 +273,11 @@ impl<H: Sha1HmacProvider + Drop, P: LocalPreference> Agent<H, P> {
         if !self.may_fall_due(now) {
             return Ok(());
         }
-        self.prepare_check()?;
-        self.packets.reserve(1)?;
-        self.pairs.reserve_check()
+        self.reserve_check()
     }
 
     /// Reserves capacity for five events, and for a check if one may be due.
+    #[inline(always)]
     fn take_round_room(&mut self, now: Instant) -> Result<(), AllocError>
         ensures record { record_of self.new ≡ record_of self.old }
         ensures events { OnOk result (HasEventRoom 5 self.new) }

@@ -33,7 +33,19 @@ impl<H: Sha1HmacProvider + Drop, P: LocalPreference> Agent<H, P> {
         Ok(Some(IceAgentEvent::IceRestart(self.local_creds.clone()?)))
     }
 
+    /// The number of outdated requests at the front of the queue, once the remote credentials are known.
     fn outdated(&self, now: Instant) -> usize
+        ensures { result ≡ outdated now.0 (record_of self.now).timing (record_of self.now).remote_creds (record_of self.now) }
+    {
+        if self.queue.is_empty() {
+            return 0;
+        }
+        self.outdated_in_queue(now)
+    }
+
+    /// The same. It is a separate function, so that calls without early requests do not pay for it.
+    #[inline(never)]
+    fn outdated_in_queue(&self, now: Instant) -> usize
         ensures { result ≡ outdated now.0 (record_of self.now).timing (record_of self.now).remote_creds (record_of self.now) }
     {
         match self.remote_creds {
@@ -55,6 +67,7 @@ impl<H: Sha1HmacProvider + Drop, P: LocalPreference> Agent<H, P> {
     }
 
     /// Evaluates the state, within the reserved capacity for an event, and removes outdated requests.
+    #[inline(always)]
     pub(crate) fn update_state_and_queue(&mut self, now: Instant)
         requires room { HasEventRoom 1 self.old }
         ensures timeout_begun { record_of self.new ≡ queue_cleared now.0 (evaluated now.0 (record_of self.old)) }
