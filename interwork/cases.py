@@ -159,7 +159,8 @@ def over_the_wire():
     """30 % of the packets are lost, 10 % come twice, and each waits up to 0.2 s, so that they overtake each other."""
     for other in ("peer", "pion", "libnice"):
         yield Case(LOSSY, ("peer", other), "30 % loss, reordering", sessions=10, quick=2, at_least=0.9, seconds=40)
-    yield Case(LOSSY, ("peer", "aioice"), "30 % loss, reordering", sessions=10, quick=0, at_least=0.8, seconds=40, why="aioice gives up early")
+    yield Case(LOSSY, ("peer", "aioice"), "30 % loss, reordering", sessions=10, quick=0, at_least=0.8, seconds=40,
+               why="aioice gives up early")
     yield Case(LOSSY, ("Connection", "Connection"), "30 % loss, reordering", sessions=10, quick=0, at_least=0.9, seconds=40)
 
 

@@ -65,7 +65,9 @@ def large(number):
 
 def kinds(user, other, count=2000):
     """Datagrams of each kind, by name. `user` is the USERNAME of checks to the agent, `other` the peer's address."""
-    every = lambda make, number=count: [make(i) for i in range(number)]
+    def every(make, number=count):
+        return [make(i) for i in range(number)]
+
     return {
         "requests with a wrong MAC": every(lambda _: request(user)),
         "the same with USE-CANDIDATE": every(lambda _: request(user, [attribute(USE_CANDIDATE, b"")])),

@@ -141,7 +141,10 @@ async def settle(a, b, quiet=0.5, seconds=12):
 async def talk(a, b, word, seconds=8, every=0.2):
     """Each sends a text until the other one receives it. Returns whether that of a arrived, and that of b."""
     texts = {a: f"{word}-from-a", b: f"{word}-from-b"}
-    heard = lambda: (texts[a] in b.heard, texts[b] in a.heard)
+
+    def heard():
+        return texts[a] in b.heard, texts[b] in a.heard
+
     end = time.monotonic() + seconds
     while not all(heard()) and time.monotonic() < end:
         for program, is_heard in zip((a, b), heard()):

@@ -53,7 +53,10 @@ async def restart(a, b, case, network):
     begun = asyncio.get_running_loop().time()
     (a if case.restarts == "a" else b).tell("/restart")
     chat = asyncio.ensure_future(talk(a, b, "meanwhile"))
-    is_new = lambda: len(a.paths) > counts[0] and len(b.paths) > counts[1] and are_connected(a, b)
+
+    def is_new():
+        return len(a.paths) > counts[0] and len(b.paths) > counts[1] and are_connected(a, b)
+
     is_done = await until(is_new, (a, b), case.seconds)
     seconds = asyncio.get_running_loop().time() - begun
     heard = await chat

@@ -1,6 +1,5 @@
 """Captures the UDP packets on the loopback interface of a network namespace."""
 import ctypes
-import os
 import socket
 import struct
 import threading

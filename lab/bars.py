@@ -10,10 +10,10 @@ from xml.sax.saxutils import escape
 
 from .figures import quantile
 
-# The shares of sessions of the three parts of a bar, and their colours.
+# The shares of sessions of the three parts of a bar, and their colors.
 SHARES = (0.5, 0.95, 0.99)
 NAMES = ("median", "95 %", "99 %")
-COLOURS = ("#08519c", "#6baed6", "#c6dbef")
+COLORS = ("#08519c", "#6baed6", "#c6dbef")
 WIDTH, ROW, THICK, TOP, BOTTOM = 520, 24, 14, 64, 50
 # About the width of a letter.
 LETTER = 6.7
@@ -58,7 +58,7 @@ def _write_by_matplotlib(path: Path, title: str, x: str, bars: Sequence[Bar]) ->
     figure, axes = pyplot.subplots(figsize=(10, 0.32 * len(bars) + 1.4))
     for part in (2, 1, 0):
         widths = [bar.quantiles[part] - low if bar.quantiles else 0.0 for bar in bars]
-        axes.barh(range(len(bars)), widths, left=low, color=COLOURS[part], label=NAMES[part], height=0.6)
+        axes.barh(range(len(bars)), widths, left=low, color=COLORS[part], label=NAMES[part], height=0.6)
     axes.set_yticks(range(len(bars)), [bar.label if bar.quantiles else f"{bar.label}: {NONE}" for bar in bars])
     axes.set(title=title, xlabel=x, xscale="log")
     axes.invert_yaxis()
@@ -118,9 +118,9 @@ def _bar(bar: Bar, y: float, left: float, at: Callable[[float], float]) -> list[
     if bar.quantiles is None:
         return [*lines, _text(left + 8, middle, NONE, "start", 'font-style="italic"')]
     begin = left
-    for value, colour in zip(bar.quantiles, COLOURS):
+    for value, color in zip(bar.quantiles, COLORS):
         if (end := at(value)) > begin:
-            lines.append(f'<rect x="{begin:.1f}" y="{y}" width="{end - begin:.1f}" height="{THICK}" fill="{colour}"/>')
+            lines.append(f'<rect x="{begin:.1f}" y="{y}" width="{end - begin:.1f}" height="{THICK}" fill="{color}"/>')
             begin = end
     figures = " / ".join(f"{value:.2f}" for value in bar.quantiles)
     return [*lines, _text(left + WIDTH + 12, middle, f"{figures} s", "start")]
@@ -128,8 +128,8 @@ def _bar(bar: Bar, y: float, left: float, at: Callable[[float], float]) -> list[
 
 def _legend(left: float) -> list[str]:
     lines, x = [], left
-    for name, colour in zip(("up to the median", "to the 95th percentile", "to the 99th percentile"), COLOURS):
-        lines.append(f'<rect x="{x:.1f}" y="{TOP - 24}" width="12" height="10" fill="{colour}"/>')
+    for name, color in zip(("up to the median", "to the 95th percentile", "to the 99th percentile"), COLORS):
+        lines.append(f'<rect x="{x:.1f}" y="{TOP - 24}" width="12" height="10" fill="{color}"/>')
         lines.append(_text(x + 17, TOP - 15, name, "start", 'font-size="11"'))
         x += 36 + 6.4 * len(name)
     return lines

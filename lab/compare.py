@@ -13,11 +13,11 @@ from .scenario import AgentSettings, Scenario
 
 @dataclass(frozen=True)
 class Setting:
-    """A setting: a scenario with its own name, and the colour of its curve, if it has one."""
+    """A setting: a scenario with its own name, and the color of its curve, if it has one."""
 
     label: str
     scenario: Scenario
-    colour: str | None = None
+    color: str | None = None
 
 
 @dataclass(frozen=True)
@@ -34,7 +34,7 @@ class Question:
     has_slowest: bool = False  # the table has the slowest session
 
 
-# One colour for each loss, one shade for each initial RTO.
+# One color for each loss, one shade for each initial RTO.
 SHADES = (("#9ecae1", "#2171b5", "#08306b"), ("#fdae6b", "#d94801", "#7f2704"), ("#a1d99b", "#238b45", "#00441b"))
 LOSSES = (0, 5, 20)
 RETRANSMITS = (100, 250, 500)
@@ -127,7 +127,7 @@ def run(name: str, count: int, seed: int, processes: int, quiet: bool, path: Pat
         bars.write(path, question.title, question.x, [bars.Bar(label, bars.quantiles(of)) for label, of in times.items()], own)
         return
     end = max(1.0, *((figures.quantile(of, 0.995) or 0.0) / 1000 * 1.05 for of in times.values()))
-    curves = [plot.share_over_time(s.label, times[s.label], count, end, s.colour) for s in settings]
+    curves = [plot.share_over_time(s.label, times[s.label], count, end, s.color) for s in settings]
     plot.write(path, question.title, question.x, question.y, curves, own)
 
 

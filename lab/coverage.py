@@ -6,9 +6,9 @@ from collections import Counter
 from collections.abc import Callable, Iterable, Sequence
 from dataclasses import dataclass, field, replace
 
-from .clauses import both, connect, due_rounds, granted, meet, rounds, world_rounds
+from .clauses import both, connect, due_rounds, nomination_accepted, meet, rounds, world_rounds
 from .clauses.execution import Execution
-from .clauses.grantings import Network
+from .clauses.accepted_nominations import Network
 from .clauses.verdict import Verdict
 from .clock import BEGINNING, MILLISECOND
 from .figures import aligned, quantile
@@ -19,7 +19,8 @@ from .replay import replay
 from .session import Session
 
 # The clauses of `World::run`, with its name, and those of `run`.
-WORLD: dict[str, Callable[[Network], Verdict]] = {"meet": meet.find, "rounds": world_rounds.find, "granted": granted.find,
+WORLD: dict[str, Callable[[Network], Verdict]] = {"meet": meet.find, "rounds": world_rounds.find,
+                                                  "nomination_accepted": nomination_accepted.find,
                                                   "connect": connect.find, "both": both.find}
 RUN: dict[str, Callable[[Execution], Verdict]] = {"run: rounds": rounds.find, "run: due_rounds": due_rounds.find}
 CLAUSES = (*WORLD, *RUN)

@@ -12,7 +12,7 @@ from .log import Beginning, Log, LoggedAgent
 from .network import Datagram, Interface, Packet
 from .scenario import AgentSettings
 from .servers import SMALL, WRAPPED, BindingRequest, AllocateRequest, CreatePermission, Relayed, SuccessResponse
-from .signalling import Channel, Signal
+from .signaling import Channel, Signal
 
 # How often a request to a server is sent without a response (Rc), and its first RTO, which doubles each time (RFC 8489, section 6.2.1).
 REQUESTS = 7
@@ -69,13 +69,13 @@ class Endpoint:
         agent.set_controlling(s.controlling)
         agent.set_ice_lite(s.lite)
         agent.set_renomination(s.renomination)
-        for value, setter in ((s.initial_rto_ms, agent.set_initial_stun_rto), (s.max_rto_ms, agent.set_max_stun_rto),
-                              (s.advance_ms, agent.set_timing_advance)):
+        for value, set_duration in ((s.initial_rto_ms, agent.set_initial_stun_rto), (s.max_rto_ms, agent.set_max_stun_rto),
+                                    (s.advance_ms, agent.set_timing_advance)):
             if value is not None:
-                setter(nanoseconds(value))
-        for limit, setter in ((s.retransmits, agent.set_max_stun_retransmits), (s.max_pairs, agent.set_max_candidate_pairs)):
+                set_duration(nanoseconds(value))
+        for limit, set_limit in ((s.retransmits, agent.set_max_stun_retransmits), (s.max_pairs, agent.set_max_candidate_pairs)):
             if limit is not None:
-                setter(limit)
+                set_limit(limit)
 
     # ---- starting, restarting, interfaces
 

@@ -2,7 +2,9 @@
 
 from __future__ import annotations
 
-from is_ice import IceAgent, IceAgentEvent, NominatedSend, SocketAddress
+from typing import Protocol
+
+from is_ice import IceAgentEvent, NominatedSend, SocketAddress
 
 from .network import Datagram
 from .stun import message_of
@@ -14,10 +16,18 @@ class Broken(Exception):
     """A guarantee did not hold."""
 
 
+class HasRole(Protocol):
+    """What is read of an agent."""
+
+    @property
+    def controlling(self) -> bool:
+        """Whether the agent is controlling."""
+
+
 class SideGuarantees:
     """What was observed of one agent since its last restart."""
 
-    def __init__(self, side: str, agent: IceAgent, tie_breaker: int, lite: bool, controlling: bool) -> None:
+    def __init__(self, side: str, agent: HasRole, tie_breaker: int, lite: bool, controlling: bool) -> None:
         self.side, self.agent, self.tie_breaker, self.lite = side, agent, tie_breaker, lite
         self.began_controlling = self.controlling = controlling
         self.changes = 0

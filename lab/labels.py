@@ -62,7 +62,7 @@ class Labels:
         self.boxes: list[Box] = []
 
     def place_end(self, text: str, x: float, points: list[Point], anchor: str) -> float:
-        """Returns the height of the text at the end of an arrow: beside it, or a little lower or higher."""
+        """Returns the height of the text at the end of an arrow: next to it, or a little lower or higher."""
         boxes = [box_of(text, x, points[-1][1] + aside, anchor) for aside in (0.0, 7.0, -7.0, 11.0, -11.0)]
         chosen = self._best(boxes, points)
         self.boxes.append(chosen)

@@ -14,7 +14,8 @@ from .scenario import BadScenario, Scenario
 
 
 def _arguments() -> argparse.Namespace:
-    parser = argparse.ArgumentParser(prog="lab/run", description="Simulates sessions of two agents over networks with NATs, delays and loss.")
+    parser = argparse.ArgumentParser(
+        prog="lab/run", description="Simulates sessions of two agents over networks with NATs, delays and loss.")
     words = parser.add_subparsers(dest="word", required=True)
     words.add_parser("list", help="lists the scenarios")
     measure = words.add_parser("measure", help="runs sessions of scenarios and prints statistics")
@@ -22,7 +23,8 @@ def _arguments() -> argparse.Namespace:
     measure.add_argument("-n", "--sessions", type=int, default=200, help="sessions of each scenario (200)")
     measure.add_argument("--set", action="append", default=[], metavar="KEY=VALUE", help="changes a scenario: a.initial_rto_ms=100")
     measure.add_argument("--csv", type=Path, metavar="FILE", help="writes a row for each session")
-    measure.add_argument("--plot", type=Path, metavar="FILE", help="plots when both sides have a path: median, 95 % and 99 %, as .svg or (by matplotlib) .png")
+    measure.add_argument("--plot", type=Path, metavar="FILE",
+                         help="plots when both sides have a path: median, 95 % and 99 %, as .svg or (by matplotlib) .png")
     comparing = words.add_parser("compare", help="compares settings, and plots them")
     comparing.add_argument("question", choices=sorted(compare.QUESTIONS))
     comparing.add_argument("-n", "--sessions", type=int, default=1000, help="sessions of each setting (1000)")
@@ -65,7 +67,8 @@ def _cover(options: argparse.Namespace) -> None:
 
 def _plot(options: argparse.Namespace, scenarios: list[Scenario], told: dict[str, figures.Figures]) -> None:
     rows = [bars.Bar(s.title, bars.quantiles(told[s.name].first)) for s in scenarios]
-    bars.write(options.plot, "When both sides have a path", "seconds from the first signaling message, logarithmic", bars.by_median(rows), options.own_svg)
+    bars.write(options.plot, "When both sides have a path", "seconds from the first signaling message, logarithmic",
+               bars.by_median(rows), options.own_svg)
 
 
 def main() -> int:

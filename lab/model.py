@@ -107,7 +107,8 @@ class Agent:
         selected last; else an eligible one with the greatest priority."""
         eligible = [p for p in self.pairs if self.is_eligible(p)]
         favored = (self.last_nominated, self.selected) if self.follows else ()
-        return next((p for number in favored for p in eligible if p.number == number), max(eligible, key=lambda p: p.priority, default=None))
+        best = max(eligible, key=lambda p: p.priority, default=None)
+        return next((p for number in favored for p in eligible if p.number == number), best)
 
     def remains(self, top: Pair) -> bool:
         """Whether the pair that was selected last stays selected, if this one is chosen."""

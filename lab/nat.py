@@ -11,18 +11,18 @@ from is_ice import SocketAddress
 from .clock import SECOND
 
 
-class Behaviour(enum.Enum):
-    """The behaviour of mapping (RFC 4787, section 4.1) and of filtering (section 5)."""
+class Behavior(enum.Enum):
+    """The behavior of mapping (RFC 4787, section 4.1) and of filtering (section 5)."""
 
     ENDPOINT = "endpoint-independent"
     ADDRESS = "address-dependent"
     ADDRESS_AND_PORT = "address-and-port-dependent"
 
     def key(self, remote: SocketAddress) -> tuple[object, ...]:
-        """Returns the part of the remote address that the behaviour depends on."""
-        if self is Behaviour.ENDPOINT:
+        """Returns the part of the remote address that the behavior depends on."""
+        if self is Behavior.ENDPOINT:
             return ()
-        return (remote.ip,) if self is Behaviour.ADDRESS else (remote.ip, remote.port)
+        return (remote.ip,) if self is Behavior.ADDRESS else (remote.ip, remote.port)
 
 
 @dataclass(frozen=True)
@@ -30,8 +30,8 @@ class NatSettings:
     """The settings of a NAT. `outside` is its address in the outer network."""
 
     outside: str
-    mapping: Behaviour = Behaviour.ENDPOINT
-    filtering: Behaviour = Behaviour.ADDRESS_AND_PORT
+    mapping: Behavior = Behavior.ENDPOINT
+    filtering: Behavior = Behavior.ADDRESS_AND_PORT
     hairpinning: bool = True
     timeout_s: float = 120.0  # how long a mapping stays without an outgoing packet (section 4.3)
     inbound_refresh: bool = False  # incoming packets refresh a mapping too
@@ -43,7 +43,8 @@ class _Mapping:
     inside: SocketAddress
     port: int
     used: int
-    remotes: dict[tuple[object, ...], int] = field(default_factory=dict)  # the remotes that pass the filter, with the time of the last packet
+    # the remotes that pass the filter, with the time of the last packet
+    remotes: dict[tuple[object, ...], int] = field(default_factory=dict)
 
 
 class Nat:

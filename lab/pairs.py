@@ -30,7 +30,8 @@ class Timing:
         """Returns the delay after the last of `count` checks, in whole milliseconds: it doubles up to a bound."""
         if count == 0:
             return 0
-        return min(self.initial // MILLISECOND * 2 ** min(count - 1, self.retransmits), self.greatest // MILLISECOND) * MILLISECOND
+        doubled: int = self.initial // MILLISECOND * 2 ** min(count - 1, self.retransmits)
+        return min(doubled, self.greatest // MILLISECOND) * MILLISECOND
 
     def timeout(self) -> int:
         """Returns how long a full series of checks without a response takes."""

@@ -7,8 +7,8 @@ from dataclasses import dataclass
 from pathlib import Path
 from xml.sax.saxutils import escape
 
-COLOURS = ("#1f77b4", "#d62728", "#2ca02c", "#9467bd", "#ff7f0e", "#17becf", "#8c564b", "#e377c2", "#7f7f7f", "#bcbd22",
-           "#393b79", "#637939", "#843c39", "#7b4173")
+COLORS = ("#1f77b4", "#d62728", "#2ca02c", "#9467bd", "#ff7f0e", "#17becf", "#8c564b", "#e377c2", "#7f7f7f", "#bcbd22",
+          "#393b79", "#637939", "#843c39", "#7b4173")
 WIDTH, HEIGHT = 860, 440
 LEFT, TOP, BOTTOM = 62, 40, 52
 # About the width of a letter of the legend.
@@ -18,26 +18,26 @@ PLOT = 570
 
 @dataclass(frozen=True)
 class Curve:
-    """A curve, with its points from left to right. `dashed` distinguishes it from another one of its colour."""
+    """A curve, with its points from left to right. `dashed` distinguishes it from another one of its color."""
 
     label: str
     points: Sequence[tuple[float, float]]
     dashed: bool = False
-    colour: str | None = None
+    color: str | None = None
 
 
-def share_over_time(label: str, times: Sequence[float], sessions: int, end: float, colour: str | None = None) -> Curve:
+def share_over_time(label: str, times: Sequence[float], sessions: int, end: float, color: str | None = None) -> Curve:
     """Returns the curve over seconds of the share of sessions, in per cent, whose time (in milliseconds) has passed."""
     points = [(0.0, 0.0)]
     for count, time in enumerate(sorted(times), 1):
         points += [(time / 1000, points[-1][1]), (time / 1000, 100 * count / sessions)]
     points.append((end, points[-1][1]))
-    return Curve(label, [p for p in points if p[0] <= end], colour=colour)
+    return Curve(label, [p for p in points if p[0] <= end], color=color)
 
 
 def write(path: Path, title: str, x: str, y: str, curves: Sequence[Curve], own: bool = False) -> None:
     """Writes a plot. It is plain SVG if `own` is true or matplotlib is not installed."""
-    curves = [Curve(c.label, c.points, c.dashed or n >= len(COLOURS), c.colour or COLOURS[n % len(COLOURS)]) for n, c in enumerate(curves)]
+    curves = [Curve(c.label, c.points, c.dashed or n >= len(COLORS), c.color or COLORS[n % len(COLORS)]) for n, c in enumerate(curves)]
     if not own:
         try:
             _write_by_matplotlib(path, title, x, y, curves)
@@ -58,7 +58,7 @@ def _write_by_matplotlib(path: Path, title: str, x: str, y: str, curves: Sequenc
 
     figure, axes = pyplot.subplots(figsize=(WIDTH / 100, HEIGHT / 100))
     for curve in curves:
-        axes.plot(*zip(*curve.points), label=curve.label, color=curve.colour, linestyle="--" if curve.dashed else "-")
+        axes.plot(*zip(*curve.points), label=curve.label, color=curve.color, linestyle="--" if curve.dashed else "-")
     axes.set(title=title, xlabel=x, ylabel=y)
     axes.set_xlim(left=0)
     axes.set_ylim(bottom=0)
@@ -121,8 +121,8 @@ def _curve(curve: Curve, points: Sequence[tuple[float, float]], number: int) -> 
     path = " ".join(f"{px:.1f},{py:.1f}" for px, py in _thinned(points))
     py = TOP + 10 + 18 * number
     px = LEFT + PLOT + 14
-    return [f'<polyline points="{path}" fill="none" stroke="{curve.colour}" stroke-width="1.8"{dash}/>',
-            f'<line x1="{px}" y1="{py}" x2="{px + 22}" y2="{py}" stroke="{curve.colour}" stroke-width="2.4"{dash}/>',
+    return [f'<polyline points="{path}" fill="none" stroke="{curve.color}" stroke-width="1.8"{dash}/>',
+            f'<line x1="{px}" y1="{py}" x2="{px + 22}" y2="{py}" stroke="{curve.color}" stroke-width="2.4"{dash}/>',
             _text(px + 28, py + 4, curve.label, "start")]
 
 
@@ -135,8 +135,8 @@ def _thinned(points: Sequence[tuple[float, float]]) -> list[tuple[float, float]]
     return kept
 
 
-def _line(x1: float, y1: float, x2: float, y2: float, colour: str) -> str:
-    return f'<line x1="{x1:.1f}" y1="{y1:.1f}" x2="{x2:.1f}" y2="{y2:.1f}" stroke="{colour}"/>'
+def _line(x1: float, y1: float, x2: float, y2: float, color: str) -> str:
+    return f'<line x1="{x1:.1f}" y1="{y1:.1f}" x2="{x2:.1f}" y2="{y2:.1f}" stroke="{color}"/>'
 
 
 def _text(x: float, y: float, text: str, anchor: str, more: str = "") -> str:

@@ -103,8 +103,9 @@ def _issued(log: Log) -> tuple[dict[int, Entry], dict[int, tuple[Path, ...]]]:
     return sent, selected
 
 
-SETTINGS = {"set_ice_lite": "lite", "set_renomination": "renominates", "set_timing_advance": "advance", "set_max_candidate_pairs": "max_pairs",
-            "set_max_discovered": "max_discovered", "set_local_credentials": "creds", "set_remote_credentials": "peer"}
+SETTINGS = {"set_ice_lite": "lite", "set_renomination": "renominates", "set_timing_advance": "advance",
+            "set_max_candidate_pairs": "max_pairs", "set_max_discovered": "max_discovered", "set_local_credentials": "creds",
+            "set_remote_credentials": "peer"}
 TIMING = {"set_initial_stun_rto": "initial", "set_max_stun_rto": "greatest", "set_max_stun_retransmits": "retransmits",
           "set_lite_timeout": "lite"}
 

@@ -9,7 +9,7 @@ from pathlib import Path
 from typing import Any, TypeVar
 
 from .link import LinkSettings
-from .nat import Behaviour, NatSettings
+from .nat import Behavior, NatSettings
 
 FOLDER = Path(__file__).resolve().parent / "scenarios"
 SIDES = ("a", "b")
@@ -53,7 +53,7 @@ class AgentSettings:
 
 
 @dataclass(frozen=True)
-class SignallingSettings:
+class SignalingSettings:
     """The signaling channel, which keeps order and loses nothing."""
 
     delay_ms: float = 50.0
@@ -96,7 +96,7 @@ class Scenario:
     network: dict[str, float] = field(default_factory=dict)  # the delay of each network, in milliseconds
     link: dict[str, LinkSettings] = field(default_factory=dict)
     nat: tuple[GatewaySettings, ...] = ()
-    signalling: SignallingSettings = SignallingSettings()
+    signaling: SignalingSettings = SignalingSettings()
     a: AgentSettings = AgentSettings()
     b: AgentSettings = AgentSettings()
     event: tuple[ScenarioEvent, ...] = ()
@@ -145,7 +145,7 @@ def scenario_of(name: str, table: dict[str, Any]) -> Scenario:
     table["link"] = {n: _build(LinkSettings, t, f"link.{n}") for n, t in table.get("link", {}).items()}
     table["link"].setdefault("default", LinkSettings())
     table["nat"] = tuple(_gateway(t) for t in table.get("nat", ()))
-    table["signalling"] = _build(SignallingSettings, table.get("signalling", {}), "signalling")
+    table["signaling"] = _build(SignalingSettings, table.get("signaling", {}), "signaling")
     for side in SIDES:
         own = dict(table.get(side, {}))
         own["interface"] = tuple(_build(InterfaceSettings, t, f"{side}.interface") for t in own.get("interface", ()))
@@ -183,14 +183,14 @@ def _gateway(table: dict[str, Any]) -> GatewaySettings:
     for key in ("mapping", "filtering"):
         if key in rest:
             try:
-                rest[key] = Behaviour(rest[key])
+                rest[key] = Behavior(rest[key])
             except ValueError:
-                raise BadScenario(f"{where}: {key} is one of {', '.join(b.value for b in Behaviour)}") from None
+                raise BadScenario(f"{where}: {key} is one of {', '.join(b.value for b in Behavior)}") from None
     return _build(GatewaySettings, {**own, "nat": _build(NatSettings, rest, where)}, where)
 
 
 def _build(kind: type[T], table: dict[str, Any], where: str) -> T:
-    fields = {f.name: f for f in dataclasses.fields(kind)}  # type: ignore[arg-type]
+    fields = {f.name: f for f in dataclasses.fields(kind)}
     _known(table, tuple(fields), where)
     for name, f in fields.items():
         is_required = f.default is dataclasses.MISSING and f.default_factory is dataclasses.MISSING

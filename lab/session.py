@@ -14,7 +14,7 @@ from .network import Datagram, Gateway, Interface, Network
 from .guarantees import Broken, SideGuarantees, judge_roles
 from .scenario import SIDES, ScenarioEvent, Scenario
 from .servers import Server
-from .signalling import Channel, Signal
+from .signaling import Channel, Signal
 
 SERVERS = ("198.51.100.10", "2001:db8:ffff::10")
 
@@ -87,7 +87,7 @@ class Session:
         self._routes: dict[tuple[str, SocketAddress, SocketAddress], tuple[SocketAddress, SocketAddress]] = {}
         self._count = 0
         self._calm = BEGINNING  # the time of the last selected pair or event
-        self._channels = {side: Channel(scenario.signalling, self.clock, self._random) for side in SIDES}
+        self._channels = {side: Channel(scenario.signaling, self.clock, self._random) for side in SIDES}
         self.endpoints = {side: self._endpoint(side) for side in SIDES}
         self._guarantees = {side: self._guarantee(side) for side in SIDES}
         self._waiting: list[Signal] = []
@@ -114,7 +114,7 @@ class Session:
     def _endpoint(self, side: str) -> Endpoint:
         own = [interface for (of, _), interface in self._interfaces.items() if of == side]
         return Endpoint(side, self.scenario.side(side), own, self._servers, self.clock, self._channels[side],
-                      Random(self._random.getrandbits(64)), self, self.log)
+                        Random(self._random.getrandbits(64)), self, self.log)
 
     def _guarantee(self, side: str) -> SideGuarantees:
         settings, endpoint = self.scenario.side(side), self.endpoints[side]
@@ -164,10 +164,10 @@ class Session:
     def run(self) -> Outcome:
         """Runs the session to its end. Raises Broken if a guarantee does not hold."""
         scenario, clock = self.scenario, self.clock
-        self.endpoints["b"].late = nanoseconds(scenario.signalling.credentials_late_ms)
+        self.endpoints["b"].late = nanoseconds(scenario.signaling.credentials_late_ms)
         self._channels["b"].take = self.endpoints["a"].take_signal
         self._channels["a"].take = self._take_first
-        clock.at(BEGINNING, self.endpoints["a"].begin, scenario.signalling.trickle)
+        clock.at(BEGINNING, self.endpoints["a"].begin, scenario.signaling.trickle)
         for event in scenario.event:
             clock.at(BEGINNING + nanoseconds(event.at_s * 1000), self._do, event)
         end = BEGINNING + nanoseconds(scenario.seconds * 1000)
@@ -184,7 +184,7 @@ class Session:
     def _begin_b(self) -> None:
         b = self.endpoints["b"]
         self._channels["a"].take = b.take_signal
-        b.begin(self.scenario.signalling.trickle)
+        b.begin(self.scenario.signaling.trickle)
         for signal in self._waiting:
             b.take_signal(signal)
 

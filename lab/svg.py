@@ -9,7 +9,7 @@ from .labels import Labels, Point
 from .picture import Arrow, Picture
 from .scale import ROW, Scale
 
-COLOURS = {"check": "#1f77b4", "nomination": "#6a3d9a", "response": "#2c8a2c", "failure": "#d62728"}
+COLORS = {"check": "#1f77b4", "nomination": "#6a3d9a", "response": "#2c8a2c", "failure": "#d62728"}
 STATES = {"New": "#bdbdbd", "Checking": "#f0b429", "Connected": "#7bc96f", "Completed": "#1b8a3a", "Disconnected": "#d62728"}
 # The same as text, dark enough to be read.
 WORDS = {**STATES, "New": "#666666", "Checking": "#8a5a00", "Connected": "#2b7a1f"}
@@ -76,8 +76,11 @@ def _cuts(scale: Scale, places: dict[str, float]) -> list[str]:
     for above, below, wait in scale.cuts:
         y = below - 17
         for x in places.values():
-            lines.append(f'<polygon points="{x - 9},{y + 4:.1f} {x + 9},{y - 4:.1f} {x + 9},{y + 2:.1f} {x - 9},{y + 10:.1f}" fill="#ffffff"/>')
-            lines.append(f'<path d="M{x - 9} {y + 4:.1f} L{x + 9} {y - 4:.1f} M{x - 9} {y + 10:.1f} L{x + 9} {y + 2:.1f}" stroke="#555555"/>')
+            left, right = x - 9, x + 9
+            corners = f"{left},{y + 4:.1f} {right},{y - 4:.1f} {right},{y + 2:.1f} {left},{y + 10:.1f}"
+            lines.append(f'<polygon points="{corners}" fill="#ffffff"/>')
+            edges = f"M{left} {y + 4:.1f} L{right} {y - 4:.1f} M{left} {y + 10:.1f} L{right} {y + 2:.1f}"
+            lines.append(f'<path d="{edges}" stroke="#555555"/>')
         first = next(iter(places.values()))
         lines.append(_text(first - 14, y + 6, f"{wait_text(wait)} cut", "end", PALE, 'font-size="10" font-style="italic"'))
     return lines
@@ -106,12 +109,12 @@ def _arrows(picture: Picture, scale: Scale, places: dict[str, float]) -> list[st
         if arrow.is_cut:
             x, anchor = (points[-1][0] + 8, "start") if points[-1][0] > points[-2][0] else (points[-1][0] - 8, "end")
             y = labels.place_end(arrow.end, x, points, anchor)
-            colour = UNDELIVERED if arrow.is_undelivered else LOST
-            over.append(_text(x, y + 3.5, arrow.end, anchor, colour, f'font-size="9" {HALO}'))
+            color = UNDELIVERED if arrow.is_undelivered else LOST
+            over.append(_text(x, y + 3.5, arrow.end, anchor, color, f'font-size="9" {HALO}'))
     for arrow, points in drawn:
         x, y = labels.place(arrow.text, points)
         over.append(_ground(arrow.text, x, y))
-        over.append(_text(x, y + 3.5, arrow.text, "middle", COLOURS[arrow.kind], f'font-size="10" {HALO}'))
+        over.append(_text(x, y + 3.5, arrow.text, "middle", COLORS[arrow.kind], f'font-size="10" {HALO}'))
     return [line for arrow, points in drawn for line in _line(arrow, points)] + over
 
 
@@ -130,19 +133,19 @@ def _points(arrow: Arrow, scale: Scale, places: dict[str, float]) -> list[Point]
 
 
 def _line(arrow: Arrow, points: list[Point]) -> list[str]:
-    colour, dash = COLOURS[arrow.kind], ' stroke-dasharray="5 3"' if arrow.end else ""
+    color, dash = COLORS[arrow.kind], ' stroke-dasharray="5 3"' if arrow.end else ""
     path = " ".join(f"{x:.1f},{y:.1f}" for x, y in points)
-    line = f'<polyline points="{path}" fill="none" stroke="{colour}" stroke-width="1.5"{dash}/>'
+    line = f'<polyline points="{path}" fill="none" stroke="{color}" stroke-width="1.5"{dash}/>'
     if arrow.is_undelivered:
         x, y = points[-1]
         return [line, f'<circle cx="{x:.1f}" cy="{y:.1f}" r="3.5" fill="#ffffff" stroke="{UNDELIVERED}" stroke-width="1.5"/>']
-    return [line, _cross(*points[-1]) if arrow.is_cut else _head(points[-2], points[-1], colour)]
+    return [line, _cross(*points[-1]) if arrow.is_cut else _head(points[-2], points[-1], color)]
 
 
-def _head(before: Point, end: Point, colour: str) -> str:
+def _head(before: Point, end: Point, color: str) -> str:
     angle = math.atan2(end[1] - before[1], end[0] - before[0])
     corners = [end] + [(end[0] - 9 * math.cos(angle + turn), end[1] - 9 * math.sin(angle + turn)) for turn in (0.35, -0.35)]
-    return f'<polygon points="{" ".join(f"{x:.1f},{y:.1f}" for x, y in corners)}" fill="{colour}"/>'
+    return f'<polygon points="{" ".join(f"{x:.1f},{y:.1f}" for x, y in corners)}" fill="{color}"/>'
 
 
 def _cross(x: float, y: float) -> str:
@@ -155,12 +158,12 @@ def _cross(x: float, y: float) -> str:
 def _legend(picture: Picture, scale: Scale) -> tuple[str, float]:
     """Returns the legend of what the picture has, and its width."""
     kinds, states = {arrow.kind for arrow in picture.arrows}, {name for _, _, name in picture.states}
-    rows = [(name, COLOURS[kind]) for name, kind in (("check", "check"), ("check with USE-CANDIDATE", "nomination"), ("success response", "response"),
-                                                     ("error response", "failure")) if kind in kinds]
-    rows += [(f"state {name}", colour) for name, colour in STATES.items() if name in states]
+    names = {"check": "check", "nomination": "check with USE-CANDIDATE", "response": "success response", "failure": "error response"}
+    rows = [(name, COLORS[kind]) for kind, name in names.items() if kind in kinds]
+    rows += [(f"state {name}", color) for name, color in STATES.items() if name in states]
     lines, x = [], 0.0
-    for name, colour in rows:
-        lines.append(f'<rect x="{x:.0f}" y="0" width="11" height="8" fill="{colour}"/>')
+    for name, color in rows:
+        lines.append(f'<rect x="{x:.0f}" y="0" width="11" height="8" fill="{color}"/>')
         lines.append(_text(x + 15, 8, name, "start", "#555555", 'font-size="10"'))
         x += 32 + LETTER * 0.87 * len(name)
     if scale.cuts:
@@ -170,5 +173,5 @@ def _legend(picture: Picture, scale: Scale) -> tuple[str, float]:
     return "".join(lines), x + 40
 
 
-def _text(x: float, y: float, text: str, anchor: str, colour: str, more: str = "") -> str:
-    return f'<text x="{x:.1f}" y="{y:.1f}" text-anchor="{anchor}" fill="{colour}" {more}>{escape(text)}</text>'
+def _text(x: float, y: float, text: str, anchor: str, color: str, more: str = "") -> str:
+    return f'<text x="{x:.1f}" y="{y:.1f}" text-anchor="{anchor}" fill="{color}" {more}>{escape(text)}</text>'

@@ -124,8 +124,8 @@ class Peer:
         """Reads lines until standard input ends."""
         reader = asyncio.StreamReader()
         await asyncio.get_running_loop().connect_read_pipe(lambda: asyncio.StreamReaderProtocol(reader), sys.stdin)
-        while text := await reader.readline():
-            self.read(text.decode().rstrip("\r\n"))
+        while (line := await next_line(reader)) is not None:
+            self.read(line)
 
     async def say_until_heard(self, message: str) -> None:
         """Sends a text on the path five times a second. Ends a second after the first chat was received."""
@@ -155,6 +155,24 @@ class Peer:
             for task in tasks:
                 task.cancel()
             self.loop.close()
+
+
+async def next_line(reader: asyncio.StreamReader) -> str | None:
+    """Returns the next line, or None at the end. Bytes that are not UTF-8 are replaced, and a line that is too long is left out."""
+    is_too_long = False
+    while True:
+        try:
+            text = await reader.readuntil()
+        except asyncio.IncompleteReadError as end:
+            text = end.partial
+        except asyncio.LimitOverrunError as over:
+            await reader.readexactly(over.consumed)
+            is_too_long = True
+            continue
+        if not is_too_long:
+            return text.decode(errors="replace").rstrip("\r\n") if text else None
+        tell("peer: a line is too long")
+        is_too_long = False
 
 
 def say(line: str) -> None:

@@ -196,12 +196,15 @@ static void print_stats(struct session *s)
     fprintf(stderr, "\n");
 }
 
-/* Prints the transport address of a candidate: the fifth and sixth words of its text. */
+/* Prints the transport address of a candidate: the fifth and sixth words of its text. A peer may send a text of any length: of one that
+ * the buffer is too short for, only the length is known. */
 static void print_address(const char *what, int32_t code, const uint8_t *line, size_t length)
 {
     char text[512], address[64], port[8];
+    if (code == IS_ICE_BUFFER_TOO_SHORT) fprintf(stderr, " %s a candidate of %llu bytes", what, (unsigned long long)length);
+    if (code != IS_ICE_OK) return;
     snprintf(text, sizeof text, "%.*s", (int)length, (const char *)line);
-    if (code == IS_ICE_OK && sscanf(text, "%*s %*s %*s %*s %63s %7s", address, port) == 2) fprintf(stderr, " %s %s %s", what, address, port);
+    if (sscanf(text, "%*s %*s %*s %*s %63s %7s", address, port) == 2) fprintf(stderr, " %s %s %s", what, address, port);
 }
 
 /* Prints each pair with its candidates. */
@@ -257,7 +260,7 @@ static void take_line(struct session *s, char *line)
 static void take_lines(struct session *s)
 {
     char *begin = s->input, *end;
-    while ((end = memchr(begin, '\n', s->input_length - (size_t)(begin - s->input))) != NULL) {
+    while ((end = (char *)memchr(begin, '\n', s->input_length - (size_t)(begin - s->input))) != NULL) {
         *end = '\0';
         if (!s->input_is_too_long) take_line(s, begin);
         s->input_is_too_long = false;
@@ -301,13 +304,21 @@ static uint64_t least(uint64_t a, uint64_t b)
     return a < b ? a : b;
 }
 
+static struct pollfd readable(int descriptor)
+{
+    struct pollfd wait = {0};
+    wait.fd = descriptor;
+    wait.events = POLLIN;
+    return wait;
+}
+
 /* Waits for a datagram or a line, until this time at the latest. */
 static void wait_until(struct session *s, uint64_t until)
 {
     struct pollfd waits[NET_SOCKETS + 1];
     uint64_t now = net_now(), left = until > now ? (until - now + MILLISECOND - 1) / MILLISECOND : 0;
-    for (size_t i = 0; i < s->net.count; i++) waits[i] = (struct pollfd){s->net.sockets[i], POLLIN, 0};
-    waits[s->net.count] = (struct pollfd){s->input_is_over ? -1 : STDIN_FILENO, POLLIN, 0};
+    for (size_t i = 0; i < s->net.count; i++) waits[i] = readable(s->net.sockets[i]);
+    waits[s->net.count] = readable(s->input_is_over ? -1 : STDIN_FILENO);
     int ready = poll(waits, (nfds_t)s->net.count + 1, left < INT_MAX ? (int)left : INT_MAX);
     if (ready < 0 && errno != EINTR) stop("poll", strerror(errno));
     if (ready <= 0) return;

@@ -161,7 +161,7 @@ static bool bind_at(struct net *net, const is_ice_address *address)
 /* 0.0.0.0 or ::, which stands for all addresses and so is none that the other peer can reach. */
 static bool is_unspecified(const is_ice_address *a)
 {
-    static const uint8_t zeros[16];
+    static const uint8_t zeros[16] = {0};
     return memcmp(a->bytes, zeros, a->family == 4 ? 4 : 16) == 0;
 }
 

@@ -86,7 +86,7 @@ void pcap_write(struct pcap *pcap, const is_ice_address *from, const is_ice_addr
     struct timespec now = {0};
     if (!pcap->file || length > LARGEST - sizeof headers) return;
     size_t size = put_ip(headers, from, to, HEADER + length);
-    put_udp(headers + size, from, to, bytes, length);
+    put_udp(headers + size, from, to, (const uint8_t *)bytes, length);
     size += HEADER;
 
     clock_gettime(CLOCK_REALTIME, &now);

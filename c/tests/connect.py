@@ -3,6 +3,7 @@
 Usage: connect.py PEER [CASE ..]. Prints a line for each case, and 'N passed, M failed'. The status is 0 if all passed.
 """
 import queue
+import re
 import socket
 import struct
 import subprocess
@@ -315,13 +316,26 @@ def errors():
             raise Failed(f"{text!r} is not in {error!r} for each {line[:40]!r}")
 
 
+def long_candidate():
+    """A candidate whose text is longer than the buffer of /pairs is printed by its length."""
+    a = Peer("-t", "30", "-a", "127.0.0.1", "controlled")
+    candidate = f"candidate:{'a' * 12000} 1 udp 2130706431 127.0.0.1 9 typ host"
+    a.hears(f"signal abcdefgh abcdefghijklmnopqrstuv {candidate}")
+    a.hears("/pairs")
+    said = a.says("pair 0 from 127.0.0.1 ")
+    if not re.search(r" to a candidate of 12\d\d\d bytes ", said) or len(said) > 200:
+        raise Failed(said)
+    a.hears("/quit")
+    a.ends()
+
+
 def late():
     """A peer without a response ends with status 1."""
     a = Peer("-a", "127.0.0.1", "-t", "1", "controlling")
     a.ends(1)
 
 
-CASES = [roles, families, interfaces, trickle, restart, lite, reflexive, silent_server, mdns, replay, options, errors, late]
+CASES = [roles, families, interfaces, trickle, restart, lite, reflexive, silent_server, mdns, replay, options, errors, long_candidate, late]
 
 
 def main():

@@ -13,7 +13,8 @@ NUMBERS = {"uint64_t": "u64", "uint32_t": "u32", "uint16_t": "u16", "uint8_t": "
 NAMES = {"agent_status": "Status", "agent_stats": "Stats", "nominated_pair": "Nominated"}
 
 # What ctypes calls a type on 64-bit Linux: u64 and usize are one there.
-CTYPES = {"c_ulong": "u64", "c_uint": "u32", "c_int": "i32", "c_ushort": "u16", "c_ubyte": "u8", "c_bool": "bool", "c_void_p": "ptr", "c_char_p": "ptr"}
+CTYPES = {"c_ulong": "u64", "c_uint": "u32", "c_int": "i32", "c_ushort": "u16", "c_ubyte": "u8", "c_bool": "bool", "c_void_p": "ptr",
+          "c_char_p": "ptr"}
 
 
 def struct_name(word):
@@ -47,7 +48,8 @@ def header():
     text = re.sub(r"/\*.*?\*/", "", (TOP / "c" / "is_ice.h").read_text(), flags=re.S)
     calls = {name: (NUMBERS.get(result), [kind for _, kind in parts(arguments, of_c, ",")])
              for result, name, arguments in re.findall(r"(int32_t|uint32_t|void)\s+(is_ice_\w+)\(([^;{]*)\);", text)}
-    structs = {struct_name(name): parts(fields, of_c, ";") for name, fields in re.findall(r"typedef struct (is_ice_\w+) \{(.*?)\}", text, re.S)}
+    found = re.findall(r"typedef struct (is_ice_\w+) \{(.*?)\}", text, re.S)
+    structs = {struct_name(name): parts(fields, of_c, ";") for name, fields in found}
     return calls, structs
 
 

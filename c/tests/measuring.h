@@ -46,7 +46,7 @@ static inline double processor_time(void)
 /* Bytes of the process in memory, without those that are a file's: code is loaded when it first runs. */
 static inline long resident(void)
 {
-    long size, pages, shared;
+    long size = 0, pages = 0, shared = 0;
     FILE *file = fopen("/proc/self/statm", "r");
     if (!file || fscanf(file, "%ld %ld %ld", &size, &pages, &shared) != 3) fail("/proc/self/statm", "no sizes");
     fclose(file);

@@ -12,7 +12,7 @@ from ..scenario import SIDES
 from .connections import Rows, by_last_call, delivers, has_rounds, is_active
 from .execution import Execution, Lacks, Round, lacks
 from .fair import is_fair_world
-from .grantings import ALL, Network, serves_no_request
+from .accepted_nominations import ALL, Network, serves_no_request
 from .meet import is_meeting
 from .opening import Proposal, pair_of, proposals, rounds_of, waits
 from .progress import are_nominated_on, has_announced, is_alone
@@ -82,7 +82,7 @@ def lacking(n: Network, c: Choice) -> Lacks:
         leads=goes(n, other(c.side), c.its, reversed_path(c.path), c.leads, part),
         goes=goes(n, c.side, c.path, reversed_path(c.its), c.goes, part),
         request_at=serves_no_request(x, c.side, c.moment),
-        IsAlone=is_alone(x.state(c.moment + 1, c.side), c.path),
+        IsOnlyPair=is_alone(x.state(c.moment + 1, c.side), c.path),
         MayEndAt=not may_end_in(x, c.side, c.path, whole),
         MayEndInRounds=not may_end_in_rounds(x, other(c.side), c.its, x.rounds(other(c.side), c.leads, c.moment)))
 

@@ -12,8 +12,8 @@ from ..scenario import SIDES
 from .connections import Rows, by_last_call, has_rounds, succeeds_in
 from .execution import Lacks, Round, lacks
 from .fair import are_new_agents
-from .granted import latest_ask, latest_exchange, nominated_paths, reached_paths, selected_by
-from .grantings import Network, is_asked_over, is_controlled, is_exchanged_over, serves_no_request
+from .nomination_accepted import latest_ask, latest_exchange, nominated_paths, reached_paths, selected_by
+from .accepted_nominations import Network, is_asked_over, is_controlled, is_exchanged_over, serves_no_request
 from .progress import is_alone
 from .selections import checks_in
 from .staying import may_end_in, may_end_in_rounds
@@ -37,7 +37,8 @@ class Choice:
 def asks(n: Network, side: str, path: Path, its: Path, part: range, rounds: list[Round]) -> Lacks:
     """If the other side sends a check on `its` in its rounds, or accepts a success response on it, one nominates the path (`Asks`)."""
     over = is_asked_over(n, side, path, part)
-    return lacks(asked=over if checks_in(n.x, other(side), its, rounds) else [], early=over if succeeds_in(n.x, other(side), its, rounds) else [])
+    return lacks(asked=over if checks_in(n.x, other(side), its, rounds) else [],
+                 early=over if succeeds_in(n.x, other(side), its, rounds) else [])
 
 
 def is_answered(n: Network, side: str, path: Path, part: range, rounds: list[Round]) -> Lacks:
@@ -58,7 +59,7 @@ def lacking(n: Network, c: Choice) -> Lacks:
         asked=has_rounds(n.x, c.side, c.path, asked, c.moment),
         IsAnswered=is_answered(n, c.side, c.path, part, asked),
         request_at=serves_no_request(n.x, c.side, c.moment),
-        IsAlone=is_alone(n.x.state(c.moment + 1, c.side), c.path),
+        IsOnlyPair=is_alone(n.x.state(c.moment + 1, c.side), c.path),
         MayEndAt=not may_end_in(n.x, c.side, c.path, whole),
         MayEndInRounds=not may_end_in_rounds(n.x, other(c.side), c.its, asking))
 

@@ -8,7 +8,7 @@ from typing import Protocol
 
 from ..pairs import Pair, Path
 from .execution import Execution, Lacks, Round, fewest, is_in_round, lacks
-from .grantings import ALL, Network
+from .accepted_nominations import ALL, Network
 from .progress import is_in_line
 from .selections import are_enough, are_kept, checks_in
 from .staying import may_end_in_rounds
@@ -22,7 +22,8 @@ def has_rounds_for(x: Execution, side: str, pair: Pair, rounds: list[Round], las
     first = rounds[0]
     agent = x.state(first.moment, side)
     by = min(pair.due_at(first.now, agent.timing), first.now)
-    return lacks(line=is_in_line(first.now, by, agent, pair), kept=are_kept(x, side, by, rounds), enough=are_enough(x, side, by, rounds, last))
+    return lacks(line=is_in_line(first.now, by, agent, pair), kept=are_kept(x, side, by, rounds),
+                 enough=are_enough(x, side, by, rounds, last))
 
 
 def has_rounds(x: Execution, side: str, path: Path, rounds: list[Round], last: int) -> Lacks:
@@ -42,7 +43,7 @@ class Rows:
         self._lines: dict[int, list[Path]] = {}
 
     def latest(self, end: int, path: Path | None = None) -> tuple[int, Path] | None:
-        """Returns the latest `handle_timeout` call from which rounds up to `end` suffice for a pair on the path, or on any; and the path."""
+        """Returns the latest `handle_timeout` call from which rounds up to `end` suffice for a pair on the path or any; its path too."""
         stop = bisect_left(self.timeouts, end)
         others = self.x.calls_besides(self.side, is_in_round)
         before = bisect_left(others, end)
@@ -60,7 +61,8 @@ class Rows:
     def _path_at(self, place: int, end: int, path: Path | None) -> Path | None:
         lines = [p for p in self.lines(place) if path in (None, p)]
         rounds = self.x.rounds(self.side, self.timeouts[place], end) if lines else []
-        fits = (p for p in lines if not has_rounds(self.x, self.side, p, rounds, end) and not may_end_in_rounds(self.x, self.side, p, rounds))
+        fits = (p for p in lines if not has_rounds(self.x, self.side, p, rounds, end)
+                and not may_end_in_rounds(self.x, self.side, p, rounds))
         return next(fits, None)
 
     def lines(self, place: int) -> list[Path]:

@@ -1,5 +1,5 @@
-"""`run`, clause `due_rounds` (`DueRoundsAnnounce`): the same as `rounds` of `run`, for a pair that is due by the first `handle_timeout` call
-of the rounds, maybe not before it."""
+"""`run`, clause `due_rounds` (`DueRoundsSelect`): the same as `rounds` of `run`, for a pair that is due by the first `handle_timeout`
+call of the rounds, maybe not before it."""
 
 from __future__ import annotations
 
@@ -18,7 +18,7 @@ def lacking(x: Execution, c: Choice) -> Lacks:
     rounds, by = c.rounds(x), min(due_of(x, c), x.now(c.first))  # so `by` is no later than the first call
     first = lacks(between=are_in_round(x, c.side, rounds[0]))
     later: Lacks = next((missing for r in rounds[1:] if (missing := is_passing(x, c.side, by, r))), [])
-    states = (x.state(at, c.side) for at in (c.first, rounds[0].behind.stop, c.end))
+    states = x.state(c.first, c.side), x.state(rounds[0].behind.stop, c.side), x.state(c.end, c.side)
     return lacks(**shared(x, c, by), first=first, IsPassing=later, SufficesFromDue=suffices_from_due(*states, len(rounds) - 1))
 
 

@@ -49,8 +49,8 @@ def is_poll(call: str) -> bool:
 # The calls that may come in a round, besides polls and packets: candidates that are added, and settings that change neither pairs nor
 # the timing of their checks.
 IN_ROUND = {"set_mtu", "set_control_tie_breaker", "set_max_candidate_pairs", "set_max_discovered", "set_renomination",
-            "set_timing_advance", "set_local_preference", "set_preference_table", "set_controlling", "set_local_credentials", "add_local_candidate",
-            "add_remote_candidate"}
+            "set_timing_advance", "set_local_preference", "set_preference_table", "set_controlling", "set_local_credentials",
+            "add_local_candidate", "add_remote_candidate"}
 
 
 def is_between(call: str) -> bool:
@@ -108,7 +108,8 @@ class Execution:
 
     def calls_besides(self, side: str, is_allowed: Callable[[str], bool]) -> list[int]:
         """Returns the indices of the side's calls that are not allowed in rounds, `handle_timeout` aside."""
-        return self.indices(("calls", side, is_allowed), lambda s: s.entry.side == side and not s.is_timeout and not is_allowed(s.entry.call))
+        return self.indices(("calls", side, is_allowed),
+                            lambda s: s.entry.side == side and not s.is_timeout and not is_allowed(s.entry.call))
 
     def checks(self, side: str, path: Path) -> list[int]:
         """Returns the indices of the `handle_timeout` calls that send a check of the side on the path."""
@@ -119,7 +120,7 @@ class Execution:
         return self.indices(("successes", side), lambda s: s.entry.side == side and brings_success(s))
 
     def announces(self, side: str) -> list[int]:
-        """Returns the indices at which the side selects a path (`Announces`)."""
+        """Returns the indices at which the side selects a path (`SelectsPath`)."""
         return self.indices(("announces", side), lambda s: s.entry.side == side and bool(s.selected))
 
     @cached_property

@@ -10,7 +10,7 @@ from ..pairs import Path
 from ..scenario import SIDES
 from .execution import Execution, Lacks, lacks
 from .fair import is_fair_world
-from .grantings import FAILURE, Network
+from .accepted_nominations import FAILURE, Network
 from .verdict import Verdict, first_that_holds
 
 

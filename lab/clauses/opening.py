@@ -45,7 +45,7 @@ def most_rounds(x: Execution, side: str, place: int, is_allowed: Callable[[str],
 
 
 def controlling_calls(x: Execution, sides: Sequence[str]) -> Iterator[tuple[int, str, Pair, int]]:
-    """Yields the place of each `handle_timeout` call of a controlling side without a valid pair, with each pair that is due by then, and
+    """Finds the place of each `handle_timeout` call of a controlling side without a valid pair, with each pair that is due by then, and
     when it is due."""
     for side in sides:
         for place, first in enumerate(x.timeouts[side]):

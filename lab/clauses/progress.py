@@ -77,7 +77,7 @@ def suffices(by: int, now: int, first: Agent, second: Agent, last: Agent, later:
 # ---- selection
 
 def is_alone(agent: Agent, path: Path) -> bool:
-    """Whether at most one pair uses the path's addresses (`IsAlone`)."""
+    """Whether at most one pair uses the path's addresses (`IsOnlyPair`)."""
     return len(agent.on(path)) <= 1
 
 
@@ -87,6 +87,6 @@ def are_nominated_on(agent: Agent, path: Path) -> bool:
 
 
 def has_announced(agent: Agent) -> bool:
-    """Whether the selected pair is eligible, and the chosen one or, unless the agent follows its peer, as great (`HasAnnounced`)."""
+    """Whether the selected pair is eligible, and the chosen one or, unless the agent follows its peer, as great (`HasSelected`)."""
     top = agent.chosen()
     return top is not None and agent.remains(top) and any(p.number == agent.selected and agent.is_eligible(p) for p in agent.pairs)

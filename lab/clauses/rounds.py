@@ -1,5 +1,5 @@
-"""`run`, clause `rounds` (`OpenRoundsAnnounce`): a pair of a controlling agent is due before rounds that suffice for it, in which its checks
-are answered. Then a path is selected in one of them."""
+"""`run`, clause `rounds` (`OpenRoundsSelect`): a pair of a controlling agent is due before rounds that suffice for it, in which its
+checks are answered. Then a path is selected in one of them."""
 
 from __future__ import annotations
 

@@ -5,7 +5,7 @@ from __future__ import annotations
 from ..pairs import Path
 from ..replay import other
 from .execution import MAX, Execution, Lacks, Round, any_in, is_between, is_in_round, lacks
-from .grantings import SUCCESS, Network
+from .accepted_nominations import SUCCESS, Network
 from .progress import suffice_for_due, suffices
 
 

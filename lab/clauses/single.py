@@ -109,6 +109,6 @@ def by_end(x: Execution, choices: Iterable[Choice]) -> list[Choice]:
 
 
 def announces_in(x: Execution, c: Choice) -> int | None:
-    """Returns when an accepted success response of the segment selects a path (`AnnouncesIn`)."""
+    """Returns when an accepted success response of the segment selects a path (`SelectsPathIn`)."""
     announcing = [at for at in x.successes(c.side) if at in range(c.first, c.end) and x.steps[at].selected]
     return x.time(announcing[0]) if announcing else None

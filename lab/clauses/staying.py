@@ -35,7 +35,7 @@ def may_end_by_joining(joined: Joined | None, pair: Pair) -> bool:
 
 
 def is_given_up(now: int, agent: Agent, pair: Pair) -> bool:
-    """Whether the pair's checks were not answered in time (`is_given_up`)."""
+    """Whether the pair's checks were not answered in time (`is_expired`)."""
     return not pair.stays(now, agent.timing, agent.lite)
 
 

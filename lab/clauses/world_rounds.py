@@ -1,4 +1,4 @@
-"""`World::run`, clause `rounds` (`DeliveredRoundsAnnounce`): a pair of the controlling agent is due in rounds that suffice for it, and the
+"""`World::run`, clause `rounds` (`DeliveredRoundsSelect`): a pair of the controlling agent is due in rounds that suffice for it, and the
 network delivers if it is checked. Then the agent selects a path by then."""
 
 from __future__ import annotations
@@ -9,7 +9,7 @@ from ..pairs import Path
 from ..scenario import SIDES
 from .execution import Lacks, any_in, lacks
 from .fair import are_new_agents
-from .grantings import SUCCESS, Network
+from .accepted_nominations import SUCCESS, Network
 from .opening import pair_of, proposals, rounds_of, waits
 from .selections import checks_in, is_answered_in_time, is_controlling
 from .verdict import Verdict, first_that_holds, selects

@@ -7,7 +7,7 @@ from typing import Any
 
 from is_ice import Candidate, IceCreds, NominatedSend, Protocol, SocketAddress, Transmit
 from lab.clauses.execution import Execution
-from lab.clauses.grantings import Network
+from lab.clauses.accepted_nominations import Network
 from lab.clock import BEGINNING, MILLISECOND
 from lab.log import Beginning, Entry, Log
 from lab.model import Agent, Issued
@@ -168,7 +168,8 @@ class Story:
             return {0x0009: b"\x00\x00\x04\x57"}
         assert old.peer is not None
         pair = next(p for p in new.pairs if p.checks and p.checks[-1].id == issued.id)
-        found = {USERNAME: f"{old.peer.ufrag}:{old.creds.ufrag}".encode(), PRIORITY: new.local[pair.local].check_priority.to_bytes(4, "big"),
+        found = {USERNAME: f"{old.peer.ufrag}:{old.creds.ufrag}".encode(),
+                 PRIORITY: new.local[pair.local].check_priority.to_bytes(4, "big"),
                  ICE_CONTROLLING if old.controlling else ICE_CONTROLLED: old.tie_breaker.to_bytes(8, "big")}
         return {**found, USE_CANDIDATE: b""} if old.controlling and pair.is_nominated else found
 

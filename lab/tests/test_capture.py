@@ -31,7 +31,8 @@ def dissected(packets: list[capture.Captured]) -> list[dict[str, str]]:
     with tempfile.TemporaryDirectory() as folder:
         file = Path(folder) / "session.pcap"
         file.write_bytes(capture.bytes_of(packets))
-        told = subprocess.run([*command, str(file), *(word for f in FIELDS for word in ("-e", f))], capture_output=True, text=True, check=True)
+        words = [*command, str(file), *(word for f in FIELDS for word in ("-e", f))]
+        told = subprocess.run(words, capture_output=True, text=True, check=True)
     return [dict(zip(FIELDS, line.split("\t"))) for line in told.stdout.splitlines()]
 
 
@@ -78,7 +79,8 @@ class Sessions(unittest.TestCase):
                     self.assertEqual((told["_ws.malformed"], told["udp.checksum.status"], told["stun.att.crc32.status"]), ("", GOOD, GOOD))
                     self.assertEqual(told["ip.checksum.status"], GOOD if packet.source.version == 4 else "")
                     self.assertEqual(int(told["stun.type"], 0), int.from_bytes(packet.contents[:2], "big"))
-                    self.assertTrue(all(int(severity, 0) < WARNING for severity in told["_ws.expert.severity"].split(",") if severity), told)
+                    severities = [int(severity, 0) for severity in told["_ws.expert.severity"].split(",") if severity]
+                    self.assertTrue(all(severity < WARNING for severity in severities), told)
 
     @unittest.skipUnless(shutil.which("tshark"), "tshark is not installed")
     def test_tshark_sees_a_changed_byte(self) -> None:

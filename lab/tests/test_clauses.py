@@ -2,15 +2,16 @@
 
 import unittest
 from dataclasses import replace
+from typing import Any
 
 from is_ice import Candidate, SocketAddress
-from lab.clauses import granted, meet, world_rounds
-from lab.clauses.grantings import Network
+from lab.clauses import nomination_accepted, meet, world_rounds
+from lab.clauses.accepted_nominations import Network
 from lab.clauses.verdict import Verdict
 from lab.clock import BEGINNING, MILLISECOND
 from lab.model import Request
 from lab.pairs import Place, Timing
-from stories import LINE, TO_A, TO_B, A, B, Story
+from lab.tests.stories import LINE, TO_A, TO_B, A, B, Story
 
 OUTSIDE = SocketAddress("203.0.113.1", 1000)
 REQUEST = Request(BEGINNING, A, B, bytes(12), 1, False, "aaaa", 1, None)
@@ -136,8 +137,10 @@ class Rounds(unittest.TestCase):
     def test_the_pair_waits(self) -> None:
         story = self.answered()
         first = story.moments["a"][0]
-        for fields, missing in (({"lite": True}, "Awaits.checking.full"), ({"timing": Timing(initial=1)}, "Awaits.paced"),
-                                ({"queue": (REQUEST,)}, "Awaits.queue")):
+        cases: tuple[tuple[dict[str, Any], str], ...] = (
+            ({"lite": True}, "Awaits.checking.full"), ({"timing": Timing(initial=1)}, "Awaits.paced"),
+            ({"queue": (REQUEST,)}, "Awaits.queue"))
+        for fields, missing in cases:
             self.assertEqual(self.lacking(story.altered(first, "a", **fields)), [missing])
 
     def test_the_remote_credentials(self) -> None:
@@ -241,7 +244,7 @@ class Granting(unittest.TestCase):
 
     def lacking(self, n: Network, start: int | None = None) -> list[str]:
         first, last = n.x.timeouts["b"][0], n.x.timeouts["b"][-1]
-        return granted.lacking(n, granted.Choice("b", TO_A, first if start is None else start, last))
+        return nomination_accepted.lacking(n, nomination_accepted.Choice("b", TO_A, first if start is None else start, last))
 
     def story(self, answered: bool = True, nominated: bool = True) -> Story:
         story = Story()
@@ -257,7 +260,7 @@ class Granting(unittest.TestCase):
 
     def test_a_nomination_and_a_response(self) -> None:
         self.assertEqual(self.lacking(self.story().network()), [])
-        self.assertEqual(granted.find(self.story().network()), Verdict("", at(20), at(70), at(70)))
+        self.assertEqual(nomination_accepted.find(self.story().network()), Verdict("", at(20), at(70), at(70)))
 
     def test_in_either_order(self) -> None:
         story = Story()
@@ -266,7 +269,7 @@ class Granting(unittest.TestCase):
         story.exchange("a", 50)
         story.deliver(story.deliver(check, "a", 60), "b", 65)
         story.timeout("b", 70)
-        self.assertEqual(granted.find(story.network()), Verdict("", at(20), at(70), at(65)))
+        self.assertEqual(nomination_accepted.find(story.network()), Verdict("", at(20), at(70), at(65)))
 
     def test_new_agents(self) -> None:
         self.assertEqual(self.lacking(self.story().altered(0, "a", next_number=1)), ["IsNewAgent"])
@@ -329,7 +332,8 @@ class Granting(unittest.TestCase):
     def test_two_pairs_use_the_addresses(self) -> None:
         story = self.story()
         pair = story.agents["b"].pairs[0]
-        self.assertEqual(self.lacking(story.altered(story.moments["b"][-1] + 1, "b", pairs=(pair, replace(pair, number=9)))), ["IsAlone"])
+        altered = story.altered(story.moments["b"][-1] + 1, "b", pairs=(pair, replace(pair, number=9)))
+        self.assertEqual(self.lacking(altered), ["IsOnlyPair"])
 
     def test_all_pairs_on_the_nominating_path_are_nominated(self) -> None:
         story = Story(known=False, hosts=(0, 1))
@@ -342,7 +346,7 @@ class Granting(unittest.TestCase):
             story.exchange("a", time)
         story.timeout("b", 250)
         self.assertEqual(len(story.agents["a"].on(TO_B)), 2)
-        self.assertIn("IsAskedOver.nominated", granted.find(story.network()).failed)
+        self.assertIn("IsAskedOver.nominated", nomination_accepted.find(story.network()).failed)
 
     def test_a_candidate_may_remove_the_pair(self) -> None:
         story = Story()
@@ -362,7 +366,7 @@ class Granting(unittest.TestCase):
         story.deliver(answer, "b", 80, (OUTSIDE, B))
         story.deliver(story.timeout("a", 80), "b", 85, (OUTSIDE, B))
         story.timeout("b", 120)
-        self.assertEqual(granted.find(story.network()).bound, at(120))
+        self.assertEqual(nomination_accepted.find(story.network()).bound, at(120))
 
 
 if __name__ == "__main__":

@@ -5,12 +5,12 @@ from dataclasses import replace
 
 from is_ice import SocketAddress
 from lab.clauses import both, connect
-from lab.clauses.grantings import Network
+from lab.clauses.accepted_nominations import Network
 from lab.clauses.verdict import Verdict
 from lab.clock import BEGINNING, MILLISECOND
 from lab.model import Request
 from lab.pairs import Check, Pair
-from stories import TO_A, TO_B, A, B, Story
+from lab.tests.stories import TO_A, TO_B, A, B, Story
 
 OUTSIDE = SocketAddress("203.0.113.1", 1000)
 REQUEST = Request(BEGINNING, A, B, bytes(12), 1, False, "aaaa", 1, None)
@@ -150,7 +150,8 @@ class Connecting(Late):
     def test_two_pairs_use_the_addresses(self) -> None:
         story = self.story()
         pair = story.agents["b"].pairs[0]
-        self.assertEqual(self.lacking(story.altered(story.moments["b"][-1] + 1, "b", pairs=(pair, replace(pair, number=9)))), ["IsAlone"])
+        altered = story.altered(story.moments["b"][-1] + 1, "b", pairs=(pair, replace(pair, number=9)))
+        self.assertEqual(self.lacking(altered), ["IsOnlyPair"])
 
     def test_a_candidate_may_remove_a_pair(self) -> None:
         for side, name in (("a", "MayEndInRounds"), ("b", "MayEndAt")):
@@ -205,7 +206,8 @@ class Both(Late):
         story = self.story()
         first = story.moments["a"][0]
         pair = story.session().steps[first].before["a"].pairs[0]
-        for part, pairs in (("IsUnanswered.young", (silent(pair),)), ("IsUnanswered.invalid", (pair, replace(pair, number=9, state="succeeded"))),
+        for part, pairs in (("IsUnanswered.young", (silent(pair),)),
+                            ("IsUnanswered.invalid", (pair, replace(pair, number=9, state="succeeded"))),
                             ("Awaits.due", (replace(pair, due=at(9)),))):
             missing = [f"Opens.{part}"] + ["Opens.enough.AreEachPolled.few", "Opens.enough.AreEnough"] * (len(pairs) > 1)
             self.assertEqual(self.lacking(story.altered(first, "a", pairs=pairs)), missing)
@@ -282,7 +284,8 @@ class Both(Late):
     def test_two_pairs_use_the_addresses(self) -> None:
         story = self.story()
         pair = story.agents["b"].pairs[0]
-        self.assertEqual(self.lacking(story.altered(story.moments["b"][-1] + 1, "b", pairs=(pair, replace(pair, number=9)))), ["IsAlone"])
+        altered = story.altered(story.moments["b"][-1] + 1, "b", pairs=(pair, replace(pair, number=9)))
+        self.assertEqual(self.lacking(altered), ["IsOnlyPair"])
 
     def test_a_candidate_may_remove_a_pair(self) -> None:
         for side, name in (("a", "MayEndInRounds"), ("b", "MayEndAt")):

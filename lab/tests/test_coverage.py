@@ -6,7 +6,7 @@ from dataclasses import replace
 from lab import scenario
 from lab.coverage import CLAUSES, Covered, Play, gather, tables, verdicts_of
 from lab.replay import replay
-from stories import Story
+from lab.tests.stories import Story
 
 
 class Sessions(unittest.TestCase):
@@ -32,7 +32,8 @@ class Tables(unittest.TestCase):
         verdicts, _ = verdicts_of(story.log)
         self.assertEqual(set(verdicts), set(CLAUSES))
         told = gather([Covered("x", 0, True, verdicts), Covered("x", 1, False, verdicts)])["x"]
-        self.assertEqual((told.sessions, told.connected, told.shares["meet"].covered, told.shares["granted"].covered), (2, 1, 1, 0))
+        covered = [told.shares[clause].covered for clause in ("meet", "nomination_accepted")]
+        self.assertEqual((told.sessions, told.connected, *covered), (2, 1, 1, 0))
         self.assertEqual((told.shares["meet"].bound, told.shares["meet"].fact), ([5.0], [0.0]))
         self.assertIn("IsAskedOver.handed", tables([told]))
 

@@ -6,7 +6,8 @@ from dataclasses import replace
 from is_ice import Candidate, IceCreds, SocketAddress
 from lab.clauses.execution import MAX, is_in_round
 from lab.clauses.fair import is_fair_world
-from lab.clauses.grantings import (is_exchanged_over, is_reached_by, is_returned, is_returned_in_time, know_each_other, stays_pending)
+from lab.clauses.accepted_nominations import (is_exchanged_over, is_reached_by, is_returned, is_returned_in_time,
+                                              know_each_other, stays_pending)
 from lab.clauses.progress import (are_as_many_as_due, awaits, has_announced, is_in_line, is_paced, is_unanswered, suffice_for_due, suffices,
                                   suffices_from_due)
 from lab.clauses.selections import are_each_polled, are_enough, are_kept, is_answered_in_time, makes_in_round
@@ -15,7 +16,7 @@ from lab.clauses.staying import may_end_in
 from lab.clock import BEGINNING, MILLISECOND
 from lab.model import Agent, Request
 from lab.pairs import Check, Place, Timing
-from stories import LINE, TO_A, TO_B, A, B, Story
+from lab.tests.stories import LINE, TO_A, TO_B, A, B, Story
 
 OUTSIDE = SocketAddress("203.0.113.1", 1000)
 REQUEST = Request(BEGINNING, A, B, bytes(12), 1, False, "aaaa", 1, None)
@@ -86,7 +87,8 @@ class Waiting(unittest.TestCase):
     def both(self, agent: Agent, by: int | None = None) -> tuple[list[str], list[str]]:
         """What is missing of `Awaits` and of `IsInLine`."""
         pair = agent.pairs[0]
-        return tuple(f(self.now, self.now if by is None else by, agent, pair) for f in (awaits, is_in_line))  # type: ignore[return-value]
+        by = self.now if by is None else by
+        return awaits(self.now, by, agent, pair), is_in_line(self.now, by, agent, pair)
 
     def test_it_waits(self) -> None:
         self.assertEqual(self.both(self.agent), ([], []))

@@ -3,10 +3,11 @@
 import itertools
 import unittest
 from random import Random
+from typing import Any
 
 from is_ice import SocketAddress
 from lab.clock import SECOND
-from lab.nat import Behaviour, Nat, NatSettings
+from lab.nat import Behavior, Nat, NatSettings
 
 OUTSIDE = "203.0.113.1"
 INSIDE = SocketAddress("192.168.1.10", 5000)
@@ -15,27 +16,27 @@ SAME_IP = SocketAddress("198.51.100.1", 9999)
 OTHER = SocketAddress("198.51.100.2", 3478)
 
 
-def nat(mapping: Behaviour = Behaviour.ENDPOINT, filtering: Behaviour = Behaviour.ENDPOINT, **more: object) -> Nat:
-    return Nat(NatSettings(OUTSIDE, mapping, filtering, **more), Random(1))  # type: ignore[arg-type]
+def nat(mapping: Behavior = Behavior.ENDPOINT, filtering: Behavior = Behavior.ENDPOINT, **more: Any) -> Nat:
+    return Nat(NatSettings(OUTSIDE, mapping, filtering, **more), Random(1))
 
 
 class Mapping(unittest.TestCase):
     """RFC 4787, section 4.1: which destinations share an outside port."""
 
-    def ports(self, behaviour: Behaviour) -> tuple[bool, bool]:
-        box = nat(behaviour)
+    def ports(self, behavior: Behavior) -> tuple[bool, bool]:
+        box = nat(behavior)
         first, same_ip, other = (box.outgoing(0, INSIDE, to) for to in (SERVER, SAME_IP, OTHER))
         self.assertEqual(first, box.outgoing(1, INSIDE, SERVER))
         return first == same_ip, first == other
 
     def test_endpoint_independent(self) -> None:
-        self.assertEqual(self.ports(Behaviour.ENDPOINT), (True, True))
+        self.assertEqual(self.ports(Behavior.ENDPOINT), (True, True))
 
     def test_address_dependent(self) -> None:
-        self.assertEqual(self.ports(Behaviour.ADDRESS), (True, False))
+        self.assertEqual(self.ports(Behavior.ADDRESS), (True, False))
 
     def test_address_and_port_dependent(self) -> None:
-        self.assertEqual(self.ports(Behaviour.ADDRESS_AND_PORT), (False, False))
+        self.assertEqual(self.ports(Behavior.ADDRESS_AND_PORT), (False, False))
 
     def test_sockets_never_share_a_port(self) -> None:
         box = nat()
@@ -50,15 +51,15 @@ class Mapping(unittest.TestCase):
 class Filtering(unittest.TestCase):
     """RFC 4787, section 5: what passes the filter after a packet to SERVER."""
 
-    def let_in(self, mapping: Behaviour, filtering: Behaviour) -> list[bool]:
+    def let_in(self, mapping: Behavior, filtering: Behavior) -> list[bool]:
         box = nat(mapping, filtering)
         outside = box.outgoing(0, INSIDE, SERVER)
         return [box.incoming(0, source, outside) == INSIDE for source in (SERVER, SAME_IP, OTHER)]
 
-    def test_each_behaviour_whatever_the_mapping(self) -> None:
-        wanted = {Behaviour.ENDPOINT: [True, True, True], Behaviour.ADDRESS: [True, True, False],
-                  Behaviour.ADDRESS_AND_PORT: [True, False, False]}
-        for mapping, filtering in itertools.product(Behaviour, Behaviour):
+    def test_each_behavior_whatever_the_mapping(self) -> None:
+        wanted = {Behavior.ENDPOINT: [True, True, True], Behavior.ADDRESS: [True, True, False],
+                  Behavior.ADDRESS_AND_PORT: [True, False, False]}
+        for mapping, filtering in itertools.product(Behavior, Behavior):
             with self.subTest(mapping=mapping, filtering=filtering):
                 self.assertEqual(self.let_in(mapping, filtering), wanted[filtering])
 
@@ -84,7 +85,7 @@ class Timeouts(unittest.TestCase):
             self.assertEqual(box.incoming(40 * SECOND, SERVER, outside), seen)
 
     def test_permissions_time_out_separately(self) -> None:
-        box = nat(filtering=Behaviour.ADDRESS, timeout_s=30)
+        box = nat(filtering=Behavior.ADDRESS, timeout_s=30)
         outside = box.outgoing(0, INSIDE, SERVER)
         box.outgoing(20 * SECOND, INSIDE, OTHER)
         self.assertIsNone(box.incoming(40 * SECOND, SERVER, outside))

@@ -2,6 +2,7 @@
 
 import unittest
 from random import Random
+from typing import Any
 
 from is_ice import SocketAddress
 from lab.clock import BEGINNING, MILLISECOND, Clock
@@ -59,8 +60,8 @@ class Routing(unittest.TestCase):
         made.take = lambda interface, packet: self.heard.append((interface.ip, packet))
         return made
 
-    def gateway(self, **more: object) -> Gateway:
-        return Gateway("router", NatSettings(OUTSIDE, **more), self.home, self.internet, Random(1))  # type: ignore[arg-type]
+    def gateway(self, **more: Any) -> Gateway:
+        return Gateway("router", NatSettings(OUTSIDE, **more), self.home, self.internet, Random(1))
 
     def send(self, interface: Interface, port: int, to: SocketAddress, payload: object = "hello") -> Datagram:
         source = SocketAddress(interface.ip, port)
@@ -121,14 +122,17 @@ class Routing(unittest.TestCase):
         Server(STUN.ip, self.internet)
         client, peer, stranger = (self.interface(f"192.0.2.{n}", self.internet) for n in (1, 2, 3))
         self.send(client, 1, STUN, AllocateRequest())
-        relayed = self.heard.pop()[1].payload.address  # type: ignore[attr-defined]
+        response = self.heard.pop()[1].payload
+        assert isinstance(response, SuccessResponse)
+        relayed = response.address
         self.assertIn("not permitted", self.send(peer, 2, relayed).fates[0][1])
         word = Relayed(relayed, SocketAddress(peer.ip, 2), Datagram(0, "a", 0, relayed, STUN, b""))
         self.send(client, 1, STUN, word)
         self.assertEqual(self.heard.pop()[1].source, relayed)
         self.send(peer, 2, relayed)
-        back = self.heard.pop()
-        self.assertEqual((back[0], back[1].payload.peer), (client.ip, SocketAddress(peer.ip, 2)))  # type: ignore[attr-defined]
+        receiver, packet = self.heard.pop()
+        assert isinstance(packet.payload, Relayed)
+        self.assertEqual((receiver, packet.payload.peer), (client.ip, SocketAddress(peer.ip, 2)))
         self.assertIn("not permitted", self.send(stranger, 2, relayed).fates[0][1])
 
 

@@ -9,8 +9,8 @@ from pathlib import Path
 LAB = Path(__file__).parent.parent
 README = (LAB / "README.md").read_text(encoding="utf-8")
 # Names of parts that the table has under the name of their definition.
-GROUPS = {"split", "first", "on", "rounds", "new", "empty", "tie", "distinct", "full", "peer", "mine", "its", "own", "other", "fit", "returned",
-          "reached", "there"}
+GROUPS = {"split", "first", "on", "rounds", "new", "empty", "tie", "distinct", "full", "peer", "mine", "its", "own", "other", "fit",
+          "returned", "reached", "there"}
 
 
 def names_in(path: Path) -> set[str]:
@@ -45,7 +45,7 @@ class Readme(unittest.TestCase):
             self.assertEqual(names_in(path) - listed - GROUPS, set(), path.name)
 
     def test_each_clause_has_a_row(self) -> None:
-        for path in ("meet", "world_rounds", "granted", "connect", "both", "rounds", "due_rounds"):
+        for path in ("meet", "world_rounds", "nomination_accepted", "connect", "both", "rounds", "due_rounds"):
             self.assertIn(f"| `{path}.py` |", README)
             self.assertTrue(callable(importlib.import_module(f"lab.clauses.{path}").lacking))
 

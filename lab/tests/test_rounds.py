@@ -2,16 +2,17 @@
 
 import unittest
 from dataclasses import replace
+from typing import Any
 
 from lab.clauses import due_rounds, rounds
 from lab.clauses.execution import MAX
-from lab.clauses.grantings import Network
+from lab.clauses.accepted_nominations import Network
 from lab.clauses.single import Choice
 from lab.clauses.verdict import Verdict
 from lab.clock import BEGINNING, MILLISECOND
 from lab.model import Request
 from lab.pairs import Check, Timing
-from stories import A, B, Story
+from lab.tests.stories import A, B, Story
 
 REQUEST = Request(BEGINNING, A, B, bytes(12), 1, False, "aaaa", 1, None)
 
@@ -42,8 +43,10 @@ class Rounds(unittest.TestCase):
     def test_the_pair_waits(self) -> None:
         story = self.story()
         first = story.moments["a"][1]
-        for fields, missing in (({"lite": True}, "checking.full"), ({"peer": None}, "checking.peer"), ({"timing": Timing(initial=1)}, "paced"),
-                                ({"queue": (REQUEST,)}, "queue")):
+        cases: tuple[tuple[dict[str, Any], str], ...] = (
+            ({"lite": True}, "checking.full"), ({"peer": None}, "checking.peer"), ({"timing": Timing(initial=1)}, "paced"),
+            ({"queue": (REQUEST,)}, "queue"))
+        for fields, missing in cases:
             self.assertEqual(self.lacking(story.altered(first, "a", **fields)), [f"Awaits.{missing}"])
 
     def test_no_pair_is_valid_and_this_one_is_not_removed(self) -> None:
@@ -127,7 +130,8 @@ class DueRounds(unittest.TestCase):
     def test_what_it_has_in_common_with_rounds(self) -> None:
         story = self.story()
         first = story.moments["a"][0]
-        for fields, missing in (({"queue": (REQUEST,)}, "Awaits.queue"), ({"lite": True}, "Awaits.checking.full")):
+        cases: tuple[tuple[dict[str, Any], str], ...] = (({"queue": (REQUEST,)}, "Awaits.queue"), ({"lite": True}, "Awaits.checking.full"))
+        for fields, missing in cases:
             self.assertEqual(self.lacking(story.altered(first, "a", **fields)), [missing])
         self.assertEqual(self.lacking(story.altered(0, "a", next_number=1)), ["IsFresh"])
         self.assertEqual(self.lacking(story.altered(first + 1, "a", controlling=False)), ["IsControllingIn"])

@@ -6,12 +6,14 @@ from itertools import product
 from random import Random
 from typing import TypeVar
 
-from lab.clauses import both, connect, due_rounds, granted, meet, rounds, single, world_rounds
-from lab.clauses.execution import Lacks
-from lab.clauses.grantings import Network
+from is_ice import Transmit
+from lab.clauses import both, connect, due_rounds, nomination_accepted, meet, rounds, single, world_rounds
+from lab.clauses.execution import Execution, Lacks
+from lab.clauses.accepted_nominations import Network
 from lab.clauses.verdict import Verdict
+from lab.pairs import Path
 from lab.scenario import SIDES
-from stories import Story
+from lab.tests.stories import Story
 
 C = TypeVar("C")
 
@@ -20,14 +22,14 @@ def random_story(seed: int) -> Story:
     """Timeouts of both sides, packets that are lost, delayed or delivered, and perhaps a role conflict or added candidates."""
     random = Random(seed)
     story = Story(roles=(True, seed % 3 == 0), hosts=(1 + seed % 2, 1))
-    waiting: list[tuple[float, str, object]] = []
+    waiting: list[tuple[float, str, Transmit]] = []
     time = 0.0
     for _ in range(9):
         time += random.choice((1, 50, 250, 600))
         side = random.choice("ab")
         for packet in [w for w in waiting if w[0] <= time]:
             waiting.remove(packet)
-            answer = story.deliver(packet[2], packet[1], time)  # type: ignore[arg-type]
+            answer = story.deliver(packet[2], packet[1], time)
             if answer is not None and random.random() < 0.95:
                 story.deliver(answer, "b" if packet[1] == "a" else "a", time)
         if random.random() < 0.1:
@@ -38,7 +40,7 @@ def random_story(seed: int) -> Story:
     return story
 
 
-def paths_of(n: Network, side: str) -> list[tuple]:  # type: ignore[type-arg]
+def paths_of(n: Network, side: str) -> list[Path]:
     """The paths of a side's pairs."""
     return sorted({s.before[side].path(p) for s in n.x.steps for p in s.before[side].pairs})
 
@@ -53,7 +55,8 @@ class Searches(unittest.TestCase):
     SEEDS = range(20, 44)
     FEWER = range(26, 36)  # for the clause with the most choices
 
-    def compare(self, clause: str, verdict: Callable[[Network], Verdict], found: Callable[[Network], int | None], seeds: range = SEEDS) -> None:
+    def compare(self, clause: str, verdict: Callable[[Network], Verdict], found: Callable[[Network], int | None],
+                seeds: range = SEEDS) -> None:
         held = 0
         for seed in seeds:
             n = random_story(seed).network()
@@ -73,11 +76,11 @@ class Searches(unittest.TestCase):
     def test_granted(self) -> None:
         def found(n: Network) -> int | None:
             starts = [0, *sorted(at for side in SIDES for at in n.x.timeouts[side])]
-            every = (granted.Choice(side, path, start, moment) for side in SIDES for path in paths_of(n, side)
+            every = (nomination_accepted.Choice(side, path, start, moment) for side in SIDES for path in paths_of(n, side)
                      for start in starts for moment in n.x.timeouts[side] if start <= moment)
-            return earliest(n, every, lambda c: granted.lacking(n, c), lambda c: c.moment)
+            return earliest(n, every, lambda c: nomination_accepted.lacking(n, c), lambda c: c.moment)
 
-        self.compare("granted", granted.find, found)
+        self.compare("nomination_accepted", nomination_accepted.find, found)
 
     def test_connect(self) -> None:
         def found(n: Network) -> int | None:
@@ -108,7 +111,8 @@ class Searches(unittest.TestCase):
     def openings(n: Network, side: str) -> list[tuple[int, int, int]]:
         """The first `handle_timeout` call, the pair and the number of rounds of each row of rounds."""
         row = n.x.timeouts[side]
-        return [(at, p.number, count) for place, at in enumerate(row) for p in n.x.state(at, side).pairs for count in range(1, len(row) - place + 1)]
+        return [(at, p.number, count) for place, at in enumerate(row) for p in n.x.state(at, side).pairs
+                for count in range(1, len(row) - place + 1)]
 
     def test_rounds_of_two_agents(self) -> None:
         def found(n: Network) -> int | None:
@@ -119,14 +123,17 @@ class Searches(unittest.TestCase):
         self.compare("rounds", world_rounds.find, found)
 
     def test_rounds_of_one_agent(self) -> None:
-        for name, clause in (("run: rounds", rounds), ("run: due_rounds", due_rounds)):
+        self.compare_rounds_of_one_agent("run: rounds", rounds.find, rounds.lacking)
+        self.compare_rounds_of_one_agent("run: due_rounds", due_rounds.find, due_rounds.lacking)
 
-            def found(n: Network, clause=clause) -> int | None:  # type: ignore[no-untyped-def]
-                every = (single.Choice(side, pair, first, end) for side in SIDES for first, pair, count in self.openings(n, side) if count == 1
-                         for end in range(first + 1, len(n.x) + 1))
-                return earliest(n, every, lambda c: clause.lacking(n.x, c), lambda c: c.end - 1)  # type: ignore[no-any-return]
+    def compare_rounds_of_one_agent(self, clause: str, find: Callable[[Execution], Verdict],
+                                    lacking: Callable[[Execution, single.Choice], Lacks]) -> None:
+        def found(n: Network) -> int | None:
+            every = (single.Choice(side, pair, first, end) for side in SIDES for first, pair, count in self.openings(n, side) if count == 1
+                     for end in range(first + 1, len(n.x) + 1))
+            return earliest(n, every, lambda c: lacking(n.x, c), lambda c: c.end - 1)
 
-            self.compare(name, lambda n, clause=clause: clause.find(n.x), found)  # type: ignore[misc]
+        self.compare(clause, lambda n: find(n.x), found)
 
 
 if __name__ == "__main__":

@@ -1,6 +1,7 @@
 """Tests that scenarios load, that sessions have the required outcomes and repeat, and that broken guarantees are detected."""
 
 import unittest
+from typing import Any
 
 from is_ice import NominatedSend, Protocol, SocketAddress
 from lab import scenario
@@ -26,7 +27,7 @@ class Agent:
 
 
 def guarantees(side: str = "a", tie_breaker: int = 1) -> SideGuarantees:
-    return SideGuarantees(side, Agent(), tie_breaker, False, False)  # type: ignore[arg-type]
+    return SideGuarantees(side, Agent(), tie_breaker, False, False)
 
 
 class Scenarios(unittest.TestCase):
@@ -60,10 +61,13 @@ class Scenarios(unittest.TestCase):
 
     def test_errors_say_what_is_wrong(self) -> None:
         side = {"interface": [{"name": "x", "ip": "10.0.0.1"}]}
-        sides, nat = {"a": side, "b": side}, {"name": "n", "inner": "i"}
-        for table, word in (({"a": side}, "side b has no interface"), ({**sides, "speed": 1}, "speed is not known"),
-                            ({**sides, "nat": [nat]}, "outside is missing"),
-                            ({**sides, "nat": [{**nat, "outside": "192.0.2.1", "mapping": "odd"}]}, "mapping is one of")):
+        sides: dict[str, Any] = {"a": side, "b": side}
+        nat = {"name": "n", "inner": "i"}
+        tables: tuple[tuple[dict[str, Any], str], ...] = (
+            ({"a": side}, "side b has no interface"), ({**sides, "speed": 1}, "speed is not known"),
+            ({**sides, "nat": [nat]}, "outside is missing"),
+            ({**sides, "nat": [{**nat, "outside": "192.0.2.1", "mapping": "odd"}]}, "mapping is one of"))
+        for table, word in tables:
             with self.assertRaises(scenario.BadScenario) as fault:
                 scenario.scenario_of("x", table)
             self.assertIn(word, str(fault.exception))
@@ -77,7 +81,6 @@ class Scenarios(unittest.TestCase):
     def test_a_change_of_a_setting(self) -> None:
         changed = scenario.load("two_homes", ("a.initial_rto_ms=100", "link.home.loss=0.5"))
         self.assertEqual((changed.a.initial_rto_ms, changed.link["home"].loss), (100, 0.5))
-
 
     def test_late_timeouts(self) -> None:
         punctual, late = (Session(scenario.load("same_lan", (f"a.late_ms={n}", f"b.late_ms={n}")), 1).run().first for n in (0, 20))

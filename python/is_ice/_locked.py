@@ -23,7 +23,9 @@ def _holding(method: Callable[..., Any]) -> Callable[..., Any]:
         with self._lock:
             return method(self)
 
-    return held_alone if len(inspect.signature(method).parameters) == 1 else held  # passing no arguments on takes less time
+    if len(inspect.signature(method).parameters) == 1:
+        return held_alone  # to pass no arguments on takes less time
+    return held
 
 
 def holds_the_lock(method: F) -> F:

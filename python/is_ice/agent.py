@@ -16,7 +16,7 @@ from ._locked import holds_the_lock, one_call_at_a_time
 from ._loop_calls import LoopCalls
 from .address import PROTOCOLS, Protocol, SocketAddress, address_of, in_range, socket_of
 from .candidate import AddResult, Candidate, KindPreferences, struct_of, table_of, ufrag_of
-from .errors import BUFFER_TOO_SHORT, NOTHING, BadCandidate, NoAgent, done, error_of
+from .errors import BUFFER_TOO_SHORT, BadCandidate, NoAgent, done, error_of
 from .events import (
     CandidatePair,
     CheckState,
@@ -197,7 +197,7 @@ class IceAgent:
         done(self._c.is_ice_set_lite(self._at, enabled))
 
     def set_renomination(self, enabled: bool) -> None:
-        """Lets each nomination replace the ones before, so that both agents select the same path whatever priorities each has. Default: False.
+        """Lets each nomination replace the ones before: both agents select the same path whatever priorities each has. Default: False.
 
         Set it at both agents or at none, and before the first packet: agree on it in signaling, by `a=ice-options:renomination`. A
         controlling agent then puts USE-CANDIDATE only on checks of the pair that it selected last. A controlled agent selects the
@@ -351,7 +351,7 @@ class IceAgent:
                        protocol: Protocol = Protocol.UDP) -> bool:
         """Returns whether `handle_packet` would accept it, and changes nothing."""
         return done(self._c.is_ice_accepts_packet(self._at, protocol, address_of(source), address_of(destination), contents,
-                                                    len(contents)))
+                                                  len(contents)))
 
     def accepts_message(self, contents: bytes) -> bool:
         """Returns whether it is a message for this agent, from any source, and changes nothing."""
@@ -379,10 +379,8 @@ class IceAgent:
             return self._events.popleft() if self._events else self._next_event()
 
     def _next_event(self) -> IceAgentEvent | None:
-        if (code := self._loop.poll_event()) == NOTHING:
+        if (event := self._loop.poll_event()) is None:
             return None
-        done(code)
-        event = self._loop.event
         if event.kind == 1:
             return IceRestart(self.local_credentials)
         if event.kind == 2:

@@ -160,7 +160,7 @@ class Connection:
     def get_default_candidate(self, component: int) -> CandidateAttribute | None:
         """Returns the local candidate of lowest priority, which the peer reaches most likely without ICE, or None."""
         candidates = [c for c in self._local_candidates if c.component == component]
-        return min(candidates, key=lambda c: c.priority, default=None)
+        return min(candidates, key=lambda c: c.priority) if candidates else None
 
     # ---- gathering
 

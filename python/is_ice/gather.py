@@ -92,7 +92,11 @@ class Allocation(asyncio.DatagramProtocol):
         self.local = SocketAddress(*transport.get_extra_info("sockname")[:2])
         self.base = SocketAddress(*transport.get_extra_info("related_address")[:2])
         self._take_data_indications(transport)
-        self._loop.add_socket(self.local, lambda destination, data: transport.sendto(data, destination[:2]), transport.close)
+
+        def send(destination: SocketAddress, data: bytes) -> None:
+            transport.sendto(data, destination[:2])
+
+        self._loop.add_socket(self.local, send, transport.close)
 
     def _take_data_indications(self, transport: Any) -> None:
         """Takes what comes from addresses without a channel, as behind a symmetric NAT. aioice's client ignores these messages."""

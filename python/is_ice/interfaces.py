@@ -10,7 +10,7 @@ from collections.abc import Iterator
 
 _UP, _LOOPBACK = 0x1, 0x8
 # Where an address is in its sockaddr, and its length, by family.
-_PLACES = {socket.AF_INET: (4, 4), socket.AF_INET6: (8, 16)}
+_PLACES: dict[int, tuple[int, int]] = {socket.AF_INET: (4, 4), socket.AF_INET6: (8, 16)}
 
 
 class _Interface(ctypes.Structure):

@@ -10,7 +10,7 @@ from typing import Any
 from is_ice.connection import Connection
 
 try:
-    import aioice
+    import aioice as aioice  # for tests, too
 except ImportError:
     aioice = None
 

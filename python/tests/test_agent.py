@@ -85,6 +85,7 @@ def play(agents: tuple[IceAgent, IceAgent], rounds: int = 10) -> tuple[list[obje
             polled.append(event)
     return events
 
+
 def last_paths(renomination: bool) -> tuple[SocketAddress | None, SocketAddress | None]:
     """Plays two agents that rank two paths differently. Returns the address of the first one on the path that each selected last.
 
@@ -116,7 +117,6 @@ def last_paths(renomination: bool) -> tuple[SocketAddress | None, SocketAddress 
                     if isinstance(event, NominatedSend):
                         selected[agent] = event.source if agent is a else event.destination
     return selected.get(a), selected.get(b)
-
 
 
 def seconds_of_a_cut(agents: tuple[IceAgent, IceAgent]) -> float:
@@ -403,7 +403,7 @@ class Values(unittest.TestCase):
     def test_a_buffer_grows_to_a_packet(self) -> None:
         a, b = two_agents()
         a.handle_timeout(BEGINNING)
-        a._loop._make_room(8)
+        a._loop._spare[-1].make_room(8)
         packet = a.poll_transmit()
         assert packet is not None
         self.assertTrue(b.handle_packet(BEGINNING, packet.source, packet.destination, packet.contents))

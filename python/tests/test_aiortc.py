@@ -23,7 +23,10 @@ BLOCK = bytes(16384)
 
 def peer(uses_agent: bool) -> Any:
     """An RTCPeerConnection over the agent or over aioice."""
-    (is_ice.aiortc.install if uses_agent else is_ice.aiortc.uninstall)()
+    if uses_agent:
+        is_ice.aiortc.install()
+    else:
+        is_ice.aiortc.uninstall()
     return aiortc.RTCPeerConnection(aiortc.RTCConfiguration(iceServers=[]))
 
 
@@ -42,9 +45,7 @@ async def session(offers: bool, answers: bool) -> tuple[Any, Any, list[str], int
     channel.on("message", heard.append)
     answering = peer(answers)
 
-    @answering.on("datachannel")
     def taken(other: Any) -> None:
-        @other.on("message")
         def message(data: Any) -> None:
             nonlocal got
             if isinstance(data, str):
@@ -52,6 +53,9 @@ async def session(offers: bool, answers: bool) -> tuple[Any, Any, list[str], int
             else:
                 got += len(data)
 
+        other.on("message", message)
+
+    answering.on("datachannel", taken)
     await offering.setLocalDescription(await offering.createOffer())
     await answering.setRemoteDescription(offering.localDescription)
     await answering.setLocalDescription(await answering.createAnswer())

@@ -56,9 +56,11 @@ class Page:
 @unittest.skipUnless(HAS_ALL, "aiortc or aiohttp is not installed (Debian's python3-aiortc, python3-aiohttp)")
 class BrowserExample(unittest.IsolatedAsyncioTestCase):
     async def asyncSetUp(self) -> None:
-        for patch in (mock.patch("aioice.ice.get_host_addresses", lambda use_ipv4, use_ipv6: LOOPBACK),
-                      mock.patch.object(is_ice.connection, "host_addresses", lambda use_ipv4, use_ipv6: LOOPBACK),
-                      mock.patch.object(sys, "path", [str(FOLDER), *sys.path])):
+        patches: tuple[Any, ...] = (
+            mock.patch("aioice.ice.get_host_addresses", lambda use_ipv4, use_ipv6: LOOPBACK),
+            mock.patch.object(is_ice.connection, "host_addresses", lambda use_ipv4, use_ipv6: LOOPBACK),
+            mock.patch.object(sys, "path", [str(FOLDER), *sys.path]))
+        for patch in patches:
             patch.start()
             self.addCleanup(patch.stop)
         self.addCleanup(is_ice.aiortc.uninstall)

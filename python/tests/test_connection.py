@@ -5,6 +5,7 @@ from __future__ import annotations
 import asyncio
 import time
 import unittest
+from collections.abc import Awaitable, Callable
 from unittest import mock
 
 import is_ice.connection
@@ -119,7 +120,8 @@ class Failures(unittest.IsolatedAsyncioTestCase):
         self.assertRaises(ValueError, Connection, True, components=2)
         self.assertRaises(ValueError, Connection, True, transport_policy=TransportPolicy.RELAY)
         a = agent(True)
-        for call in (a.connect, a.recv, lambda: a.send(b"")):
+        calls: tuple[Callable[[], Awaitable[object]], ...] = (a.connect, a.recv, lambda: a.send(b""))
+        for call in calls:
             with self.assertRaises(ConnectionError):
                 await call()
         await a.gather_candidates()

@@ -34,7 +34,8 @@ class Side:
         self.stun: list[tuple[SocketAddress, SocketAddress, bytes]] = []
         self.agent = IceAgent()
         self.agent.set_controlling(controlling)
-        self.loop = IceLoop(self.agent, self.note, lambda *told: self.media.append(told[2]), lambda *told: self.stun.append(told))
+        self.loop = IceLoop(self.agent, self.note, lambda *told: self.media.append(told[2]),
+                            lambda source, local, data: self.stun.append((source, local, data)))
 
     def note(self, event: object) -> None:
         if isinstance(event, NominatedSend) and not self.path.done():

@@ -30,12 +30,13 @@ async def end(peer: asyncio.subprocess.Process) -> tuple[int, str]:
     return await peer.wait(), told
 
 
-async def two_peers(roles: tuple[str, str], *second: str) -> list[tuple[int, str]]:
+async def two_peers(roles: tuple[str, str], *second: str, before: tuple[bytes, ...] = ()) -> list[tuple[int, str]]:
+    """Plays two peers. Each reads these lines before the signal of the other one."""
     peers = [await start(roles[0]), await start(roles[1], *second)]
     signals = [await peer.stdout.readline() for peer in peers if peer.stdout]
     for peer, signal in zip(peers, reversed(signals)):
         assert peer.stdin is not None
-        peer.stdin.write(signal)
+        peer.stdin.writelines((*before, signal))
     return list(await asyncio.gather(*(end(peer) for peer in peers)))
 
 
@@ -66,6 +67,15 @@ class Peers(unittest.TestCase):
                     self.assertEqual(status, 0, told)
                     self.assertIn("heard hello", told)
                     self.assertIn("state Completed", told)
+
+    def test_lines_that_are_not_text_or_too_long(self) -> None:
+        lines = (b"/caf\xe9\n", b"signal " + b"x" * 200_000 + b"\n", b"/" + b"y" * 70_000 + b"\n", b"a=\xff\n")
+        for status, told in asyncio.run(two_peers(ROLES[0], before=lines)):
+            self.assertEqual(status, 0, told)
+            self.assertIn("heard hello", told)
+            self.assertIn("peer: /caf\ufffd: unknown command", told)
+            self.assertEqual(told.count("peer: a line is too long"), 2)
+            self.assertIn("peer: a=\ufffd: not sent", told)
 
     @unittest.skipUnless(C_PEER.exists(), "c/examples/peer.c is not built; IS_ICE_C_PEER names the program")
     def test_with_the_program_in_c(self) -> None:

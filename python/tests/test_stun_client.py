@@ -141,7 +141,8 @@ class Writing(unittest.TestCase):
         self.assertEqual((m.method, m.class_, m.transaction, m.username), (StunMethod.ALLOCATE, StunClass.INDICATION, bytes(12), "a:b"))
         self.assertEqual((m.priority, m.use_candidate, m.ice_controlled, m.ice_controlling), (1, True, 2, 3))
         self.assertEqual((m.mapped_address, m.peer_address, m.relayed_address, m.error_code), (at, at, at, 699))
-        self.assertEqual([m.text(text) for text in (StunText.ERROR_CODE, StunText.REALM, StunText.NONCE, StunText.SOFTWARE)], ["", "r", "n", "s"])
+        texts = [m.text(text) for text in (StunText.ERROR_CODE, StunText.REALM, StunText.NONCE, StunText.SOFTWARE)]
+        self.assertEqual(texts, ["", "r", "n", "s"])
         self.assertEqual((m.value_of_data, m.lifetime, m.channel_number, m.network_cost), (bytes(70), 4, 0x4000, (5, 6)))
         self.assertEqual(m.to_bytes(), written)
 
@@ -176,8 +177,10 @@ class Requests(unittest.IsolatedAsyncioTestCase):
         self.assertFalse(client.receive(SERVER, HERE, good))
 
     async def test_an_error_response_ends_the_request(self) -> None:
-        client = StunClient(lambda local, server, message: asyncio.get_running_loop().call_soon(
-            client.receive, SERVER, HERE, failure_to(message)) and None)
+        def send(local: SocketAddress, server: SocketAddress, message: bytes) -> None:
+            asyncio.get_running_loop().call_soon(client.receive, SERVER, HERE, failure_to(message))
+
+        client = StunClient(send)
         self.assertIsNone(await client.binding(HERE, SERVER))
 
     async def test_requests_are_repeated_until_the_time_is_over(self) -> None:
@@ -190,7 +193,10 @@ class Requests(unittest.IsolatedAsyncioTestCase):
         self.assertEqual(sent[0], sent[1])
 
     async def test_over_sockets(self) -> None:
-        loop = IceLoop(IceAgent(), lambda _: None, lambda *_: None, lambda *told: client.receive(*told) and None)
+        def take(source: SocketAddress, local: SocketAddress, data: bytes) -> None:
+            client.receive(source, local, data)
+
+        loop = IceLoop(IceAgent(), lambda _: None, lambda *_: None, take)
         client = StunClient(loop.send)
         server = StunServer()
         at = await server.start()

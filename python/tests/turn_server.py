@@ -15,7 +15,7 @@ from aioice import stun
 def data_indication(data: bytes, peer: tuple[str, int]) -> bytes:
     """Returns a Data indication: XOR-PEER-ADDRESS and DATA, of which aioice knows only the first."""
     transaction = os.urandom(12)
-    address = stun.pack_xor_address(peer, transaction_id=transaction)
+    address: bytes = stun.pack_xor_address(peer, transaction_id=transaction)
     attributes = struct.pack("!HH", 0x12, len(address)) + address + struct.pack("!HH", 0x13, len(data)) + data + bytes(-len(data) % 4)
     return struct.pack("!HHI", 0x17, len(attributes), 0x2112A442) + transaction + attributes
 

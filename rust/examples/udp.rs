@@ -59,9 +59,10 @@ impl Side {
         if called {
             // 3. The next timeout, before packets are polled.
             self.timeout = self.agent.poll_timeout();
-            // 4. Packets. This side has only one socket, so packet.source is its address.
+            // 4. Packets. This side has only one socket, so packet.source is its address. A packet that the system does not send, as
+            // a response to a request that somebody replays from port 0, is lost like one on the network.
             while let Some(packet) = self.agent.poll_transmit() {
-                self.socket.send_to(&packet.contents, packet.destination)?;
+                let _ = self.socket.send_to(&packet.contents, packet.destination);
             }
             // 5. Events.
             while let Some(event) = self.agent.poll_event() {
@@ -93,4 +94,32 @@ fn main() -> Result<(), Box<dyn Error>> {
         std::thread::sleep(Duration::from_millis(1));
     }
     Err("no path".into())
+}
+
+#[cfg(test)]
+mod tests {
+    use super::*;
+
+    /// A check of the peer is replayed from port 0, to which no socket sends: the loop goes on, and both sides connect.
+    #[test]
+    fn a_check_from_port_0() -> Result<(), Box<dyn Error>> {
+        let (a_creds, b_creds) = (IceCreds::new(), IceCreds::new());
+        let mut a = Side::new(true, a_creds.clone(), b_creds.clone())?;
+        let mut b = Side::new(false, b_creds, a_creds)?;
+        b.agent.add_remote_candidate(Candidate::from_sdp_string(&a.gather()?)?);
+        a.agent.add_remote_candidate(Candidate::from_sdp_string(&b.gather()?)?);
+        let begun = Instant::now();
+        a.agent.handle_timeout(begun);
+        let check = a.agent.poll_transmit().ok_or("no check")?;
+        let source = SocketAddr::new(a.local.ip(), 0);
+        let message = StunMessage::parse(&check.contents)?;
+        assert!(b.agent.handle_packet(begun, StunPacket { proto: Protocol::Udp, source, destination: b.local, message }));
+        while a.peer.is_none() || b.peer.is_none() {
+            assert!(begun.elapsed() < Duration::from_secs(10));
+            a.turn()?;
+            b.turn()?;
+            std::thread::sleep(Duration::from_millis(1));
+        }
+        Ok(())
+    }
 }

@@ -210,7 +210,7 @@ fn a_restart_clears_what_was() {
 // ---- NATs
 
 #[test]
-fn an_address_that_a_router_gives_is_learnt() {
+fn an_address_that_a_router_gives_is_discovered() {
     let mut world = World::new();
     // the left one is behind a NAT, and its server-reflexive address is not signaled
     world.nats.push(Nat { side: 0, inner: at(LEFT), outer: at("192.0.2.9:9000") });

@@ -1,28 +1,32 @@
 //! The public API of an agent: short stories of calls and of their visible results. One test runs the stories of one
 //! subject.
 
-mod answers;
 mod calls;
 mod candidates;
 mod credentials;
 mod driver;
 mod limits;
+mod making;
 mod memory;
-mod moments;
+mod numbers;
 mod pairs;
+mod polled;
 mod progress;
 mod queue;
 mod renomination;
 mod requests;
+mod responses;
 mod restarts;
 mod roles;
 mod seen;
+mod sent;
 mod settings;
+mod step;
 mod story;
+mod times;
 mod words;
 mod zeros;
 
-use driver::{Player, at, creds, later};
 use is::stun::{Class, StunMessage, StunPacket, TransId};
 use is::{
     Candidate, DefaultSha1HmacProvider, IceAgent, IceAgentEvent, IceConnectionState, IceCreds,
@@ -31,7 +35,6 @@ use is::{
 use std::alloc::{AllocError, Global};
 use std::net::{Ipv4Addr, SocketAddr, SocketAddrV4};
 use std::test::Fail;
-use story::{Story, Subject, Told, same, same_in, tell};
 
 /// A Binding request of 100 bytes: USERNAME `p9KA:SQAt`, network cost (1, 10), controlling, USE-CANDIDATE, priority
 /// 1853824767, signed with `xJcE9AQAR7kczUDVOXRUCl`.

@@ -144,7 +144,7 @@ fn take_turns(
         Turn::Request => requests(agent, pairs, rounds, sum),
         Turn::Answer => answers(agent, pairs, rounds, sum),
         Turn::Check => checks(agent, rounds, sum),
-        Turn::Idle => idle_moments(agent, pairs, rounds, sum),
+        Turn::Idle => idle_timeouts(agent, pairs, rounds, sum),
     }
 }
 
@@ -176,13 +176,13 @@ fn checks(agent: &mut Agent, rounds: u64, sum: &mut Checksum) -> Result<(), IceE
     agent.set_initial_stun_rto(Duration(0));
     let mut rng = Pcg32::seed_from_u64(1);
     for round in 0..rounds {
-        tell(agent, Instant(START.0.saturating_add(round)), &mut rng)?;
+        report_on(agent, Instant(START.0.saturating_add(round)), &mut rng)?;
         poll(agent, sum);
     }
     Ok(())
 }
 
-fn idle_moments(
+fn idle_timeouts(
     agent: &mut Agent,
     pairs: u16,
     rounds: u64,
@@ -191,8 +191,8 @@ fn idle_moments(
     let _ = check_each(agent, pairs)?;
     let mut rng = Pcg32::seed_from_u64(1);
     for _ in 0..rounds {
-        tell(agent, START, &mut rng)?;
-        sum.add(wake(agent));
+        report_on(agent, START, &mut rng)?;
+        sum.add(deadline(agent));
     }
     Ok(())
 }
@@ -202,7 +202,7 @@ fn check_each(agent: &mut Agent, pairs: u16) -> Result<Option<Transmit>, IceErro
     let mut rng = Pcg32::seed_from_u64(1);
     let mut last = None;
     for _ in 0..pairs {
-        tell(agent, START, &mut rng)?;
+        report_on(agent, START, &mut rng)?;
         last = packet_of(agent);
     }
     Ok(last)
@@ -266,7 +266,7 @@ pub fn take_from(
 }
 
 /// It is this time.
-pub fn tell(agent: &mut Agent, now: Instant, rng: &mut Pcg32) -> Result<(), IceError> {
+pub fn report_on(agent: &mut Agent, now: Instant, rng: &mut Pcg32) -> Result<(), IceError> {
     agent.handle_timeout(now, rng)
 }
 
@@ -283,7 +283,7 @@ pub fn poll(agent: &mut Agent, sum: &mut Checksum) {
 }
 
 /// The next timeout.
-fn wake(agent: &mut Agent) -> u64 {
+fn deadline(agent: &mut Agent) -> u64 {
     match agent.poll_timeout() {
         Some(at) => at.0,
         None => 0,

@@ -1,6 +1,6 @@
 //! A flood: a request arrives from a new address in each round, and the agent has a limit on what requests bring.
 
-use crate::agents::{Agent, START, at, introduce, make, poll, take_from, tell};
+use crate::agents::{Agent, START, at, introduce, make, poll, report_on, take_from};
 use crate::checksum::Checksum;
 use crate::messages::BROWSER_REQUEST;
 use is_proto::{IceError, Instant};
@@ -55,7 +55,7 @@ fn take_requests(
         let now = Instant(START.0.saturating_add(request.saturating_mul(INTERVAL)));
         sum.add(u64::from(take_from(agent, now, source_of(request), &BROWSER_REQUEST)?));
         if request % PACING == 0 {
-            tell(agent, now, rng)?;
+            report_on(agent, now, rng)?;
         }
         poll(agent, sum);
     }

@@ -89,7 +89,7 @@ fn turn<R: Rng>(
     // 2. The time. The first call starts the session.
     side.agent.handle_timeout(now, rng)?;
     // 3. The next timeout, before packets are polled.
-    let wake = side.agent.poll_timeout();
+    let deadline = side.agent.poll_timeout();
     // 4. Packets to send, from packet.source to packet.destination.
     while let Some(packet) = side.agent.poll_transmit() {
         other.inbox.push_back(packet)?;
@@ -105,7 +105,7 @@ fn turn<R: Rng>(
             side.path = Some((source, destination));
         }
     }
-    Ok(wake)
+    Ok(deadline)
 }
 
 /// The path of the first side, once each side has one; None after 100 iterations.
@@ -117,11 +117,11 @@ fn connect<R: Rng>(
     // Nanoseconds from any start, beginning at 60 s.
     let mut now = Instant(60_000_000_000);
     for _ in 0..100 {
-        let wakes = (turn(a, b, now, rng)?, turn(b, a, now, rng)?);
+        let timeouts = (turn(a, b, now, rng)?, turn(b, a, now, rng)?);
         if b.path.is_some() && a.path.is_some() {
             return Ok(a.path);
         }
-        if let (Some(one), Some(other)) = wakes {
+        if let (Some(one), Some(other)) = timeouts {
             now = one.min(other);
         }
     }
@@ -156,6 +156,6 @@ fn main(rt: HostRuntime) -> io::Result<()> {
             println!(rt; "media goes from {from} to {to}")
         }
         Ok(None) => println!(rt; "no path"),
-        Err(refusal) => println!(rt; "refused: {refusal}"),
+        Err(rejection) => println!(rt; "refused: {rejection}"),
     }
 }

@@ -16,7 +16,7 @@ const MILLISECOND: u64 = 1_000_000;
 /// The result of a call, as a word; or its error.
 pub type Outcome = Result<&'static str, IceError>;
 
-pub fn moment(ms: u64) -> Instant {
+pub fn time(ms: u64) -> Instant {
     Instant(ms.saturating_mul(MILLISECOND))
 }
 
@@ -56,7 +56,7 @@ pub fn add_remote(agent: &mut Agent, alloc: Global, line: &str) -> Outcome {
 }
 
 pub fn pass_time(agent: &mut Agent, ms: u64, random: &mut Pcg32) -> Outcome {
-    agent.handle_timeout(moment(ms), random)?;
+    agent.handle_timeout(time(ms), random)?;
     Ok("ok")
 }
 
@@ -64,7 +64,7 @@ pub fn take_bytes(agent: &mut Agent, ms: u64, port: u16, bytes: &[u8]) -> Outcom
     let Some(packet) = packet_of(bytes, port) else {
         return Ok("unparsed");
     };
-    Ok(truth(agent.handle_packet(moment(ms), packet)?))
+    Ok(truth(agent.handle_packet(time(ms), packet)?))
 }
 
 pub fn truth(flag: bool) -> &'static str {

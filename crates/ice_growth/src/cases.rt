@@ -1,6 +1,6 @@
 //! The lines of the input, and the list that each names.
 
-use crate::lists::{FLOOD_BEFORE, FLOOD_BEHIND, LISTS, Step};
+use crate::lists::{FLOOD_AFTER, FLOOD_BEFORE, LISTS, Step};
 use crate::runs::play_run;
 use crate::stage::{Stage, take};
 use crate::values::play_values;
@@ -50,7 +50,7 @@ fn play_line<W: Write>(alloc: Global, line: &str, output: &mut W) -> io::Result<
         Some((name, number)) => (name, number.parse::<u64>().unwrap_or(0)),
         None => (line, 0),
     };
-    take_memory(alloc, before);
+    allocate(alloc, before);
     writeln!(output, "list {name}")?;
     let known = match name {
         "values" => play_values(alloc, output),
@@ -70,7 +70,7 @@ fn end_list<W: Write>(alloc: Global, output: &mut W) -> io::Result<()> {
 }
 
 /// Allocates so many times, one after the other.
-fn take_memory(alloc: Global, pieces: u64) {
+fn allocate(alloc: Global, pieces: u64) {
     for number in 0..pieces {
         let _ = Box::new(alloc, number);
     }
@@ -108,6 +108,6 @@ fn play_flood<W: Write>(stage: &mut Stage, output: &mut W) -> io::Result<bool> {
     for number in 1..102 {
         take(stage, Step::Numbered(number), output)?;
     }
-    play_steps(stage, &FLOOD_BEHIND, output)?;
+    play_steps(stage, &FLOOD_AFTER, output)?;
     Ok(true)
 }

@@ -262,7 +262,7 @@ pub static LISTS: [List; 9] = [
 pub static FLOOD_BEFORE: [Step; 2] = [Step::Agent("AAAA", "PPPP"), Step::Host];
 
 /// The calls after them.
-pub static FLOOD_BEHIND: [Step; 6] = [
+pub static FLOOD_AFTER: [Step; 6] = [
     Step::Polls,
     Step::Remote("BBBB", "QQQQ"),
     Step::Timeout(0),

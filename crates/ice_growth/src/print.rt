@@ -9,7 +9,7 @@ use std::io::Write;
 use std::{fmt, io};
 
 /// The name of an error.
-pub fn refusal_name(error: &IceError) -> &'static str {
+pub fn rejection_name(error: &IceError) -> &'static str {
     match error {
         IceError::BadCandidate(_) => "BadCandidate",
         IceError::OutOfMemory => "OutOfMemory",

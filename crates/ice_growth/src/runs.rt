@@ -1,8 +1,8 @@
 //! A run of calls. No call of it depends on an earlier one, so a call that failed can be made after the run.
 
-use crate::calls::{Agent, add_host, add_remote, creds, make_agent, moment, name_peer};
+use crate::calls::{Agent, add_host, add_remote, creds, make_agent, name_peer, time};
 use crate::packets::{at, numbered_request};
-use crate::print::{HexText, refusal_name};
+use crate::print::{HexText, rejection_name};
 use crate::seen::Seen;
 use is::{Answer, Call, Candidate, Entry, IceError, Protocol, RunLog, run};
 use rand_pcg::Pcg32;
@@ -27,7 +27,7 @@ fn call_of(alloc: Global, number: usize) -> Result<Call, IceError> {
         2 => Call::SetRemoteCredentials(creds(alloc, "BBBB", "QQQQ")?),
         3 => request_call(alloc, 3)?,
         4 => Call::AddRemoteCandidate(Candidate::from_sdp_string(alloc, TCP_LINE)?),
-        _ => Call::HandleTimeout(moment(0)),
+        _ => Call::HandleTimeout(time(0)),
     })
 }
 
@@ -35,7 +35,7 @@ fn request_call(alloc: Global, number: u8) -> Result<Call, IceError> {
     let mut bytes = Vec::new(alloc);
     bytes.extend_from_slice(numbered_request(number).bytes())?;
     Ok(Call::Packet {
-        now: moment(0),
+        now: time(0),
         proto: Protocol::Udp,
         source: at(2, 2000),
         destination: at(1, 1000),
@@ -151,7 +151,7 @@ fn print_log<W: Write>(
     )?;
     for entry in &log.entries {
         if entry.answer == Answer::Refused(IceError::OutOfMemory) {
-            make_alone(agent, random, alloc, entry.number, output)?;
+            make_one(agent, random, alloc, entry.number, output)?;
         } else {
             print_entry(entry.number, entry, output)?;
         }
@@ -160,7 +160,7 @@ fn print_log<W: Write>(
 }
 
 /// Makes the call of this number, whose log entry is an out-of-memory error.
-fn make_alone<W: Write>(
+fn make_one<W: Write>(
     agent: &mut Agent,
     random: &mut Pcg32,
     alloc: Global,
@@ -181,7 +181,7 @@ fn print_entry<W: Write>(number: usize, entry: &Entry, output: &mut W) -> io::Re
     match &entry.answer {
         Answer::Done => write!(output, "entry {number} done")?,
         Answer::Flag(flag) => write!(output, "entry {number} {flag}")?,
-        Answer::Refused(error) => write!(output, "entry {number} {}", refusal_name(error))?,
+        Answer::Refused(error) => write!(output, "entry {number} {}", rejection_name(error))?,
         _ => write!(output, "entry {number} another")?,
     }
     match entry.issued {
@@ -212,6 +212,9 @@ fn count_events(agent: &mut Agent) -> u64 {
 fn print_end<W: Write>(agent: &mut Agent, output: &mut W) -> io::Result<()> {
     let packets = count_packets(agent);
     let events = count_events(agent);
-    let wake = agent.poll_timeout();
-    writeln!(output, "packets {packets}, events {events}, wake {wake:?}")
+    let deadline = agent.poll_timeout();
+    writeln!(
+        output,
+        "packets {packets}, events {events}, wake {deadline:?}"
+    )
 }

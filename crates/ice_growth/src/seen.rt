@@ -15,12 +15,12 @@ pub struct Seen {
     remote: u64,
     creds: u64,
     viable: bool,
-    wake: Option<Instant>,
+    deadline: Option<Instant>,
 }
 
 impl Seen {
     pub fn of(agent: &mut Agent) -> Seen {
-        let wake = agent.poll_timeout();
+        let deadline = agent.poll_timeout();
         Seen {
             state: agent.state(),
             stats: agent.stats(),
@@ -30,7 +30,7 @@ impl Seen {
             remote: remote_sum(agent),
             creds: creds_sum(agent),
             viable: agent.has_viable_remote_candidate(at(2, 2000)),
-            wake,
+            deadline,
         }
     }
 }

@@ -3,7 +3,7 @@
 use crate::calls::{self, Agent, Outcome};
 use crate::lists::Step;
 use crate::packets::{answer_to, packet_of};
-use crate::print::{print_events, print_getters, print_packets, refusal_name};
+use crate::print::{print_events, print_getters, print_packets, rejection_name};
 use crate::seen::Seen;
 use is::stun::TransId;
 use is::{Candidate, DefaultSha1HmacProvider, IceError};
@@ -68,7 +68,7 @@ pub fn take<W: Write>(stage: &mut Stage, step: Step, output: &mut W) -> io::Resu
 fn print_outcome<W: Write>(word: &str, outcome: Outcome, output: &mut W) -> io::Result<()> {
     match outcome {
         Ok(answer) => writeln!(output, "{word} {answer}"),
-        Err(error) => writeln!(output, "{word} refused {}", refusal_name(&error)),
+        Err(error) => writeln!(output, "{word} refused {}", rejection_name(&error)),
     }
 }
 

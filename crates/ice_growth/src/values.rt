@@ -2,7 +2,7 @@
 
 use crate::calls::{Agent, creds};
 use crate::packets::at;
-use crate::print::refusal_name;
+use crate::print::rejection_name;
 use is::parse::parse_candidate;
 use is::{Candidate, DefaultSha1HmacProvider, IceCreds, IceError, JsonScratch, Protocol, TcpType};
 use rand_pcg::Pcg32;
@@ -131,7 +131,7 @@ fn make_twice<W: Write>(
     }
     match made {
         Ok(made) => print_made(name, &made, stock, output),
-        Err(error) => writeln!(output, "{name} refused {}", refusal_name(&error)),
+        Err(error) => writeln!(output, "{name} refused {}", rejection_name(&error)),
     }
 }
 

@@ -36,7 +36,7 @@ pub enum Taken {
     /// They were for the agent.
     True,
     /// The call failed, since no pair number is left.
-    Refused,
+    Rejected,
 }
 
 /// The address 10.0.0.HOST:PORT.
@@ -67,7 +67,12 @@ pub fn renew(agent: &mut Agent, alloc: Global, ufrag: &str, pass: &str) -> Resul
     Ok(())
 }
 
-pub fn tell_peer(agent: &mut Agent, alloc: Global, ufrag: &str, pass: &str) -> Result<(), Broken> {
+pub fn return_peer(
+    agent: &mut Agent,
+    alloc: Global,
+    ufrag: &str,
+    pass: &str,
+) -> Result<(), Broken> {
     Ok(agent.set_remote_credentials(creds(alloc, ufrag, pass)?)?)
 }
 
@@ -90,14 +95,14 @@ pub fn hear_of(agent: &mut Agent, alloc: Global, line: &str) -> Result<bool, Bro
 /// A new agent that the observed request is for.
 pub fn renew_asked(agent: &mut Agent, alloc: Global) -> Result<(), Broken> {
     renew(agent, alloc, UFRAG, PASSWORD)?;
-    tell_peer(agent, alloc, PEER, "x")?;
+    return_peer(agent, alloc, PEER, "x")?;
     add_host(agent, alloc, at(1, 1000))
 }
 
 /// A new controlling agent with host 10.0.0.1:1000 that has the peer's credentials.
 pub fn renew_lonely(agent: &mut Agent, alloc: Global) -> Result<(), Broken> {
     renew(agent, alloc, NEAR, NEAR_PASS)?;
-    tell_peer(agent, alloc, FAR, FAR_PASS)?;
+    return_peer(agent, alloc, FAR, FAR_PASS)?;
     take_role(agent, true);
     add_host(agent, alloc, at(1, 1000))
 }
@@ -136,7 +141,7 @@ pub fn take(
     match agent.handle_packet(now, packet) {
         Ok(true) => Ok(Taken::True),
         Ok(false) => Ok(Taken::False),
-        Err(IceError::PairIdsExhausted) => Ok(Taken::Refused),
+        Err(IceError::PairIdsExhausted) => Ok(Taken::Rejected),
         Err(_) => Err(Broken),
     }
 }
@@ -147,7 +152,7 @@ pub fn take_here(agent: &mut Agent, now: Instant, bytes: &[u8]) -> Result<Taken,
 }
 
 /// Calls `handle_timeout` at this time, with random words from the seed.
-pub fn wake(agent: &mut Agent, now: Instant, seed: u64) -> Result<(), Broken> {
+pub fn deadline(agent: &mut Agent, now: Instant, seed: u64) -> Result<(), Broken> {
     let mut random = Pcg32::seed_from_u64(seed);
     Ok(agent.handle_timeout(now, &mut random)?)
 }
@@ -183,17 +188,17 @@ fn in_flight_of(event: &IceAgentEvent) -> char {
 
 /// The queued events, as letters; `-` if there are none.
 pub fn events(agent: &mut Agent, alloc: Global) -> Result<String, Broken> {
-    let mut letters = String::new(alloc);
+    let mut in_flight_packets = String::new(alloc);
     for _ in 0..u64::MAX {
         let Some(event) = next_event(agent) else {
             break;
         };
-        letters.push(in_flight_of(&event))?;
+        in_flight_packets.push(in_flight_of(&event))?;
     }
-    if letters.is_empty() {
-        letters.push('-')?;
+    if in_flight_packets.is_empty() {
+        in_flight_packets.push('-')?;
     }
-    Ok(letters)
+    Ok(in_flight_packets)
 }
 
 /// How many packets are queued. All of them are polled.

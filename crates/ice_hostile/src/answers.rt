@@ -1,7 +1,7 @@
 //! Responses that are not the peer's, responses off their path, and a response that arrives twice.
 use crate::agents::{
-    Agent, FAR_LINE, FAR_PASS, NEAR_PASS, Taken, at, events, ms, next_packet, packets,
-    renew_paired, signed, take, wake,
+    Agent, FAR_LINE, FAR_PASS, NEAR_PASS, Taken, at, deadline, events, ms, next_packet, packets,
+    renew_paired, signed, take,
 };
 use crate::broken::Broken;
 use crate::seen::{Seen, look};
@@ -96,7 +96,7 @@ struct Check<'a> {
 /// A new agent sends its check at 0. Returns the id of the check; the events until then are polled.
 fn begin(agent: &mut Agent, alloc: Global) -> Result<TransId, Broken> {
     renew_paired(agent, alloc)?;
-    wake(agent, ms(0), 1)?;
+    deadline(agent, ms(0), 1)?;
     let _ = events(agent, alloc)?;
     check_id(agent)
 }
@@ -133,8 +133,8 @@ fn stays_as(
     before: &Seen,
 ) -> Result<bool, Broken> {
     let same = look(agent, peer) == *before;
-    let told = events(agent, alloc)?;
-    Ok(same && packets(agent) == 0 && told.as_str() == "-")
+    let reported = events(agent, alloc)?;
+    Ok(same && packets(agent) == 0 && reported.as_str() == "-")
 }
 
 fn give(
@@ -179,11 +179,11 @@ fn write_true<W: Write>(
     output: &mut W,
 ) -> Result<(), Broken> {
     let taken = give(agent, alloc, id, now, &TRUE)?;
-    let told = events(agent, alloc)?;
+    let reported = events(agent, alloc)?;
     let sent = packets(agent);
     writeln!(
         output,
-        "    the true one at {now} ms: {taken:?}, events {told}, {sent} packets"
+        "    the true one at {now} ms: {taken:?}, events {reported}, {sent} packets"
     )?;
     Ok(())
 }

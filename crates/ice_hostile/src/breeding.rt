@@ -24,7 +24,7 @@ fn flip(bytes: &mut [u8], random: &mut Pcg32) {
 }
 
 /// Writes the length of the rest into the header.
-fn tell_length(bytes: &mut [u8]) {
+fn return_length(bytes: &mut [u8]) {
     let len = bytes.len().saturating_sub(HEADER).min(65535) as u16;
     let [high, low] = len.to_be_bytes();
     if let Some(byte) = bytes.get_mut(2) {
@@ -85,7 +85,7 @@ fn swapped(alloc: Global, bytes: &[u8], random: &mut Pcg32) -> Result<Vec<u8>, B
         };
         push_cut(&mut bred, bytes, cuts.get(from))?;
     }
-    tell_length(&mut bred);
+    return_length(&mut bred);
     Ok(bred)
 }
 
@@ -95,7 +95,7 @@ fn repeated(alloc: Global, bytes: &[u8], random: &mut Pcg32) -> Result<Vec<u8>, 
     let mut bred = Vec::from_slice(alloc, bytes)?;
     let place = below(random, cuts.len());
     push_cut(&mut bred, bytes, cuts.get(place))?;
-    tell_length(&mut bred);
+    return_length(&mut bred);
     Ok(bred)
 }
 
@@ -109,7 +109,7 @@ fn cut(alloc: Global, bytes: &[u8], random: &mut Pcg32) -> Result<Vec<u8>, Broke
     };
     let mut bred = Vec::from_slice(alloc, bytes.get(..len).unwrap_or(&[]))?;
     if below(random, 4) != 0 {
-        tell_length(&mut bred);
+        return_length(&mut bred);
     }
     Ok(bred)
 }

@@ -163,7 +163,7 @@ fn run(pair: &mut Pair, events: Vec<WorldEvent>) -> WorldLog {
 }
 
 /// Runs the events with two new agents, of which A has the greater tie-breaker.
-fn run_anew(alloc: Global, events: Vec<WorldEvent>) -> Result<WorldLog, Broken> {
+fn run_again(alloc: Global, events: Vec<WorldEvent>) -> Result<WorldLog, Broken> {
     let a = spec(alloc, "aaaa", 10)?;
     let b = spec(alloc, "bbbb", 5)?;
     match World::new(alloc, a, b) {
@@ -183,7 +183,7 @@ fn keep_back(alloc: Global, met: bool) -> Result<WorldLog, Broken> {
     for now in [2600, 2610, 2620] {
         events.push(arrival(2, Side::A, now))?;
     }
-    run_anew(alloc, events)
+    run_again(alloc, events)
 }
 
 pub fn play<W: Write>(alloc: Global, output: &mut W) -> Result<(), Broken> {

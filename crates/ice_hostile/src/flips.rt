@@ -28,14 +28,14 @@ const PARTS: [(&str, usize, usize); 13] = [
 #[derive(Clone, Copy)]
 struct Tally {
     unparsed: u32,
-    refused: u32,
+    rejected: u32,
     taken: u32,
     amiss: u32,
 }
 
 const NOTHING: Tally = Tally {
     unparsed: 0,
-    refused: 0,
+    rejected: 0,
     taken: 0,
     amiss: 0,
 };
@@ -43,7 +43,7 @@ const NOTHING: Tally = Tally {
 impl Tally {
     fn tried(&self) -> u32 {
         self.unparsed
-            .saturating_add(self.refused)
+            .saturating_add(self.rejected)
             .saturating_add(self.taken)
     }
 
@@ -51,7 +51,7 @@ impl Tally {
         match taken {
             Taken::Unparsed => self.unparsed = self.unparsed.saturating_add(1),
             Taken::True => self.taken = self.taken.saturating_add(1),
-            Taken::False | Taken::Refused => self.refused = self.refused.saturating_add(1),
+            Taken::False | Taken::Rejected => self.rejected = self.rejected.saturating_add(1),
         }
         if !fits {
             self.amiss = self.amiss.saturating_add(1);
@@ -64,11 +64,11 @@ fn answers(agent: &mut Agent) -> bool {
     let Some(reply) = next_packet(agent) else {
         return false;
     };
-    let told = matches!(
+    let reported = matches!(
         next_event(agent),
         Some(IceAgentEvent::DiscoveredRecv { .. })
     );
-    told && reply.contents.as_slice() == REPLY.as_slice() && emits_nothing(agent)
+    reported && reply.contents.as_slice() == REPLY.as_slice() && emits_nothing(agent)
 }
 
 fn emits_nothing(agent: &mut Agent) -> bool {
@@ -133,14 +133,14 @@ pub fn play<W: Write>(agent: &mut Agent, alloc: Global, output: &mut W) -> Resul
         let tally = try_part(agent, alloc, first, last)?;
         let Tally {
             unparsed,
-            refused,
+            rejected,
             taken,
             amiss,
         } = tally;
         let tried = tally.tried();
         writeln!(
             output,
-            "flip {name} {first}..{last}: {tried} tried, {unparsed} unparsed, {refused} false, {taken} taken, {amiss} amiss"
+            "flip {name} {first}..{last}: {tried} tried, {unparsed} unparsed, {rejected} false, {taken} taken, {amiss} amiss"
         )?;
     }
     Ok(())

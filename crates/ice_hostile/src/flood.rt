@@ -1,7 +1,7 @@
 //! More early requests than an agent stores.
 use crate::agents::{
-    Agent, FAR, FAR_PASS, NEAR, NEAR_PASS, Taken, add_host, at, events, ms, next_packet,
-    next_timeout, packets, renew, signed, take_here, tell_peer, wake,
+    Agent, FAR, FAR_PASS, NEAR, NEAR_PASS, Taken, add_host, at, deadline, events, ms, next_packet,
+    next_timeout, packets, renew, return_peer, signed, take_here,
 };
 use crate::broken::Broken;
 use is::stun::{StunMessage, TransId};
@@ -53,19 +53,19 @@ fn replies_to(packet: Option<Transmit>, number: u8) -> bool {
 /// At 0, 1, .. 39 ms one request is answered each, from the second one on, and `poll_timeout` returns none.
 fn write_replies<W: Write>(agent: &mut Agent, output: &mut W) -> Result<(), Broken> {
     let mut replies = 0u32;
-    let mut wakes = 0u32;
+    let mut timeouts = 0u32;
     for turn in 0..40u8 {
-        wake(agent, ms(u64::from(turn)), 1)?;
+        deadline(agent, ms(u64::from(turn)), 1)?;
         if replies_to(next_packet(agent), turn + 2) && next_packet(agent).is_none() {
             replies = replies.saturating_add(1);
         }
         if next_timeout(agent).is_some() {
-            wakes = wakes.saturating_add(1);
+            timeouts = timeouts.saturating_add(1);
         }
     }
     writeln!(
         output,
-        "flood: 40 moments, {replies} replies in order from request 2, {wakes} wake-ups"
+        "flood: 40 moments, {replies} replies in order from request 2, {timeouts} wake-ups"
     )?;
     Ok(())
 }
@@ -84,7 +84,7 @@ fn write_packet<W: Write>(agent: &mut Agent, now: u64, output: &mut W) -> Result
 }
 
 /// The other packets that it sends, and its next timeout.
-fn write_wake<W: Write>(agent: &mut Agent, output: &mut W) -> Result<(), Broken> {
+fn write_timeout<W: Write>(agent: &mut Agent, output: &mut W) -> Result<(), Broken> {
     let more = packets(agent);
     match next_timeout(agent) {
         Some(Instant(at)) => writeln!(output, "    {more} more packets, woken at {at} ns")?,
@@ -93,25 +93,25 @@ fn write_wake<W: Write>(agent: &mut Agent, output: &mut W) -> Result<(), Broken>
     Ok(())
 }
 
-fn try_moment<W: Write>(agent: &mut Agent, now: u64, output: &mut W) -> Result<(), Broken> {
-    wake(agent, ms(now), 1)?;
+fn try_timeout<W: Write>(agent: &mut Agent, now: u64, output: &mut W) -> Result<(), Broken> {
+    deadline(agent, ms(now), 1)?;
     write_packet(agent, now, output)?;
-    write_wake(agent, output)
+    write_timeout(agent, output)
 }
 
 fn write_events<W: Write>(agent: &mut Agent, alloc: Global, output: &mut W) -> Result<(), Broken> {
-    let told = events(agent, alloc)?;
-    writeln!(output, "flood: events {told}")?;
+    let reported = events(agent, alloc)?;
+    writeln!(output, "flood: events {reported}")?;
     Ok(())
 }
 
 /// The agent has the peer's credentials now, and each early request is answered unless it is too old.
 fn answer<W: Write>(agent: &mut Agent, alloc: Global, output: &mut W) -> Result<(), Broken> {
-    tell_peer(agent, alloc, FAR, FAR_PASS)?;
+    return_peer(agent, alloc, FAR, FAR_PASS)?;
     write_replies(agent, output)?;
     write_events(agent, alloc, output)?;
     for now in [21500, 21550] {
-        try_moment(agent, now, output)?;
+        try_timeout(agent, now, output)?;
     }
     Ok(())
 }

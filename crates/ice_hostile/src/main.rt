@@ -10,12 +10,12 @@ mod cuts;
 mod flips;
 mod flood;
 mod limits;
-mod moments;
 mod random_calls;
 mod replays;
 mod request;
 mod seeds;
 mod seen;
+mod times;
 
 use agents::{Agent, NEAR, NEAR_PASS, make};
 use broken::Broken;
@@ -33,7 +33,7 @@ fn play<W: Write>(agent: &mut Agent, alloc: Global, output: &mut W) -> Result<()
     replays::play(agent, alloc, output)?;
     conflict::play(alloc, output)?;
     limits::play(agent, alloc, output)?;
-    moments::play(agent, alloc, output)?;
+    times::play(agent, alloc, output)?;
     seeds::play(agent, alloc, output)
 }
 

@@ -1,6 +1,6 @@
 //! One random call of an agent, and whether the agent did it.
 use crate::agents::{
-    Agent, FAR_PASS, Taken, add_host, at, creds, ms, renew, signed, take, take_role, tell_peer,
+    Agent, FAR_PASS, Taken, add_host, at, creds, ms, renew, return_peer, signed, take, take_role,
 };
 use crate::breeding::{below, breed};
 use crate::broken::Broken;
@@ -35,7 +35,7 @@ pub enum Did {
     /// The bytes did not parse.
     Unparsed,
     /// The call failed.
-    Refused,
+    Rejected,
     /// The agent accepted a packet although it had reported that it would not, or the reverse.
     Disagreed,
 }
@@ -46,7 +46,7 @@ pub fn start(agent: &mut Agent, alloc: Global, random: &mut Pcg32) -> Result<(),
     take_role(agent, below(random, 2) == 0);
     add_host(agent, alloc, at(1, 1000))?;
     if below(random, 4) != 0 {
-        tell_peer(agent, alloc, PEER, FAR_PASS)?;
+        return_peer(agent, alloc, PEER, FAR_PASS)?;
     }
     Ok(())
 }
@@ -66,12 +66,12 @@ fn what_became(answer: Result<(), IceError>) -> Result<Did, Broken> {
     match answer {
         Ok(()) => Ok(Did::Done),
         Err(IceError::OutOfMemory) => Err(Broken),
-        Err(_) => Ok(Did::Refused),
+        Err(_) => Ok(Did::Rejected),
     }
 }
 
 /// A `handle_timeout` call, mostly at a later time and sometimes at an earlier one.
-fn moment(agent: &mut Agent, session: &mut Session, random: &mut Pcg32) -> Result<Did, Broken> {
+fn time(agent: &mut Agent, session: &mut Session, random: &mut Pcg32) -> Result<Did, Broken> {
     let now = session.now;
     session.now = match below(random, 8) {
         0 => now.saturating_sub(100),
@@ -126,7 +126,7 @@ fn would_take(agent: &Agent, source: SocketAddr, destination: SocketAddr, bytes:
 fn came_of(taken: Taken, accepted: bool) -> Did {
     match (taken, accepted) {
         (Taken::True, true) => Did::Took,
-        (Taken::Refused, true) => Did::Refused,
+        (Taken::Rejected, true) => Did::Rejected,
         (Taken::False, false) => Did::False,
         (Taken::Unparsed, false) => Did::Unparsed,
         _ => Did::Disagreed,
@@ -174,7 +174,7 @@ fn add_local(agent: &mut Agent, candidate: Candidate) -> Result<Did, Broken> {
         Ok(Some(_)) => Ok(Did::Done),
         Ok(None) => Ok(Did::False),
         Err(IceError::OutOfMemory) => Err(Broken),
-        Err(_) => Ok(Did::Refused),
+        Err(_) => Ok(Did::Rejected),
     }
 }
 
@@ -209,14 +209,14 @@ fn restart(agent: &mut Agent, alloc: Global, keep: bool) -> Result<Did, Broken> 
 }
 
 /// Sets credentials that are longer than any allowed ones.
-fn tell_too_long(agent: &mut Agent, alloc: Global) -> Result<Did, Broken> {
+fn return_too_long(agent: &mut Agent, alloc: Global) -> Result<Did, Broken> {
     let ufrag = "u".repeat(alloc, 509)?;
     let peer = creds(alloc, ufrag.as_str(), FAR_PASS)?;
     what_became(agent.set_remote_credentials(peer))
 }
 
-fn tell_known(agent: &mut Agent, alloc: Global) -> Result<Did, Broken> {
-    tell_peer(agent, alloc, PEER, FAR_PASS)?;
+fn return_known(agent: &mut Agent, alloc: Global) -> Result<Did, Broken> {
+    return_peer(agent, alloc, PEER, FAR_PASS)?;
     Ok(Did::Done)
 }
 
@@ -234,10 +234,10 @@ fn skip(agent: &mut Agent) -> Did {
 fn setting(agent: &mut Agent, alloc: Global, random: &mut Pcg32) -> Result<Did, Broken> {
     match below(random, 8) {
         0 => restart(agent, alloc, true),
-        1 => tell_too_long(agent, alloc),
+        1 => return_too_long(agent, alloc),
         2 | 3 => recreate(agent),
         4 => Ok(skip(agent)),
-        _ => tell_known(agent, alloc),
+        _ => return_known(agent, alloc),
     }
 }
 
@@ -249,7 +249,7 @@ pub fn call(
     random: &mut Pcg32,
 ) -> Result<Did, Broken> {
     match below(random, 16) {
-        0 | 1 | 2 | 3 => moment(agent, session, random),
+        0 | 1 | 2 | 3 => time(agent, session, random),
         4 | 5 => candidate(agent, alloc, random),
         6 => setting(agent, alloc, random),
         _ => packet(agent, session, alloc, random),

@@ -1,5 +1,7 @@
 //! The observed request, replayed from other ports, with and without a limit on what requests bring.
-use crate::agents::{Agent, FAR_LINE, at, events, hear_of, next_packet, renew_asked, take, wake};
+use crate::agents::{
+    Agent, FAR_LINE, at, deadline, events, hear_of, next_packet, renew_asked, take,
+};
 use crate::broken::Broken;
 use crate::limits::known;
 use crate::request::REQUEST;
@@ -61,7 +63,7 @@ fn poll(agent: &mut Agent, tally: &mut Tally) {
 /// The next timeout, at each multiple of the pacing interval. All events are polled.
 fn pass(agent: &mut Agent, alloc: Global, tally: &mut Tally) -> Result<(), Broken> {
     if tally.now.is_multiple_of(PACING) {
-        wake(agent, time(tally), tally.now)?;
+        deadline(agent, time(tally), tally.now)?;
         poll(agent, tally);
         let _ = events(agent, alloc)?;
         tally.known = tally.known.max(known(agent));

@@ -19,7 +19,7 @@ struct Tally {
     took: u32,
     false_or_none: u32,
     unparsed: u32,
-    refused: u32,
+    rejected: u32,
     packets: u32,
     nominations: u32,
     violations: u32,
@@ -30,7 +30,7 @@ const NOTHING: Tally = Tally {
     took: 0,
     false_or_none: 0,
     unparsed: 0,
-    refused: 0,
+    rejected: 0,
     packets: 0,
     nominations: 0,
     violations: 0,
@@ -47,7 +47,7 @@ impl Tally {
             Did::Took => one_more(&mut self.took),
             Did::False => one_more(&mut self.false_or_none),
             Did::Unparsed => one_more(&mut self.unparsed),
-            Did::Refused => one_more(&mut self.refused),
+            Did::Rejected => one_more(&mut self.rejected),
             Did::Disagreed => {}
         }
     }
@@ -55,7 +55,7 @@ impl Tally {
     /// Each outcome occurred at least a thousand times, so the lists exercise the agent.
     fn is_lively(&self) -> bool {
         self.done.min(self.took).min(self.false_or_none) >= 1000
-            && self.unparsed.min(self.refused) >= 1000
+            && self.unparsed.min(self.rejected) >= 1000
             && self.packets.min(self.nominations) >= 1000
     }
 }

@@ -9,7 +9,7 @@ pub struct Seen {
     role: bool,
     state: IceConnectionState,
     stats: IceAgentStats,
-    wake: Option<Instant>,
+    deadline: Option<Instant>,
     creds: u64,
     local: u64,
     remote: u64,
@@ -108,12 +108,12 @@ fn pair_of(agent: &Agent, peer: &Candidate) -> PeerPair {
 
 /// What is observed of the agent, and of its pair with the peer's candidate.
 pub fn look(agent: &mut Agent, peer: &Candidate) -> Seen {
-    let wake = agent.poll_timeout();
+    let deadline = agent.poll_timeout();
     Seen {
         role: agent.controlling(),
         state: agent.state(),
         stats: agent.stats(),
-        wake,
+        deadline,
         creds: both_creds(agent),
         local: locals(agent),
         remote: remotes(agent),

@@ -81,7 +81,7 @@ impl<'a> Fields<'a> {
     }
 
     /// A time, in nanoseconds.
-    pub fn moment(&self, name: &'static str) -> Result<Instant, Fault> {
+    pub fn time(&self, name: &'static str) -> Result<Instant, Fault> {
         Ok(Instant(self.number(name)?))
     }
 

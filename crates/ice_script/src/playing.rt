@@ -1,6 +1,6 @@
 //! A script over any reader and two writers.
 use crate::fault::{Fault, Stop};
-use crate::print::{AnswerText, EventText, HexText, WakeText};
+use crate::print::{AnswerText, EventText, HexText, TimeoutText};
 use crate::script::{ScriptCall, ScriptLine, Sent, Side, read_script};
 use ice_counter::Counter;
 use is::{Answer, Call, DefaultSha1HmacProvider, IceAgent, IceCreds, IceError, SocketText, run};
@@ -135,7 +135,7 @@ fn answer(
     match call {
         ScriptCall::Agent { creds, tie_breaker } => make(alloc, agent, creds, tie_breaker),
         ScriptCall::Call(call) => make_call(alloc, agent, call, random),
-        ScriptCall::Refused(error) => Ok(Answer::Refused(error)),
+        ScriptCall::Rejected(error) => Ok(Answer::Refused(error)),
     }
 }
 
@@ -151,7 +151,7 @@ fn make(
             *agent = Some(made);
             Ok(Answer::Done)
         }
-        Err(error) => refused(error),
+        Err(error) => rejected(error),
     }
 }
 
@@ -168,7 +168,7 @@ fn make_call(
     let mut log = run(agent, vec![in alloc; call]?, random);
     match log.entries.pop() {
         Some(entry) => match entry.answer {
-            Answer::Refused(error) => refused(error),
+            Answer::Refused(error) => rejected(error),
             answer => Ok(answer),
         },
         None => Err(Stop::Broken),
@@ -176,7 +176,7 @@ fn make_call(
 }
 
 /// The result of a call that fails, except out of memory, which ends the script.
-fn refused(error: IceError) -> Result<Answer, Stop> {
+fn rejected(error: IceError) -> Result<Answer, Stop> {
     match error {
         IceError::OutOfMemory => Err(Stop::Broken),
         error => Ok(Answer::Refused(error)),
@@ -205,6 +205,6 @@ fn poll<W: Write>(
     while let Some(event) = agent.poll_event() {
         writeln!(output, "{side} event {}", EventText(&event))?;
     }
-    writeln!(output, "{side} wake {}", WakeText(agent.poll_timeout()))?;
+    writeln!(output, "{side} wake {}", TimeoutText(agent.poll_timeout()))?;
     Ok(())
 }

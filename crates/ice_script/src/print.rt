@@ -3,7 +3,7 @@ use is::{Answer, IceAgentEvent, IceError, Instant, SocketText};
 use std::fmt;
 
 /// The name of an error.
-fn refusal_name(error: &IceError) -> &'static str {
+fn rejection_name(error: &IceError) -> &'static str {
     match error {
         IceError::BadCandidate(_) => "BadCandidate",
         IceError::OutOfMemory => "OutOfMemory",
@@ -26,7 +26,7 @@ impl fmt::Display for AnswerText<'_> {
             Answer::NotAdded => f.write_str("none"),
             Answer::Flag(flag) => write!(f, "{flag}"),
             Answer::Unparsed(fault) => write!(f, "unparsed {fault:?}"),
-            Answer::Refused(error) => write!(f, "refused {}", refusal_name(error)),
+            Answer::Refused(error) => write!(f, "refused {}", rejection_name(error)),
             _ => Ok(()),
         }
     }
@@ -71,9 +71,9 @@ impl fmt::Display for EventText<'_> {
 
 /// The next timeout, in nanoseconds.
 #[derive(Clone, Copy)]
-pub struct WakeText(pub Option<Instant>);
+pub struct TimeoutText(pub Option<Instant>);
 
-impl fmt::Display for WakeText {
+impl fmt::Display for TimeoutText {
     fn fmt<W: fmt::Write>(&self, f: &mut fmt::Formatter<W>) -> fmt::Result {
         match self.0 {
             Some(Instant(nanoseconds)) => write!(f, "{nanoseconds}"),

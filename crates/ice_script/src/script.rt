@@ -173,7 +173,7 @@ pub enum ScriptCall {
     /// Makes this call of the agent.
     Call(Call),
     /// The candidate that the call needs is invalid.
-    Refused(IceError),
+    Rejected(IceError),
 }
 
 /// A packet that an agent sent. Its number is its index among all of them.
@@ -268,7 +268,7 @@ fn on_candidate(name: CallName, made: Result<Candidate, IceError>) -> Result<Scr
             _ => Call::AddLocalCandidate(candidate),
         })),
         Err(IceError::OutOfMemory) => Err(Stop::Broken),
-        Err(error) => Ok(ScriptCall::Refused(error)),
+        Err(error) => Ok(ScriptCall::Rejected(error)),
     }
 }
 
@@ -286,7 +286,7 @@ fn session_call(alloc: Global, name: CallName, fields: Fields<'_>) -> Result<Scr
 
 fn packet_call(alloc: Global, fields: Fields<'_>) -> Result<ScriptCall, Stop> {
     Ok(ScriptCall::Call(Call::Packet {
-        now: fields.moment("now")?,
+        now: fields.time("now")?,
         proto: fields.protocol("proto")?,
         source: fields.socket("from")?,
         destination: fields.socket("to")?,
@@ -306,7 +306,7 @@ fn delivery(side: Side, fields: Fields<'_>, sent: &[Sent]) -> Result<ScriptCall,
     {
         return Err(Stop::Line(Fault::Bad("packet")));
     }
-    let now = fields.moment("now")?;
+    let now = fields.time("now")?;
     let Some(Sent { packet, .. }) = found else {
         return Err(Stop::Line(Fault::NoPacket));
     };
@@ -330,7 +330,7 @@ fn plain_call(name: CallName, fields: Fields<'_>) -> Result<Call, Fault> {
         CallName::Rto => Call::SetInitialStunRto(fields.duration("number")?),
         CallName::MaxRto => Call::SetMaxStunRto(fields.duration("number")?),
         CallName::LiteTimeout => Call::SetLiteTimeout(fields.duration("number")?),
-        CallName::Timeout => Call::HandleTimeout(fields.moment("now")?),
+        CallName::Timeout => Call::HandleTimeout(fields.time("now")?),
         _ => Call::RecreateCandidatePairs,
     })
 }

@@ -10,9 +10,9 @@ use Rattle.is_rules.specs.declared.emitted.Path.{Path}
 use Rattle.is_rules.specs.Agent.{AgentRecord}
 use Rattle.is_rules.specs.Accepting.{IsAcceptedOn}
 use Rattle.is_rules.specs.Emitted.{nothing_emitted}
-use Rattle.is_rules.specs.Steps.{ReceivePacket, Answer, Flag, Unparsed, Refused, Entry}
-use Rattle.is_rules.specs.Logs.{Logged}
-use Rattle.is_rules.specs.Runs.{AtEach}
+use Rattle.is_rules.specs.Steps.{ReceivePacket, Answer, Flag, Unparsed, Rejected, Entry}
+use Rattle.is_theorems.specs.Logs.{Logged}
+use Rattle.is_theorems.specs.Runs.{AtEach}
 
 -- The call returns false, or the parse fault of the bytes.
 abbrev pub SaysNo : Answer → Type 0
@@ -20,7 +20,7 @@ SaysNo answer = (answer ≡ Flag false) ⊎ ((fault : ParseFault) × (answer ≡
 
 -- The call returns true, or it fails.
 abbrev pub SaysYes : Answer → Type 0
-SaysYes answer = (answer ≡ Flag true) ⊎ ((error : IceError) × (answer ≡ Refused error))
+SaysYes answer = (answer ≡ Flag true) ⊎ ((error : IceError) × (answer ≡ Rejected error))
 
 -- The state does not change, nothing is issued or selected, and the bytes are not accepted.
 pub record ChangesNothing {H P : Type 0} (old : AgentRecord H P) (e : Entry) (new : AgentRecord H P) : Type 0 where
@@ -30,13 +30,13 @@ pub record ChangesNothing {H P : Type 0} (old : AgentRecord H P) (e : Entry) (ne
 
 module _ {H P : Type 0} (mac : H → List ℕ → List ℕ → List ℕ) where
   -- The bytes encode a message that the agent accepts on the path on which it was received.
-  abbrev pub Accepts : AgentRecord H P → Path → List ℕ → Type 0
-  Accepts a path bytes = (m : Message) × Reads bytes m × IsAcceptedOn mac a path m
+  abbrev pub AcceptsOnPath : AgentRecord H P → Path → List ℕ → Type 0
+  AcceptsOnPath a path bytes = (m : Message) × Reads bytes m × IsAcceptedOn mac a path m
 
   -- Bytes that are not accepted change nothing. For accepted bytes the call returns true, or it fails.
   pub record IsSettled (old : AgentRecord H P) (path : Path) (bytes : List ℕ) (e : Entry) (new : AgentRecord H P) : Type 0 where
-    pub unaccepted : ¬ Accepts old path bytes → ChangesNothing old e new
-    pub accepted : Accepts old path bytes → SaysYes e.answer
+    pub unaccepted : ¬ AcceptsOnPath old path bytes → ChangesNothing old e new
+    pub accepted : AcceptsOnPath old path bytes → SaysYes e.answer
 
   -- This holds of each packet in the log.
   abbrev pub PacketsAreSettled : (P → CandidateRecord → ℕ → ℕ → Type 0) → AgentRecord H P → Stream → List (Logged P) → Type 0

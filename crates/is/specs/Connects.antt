@@ -8,56 +8,56 @@ use Rattle.is_candidate.specs.Candidates.{CandidateRecord}
 use Rattle.is_pair.specs.Pairs.{PairRecord}
 use Rattle.is_stun.specs.declared.header.Class.{Class}
 use Rattle.is_rules.specs.declared.emitted.Path.{Path}
-use Rattle.is_rules.specs.Asked.{IsAlone}
-use Rattle.is_rules.specs.Asking.{AreNominatedOn}
-use Rattle.is_rules.specs.Delivery.{Sends}
+use Rattle.is_theorems.specs.Asked.{IsOnlyPair}
+use Rattle.is_theorems.specs.Asking.{AreNominatedOn}
+use Rattle.is_theorems.specs.Delivery.{Sends}
 use Rattle.is_rules.specs.Emitted.{reversed}
-use Rattle.is_rules.specs.Progress.{Awaits, IsUnanswered}
+use Rattle.is_theorems.specs.Progress.{Awaits, IsUnanswered}
 use Rattle.is_rules.specs.Queue.{request_at}
-use Rattle.is_rules.specs.Runs.{IsTopPath}
+use Rattle.is_theorems.specs.Runs.{IsTopPath}
 use Rattle.is_rules.specs.Sending.{path_of}
 use Rattle.is_rules.specs.Steps as agent
 use Rattle.is.specs.declared.world.Side.{Side}
 use Rattle.is.specs.Connections.{HasRounds, Succeeds}
-use Rattle.is.specs.Deliveries.{Announces}
-use Rattle.is.specs.Grantings.{Occurrence, HandedCheck, IsReturnedInTime, MayEndAt, occurrences_in}
+use Rattle.is.specs.Deliveries.{SelectsPath}
+use Rattle.is.specs.AcceptedNominationsIn.{Occurrence, HandedCheck, IsReturnedInTime, MayEndAt, occurrences_in}
 use Rattle.is.specs.Meetings.{IsMeeting}
-use Rattle.is.specs.Selections.{Round, all_of, state_after, AreKept, MayEndInRounds, AreEachPolled, AreEnough, Checks}
+use Rattle.is.specs.Selections.{SideRound, all_of, state_after, AreKept, MayEndInRounds, AreEachPolled, SideRoundsSuffice, RoundChecks}
 use Rattle.is.specs.Sides.{own_log}
-use Rattle.is.specs.World.{WorldRecord, Call, Logged, Run, at, other}
+use Rattle.is.specs.World.{WorldRecord, Call, LoggedEvent, WorldRun, at, other}
 use Rattle.is.specs.WorldRoles.{IsFairWorld}
 
 module _ {H P : Type 0} where
   -- The network delivers what the side sends on the path, which arrives as the path `over`: if the side sends a check on it in the
   -- rounds, or accepts a success response on it, a check on it that it sends in the segment is delivered to the other side
   -- (`HandedCheck`). Each response to this check is delivered back while the check is pending.
-  abbrev pub Delivers : (H → List ℕ → List ℕ → List ℕ) → (P → CandidateRecord → ℕ → ℕ → Type 0) → Side → Path → Path → List (Round H P) → List (Occurrence H P) → Type 0
-  Delivers mac answers side path over rounds all =
-      (r : Round H P) → Has rounds r → Checks path r ⊎ ((x : Occurrence H P) × Has r.behind x × Succeeds side path x)
+  abbrev pub ChecksAreDelivered : (H → List ℕ → List ℕ → List ℕ) → (P → CandidateRecord → ℕ → ℕ → Type 0) → Side → Path → Path → List (SideRound H P) → List (Occurrence H P) → Type 0
+  ChecksAreDelivered mac answers side path over rounds all =
+      (r : SideRound H P) → Has rounds r → RoundChecks path r ⊎ ((x : Occurrence H P) × Has r.following x × Succeeds side path x)
       → (k : HandedCheck mac side path over all)
-      × ((class : Class) (reply : Packet) → Sends (at (other side) k.comes.handed.before) k.comes.handed.entry.outcome.entry class k.id reply (at (other side) k.comes.handed.behind)
+      × ((class : Class) (reply : Packet) → Sends (at (other side) k.comes.handed.before) k.comes.handed.entry.outcome.entry class k.id reply (at (other side) k.comes.handed.following)
       → IsReturnedInTime mac answers side path over all k reply)
 
   -- The segment begins with rounds of the side. No pair of it is valid when they begin, and one on the path is due in them. They
   -- suffice for this pair, and the network delivers on its path.
   pub record Opens (mac : H → List ℕ → List ℕ → List ℕ) (answers : P → CandidateRecord → ℕ → ℕ → Type 0) (side : Side) (path over : Path) (all : List (Occurrence H P)) : Type 0 where
-    pub first : Round H P
-    pub later : List (Round H P)
+    pub first : SideRound H P
+    pub later : List (SideRound H P)
     pub more : List (Occurrence H P)
     pub split : all ≡ all_of (first ∷ later) ++ more
     pub by : ℕ
     pub pair : PairRecord
-    pub on : path_of (at side first.moment.before) pair ≡ path
-    pub waits : Awaits first.now by (at side first.moment.before) pair
-    pub unanswered : IsUnanswered (at side first.moment.before) pair
+    pub on : path_of (at side first.timeout.before) pair ≡ path
+    pub waits : Awaits first.now by (at side first.timeout.before) pair
+    pub unanswered : IsUnanswered (at side first.timeout.before) pair
     pub kept : AreKept side by first later
-    pub enough : AreEachPolled side by first later ⊎ AreEnough side by first later (state_after first.moment.before (all_of (first ∷ later)))
-    pub delivers : Delivers mac answers side path over (first ∷ later) all
+    pub enough : AreEachPolled side by first later ⊎ SideRoundsSuffice side by first later (state_after first.timeout.before (all_of (first ∷ later)))
+    pub delivers : ChecksAreDelivered mac answers side path over (first ∷ later) all
 
   -- The segment has rounds of the side that suffice for a pair on the path, and the network delivers on it.
   pub record Goes (mac : H → List ℕ → List ℕ → List ℕ) (answers : P → CandidateRecord → ℕ → ℕ → Type 0) (side : Side) (path over : Path) (all : List (Occurrence H P)) (last : WorldRecord H P) : Type 0 where
     pub rounds : HasRounds side path all last
-    pub delivers : Delivers mac answers side path over (rounds.first ∷ rounds.later) all
+    pub delivers : ChecksAreDelivered mac answers side path over (rounds.first ∷ rounds.later) all
 
   -- The roles differ when the segment begins, or a check of one side is delivered in it, and its 487 if it gets one.
   abbrev pub AgreeOnRoles : (H → List ℕ → List ℕ → List ℕ) → (P → CandidateRecord → ℕ → ℕ → Type 0) → WorldRecord H P → List (Occurrence H P) → Type 0
@@ -65,7 +65,7 @@ module _ {H P : Type 0} where
 
   -- The side selected a path at one of these entries.
   abbrev pub SelectsIn : Side → List (Occurrence H P) → Type 0
-  SelectsIn side all = (x : Occurrence H P) × Has all x × Announces side x.entry
+  SelectsIn side all = (x : Occurrence H P) × Has all x × SelectsPath side x.entry
 
   module _ (mac : H → List ℕ → List ℕ → List ℕ) (answers : P → CandidateRecord → ℕ → ℕ → Type 0) where
     -- Two agents are newly created, with different tie-breakers, in any roles. First they agree on roles. Let `path` be one of the side
@@ -75,19 +75,19 @@ module _ {H P : Type 0} where
     -- call of the controlled side that serves no early request follows. By then this side selected a path, too, and the one that it
     -- selected last is that of an eligible pair with the greatest stored priority (`IsTopPath`), if only one of its pairs uses the
     -- path's addresses. An exception is that an added candidate, or another call, may have removed the pair of a path.
-    abbrev pub BothSelect : WorldRecord H P → Stream → List (Logged P) → Type 0
+    abbrev pub BothSelect : WorldRecord H P → Stream → List (LoggedEvent P) → Type 0
     BothSelect first s log =
-        (greater side : Side) (last : WorldRecord H P) (t : Stream) (run : Run mac answers first s 0 log last t) (meeting opening part rest : List (Occurrence H P))
-        (moment : Occurrence H P) (now : ℕ) (path its : Path)
-        → IsFairWorld first greater log → occurrences_in mac answers first s 0 log last t run ≡ meeting ++ (opening ++ ((part ++ moment ∷ []) ++ rest))
+        (greater side : Side) (last : WorldRecord H P) (t : Stream) (run : WorldRun mac answers first s 0 log last t) (meeting opening part rest : List (Occurrence H P))
+        (timeout : Occurrence H P) (now : ℕ) (path its : Path)
+        → IsFairWorld first greater log → occurrences_in mac answers first s 0 log last t run ≡ meeting ++ (opening ++ ((part ++ timeout ∷ []) ++ rest))
         → AgreeOnRoles mac answers first meeting → (at side (state_after first meeting)).controlling ≡ false
         → (opens : Opens mac answers (other side) its (reversed path) opening)
-        → ((x : Occurrence H P) → Has part x → AreNominatedOn (at (other side) x.behind) its)
-        → (leads : Goes mac answers (other side) its (reversed path) part moment.before) → Goes mac answers side path (reversed its) part moment.before
-        → moment.entry.event ≡ Call side (agent.HandleTimeout now) → moment.entry.outcome.entry.answer ≡ agent.Done → request_at now (at side moment.before) ≡ None
-        → IsAlone (at side moment.behind) path
+        → ((x : Occurrence H P) → Has part x → AreNominatedOn (at (other side) x.following) its)
+        → (leads : Goes mac answers (other side) its (reversed path) part timeout.before) → Goes mac answers side path (reversed its) part timeout.before
+        → timeout.entry.event ≡ Call side (agent.HandleTimeout now) → timeout.entry.outcome.entry.answer ≡ agent.Done → request_at now (at side timeout.before) ≡ None
+        → IsOnlyPair (at side timeout.following) path
         → (SelectsIn (other side) opening ⊎ MayEndInRounds answers (other side) its (opens.first ∷ opens.later))
-        × ((SelectsIn side (meeting ++ (opening ++ (part ++ moment ∷ [])))
-        × IsTopPath mac answers (own_log side [] (meeting ++ (opening ++ (part ++ moment ∷ [])))) (at side moment.behind))
-        ⊎ (((x : Occurrence H P) × Has (part ++ moment ∷ []) x × MayEndAt answers side path x)
+        × ((SelectsIn side (meeting ++ (opening ++ (part ++ timeout ∷ [])))
+        × IsTopPath mac answers (own_log side [] (meeting ++ (opening ++ (part ++ timeout ∷ [])))) (at side timeout.following))
+        ⊎ (((x : Occurrence H P) × Has (part ++ timeout ∷ []) x × MayEndAt answers side path x)
         ⊎ MayEndInRounds answers (other side) its (leads.rounds.first ∷ leads.rounds.later)))

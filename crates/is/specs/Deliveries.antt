@@ -3,11 +3,11 @@ use Rattle.std.specs.Prelude.{◌≡◌, ℕ, true, false, Some, is_some, slice_
 use Rattle.is_proto.specs.Packets.{Packet}
 use Rattle.is_rules.specs.declared.emitted.Path.{Path}
 use Rattle.is_rules.specs.Effects.{last_of}
-use Rattle.is_rules.specs.Reached.{is_in_round}
-use Rattle.is_rules.specs.Rounds.{is_poll}
-use Rattle.is_rules.specs.Steps.{is_refusal}
+use Rattle.is_theorems.specs.Reached.{is_in_round}
+use Rattle.is_theorems.specs.Rounds.{is_poll}
+use Rattle.is_rules.specs.Steps.{is_rejection}
 use Rattle.is.specs.declared.world.Side.{Side}
-use Rattle.is.specs.World.{WorldRecord, Event, Call, Deliver, Logged, other}
+use Rattle.is.specs.World.{WorldRecord, Event, Call, Deliver, LoggedEvent, other}
 
 -- The side makes only polls, whatever it receives and whatever the other side does.
 abbrev pub MakesPolls : {P : Type 0} → Side → Event P → Type 0
@@ -21,15 +21,15 @@ MakesInRound side (Call s c) = s ≡ side → is_in_round c ≡ true
 MakesInRound side _ = Unit {0}
 
 -- The side selected a path.
-abbrev pub Announces : {P : Type 0} → Side → Logged P → Type 0
-Announces side x = (x.outcome.side ≡ Some side) × (is_some (last_of x.outcome.entry.emitted.announced) ≡ true)
+abbrev pub SelectsPath : {P : Type 0} → Side → LoggedEvent P → Type 0
+SelectsPath side x = (x.outcome.side ≡ Some side) × (is_some (last_of x.outcome.entry.emitted.selected_paths) ≡ true)
 
 module _ {H P : Type 0} where
   -- The event delivers the packet to the side on the path `via`, with the bytes that the other side sent, and the call does not
   -- fail. A NAT may have changed the path.
-  pub record Hands (side : Side) (via : Path) (packet : Packet) (w : WorldRecord H P) (x : Logged P) : Type 0 where
+  pub record Hands (side : Side) (via : Path) (packet : Packet) (w : WorldRecord H P) (x : LoggedEvent P) : Type 0 where
     pub place : ℕ
     pub now : ℕ
     pub event : x.event ≡ Deliver place now via
-    pub sent : slice_get w.bag place ≡ Some record { sender = other side; packet = packet }
-    pub granted : is_refusal x.outcome.entry.answer ≡ false
+    pub sent : slice_get w.network place ≡ Some record { sender = other side; packet = packet }
+    pub nomination_accepted : is_rejection x.outcome.entry.answer ≡ false

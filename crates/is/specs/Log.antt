@@ -3,8 +3,8 @@ use Rattle.std.specs.Prelude.{◌≡◌, ℕ, MatchBool, List, [], ◌∷◌, �
 use Rattle.rand_core.specs.Stream.{Stream}
 use Rattle.is_candidate.specs.Candidates.{CandidateRecord}
 use Rattle.is_rules.specs.Agent.{AgentRecord}
-use Rattle.is_rules.specs.Logs.{Logged}
-use Rattle.is_rules.specs.Runs.{Run, Point}
+use Rattle.is_theorems.specs.Logs.{Logged}
+use Rattle.is_theorems.specs.Runs.{Run, Point}
 use Rattle.is.specs.declared.calls.AgentCall.{AgentCall}
 use Rattle.is.specs.declared.calls.Entry.{Entry}
 use Rattle.is.specs.declared.runs.RunLog.{RunLog}
@@ -33,7 +33,7 @@ module _ {H P : Type 0} (mac : H → List ℕ → List ℕ → List ℕ) (answer
       ((length log.entries.items ≡ length calls) × Run mac answers old s (log_of calls log) new t)
 
   -- Each entry is between two states of the execution.
-  abbrev pub EntriesStand : AgentRecord H P → Stream → List (Logged P) → Type 0
-  EntriesStand first s log =
+  abbrev pub EntriesPersist : AgentRecord H P → Stream → List (Logged P) → Type 0
+  EntriesPersist first s log =
       (rest before : List (Logged P)) (x : Logged P) → log ≡ rest ++ x ∷ before
       → (mid after : AgentRecord H P) × Point mac answers first s log before mid x after

@@ -8,10 +8,10 @@ use Rattle.is.specs.declared.world.WorldEntry.{WorldEntry}
 use Rattle.is.specs.declared.traces.Mark.{Mark}
 use Rattle.is.specs.declared.traces.Mark.TheVariants.{Taken, Issued, Cleared}
 use Rattle.is.specs.declared.traces.Trace.{Trace}
-use Rattle.is.specs.Traces.{Issues, Takes, Announces, IsAt, IsNoLater}
+use Rattle.is.specs.Traces.{Issues, TakesMessage, SelectsPathAt, IsAt, IsNoLater}
 
 abbrev pub IsMarked : Mark → WorldEntry → Type 0
-IsMarked (Taken side class id) e = Takes side class id e
+IsMarked (Taken side class id) e = TakesMessage side class id e
 IsMarked (Issued side class id) e = (path : Path) × Issues side path class id e
 IsMarked (Cleared side) e = (e.side ≡ Some side) × (e.clear ≡ true)
 
@@ -25,13 +25,13 @@ IsFirstMarked es mark first end result =
     MatchOption result (NoneMarked es mark first end) (λ n. (first ≤ n) × (n < end) × IsAt es n (IsMarked mark) × NoneMarked es mark first n)
 
 -- the side that selected the path at this index of the entry, and the path
-abbrev pub IsAnnounced : List WorldEntry → ℕ → ℕ → Option (Side × Path) → Type 0
-IsAnnounced es n place result =
-    MatchOption result ((side : Side) (path : Path) → ¬ IsAt es n (Announces side path place)) (λ by. IsAt es n (Announces by.0 by.1 place))
+abbrev pub IsSelectedIn : List WorldEntry → ℕ → ℕ → Option (Side × Path) → Type 0
+IsSelectedIn es n place result =
+    MatchOption result ((side : Side) (path : Path) → ¬ IsAt es n (SelectsPathAt side path place)) (λ by. IsAt es n (SelectsPathAt by.0 by.1 place))
 
 -- the ID of the check that the entry sent on the path
-abbrev pub IsCheckAt : List WorldEntry → Side → Path → ℕ → Option TransId → Type 0
-IsCheckAt es side path n result =
+abbrev pub IsCheckOfEntry : List WorldEntry → Side → Path → ℕ → Option TransId → Type 0
+IsCheckOfEntry es side path n result =
     MatchOption result ((id : TransId) → ¬ IsAt es n (Issues side path class.Request id)) (λ id. IsAt es n (Issues side path class.Request id))
 
 -- the first of the causal chains, or of whatever chains `Is` describes, that begin at this entry number

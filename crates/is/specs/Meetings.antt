@@ -7,15 +7,15 @@ use Rattle.is_proto.specs.Packets.{Packet}
 use Rattle.is_candidate.specs.Candidates.{CandidateRecord}
 use Rattle.is_stun.specs.declared.header.Class.TheVariants.{Failure}
 use Rattle.is_rules.specs.declared.emitted.Path.{Path}
-use Rattle.is_rules.specs.Delivery.{Sends}
+use Rattle.is_theorems.specs.Delivery.{Sends}
 use Rattle.is.specs.declared.world.Side.{Side}
 use Rattle.is.specs.declared.world.Side.TheVariants.{A, B}
-use Rattle.is.specs.Grantings.{Occurrence, HandedCheck, IsReturnedInTime, occurrences_in}
-use Rattle.is.specs.World.{WorldRecord, Logged, Run, at, other}
+use Rattle.is.specs.AcceptedNominationsIn.{Occurrence, HandedCheck, IsReturnedInTime, occurrences_in}
+use Rattle.is.specs.World.{WorldRecord, LoggedEvent, WorldRun, at, other}
 use Rattle.is.specs.WorldRoles.{IsFairWorld, role_in}
 
 -- After the entry one agent is controlling and the other is controlled.
-abbrev pub AreOpposite : {P : Type 0} → Logged P → Type 0
+abbrev pub AreOpposite : {P : Type 0} → LoggedEvent P → Type 0
 AreOpposite x = role_in A x ≢ role_in B x
 
 module _ {H P : Type 0} where
@@ -28,14 +28,14 @@ module _ {H P : Type 0} where
   abbrev pub IsMeeting : (H → List ℕ → List ℕ → List ℕ) → (P → CandidateRecord → ℕ → ℕ → Type 0) → Side → Path → List (Occurrence H P) → Type 0
   IsMeeting mac answers side path all =
       (over : Path) × (k : HandedCheck mac side path over all)
-      × ((error : Packet) → Sends (at (other side) k.comes.handed.before) k.comes.handed.entry.outcome.entry Failure k.id error (at (other side) k.comes.handed.behind)
+      × ((error : Packet) → Sends (at (other side) k.comes.handed.before) k.comes.handed.entry.outcome.entry Failure k.id error (at (other side) k.comes.handed.following)
       → IsReturnedInTime mac answers side path over all k error)
 
   -- Two agents are newly created, with different tie-breakers, in any roles. In a segment of the log a check of either agent is
   -- delivered to the other one, and its 487 if it gets one, at any time, also through NATs. Then their roles are different after
   -- the segment.
-  abbrev pub RolesMeet : (mac : H → List ℕ → List ℕ → List ℕ) (answers : P → CandidateRecord → ℕ → ℕ → Type 0) → WorldRecord H P → Stream → List (Logged P) → Type 0
+  abbrev pub RolesMeet : (mac : H → List ℕ → List ℕ → List ℕ) (answers : P → CandidateRecord → ℕ → ℕ → Type 0) → WorldRecord H P → Stream → List (LoggedEvent P) → Type 0
   RolesMeet mac answers first s log =
-      (greater side : Side) (last : WorldRecord H P) (t : Stream) (run : Run mac answers first s 0 log last t) (part rest : List (Occurrence H P)) (path : Path)
+      (greater side : Side) (last : WorldRecord H P) (t : Stream) (run : WorldRun mac answers first s 0 log last t) (part rest : List (Occurrence H P)) (path : Path)
       → IsFairWorld first greater log → occurrences_in mac answers first s 0 log last t run ≡ part ++ rest → IsMeeting mac answers side path part
       → (last.a.controlling ≢ last.b.controlling) × ((x : Occurrence H P) → Has rest x → StayOpposite x)

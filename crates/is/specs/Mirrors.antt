@@ -8,14 +8,14 @@ use Rattle.is_rules.specs.declared.emitted.Path.{Path}
 use Rattle.is_rules.specs.Sending.{path_of}
 use Rattle.is_rules.specs.Emitted.{reversed}
 use Rattle.is.specs.declared.world.Side.{Side}
-use Rattle.is.specs.Grantings.{Occurrence, occurrences_in}
-use Rattle.is.specs.World.{WorldRecord, Logged, Run, at, other}
+use Rattle.is.specs.AcceptedNominationsIn.{Occurrence, occurrences_in}
+use Rattle.is.specs.World.{WorldRecord, LoggedEvent, WorldRun, at, other}
 use Rattle.is.specs.WorldRoles.{IsNewAgent}
 
 module _ {H P : Type 0} where
   -- The side selected the path.
-  abbrev pub Tells : Side → Path → Occurrence H P → Type 0
-  Tells side path x = (x.entry.outcome.side ≡ Some side) × Has x.entry.outcome.entry.emitted.announced (Some path)
+  abbrev pub SelectsThePath : Side → Path → Occurrence H P → Type 0
+  SelectsThePath side path x = (x.entry.outcome.side ≡ Some side) × Has x.entry.outcome.entry.emitted.selected_paths (Some path)
 
   -- The side is not lite, and all its pairs are on the path.
   abbrev pub KeepsTo : Side → Path → WorldRecord H P → Type 0
@@ -24,11 +24,11 @@ module _ {H P : Type 0} where
   module _ (mac : H → List ℕ → List ℕ → List ℕ) (answers : P → CandidateRecord → ℕ → ℕ → Type 0) where
     -- Two agents are newly created. Before each entry of the log neither is lite, all pairs of one are on a path, and all pairs
     -- of the other are on the reverse path. Then any two paths that they selected are the reverse of each other.
-    abbrev pub LonePathsMirror : WorldRecord H P → Stream → List (Logged P) → Type 0
+    abbrev pub LonePathsMirror : WorldRecord H P → Stream → List (LoggedEvent P) → Type 0
     LonePathsMirror first s log =
-        (last : WorldRecord H P) (t : Stream) (run : Run mac answers first s 0 log last t) (x y : Occurrence H P) (side : Side) (path one two : Path)
+        (last : WorldRecord H P) (t : Stream) (run : WorldRun mac answers first s 0 log last t) (x y : Occurrence H P) (side : Side) (path one two : Path)
         → ((z : Side) → IsNewAgent (at z first))
         → ((z : Occurrence H P) → Has (occurrences_in mac answers first s 0 log last t run) z
         → KeepsTo side path z.before × KeepsTo (other side) (reversed path) z.before)
         → Has (occurrences_in mac answers first s 0 log last t run) x → Has (occurrences_in mac answers first s 0 log last t run) y
-        → Tells side one x → Tells (other side) two y → two ≡ reversed one
+        → SelectsThePath side one x → SelectsThePath (other side) two y → two ≡ reversed one

@@ -3,11 +3,11 @@ use Rattle.std.specs.Prelude.{◌≡◌, ℕ, Bool, true, false, List, None}
 use Rattle.rand_core.specs.Stream.{Stream}
 use Rattle.is_candidate.specs.Candidates.{CandidateRecord}
 use Rattle.is_rules.specs.Agent.{AgentRecord}
-use Rattle.is_rules.specs.Issuing.{Queues}
-use Rattle.is_rules.specs.Reporting.{Reports}
+use Rattle.is_rules.specs.Issuing.{QueuesPackets}
+use Rattle.is_theorems.specs.Reporting.{Reports}
 use Rattle.is_rules.specs.Steps.{Call, ReceivePacket, HandleTimeout, Entry}
-use Rattle.is_rules.specs.Logs.{Logged}
-use Rattle.is_rules.specs.Runs.{AtEach}
+use Rattle.is_theorems.specs.Logs.{Logged}
+use Rattle.is_theorems.specs.Runs.{AtEach}
 
 -- Received packets and `handle_timeout` calls may issue packets. Each issues at most one, since a log entry holds only one.
 abbrev pub may_issue : {P : Type 0} → Call P → Bool
@@ -27,4 +27,4 @@ module _ {H P : Type 0} (mac : H → List ℕ → List ℕ → List ℕ) (answer
   abbrev pub QueuesAreKept : AgentRecord H P → Stream → List (Logged P) → Type 0
   QueuesAreKept first s log =
       AtEach mac answers first s log (λ before mid x after.
-      Queues x.call x.entry mid.packets after.packets × Reports x.call x.entry mid.events after.events)
+      QueuesPackets x.call x.entry mid.packets after.packets × Reports x.call x.entry mid.events after.events)

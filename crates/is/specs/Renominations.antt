@@ -7,33 +7,33 @@ use Rattle.is_stun.specs.declared.header.Class.TheVariants.{Request}
 use Rattle.is_stun.specs.Message.{Message}
 use Rattle.is_stun.specs.Reading.{Reads}
 use Rattle.is_rules.specs.declared.emitted.Path.{Path}
-use Rattle.is_rules.specs.Asked.{IsAlone}
-use Rattle.is_rules.specs.Asking.{AreNominatedOn}
+use Rattle.is_theorems.specs.Asked.{IsOnlyPair}
+use Rattle.is_theorems.specs.Asking.{AreNominatedOn}
 use Rattle.is_rules.specs.Effects.{last_of}
 use Rattle.is_rules.specs.Emitted.{reversed}
-use Rattle.is_rules.specs.Logs.{last_announced}
+use Rattle.is_theorems.specs.Logs.{last_selected}
 use Rattle.is_rules.specs.Queue.{request_at}
 use Rattle.is_rules.specs.Steps as agent
 use Rattle.is.specs.declared.world.Side.{Side}
-use Rattle.is.specs.Grantings.{Occurrence, HandedCheck, IsControlled, IsExchangedOver, MayEndAt, occurrences_in}
+use Rattle.is.specs.AcceptedNominationsIn.{Occurrence, HandedCheck, IsControlled, IsExchangedOver, MayEndAt, occurrences_in}
 use Rattle.is.specs.Sides.{own_log}
-use Rattle.is.specs.World.{WorldRecord, InFlightRecord, Call, Deliver, Logged, Run, at, other}
+use Rattle.is.specs.World.{WorldRecord, InFlightRecord, Call, Deliver, LoggedEvent, WorldRun, at, other}
 use Rattle.is.specs.WorldRoles.{IsNewAgent}
 
 module _ {H P : Type 0} where
   -- Both agents have renomination after each of these entries.
   abbrev pub Renominate : List (Occurrence H P) → Type 0
-  Renominate all = (x : Occurrence H P) → Has all x → (side : Side) → (at side x.behind).renominates ≡ true
+  Renominate all = (x : Occurrence H P) → Has all x → (side : Side) → (at side x.following).renominates ≡ true
 
   -- At this entry the side selects no path, and does not clear its pairs.
   abbrev pub KeepsSelected : Side → Occurrence H P → Type 0
   KeepsSelected side x =
-      x.entry.outcome.side ≡ Some side → (last_of x.entry.outcome.entry.emitted.announced ≡ None) × (x.entry.outcome.clear ≡ false)
+      x.entry.outcome.side ≡ Some side → (last_of x.entry.outcome.entry.emitted.selected_paths ≡ None) × (x.entry.outcome.clear ≡ false)
 
   -- The side is nominated no other path at this entry: each request with USE-CANDIDATE that is delivered to it comes on the reverse
   -- path, and it serves no early request.
   pub record NominatesNoOther (side : Side) (path : Path) (x : Occurrence H P) : Type 0 where
-    pub comes : (place now : ℕ) (via : Path) (sent : InFlightRecord) (m : Message) → x.entry.event ≡ Deliver place now via → slice_get x.before.bag place ≡ Some sent
+    pub comes : (place now : ℕ) (via : Path) (sent : InFlightRecord) (m : Message) → x.entry.event ≡ Deliver place now via → slice_get x.before.network place ≡ Some sent
         → sent.sender ≡ other side → Reads sent.packet.contents m → m.class ≡ Request → m.attributes.use_candidate ≡ true → via ≡ reversed path
     pub early : (now : ℕ) → x.entry.event ≡ Call side (agent.HandleTimeout now) → request_at now (at side x.before) ≡ None
 
@@ -41,13 +41,13 @@ module _ {H P : Type 0} where
   -- it selects no path. The check is delivered on the reverse path, and no other path is nominated to the side after that.
   pub record IsNominatedLast (mac : H → List ℕ → List ℕ → List ℕ) (side : Side) (its path : Path) (all : List (Occurrence H P)) : Type 0 where
     pub check : HandedCheck mac (other side) its (reversed path) all
-    pub nominated : AreNominatedOn (at (other side) check.sent.behind) its
-    pub stays : (x : Occurrence H P) → Has check.behind x → KeepsSelected (other side) x
+    pub nominated : AreNominatedOn (at (other side) check.sent.following) its
+    pub stays : (x : Occurrence H P) → Has check.following x → KeepsSelected (other side) x
     pub last : (x : Occurrence H P) → Has check.comes.rest x → NominatesNoOther side path x
 
   -- In these entries, which are a log from the start, the side selected this path last.
   abbrev pub IsSelectedLast : Side → Path → List (Occurrence H P) → Type 0
-  IsSelectedLast side path all = last_announced (own_log side [] all) ≡ Some path
+  IsSelectedLast side path all = last_selected (own_log side [] all) ≡ Some path
 
   module _ (mac : H → List ℕ → List ℕ → List ℕ) (answers : P → CandidateRecord → ℕ → ℕ → Type 0) where
     -- Two agents are newly created, and have renomination in a segment of the log. In it the controlling side nominates a path last,
@@ -55,15 +55,15 @@ module _ {H P : Type 0} where
     -- call of the controlled side that serves no early request follows. By then both selected this path last, each as it sees it: the
     -- controlling side `its`, on which it sent the nomination, and the controlled side `path`, on whose reverse that arrived. For the
     -- controlled side only one of its pairs uses the path's addresses, and none of its calls may have removed such a pair.
-    abbrev pub OnePathIsSelected : WorldRecord H P → Stream → List (Logged P) → Type 0
+    abbrev pub OnePathIsSelected : WorldRecord H P → Stream → List (LoggedEvent P) → Type 0
     OnePathIsSelected first s log =
-        (last : WorldRecord H P) (t : Stream) (run : Run mac answers first s 0 log last t) (before part rest : List (Occurrence H P)) (moment : Occurrence H P)
+        (last : WorldRecord H P) (t : Stream) (run : WorldRun mac answers first s 0 log last t) (before part rest : List (Occurrence H P)) (timeout : Occurrence H P)
         (now : ℕ) (side : Side) (its path : Path)
-        → ((x : Side) → IsNewAgent (at x first)) → occurrences_in mac answers first s 0 log last t run ≡ before ++ ((part ++ moment ∷ []) ++ rest)
-        → IsControlled side (part ++ moment ∷ []) → Renominate (part ++ moment ∷ [])
+        → ((x : Side) → IsNewAgent (at x first)) → occurrences_in mac answers first s 0 log last t run ≡ before ++ ((part ++ timeout ∷ []) ++ rest)
+        → IsControlled side (part ++ timeout ∷ []) → Renominate (part ++ timeout ∷ [])
         → IsNominatedLast mac side its path part → IsExchangedOver mac side path part
-        → moment.entry.event ≡ Call side (agent.HandleTimeout now) → moment.entry.outcome.entry.answer ≡ agent.Done → request_at now (at side moment.before) ≡ None
-        → IsAlone (at side moment.behind) path
-        → IsSelectedLast (other side) its (before ++ (part ++ moment ∷ []))
-        × (IsSelectedLast side path (before ++ (part ++ moment ∷ []))
-        ⊎ ((x : Occurrence H P) × Has (part ++ moment ∷ []) x × MayEndAt answers side path x))
+        → timeout.entry.event ≡ Call side (agent.HandleTimeout now) → timeout.entry.outcome.entry.answer ≡ agent.Done → request_at now (at side timeout.before) ≡ None
+        → IsOnlyPair (at side timeout.following) path
+        → IsSelectedLast (other side) its (before ++ (part ++ timeout ∷ []))
+        × (IsSelectedLast side path (before ++ (part ++ timeout ∷ []))
+        ⊎ ((x : Occurrence H P) × Has (part ++ timeout ∷ []) x × MayEndAt answers side path x))

@@ -3,116 +3,116 @@
 use Rattle.std.specs.Prelude.{◌≡◌, ℕ, ◌<◌, ◌≤◌, ◌⊎◌, true, false, List, [], ◌∷◌, ◌++◌, length, Some}
 use Rattle.rand_core.specs.Stream.{Stream}
 use Rattle.is_proto.specs.Lists.{Has}
-use Rattle.is_proto.specs.Moments.{MAX}
+use Rattle.is_proto.specs.Times.{MAX}
 use Rattle.is_proto.specs.Packets.{Packet}
 use Rattle.is_candidate.specs.Candidates.{CandidateRecord}
 use Rattle.is_pair.specs.Pairs.{PairRecord}
 use Rattle.is_stun.specs.declared.header.Class.TheVariants.{Request, Success}
 use Rattle.is_rules.specs.declared.emitted.Path.{Path}
-use Rattle.is_rules.specs.Delivery.{Sends}
+use Rattle.is_theorems.specs.Delivery.{Sends}
 use Rattle.is_rules.specs.Emitted.{issued_as}
-use Rattle.is_rules.specs.Progress.{Awaits, IsUnanswered}
+use Rattle.is_theorems.specs.Progress.{Awaits, IsUnanswered}
 use Rattle.is_rules.specs.Sending.{path_of}
 use Rattle.is_rules.specs.Steps as agent
-use Rattle.is_laws.specs.FirstChecks.{SufficeForDue}
-use Rattle.is_laws.specs.FirstTimeouts.{Suffices}
+use Rattle.is_theorems.specs.FirstChecks.{SufficeForDue}
+use Rattle.is_theorems.specs.FirstTimeouts.{Suffices}
 use Rattle.is.specs.declared.world.Side.{Side}
-use Rattle.is.specs.Deliveries.{MakesPolls, MakesInRound, Announces}
-use Rattle.is.specs.Grantings.{Occurrence, HandedCheck, IsReturnedInTime, MayEndAt, occurrences_in}
-use Rattle.is.specs.World.{WorldRecord, Call, Logged, Run, at, other}
+use Rattle.is.specs.Deliveries.{MakesPolls, MakesInRound, SelectsPath}
+use Rattle.is.specs.AcceptedNominationsIn.{Occurrence, HandedCheck, IsReturnedInTime, MayEndAt, occurrences_in}
+use Rattle.is.specs.World.{WorldRecord, Call, LoggedEvent, WorldRun, at, other}
 use Rattle.is.specs.WorldRoles.{IsNewAgent}
 
 -- a `handle_timeout` call of a side, and what happens after it, oldest first
-pub record Round (H P : Type 0) : Type 0 where
+pub record SideRound (H P : Type 0) : Type 0 where
   pub now : ℕ
-  pub moment : Occurrence H P
-  pub behind : List (Occurrence H P)
+  pub timeout : Occurrence H P
+  pub following : List (Occurrence H P)
 
-abbrev pub all_of : {H P : Type 0} → List (Round H P) → List (Occurrence H P)
+abbrev pub all_of : {H P : Type 0} → List (SideRound H P) → List (Occurrence H P)
 all_of [] = []
-all_of (r ∷ later) = r.moment ∷ (r.behind ++ all_of later)
+all_of (r ∷ later) = r.timeout ∷ (r.following ++ all_of later)
 
 -- when the rounds begin
-abbrev pub times_in : {H P : Type 0} → List (Round H P) → List ℕ
+abbrev pub times_in : {H P : Type 0} → List (SideRound H P) → List ℕ
 times_in [] = []
 times_in (r ∷ later) = r.now ∷ times_in later
 
 -- the state of the network model after these entries
 abbrev pub state_after : {H P : Type 0} → WorldRecord H P → List (Occurrence H P) → WorldRecord H P
 state_after w [] = w
-state_after w (x ∷ rest) = state_after x.behind rest
+state_after w (x ∷ rest) = state_after x.following rest
 
 module _ {H P : Type 0} where
   -- The `handle_timeout` call returns Ok. After it the side makes only calls that may come in a round (`MakesInRound`), so it may add
   -- candidates, whatever it receives and whatever the other side does.
-  pub record IsKept (side : Side) (r : Round H P) : Type 0 where
-    pub comes : r.moment.entry.event ≡ Call side (agent.HandleTimeout r.now)
-    pub done : r.moment.entry.outcome.entry.answer ≡ agent.Done
+  pub record IsKept (side : Side) (r : SideRound H P) : Type 0 where
+    pub comes : r.timeout.entry.event ≡ Call side (agent.HandleTimeout r.now)
+    pub done : r.timeout.entry.outcome.entry.answer ≡ agent.Done
     pub early : r.now < MAX
-    pub between : (x : Occurrence H P) → Has r.behind x → MakesInRound side x.entry.event
+    pub between : (x : Occurrence H P) → Has r.following x → MakesInRound side x.entry.event
 
   -- Such rounds. The first `handle_timeout` call is no earlier than `by`, and the others are later.
-  pub record AreKept (side : Side) (by : ℕ) (first : Round H P) (later : List (Round H P)) : Type 0 where
+  pub record AreKept (side : Side) (by : ℕ) (first : SideRound H P) (later : List (SideRound H P)) : Type 0 where
     pub from : by ≤ first.now
-    pub late : (r : Round H P) → Has later r → by < r.now
-    pub kept : (r : Round H P) → Has (first ∷ later) r → IsKept side r
+    pub late : (r : SideRound H P) → Has later r → by < r.now
+    pub kept : (r : SideRound H P) → Has (first ∷ later) r → IsKept side r
 
   -- In the rounds the side makes only polls besides its `handle_timeout` calls.
-  abbrev pub MakesPollsIn : Side → List (Round H P) → Type 0
-  MakesPollsIn side rounds = (r : Round H P) → Has rounds r → (x : Occurrence H P) → Has r.behind x → MakesPolls side x.entry.event
+  abbrev pub MakesPollsIn : Side → List (SideRound H P) → Type 0
+  MakesPollsIn side rounds = (r : SideRound H P) → Has rounds r → (x : Occurrence H P) → Has r.following x → MakesPolls side x.entry.event
 
   -- Between the `handle_timeout` calls of the rounds a call of the side may remove a pair of the path. Of the calls that may come
   -- there only the addition of a candidate may.
-  abbrev pub MayEndInRounds : (P → CandidateRecord → ℕ → ℕ → Type 0) → Side → Path → List (Round H P) → Type 0
-  MayEndInRounds answers side path rounds = (r : Round H P) × Has rounds r × ((x : Occurrence H P) × Has r.behind x × MayEndAt answers side path x)
+  abbrev pub MayEndInRounds : (P → CandidateRecord → ℕ → ℕ → Type 0) → Side → Path → List (SideRound H P) → Type 0
+  MayEndInRounds answers side path rounds = (r : SideRound H P) × Has rounds r × ((x : Occurrence H P) × Has r.following x × MayEndAt answers side path x)
 
   -- The rounds suffice for a pair of the side that is due by the time `by` (`Suffices`): 2n - 1 rounds for n pairs, and one more for
   -- each pair that is added in them, also by candidates that the side adds.
-  abbrev pub AreEnough : Side → ℕ → Round H P → List (Round H P) → WorldRecord H P → Type 0
-  AreEnough side by first later last =
-      Suffices by first.now (at side first.moment.before) (at side (state_after first.moment.behind first.behind)) (at side last) (length later)
+  abbrev pub SideRoundsSuffice : Side → ℕ → SideRound H P → List (SideRound H P) → WorldRecord H P → Type 0
+  SideRoundsSuffice side by first later last =
+      Suffices by first.now (at side first.timeout.before) (at side (state_after first.timeout.following first.following)) (at side last) (length later)
 
   -- In the rounds the side makes only polls, and there are enough of them (`SufficeForDue`): n rounds, if n pairs of the side are due
   -- by the time `by` when they begin, and this time is earlier. If it is not, one round suffices for a single pair, and otherwise n
   -- rounds after the first one, if n pairs are due by then when the second `handle_timeout` call comes.
-  pub record AreEachPolled (side : Side) (by : ℕ) (first : Round H P) (later : List (Round H P)) : Type 0 where
-    pub few : SufficeForDue by first.now (at side first.moment.before) (at side (state_after first.moment.behind first.behind)) (times_in later)
+  pub record AreEachPolled (side : Side) (by : ℕ) (first : SideRound H P) (later : List (SideRound H P)) : Type 0 where
+    pub few : SufficeForDue by first.now (at side first.timeout.before) (at side (state_after first.timeout.following first.following)) (times_in later)
     pub polls : MakesPollsIn side (first ∷ later)
 
   -- The `handle_timeout` call sends a check on the path.
-  abbrev pub Checks : Path → Round H P → Type 0
-  Checks path r = (id : List ℕ) × (r.moment.entry.outcome.entry.emitted.issued ≡ Some (issued_as path Request id))
+  abbrev pub RoundChecks : Path → SideRound H P → Type 0
+  RoundChecks path r = (id : List ℕ) × (r.timeout.entry.outcome.entry.emitted.issued ≡ Some (issued_as path Request id))
 
   -- After each of these entries the side is controlling, and the other side is controlled.
   abbrev pub IsControlling : Side → List (Occurrence H P) → Type 0
-  IsControlling side all = (x : Occurrence H P) → Has all x → ((at side x.behind).controlling ≡ true) × ((at (other side) x.behind).controlling ≡ false)
+  IsControlling side all = (x : Occurrence H P) → Has all x → ((at side x.following).controlling ≡ true) × ((at (other side) x.following).controlling ≡ false)
 
   -- The side sends a check on the path, which is delivered to the other side at any time (`HandedCheck`). Its success response is
   -- delivered back while the check is pending.
   abbrev pub IsAnsweredInTime : (H → List ℕ → List ℕ → List ℕ) → (P → CandidateRecord → ℕ → ℕ → Type 0) → Side → Path → List (Occurrence H P) → Type 0
   IsAnsweredInTime mac answers side path all =
       (over : Path) × (k : HandedCheck mac side path over all)
-      × ((reply : Packet) → Sends (at (other side) k.comes.handed.before) k.comes.handed.entry.outcome.entry Success k.id reply (at (other side) k.comes.handed.behind)
+      × ((reply : Packet) → Sends (at (other side) k.comes.handed.before) k.comes.handed.entry.outcome.entry Success k.id reply (at (other side) k.comes.handed.following)
       → IsReturnedInTime mac answers side path over all k reply)
 
   -- Two agents are newly created. A segment of the log begins with rounds of the controlling side. When they begin, no pair of the
   -- side is valid, and one on the path is due by the time `by`, with due times computed at the time of the first round. The rounds
   -- suffice: if n pairs are due by then, n rounds in which the side makes only polls, or one more if the time is not earlier than
   -- the first one (`AreEachPolled`); or else 2n - 1 rounds for n
-  -- pairs in all, and one more for each pair that is added in them (`AreEnough`), also by candidates that the side adds. If the side
+  -- pairs in all, and one more for each pair that is added in them (`SideRoundsSuffice`), also by candidates that the side adds. If the side
   -- sends a check on the path in them, a check on it in the segment is answered. That may happen at any time while the check is
   -- pending, and through NATs. Then the side selects a path in the segment, unless a candidate that it adds in the rounds may remove
   -- a pair of the path. This holds whatever else happens.
-  abbrev pub DeliveredRoundsAnnounce : (mac : H → List ℕ → List ℕ → List ℕ) (answers : P → CandidateRecord → ℕ → ℕ → Type 0) → WorldRecord H P → Stream → List (Logged P) → Type 0
-  DeliveredRoundsAnnounce mac answers first s log =
-      (last : WorldRecord H P) (t : Stream) (run : Run mac answers first s 0 log last t) (before more rest : List (Occurrence H P)) (side : Side)
-      (r : Round H P) (rounds : List (Round H P)) (p : PairRecord) (by : ℕ)
+  abbrev pub DeliveredRoundsSelect : (mac : H → List ℕ → List ℕ → List ℕ) (answers : P → CandidateRecord → ℕ → ℕ → Type 0) → WorldRecord H P → Stream → List (LoggedEvent P) → Type 0
+  DeliveredRoundsSelect mac answers first s log =
+      (last : WorldRecord H P) (t : Stream) (run : WorldRun mac answers first s 0 log last t) (before more rest : List (Occurrence H P)) (side : Side)
+      (r : SideRound H P) (rounds : List (SideRound H P)) (p : PairRecord) (by : ℕ)
       → ((x : Side) → IsNewAgent (at x first)) → occurrences_in mac answers first s 0 log last t run ≡ before ++ ((all_of (r ∷ rounds) ++ more) ++ rest)
-      → (at side r.moment.before).controlling ≡ true → IsControlling side (all_of (r ∷ rounds) ++ more)
-      → Awaits r.now by (at side r.moment.before) p → IsUnanswered (at side r.moment.before) p
+      → (at side r.timeout.before).controlling ≡ true → IsControlling side (all_of (r ∷ rounds) ++ more)
+      → Awaits r.now by (at side r.timeout.before) p → IsUnanswered (at side r.timeout.before) p
       → AreKept side by r rounds
-      → AreEachPolled side by r rounds ⊎ AreEnough side by r rounds (state_after r.moment.before (all_of (r ∷ rounds)))
-      → ((x : Round H P) → Has (r ∷ rounds) x → Checks (path_of (at side r.moment.before) p) x
-      → IsAnsweredInTime mac answers side (path_of (at side r.moment.before) p) (all_of (r ∷ rounds) ++ more))
-      → ((x : Occurrence H P) × Has (all_of (r ∷ rounds) ++ more) x × Announces side x.entry)
-      ⊎ MayEndInRounds answers side (path_of (at side r.moment.before) p) (r ∷ rounds)
+      → AreEachPolled side by r rounds ⊎ SideRoundsSuffice side by r rounds (state_after r.timeout.before (all_of (r ∷ rounds)))
+      → ((x : SideRound H P) → Has (r ∷ rounds) x → RoundChecks (path_of (at side r.timeout.before) p) x
+      → IsAnsweredInTime mac answers side (path_of (at side r.timeout.before) p) (all_of (r ∷ rounds) ++ more))
+      → ((x : Occurrence H P) × Has (all_of (r ∷ rounds) ++ more) x × SelectsPath side x.entry)
+      ⊎ MayEndInRounds answers side (path_of (at side r.timeout.before) p) (r ∷ rounds)

@@ -2,12 +2,12 @@
 use Rattle.std.specs.Prelude.{ℕ, List, [], ◌∷◌, ◌++◌, map, Option, Some, None, slice_get, if◌then◌else◌}
 use Rattle.is_proto.specs.Packets.{Packet}
 use Rattle.is_rules.specs.declared.emitted.Path.{Path}
-use Rattle.is_rules.specs.Logs as agent_log
+use Rattle.is_theorems.specs.Logs as agent_log
 use Rattle.is_rules.specs.Steps as agent
-use Rattle.is_rules.specs.Steps.{Answer, Entry, Polled, Refused, quiet}
+use Rattle.is_rules.specs.Steps.{Answer, Entry, Polled, Rejected, quiet}
 use Rattle.is.specs.declared.world.Side.{Side}
 use Rattle.is.specs.declared.world.Side.TheVariants.{A, B}
-use Rattle.is.specs.Grantings.{Occurrence}
+use Rattle.is.specs.AcceptedNominationsIn.{Occurrence}
 use Rattle.is.specs.World.{WorldRecord, InFlightRecord, Event, Call, Poll, Deliver, at, other, in_world}
 
 -- ---- at one event
@@ -26,7 +26,7 @@ first_packet (p ∷ ps) = Some p
 
 -- A poll of the network model calls `poll_transmit`, unless memory is exhausted.
 abbrev pub polled_as : {P : Type 0} → Answer → List Packet → List (agent.Call P × Entry)
-polled_as (Refused error) ps = []
+polled_as (Rejected error) ps = []
 polled_as _ ps = (agent.PollTransmit, quiet (Polled (first_packet ps))) ∷ []
 
 -- The in-flight packet, if there is one, is received by the side that did not send it.
@@ -39,7 +39,7 @@ module _ {H P : Type 0} where
   abbrev pub acts : Side → WorldRecord H P → Event P → Entry → List (agent.Call P × Entry)
   acts side w (Call s c) e = only side s (if in_world c then (c, e) ∷ [] else [])
   acts side w (Poll s) e = only side s (polled_as e.answer (at side w).packets)
-  acts side w (Deliver place now path) e = received_as side now path e (slice_get w.bag place)
+  acts side w (Deliver place now path) e = received_as side now path e (slice_get w.network place)
 
   -- ---- along a log
 

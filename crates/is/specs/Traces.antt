@@ -11,7 +11,7 @@ use Rattle.is.specs.declared.world.Side.{Side}
 use Rattle.is.specs.declared.traces.Trace.{Trace}
 use Rattle.is.specs.declared.world.WorldEntry.{WorldEntry}
 use Rattle.is.specs.World as world
-use Rattle.is.specs.World.{WorldRecord, Logged, Event, other}
+use Rattle.is.specs.World.{WorldRecord, LoggedEvent, Event, other}
 use Rattle.is.specs.WorldRoles.{IsFairWorld}
 
 -- ---- what an entry records
@@ -21,12 +21,12 @@ abbrev pub Issues : Side → Path → Class → TransId → WorldEntry → Type 
 Issues side path class id e = (e.side ≡ Some side) × (e.issued ≡ Some record { path = path; class = class; id = id })
 
 -- A message of this class and ID was delivered to the side, and accepted.
-abbrev pub Takes : Side → Class → TransId → WorldEntry → Type 0
-Takes side class id e = (e.side ≡ Some side) × (e.answer ≡ answer.Flag true) × (e.moved ≡ Some (class, id))
+abbrev pub TakesMessage : Side → Class → TransId → WorldEntry → Type 0
+TakesMessage side class id e = (e.side ≡ Some side) × (e.answer ≡ answer.Flag true) × (e.moved ≡ Some (class, id))
 
 -- The side selected the path, the one at this index of the entry's paths.
-abbrev pub Announces : Side → Path → ℕ → WorldEntry → Type 0
-Announces side path place e = (e.side ≡ Some side) × (slice_get e.announced place ≡ Some (Some path))
+abbrev pub SelectsPathAt : Side → Path → ℕ → WorldEntry → Type 0
+SelectsPathAt side path place e = (e.side ≡ Some side) × (slice_get e.announced place ≡ Some (Some path))
 
 -- The entry with this number has the property.
 abbrev pub IsAt : List WorldEntry → ℕ → (WorldEntry → Type 0) → Type 0
@@ -41,9 +41,9 @@ IsUncleared es side first end = (n : ℕ) (e : WorldEntry) → first ≤ n → n
 -- The check with this ID, which the side had sent, reached the other agent. That agent issued a success response, and the
 -- response was received and accepted; all of this before the entry `end`.
 pub record HasAnswer (es : List WorldEntry) (side : Side) (id : TransId) (end : ℕ) (t : Trace) : Type 0 where
-  pub delivery : IsAt es t.delivered (Takes (other side) class.Request id)
+  pub delivery : IsAt es t.delivered (TakesMessage (other side) class.Request id)
   pub reply : IsAt es t.replied (λ e. (reply_path : Path) × Issues (other side) reply_path class.Success id e)
-  pub answer : IsAt es t.answered (Takes side class.Success id)
+  pub answer : IsAt es t.answered (TakesMessage side class.Success id)
   pub in_order : (t.checked < t.delivered) × (t.delivered ≤ t.replied) × (t.replied < t.answered) × (t.answered < end)
 
 -- The side sent a check on the path, which got such a response, and the side did not clear its pairs since then.
@@ -63,7 +63,7 @@ IsNoLater t u =
 
 -- a causal chain of the path that the entry selected at this index, up to that entry
 abbrev pub IsTraceOf : List WorldEntry → ℕ → ℕ → Trace → Type 0
-IsTraceOf es n place t = (side : Side) × (path : Path) × IsAt es n (Announces side path place) × IsTrace es side path (suc n) t
+IsTraceOf es n place t = (side : Side) × (path : Path) × IsAt es n (SelectsPathAt side path place) × IsTrace es side path (suc n) t
 
 -- The first causal chain; none only if there is none.
 abbrev pub IsFirstTrace : List WorldEntry → ℕ → ℕ → Option Trace → Type 0
@@ -78,7 +78,7 @@ abbrev pub StaysFull : {P : Type 0} → Side → Event P → Type 0
 StaysFull side (world.Call s (agent.SetIceLite lite)) = s ≡ side → lite ≡ false
 StaysFull side _ = Unit {0}
 
-abbrev pub IsNeverLite : {P : Type 0} → Side → List (Logged P) → Type 0
+abbrev pub IsNeverLite : {P : Type 0} → Side → List (LoggedEvent P) → Type 0
 IsNeverLite side log = AllByRecursion (λ x. StaysFull side x.event) log
 
 -- The event is a delivery from the path's remote address to its base.
@@ -88,8 +88,8 @@ ComesBack path _ = ⊥
 
 -- If a side is never lite, each path that it selected has a causal chain, and in each such chain the response was received on the
 -- reverse path.
-abbrev pub AnnouncedAreTraced : {H P : Type 0} → WorldRecord H P → List (Logged P) → List WorldEntry → Type 0
-AnnouncedAreTraced first log es =
-    (greater side : Side) → IsFairWorld first greater log → IsNeverLite side log → (n place : ℕ) (path : Path) → IsAt es n (Announces side path place)
+abbrev pub SelectedAreTraced : {H P : Type 0} → WorldRecord H P → List (LoggedEvent P) → List WorldEntry → Type 0
+SelectedAreTraced first log es =
+    (greater side : Side) → IsFairWorld first greater log → IsNeverLite side log → (n place : ℕ) (path : Path) → IsAt es n (SelectsPathAt side path place)
     → ((t : Trace) × IsTrace es side path (suc n) t)
-    × ((t : Trace) → IsTrace es side path (suc n) t → (x : Logged _) × (slice_get log t.answered ≡ Some x) × ComesBack path x.event)
+    × ((t : Trace) → IsTrace es side path (suc n) t → (x : LoggedEvent _) × (slice_get log t.answered ≡ Some x) × ComesBack path x.event)

@@ -52,12 +52,12 @@ answer_view NotAdded = agent.NotAdded
 answer_view (Flag flag) = agent.Flag flag
 answer_view (Transmit given) = agent.Polled (option_map packet_of given)
 answer_view (Event given) = agent.Happened given
-answer_view (Wake wake) = agent.Wake (option_map (λ at. at.0) wake)
+answer_view (Wake deadline) = agent.NextTimeout (option_map (λ at. at.0) deadline)
 answer_view (Unparsed fault) = agent.Unparsed fault
-answer_view (Refused error) = agent.Refused error
+answer_view (Refused error) = agent.Rejected error
 answer_view NotCalled = agent.NotCalled
 answer_view NotInWorld = agent.NotInWorld
 answer_view NoSuchPacket = agent.NoSuchPacket
 
 abbrev pub entry_view : Entry → agent.Entry
-entry_view e = record { answer = answer_view e.answer; emitted = record { issued = e.issued; announced = e.announced } }
+entry_view e = record { answer = answer_view e.answer; emitted = record { issued = e.issued; selected_paths = e.announced } }

@@ -13,7 +13,7 @@ use Rattle.is_stun.specs.Message.{Message}
 use Rattle.is_stun.specs.Reading.{fault_of, message_of}
 use Rattle.is_rules.specs.declared.emitted.Path.{Path}
 use Rattle.is_rules.specs.Steps as agent
-use Rattle.is_rules.specs.Steps.{quiet, Answer, Flag, Refused, NotInWorld, NoSuchPacket}
+use Rattle.is_rules.specs.Steps.{quiet, Answer, Flag, Rejected, NotInWorld, NoSuchPacket}
 use Rattle.is_rules.specs.Agent.{AgentRecord, fresh, MakesAgent}
 use Rattle.is_rules.specs.Fitting.{are_too_long}
 use Rattle.is_agent.specs.View.{record_of}
@@ -42,13 +42,13 @@ pub record InFlightRecord : Type 0 where
 pub record WorldRecord (H P : Type 0) : Type 0 where
   pub a : AgentRecord H P
   pub b : AgentRecord H P
-  pub bag : List InFlightRecord
+  pub network : List InFlightRecord
 
 abbrev pub in_flight_of : code.InFlight → InFlightRecord
 in_flight_of l = record { sender = l.sender; packet = packet_of l.packet }
 
 abbrev pub world_of : {H P : Type 0} → TwoAgents H P → WorldRecord H P
-world_of w = record { a = record_of w.a; b = record_of w.b; bag = map in_flight_of w.bag.items }
+world_of w = record { a = record_of w.a; b = record_of w.b; network = map in_flight_of w.network.items }
 
 abbrev pub other : Side → Side
 other A = B
@@ -81,7 +81,7 @@ module _ {H P : Type 0} where
 
   -- `TwoAgents::new`
   abbrev pub MakesWorld : AgentSpec H → AgentSpec H → Result (WorldRecord H P) IceError → Type 0
-  MakesWorld a b (Ok w) = MakesMember a (Ok w.a) × MakesMember b (Ok w.b) × (w.bag ≡ [])
+  MakesWorld a b (Ok w) = MakesMember a (Ok w.a) × MakesMember b (Ok w.b) × (w.network ≡ [])
   MakesWorld a b (Err error) = MakesMember a (Err error) ⊎ MakesMember b (Err error)
 
 -- ---- events and log entries
@@ -109,7 +109,7 @@ pub record Outcome : Type 0 where
 
 abbrev pub outcome_of : WorldEntry → Outcome
 outcome_of e = record {
-  entry = record { answer = answer_view e.answer; emitted = record { issued = e.issued; announced = e.announced } };
+  entry = record { answer = answer_view e.answer; emitted = record { issued = e.issued; selected_paths = e.announced } };
   controlling = e.controlling;
   side = e.side;
   clear = e.clear;
@@ -136,10 +136,10 @@ in_world _ = true
 
 -- An agent's packet becomes an in-flight packet; or there is none; or memory is exhausted.
 abbrev pub PolledInto : {H P : Type 0} → AgentRecord H P → List InFlightRecord → Side → Answer → AgentRecord H P → List InFlightRecord → Type 0
-PolledInto old bag side answer new bag' =
-    ((answer ≡ Refused OutOfMemory) × (new ≡ old) × (bag' ≡ bag))
-    ⊎ (((answer ≡ Flag false) × PollsTransmit old None new × (bag' ≡ bag))
-    ⊎ ((p : Packet) × PollsTransmit old (Some p) new × (answer ≡ Flag true) × (bag' ≡ bag ++ record { sender = side; packet = p } ∷ [])))
+PolledInto old network side answer new multiset' =
+    ((answer ≡ Rejected OutOfMemory) × (new ≡ old) × (multiset' ≡ network))
+    ⊎ (((answer ≡ Flag false) × PollsTransmit old None new × (multiset' ≡ network))
+    ⊎ ((p : Packet) × PollsTransmit old (Some p) new × (answer ≡ Flag true) × (multiset' ≡ network ++ record { sender = side; packet = p } ∷ [])))
 
 -- a recorded result with only the returned value, the side and the roles
 abbrev pub plain : Answer → Option Side → List Bool → Outcome
@@ -147,11 +147,11 @@ plain answer side roles = record { entry = quiet answer; controlling = roles; si
 
 module _ {H P : Type 0} (mac : H → List ℕ → List ℕ → List ℕ) (answers : P → CandidateRecord → ℕ → ℕ → Type 0) where
   -- Nothing happens, and the log entry says why.
-  abbrev pub Stands : WorldRecord H P → Stream → Answer → Option Side → Outcome → WorldRecord H P → Stream → Type 0
-  Stands w s answer side e w' t = (w' ≡ w) × (t ≡ s) × (e ≡ plain answer side (roles_of w))
+  abbrev pub Persists : WorldRecord H P → Stream → Answer → Option Side → Outcome → WorldRecord H P → Stream → Type 0
+  Persists w s answer side e w' t = (w' ≡ w) × (t ≡ s) × (e ≡ plain answer side (roles_of w))
 
   -- one agent makes a call
-  pub record Turns (w : WorldRecord H P) (s : Stream) (side : Side) (c : agent.Call P) (e : Outcome) (w' : WorldRecord H P) (t : Stream)
+  pub record TakesTurn (w : WorldRecord H P) (s : Stream) (side : Side) (c : agent.Call P) (e : Outcome) (w' : WorldRecord H P) (t : Stream)
       : Type 0 where
     pub new : AgentRecord H P
     pub step : Step mac answers (at side w) s c e.entry new t
@@ -166,49 +166,49 @@ module _ {H P : Type 0} (mac : H → List ℕ → List ℕ → List ℕ) (answer
   pub record Polls (w : WorldRecord H P) (s : Stream) (side : Side) (e : Outcome) (w' : WorldRecord H P) (t : Stream) : Type 0 where
     pub answer : Answer
     pub new : AgentRecord H P
-    pub bag : List InFlightRecord
-    pub polled : PolledInto (at side w) w.bag side answer new bag
-    pub world : w' ≡ record (put side new w) { bag = bag }
+    pub network : List InFlightRecord
+    pub polled : PolledInto (at side w) w.network side answer new network
+    pub world : w' ≡ record (put side new w) { network = network }
     pub emitted : e ≡ plain answer (Some side) (roles_of w')
     pub stream : t ≡ s
 
   abbrev pub Delivers : WorldRecord H P → Stream → Option InFlightRecord → ℕ → Path → Outcome → WorldRecord H P → Stream → Type 0
-  Delivers w s None now path e w' t = Stands w s NoSuchPacket None e w' t
-  Delivers w s (Some l) now path e w' t = Turns w s (other l.sender) (agent.ReceivePacket now path l.packet.contents) e w' t
+  Delivers w s None now path e w' t = Persists w s NoSuchPacket None e w' t
+  Delivers w s (Some l) now path e w' t = TakesTurn w s (other l.sender) (agent.ReceivePacket now path l.packet.contents) e w' t
 
   -- one event
   abbrev pub Happens : WorldRecord H P → Stream → Event P → Outcome → WorldRecord H P → Stream → Type 0
-  Happens w s (Call side c) e w' t = MatchBool (in_world c) (Turns w s side c e w' t) (Stands w s NotInWorld (Some side) e w' t)
+  Happens w s (Call side c) e w' t = MatchBool (in_world c) (TakesTurn w s side c e w' t) (Persists w s NotInWorld (Some side) e w' t)
   Happens w s (Poll side) e w' t = Polls w s side e w' t
-  Happens w s (Deliver place now path) e w' t = Delivers w s (slice_get w.bag place) now path e w' t
+  Happens w s (Deliver place now path) e w' t = Delivers w s (slice_get w.network place) now path e w' t
 
 -- ---- the log
 
 -- a log entry: the event, its recorded result, and the number of the entry
-pub record Logged (P : Type 0) : Type 0 where
+pub record LoggedEvent (P : Type 0) : Type 0 where
   pub number : ℕ
   pub event : Event P
   pub outcome : Outcome
 
-abbrev pub logged_as : {P : Type 0} → TwoAgentsEvent P → WorldEntry → Logged P
+abbrev pub logged_as : {P : Type 0} → TwoAgentsEvent P → WorldEntry → LoggedEvent P
 logged_as v e = record { number = e.number; event = event_view v; outcome = outcome_of e }
 
 -- the log, in order
-abbrev pub logged : {P : Type 0} → List (TwoAgentsEvent P) → List WorldEntry → List (Logged P)
+abbrev pub logged : {P : Type 0} → List (TwoAgentsEvent P) → List WorldEntry → List (LoggedEvent P)
 logged [] entries = []
 logged (v ∷ events) [] = []
 logged (v ∷ events) (e ∷ entries) = logged_as v e ∷ logged events entries
 
 module _ {H P : Type 0} (mac : H → List ℕ → List ℕ → List ℕ) (answers : P → CandidateRecord → ℕ → ℕ → Type 0) where
   -- The log, in order, may be that of an execution from the first state to the last. Its entries are numbered from n.
-  abbrev pub Run : WorldRecord H P → Stream → ℕ → List (Logged P) → WorldRecord H P → Stream → Type 0
-  Run first s n [] last t = (last ≡ first) × (t ≡ s)
-  Run first s n (x ∷ rest) last t =
-      (mid : WorldRecord H P) × (u : Stream) × (x.number ≡ n) × Happens mac answers first s x.event x.outcome mid u × Run mid u (suc n) rest last t
+  abbrev pub WorldRun : WorldRecord H P → Stream → ℕ → List (LoggedEvent P) → WorldRecord H P → Stream → Type 0
+  WorldRun first s n [] last t = (last ≡ first) × (t ≡ s)
+  WorldRun first s n (x ∷ rest) last t =
+      (mid : WorldRecord H P) × (u : Stream) × (x.number ≡ n) × Happens mac answers first s x.event x.outcome mid u × WorldRun mid u (suc n) rest last t
 
   -- One entry for each event, in order; or nothing was done.
   abbrev pub IsWorldLog : WorldRecord H P → Stream → List (TwoAgentsEvent P) → WorldLog → WorldRecord H P → Stream → Type 0
   IsWorldLog old s events log new t =
       MatchBool log.stopped
       ((log.entries.items ≡ []) × (new ≡ old) × (t ≡ s))
-      ((length log.entries.items ≡ length events) × Run old s 0 (logged events log.entries.items) new t)
+      ((length log.entries.items ≡ length events) × WorldRun old s 0 (logged events log.entries.items) new t)

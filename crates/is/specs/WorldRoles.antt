@@ -17,7 +17,7 @@ use Rattle.is_rules.specs.Emitted.{issued_as}
 use Rattle.is.specs.declared.world.Side.{Side}
 use Rattle.is.specs.declared.world.Side.TheVariants.{A, B}
 use Rattle.is.specs.World as world
-use Rattle.is.specs.World.{WorldRecord, InFlightRecord, Logged, Event, at, other, in_world}
+use Rattle.is.specs.World.{WorldRecord, InFlightRecord, LoggedEvent, Event, at, other, in_world}
 
 -- ---- the preconditions
 
@@ -28,16 +28,16 @@ module _ {H P : Type 0} where
       (creds : IceCreds) × (tie_breaker : ℕ) × (controlling : Bool) × (a ≡ record (fresh a.provider creds tie_breaker) { controlling = controlling })
 
 -- No two of the entries issued checks with the same transaction ID.
-abbrev pub HaveDistinctIds : {P : Type 0} → List (Logged P) → Type 0
+abbrev pub HaveDistinctIds : {P : Type 0} → List (LoggedEvent P) → Type 0
 HaveDistinctIds log =
-    (i j : ℕ) (id : List ℕ) (p q : Path) (x y : Logged _) → slice_get log i ≡ Some x → slice_get log j ≡ Some y
+    (i j : ℕ) (id : List ℕ) (p q : Path) (x y : LoggedEvent _) → slice_get log i ≡ Some x → slice_get log j ≡ Some y
     → x.outcome.entry.emitted.issued ≡ Some (issued_as p class.Request id) → y.outcome.entry.emitted.issued ≡ Some (issued_as q class.Request id) → i ≡ j
 
 -- Both agents are newly created, no packet is in flight, `greater` has the greater tie-breaker, and no two checks have the same
 -- ID.
-pub record IsFairWorld {H P : Type 0} (first : WorldRecord H P) (greater : Side) (log : List (Logged P)) : Type 0 where
+pub record IsFairWorld {H P : Type 0} (first : WorldRecord H P) (greater : Side) (log : List (LoggedEvent P)) : Type 0 where
   pub new : (side : Side) → IsNewAgent (at side first)
-  pub empty : first.bag ≡ []
+  pub empty : first.network ≡ []
   pub tie : (at (other greater) first).tie_breaker < (at greater first).tie_breaker
   pub distinct : HaveDistinctIds log
 
@@ -49,7 +49,7 @@ role_at A (a ∷ rest) = a
 role_at B (a ∷ b ∷ rest) = b
 role_at _ _ = false
 
-abbrev pub role_in : {P : Type 0} → Side → Logged P → Bool
+abbrev pub role_in : {P : Type 0} → Side → LoggedEvent P → Bool
 role_in side x = role_at side x.outcome.controlling
 
 -- how often a role changes along the list
@@ -59,13 +59,13 @@ changes role (next ∷ roles) = (if same role next then 0 else 1) + changes next
 
 module _ {H P : Type 0} where
   -- The agent with the greater tie-breaker has the same role after every event.
-  abbrev pub GreaterKeeps : WorldRecord H P → List (Logged P) → Type 0
+  abbrev pub GreaterKeeps : WorldRecord H P → List (LoggedEvent P) → Type 0
   GreaterKeeps first log =
       (greater : Side) → IsFairWorld first greater log → AllByRecursion (λ x. role_in greater x ≡ (at greater first).controlling) log
 
   -- The role of the other agent changes in at most one event.
-  abbrev pub LesserYieldsOnce : WorldRecord H P → List (Logged P) → Type 0
-  LesserYieldsOnce first log =
+  abbrev pub LesserSwitchesOnce : WorldRecord H P → List (LoggedEvent P) → Type 0
+  LesserSwitchesOnce first log =
       (greater : Side) → IsFairWorld first greater log → changes (at (other greater) first).controlling (map (role_in (other greater)) log) ≤ 1
 
   -- ---- after they met
@@ -75,11 +75,11 @@ module _ {H P : Type 0} where
   Makes w (world.Call s c) side d = (s ≡ side) × (d ≡ c) × (in_world c ≡ true)
   Makes w (world.Poll s) side d = ⊥
   Makes w (world.Deliver place now path) side d =
-      (l : InFlightRecord) × (slice_get w.bag place ≡ Some l) × (other l.sender ≡ side) × (d ≡ agent.ReceivePacket now path l.packet.contents)
+      (l : InFlightRecord) × (slice_get w.network place ≡ Some l) × (other l.sender ≡ side) × (d ≡ agent.ReceivePacket now path l.packet.contents)
 
   -- At this event the side serves a request that passes the tests of its USERNAME and its destination, received now or earlier;
   -- or it accepts an error response with code 487.
-  abbrev pub Meets : Side → WorldRecord H P → Logged P → Type 0
+  abbrev pub Meets : Side → WorldRecord H P → LoggedEvent P → Type 0
   Meets side w x =
       (c : agent.Call P) × Makes w x.event side c
       × (((q : RequestRecord) × IsServing (at side w) c x.outcome.entry q × IsServedPastTests (at side w) q)
@@ -87,9 +87,9 @@ module _ {H P : Type 0} where
 
 module _ {H P : Type 0} (mac : H → List ℕ → List ℕ → List ℕ) (answers : P → CandidateRecord → ℕ → ℕ → Type 0) where
   -- x is in the log, with the state of the network model before it.
-  pub record Point (first : WorldRecord H P) (s : Stream) (log : List (Logged P)) (mid : WorldRecord H P) (x : Logged P)
-      (rest : List (Logged P)) : Type 0 where
-    pub before : List (Logged P)
+  pub record Point (first : WorldRecord H P) (s : Stream) (log : List (LoggedEvent P)) (mid : WorldRecord H P) (x : LoggedEvent P)
+      (rest : List (LoggedEvent P)) : Type 0 where
+    pub before : List (LoggedEvent P)
     pub split : log ≡ before ++ x ∷ rest
     pub after : WorldRecord H P
     pub last : WorldRecord H P
@@ -97,13 +97,13 @@ module _ {H P : Type 0} (mac : H → List ℕ → List ℕ → List ℕ) (answer
     pub v : Stream
     pub t : Stream
     pub n : ℕ
-    pub led : world.Run mac answers first s 0 before mid u
+    pub led : world.WorldRun mac answers first s 0 before mid u
     pub happens : world.Happens mac answers mid u x.event x.outcome after v
-    pub leads : world.Run mac answers after v n rest last t
+    pub leads : world.WorldRun mac answers after v n rest last t
 
   -- Once the agent with the smaller tie-breaker has met the other one's role (`Meets`), the roles are different.
-  abbrev pub RolesDifferOnceMet : WorldRecord H P → Stream → List (Logged P) → Type 0
+  abbrev pub RolesDifferOnceMet : WorldRecord H P → Stream → List (LoggedEvent P) → Type 0
   RolesDifferOnceMet first s log =
-      (greater : Side) → IsFairWorld first greater log → (mid : WorldRecord H P) (x : Logged P) (rest : List (Logged P))
+      (greater : Side) → IsFairWorld first greater log → (mid : WorldRecord H P) (x : LoggedEvent P) (rest : List (LoggedEvent P))
       → Point first s log mid x rest
       → Meets (other greater) mid x → AllByRecursion (λ y. role_in A y ≢ role_in B y) (x ∷ rest)

@@ -13,7 +13,7 @@ mod runs;
 mod steps;
 mod traces;
 mod world;
-mod world_laws;
+mod world_theorems;
 
 pub use calls::{AgentCall, Answer, Call, Entry};
 pub use is_agent::{

@@ -1,14 +1,14 @@
 //! Executions: calls on an agent, with a log of their results.
 ghost use Rattle.is_agent.specs.View.{record_of};
-ghost use Rattle.is_rules.specs.Logs.{NeverLite, replies, requests};
-ghost use Rattle.is_rules.specs.Bounds.{ListsAreBounded, PairsAreBounded, PairsAreFew};
+ghost use Rattle.is_theorems.specs.Logs.{NeverLite, replies, requests};
+ghost use Rattle.is_theorems.specs.Bounds.{ListsAreBounded, PairsAreBounded, PairsAreFew};
 ghost use Rattle.is_rules.specs.Owed.{AreAmong};
-ghost use Rattle.is_rules.specs.Runs.{IsFresh, PathsAreAnswered, PathsAreAskedFor, LastPathsAreTop, SuccessesMakeValid, RequestsNominate};
-ghost use Rattle.is_rules.specs.Progress.{SuccessesAnnounce, NominationsAnnounce};
-ghost use Rattle.is_rules.specs.Rounds.{MomentsAreOfUse, PartsStand};
-ghost use Rattle.is_laws.specs.DueRounds.{DueRoundsAnnounce};
-ghost use Rattle.is_laws.specs.OpenRounds.{OpenRoundsAnnounce};
-ghost use Rattle.is.specs.Log.{IsRunLog, log_of, EntriesStand};
+ghost use Rattle.is_theorems.specs.Runs.{IsFresh, PathsAreAnswered, PathsAreNominatedByPeer, LastPathsAreTop, SuccessesMakeValid, RequestsNominate};
+ghost use Rattle.is_theorems.specs.Progress.{SuccessesSelectPaths, NominationsSelect};
+ghost use Rattle.is_theorems.specs.Rounds.{LoggedTimeoutsAreOfUse, PartsPersist};
+ghost use Rattle.is_theorems.specs.DueRounds.{DueRoundsSelect};
+ghost use Rattle.is_theorems.specs.OpenRounds.{OpenRoundsSelect};
+ghost use Rattle.is.specs.Log.{IsRunLog, log_of, EntriesPersist};
 ghost use Rattle.is.specs.Accepted.{PacketsAreSettled};
 ghost use Rattle.is.specs.Queues.{OthersIssueNone, QueuesAreKept};
 ghost use Rattle.is.specs.Floods.{QueuesStayShort, DiscoveriesAreFew};
@@ -17,10 +17,15 @@ use crate::calls::{AgentCall, Entry};
 use crate::steps::step;
 use is_agent::Agent;
 use is_candidate::LocalPreference;
-use is_laws::announcing::{due_rounds_announce, open_rounds_announce};
-use is_laws::flooding::{discoveries_stay_few, queues_are_short};
 use is_proto::Sha1HmacProvider;
-use is_rules::laws;
+use is_theorems::flooding::{discoveries_stay_few, limits_bound, limits_pairs, queues_are_short};
+use is_theorems::logs::{entries_are_points, parts_are_runs, queues_are_kept, replies_are_among};
+use is_theorems::rounds_to_select::{due_rounds_select, open_rounds_select};
+use is_theorems::selecting::{
+    answers_select, asked_are_nominated, points_are_top, selected_are_answered,
+    selected_are_nominated_by_peer, takers_are_valid, timeouts_select,
+};
+use is_theorems::starving::turns_are_of_use;
 use rand_core::Rng;
 
 /// The results of the calls of an execution.
@@ -70,7 +75,7 @@ pub fn run<H: Sha1HmacProvider + Drop, P: LocalPreference, R: Rng>(
     ensures log { IsRunLog H.mac P.answers (record_of agent.old) (R.stream rng.old) calls.items result (record_of agent.new) (R.stream rng.new) }
 
     // Each entry is between two states of the execution, to which the clauses below refer.
-    ensures entries { EntriesStand H.mac P.answers (record_of agent.old) (R.stream rng.old) (log_of calls.items result) }
+    ensures entries { EntriesPersist H.mac P.answers (record_of agent.old) (R.stream rng.old) (log_of calls.items result) }
 
     // Bytes that the agent does not accept, on the path on which they were received, change nothing, issue nothing and select no
     // path.
@@ -83,8 +88,8 @@ pub fn run<H: Sha1HmacProvider + Drop, P: LocalPreference, R: Rng>(
 
     // Never lite: each path that was selected while the agent was controlled since the last clear was nominated by an accepted
     // request with USE-CANDIDATE.
-    ensures asked_for { IsFresh (record_of agent.old) → NeverLite (log_of calls.items result)
-        → PathsAreAskedFor H.mac P.answers (record_of agent.old) (R.stream rng.old) (log_of calls.items result) }
+    ensures peer_nominated { IsFresh (record_of agent.old) → NeverLite (log_of calls.items result)
+        → PathsAreNominatedByPeer H.mac P.answers (record_of agent.old) (R.stream rng.old) (log_of calls.items result) }
 
     // Nomination points are accepted success responses, and `handle_timeout` calls that served no early request. After each of
     // them, if a pair is eligible, the path that was selected last since the last clear is that of an eligible pair with the
@@ -95,18 +100,18 @@ pub fn run<H: Sha1HmacProvider + Drop, P: LocalPreference, R: Rng>(
     // So a controlling agent has selected a path after each accepted success response, and an agent with a valid and nominated
     // pair after each `handle_timeout` call that served no early request.
     ensures successes { IsFresh (record_of agent.old)
-        → SuccessesAnnounce H.mac P.answers (record_of agent.old) (R.stream rng.old) (log_of calls.items result) }
+        → SuccessesSelectPaths H.mac P.answers (record_of agent.old) (R.stream rng.old) (log_of calls.items result) }
     ensures nominations { IsFresh (record_of agent.old)
-        → NominationsAnnounce H.mac P.answers (record_of agent.old) (R.stream rng.old) (log_of calls.items result) }
+        → NominationsSelect H.mac P.answers (record_of agent.old) (R.stream rng.old) (log_of calls.items result) }
 
     // Each segment of the log leads from one state to another, to which the two next clauses refer.
-    ensures parts { PartsStand H.mac P.answers (record_of agent.old) (R.stream rng.old) (log_of calls.items result) }
+    ensures parts { PartsPersist H.mac P.answers (record_of agent.old) (R.stream rng.old) (log_of calls.items result) }
 
     // Progress: a `handle_timeout` call at the time that `poll_timeout` returned, or later, makes progress: a check is sent, a
     // pair is removed, or there are fewer early requests. Precondition: no packet was queued when `poll_timeout` was called, only
     // polls came after it, and the agent is not lite, knows the peer and has a pair.
     ensures of_use { IsFresh (record_of agent.old)
-        → MomentsAreOfUse H.mac P.answers (record_of agent.old) (R.stream rng.old) (log_of calls.items result) }
+        → LoggedTimeoutsAreOfUse H.mac P.answers (record_of agent.old) (R.stream rng.old) (log_of calls.items result) }
 
     // Progress: n pairs are due by an earlier time at a `handle_timeout` call. In each of the n rounds from this call on in which
     // a check is sent on the path of one of these pairs, an accepted success response is received. Then a controlling agent
@@ -114,13 +119,13 @@ pub fn run<H: Sha1HmacProvider + Drop, P: LocalPreference, R: Rng>(
     // Candidates may be added between the `handle_timeout` calls, if there are 2n - 1 rounds for n pairs in all, and one more for
     // each pair that is added, unless an added candidate may remove a pair of the path.
     ensures rounds { IsFresh (record_of agent.old)
-        → OpenRoundsAnnounce H.mac P.answers (record_of agent.old) (R.stream rng.old) (log_of calls.items result) }
+        → OpenRoundsSelect H.mac P.answers (record_of agent.old) (R.stream rng.old) (log_of calls.items result) }
 
     // Progress from the first timeout on: the same for a pair that is due by the first `handle_timeout` call of the rounds, maybe not
     // before it. For a single pair one round suffices. Otherwise 2m - 1 rounds after it do, for m pairs when the second call comes,
     // and one more for each pair that is added in these.
     ensures due_rounds { IsFresh (record_of agent.old)
-        → DueRoundsAnnounce H.mac P.answers (record_of agent.old) (R.stream rng.old) (log_of calls.items result) }
+        → DueRoundsSelect H.mac P.answers (record_of agent.old) (R.stream rng.old) (log_of calls.items result) }
 
     // After an accepted success response a pair with its pending transaction, on its path, is valid.
     ensures takers { IsFresh (record_of agent.old)
@@ -169,23 +174,23 @@ pub fn run<H: Sha1HmacProvider + Drop, P: LocalPreference, R: Rng>(
     ensures order { QueuesAreKept H.mac P.answers (record_of agent.old) (R.stream rng.old) (log_of calls.items result) }
 {
     // the lemmas on which the clauses after the first one rest
-    laws::entries_are_points::<H, P>();
-    laws::announced_are_answered::<H, P>();
-    laws::announced_are_asked_for::<H, P>();
-    laws::points_are_top::<H, P>();
-    laws::limits_bound::<H, P>();
-    laws::limits_pairs::<H, P>();
+    entries_are_points::<H, P>();
+    selected_are_answered::<H, P>();
+    selected_are_nominated_by_peer::<H, P>();
+    points_are_top::<H, P>();
+    limits_bound::<H, P>();
+    limits_pairs::<H, P>();
     queues_are_short::<H, P>();
     discoveries_stay_few::<H, P>();
-    laws::answers_announce::<H, P>();
-    laws::moments_announce::<H, P>();
-    laws::parts_are_runs::<H, P>();
-    laws::turns_are_of_use::<H, P>();
-    open_rounds_announce::<H, P>();
-    due_rounds_announce::<H, P>();
-    laws::takers_are_valid::<H, P>();
-    laws::asked_are_nominated::<H, P>();
-    laws::replies_are_among::<H, P>();
-    laws::queues_are_kept::<H, P>();
+    answers_select::<H, P>();
+    timeouts_select::<H, P>();
+    parts_are_runs::<H, P>();
+    turns_are_of_use::<H, P>();
+    open_rounds_select::<H, P>();
+    due_rounds_select::<H, P>();
+    takers_are_valid::<H, P>();
+    asked_are_nominated::<H, P>();
+    replies_are_among::<H, P>();
+    queues_are_kept::<H, P>();
     run_calls(agent, calls, rng)
 }

@@ -10,7 +10,7 @@ ghost use Rattle.is.specs.Subjects.{is_plain_setting, is_quiet};
 
 use crate::calls::{AgentCall, Answer, Entry};
 use is_agent::Agent;
-use is_agent::emitted::{last_announced, last_issued};
+use is_agent::emitted::{last_issued, last_selected};
 use is_agent::local::add_local;
 use is_candidate::LocalPreference;
 use is_proto::{IceError, Instant, Sha1HmacProvider, StunError};
@@ -37,7 +37,7 @@ fn telling<H, P>(agent: &Agent<H, P>, number: usize, answer: Answer) -> Entry
     ensures numbered { result.number ≡ number }
 {
     let issued = last_issued(agent);
-    let announced = last_announced(agent);
+    let announced = last_selected(agent);
     Entry {
         number,
         answer,
@@ -46,7 +46,7 @@ fn telling<H, P>(agent: &Agent<H, P>, number: usize, answer: Answer) -> Entry
     }
 }
 
-fn done_or_refused(outcome: Result<(), IceError>) -> Answer
+fn done_or_rejected(outcome: Result<(), IceError>) -> Answer
     ensures { answer_view result ≡ steps.answer_by steps.done outcome }
 {
     match outcome {
@@ -55,7 +55,7 @@ fn done_or_refused(outcome: Result<(), IceError>) -> Answer
     }
 }
 
-fn added_or_refused(outcome: Result<Option<usize>, IceError>) -> Answer
+fn added_or_rejected(outcome: Result<Option<usize>, IceError>) -> Answer
     ensures { answer_view result ≡ steps.answer_by steps.added outcome }
 {
     match outcome {
@@ -65,7 +65,7 @@ fn added_or_refused(outcome: Result<Option<usize>, IceError>) -> Answer
     }
 }
 
-fn flag_or_refused(outcome: Result<bool, IceError>) -> Answer
+fn flag_or_rejected(outcome: Result<bool, IceError>) -> Answer
     ensures { answer_view result ≡ steps.answer_by steps.Flag outcome }
 {
     match outcome {
@@ -93,7 +93,7 @@ pub(crate) fn take_packet<H: Sha1HmacProvider + Drop, P: LocalPreference>(
                 destination: path.destination,
                 message,
             };
-            let answer = flag_or_refused(agent.handle_packet(now, packet));
+            let answer = flag_or_rejected(agent.handle_packet(now, packet));
             telling(agent, number, answer)
         }
         Err(StunError::Parse(fault)) => quiet(number, Answer::Unparsed(fault)),
@@ -102,7 +102,7 @@ pub(crate) fn take_packet<H: Sha1HmacProvider + Drop, P: LocalPreference>(
 }
 
 /// A `handle_timeout` call.
-fn take_moment<H: Sha1HmacProvider + Drop, P: LocalPreference, R: Rng>(
+fn take_timeout<H: Sha1HmacProvider + Drop, P: LocalPreference, R: Rng>(
     agent: &mut Agent<H, P>,
     number: usize,
     now: Instant,
@@ -112,7 +112,7 @@ fn take_moment<H: Sha1HmacProvider + Drop, P: LocalPreference, R: Rng>(
         (record_of agent.new) (R.stream rng.new) }
     ensures numbered { result.number ≡ number }
 {
-    let answer = done_or_refused(agent.handle_timeout(now, rng));
+    let answer = done_or_rejected(agent.handle_timeout(now, rng));
     telling(agent, number, answer)
 }
 
@@ -169,15 +169,15 @@ fn take_quiet<H: Sha1HmacProvider + Drop, P: LocalPreference>(
     ensures given { GivesBased (call_view call) }
 {
     match call {
-        AgentCall::SetMtu(mtu) => done_or_refused(agent.set_mtu(mtu)),
+        AgentCall::SetMtu(mtu) => done_or_rejected(agent.set_mtu(mtu)),
         AgentCall::SetMaxStunRetransmits(limit) => take_limit(agent, limit),
-        AgentCall::SetLocalCredentials(own) => done_or_refused(agent.set_local_credentials(own)),
-        AgentCall::SetRemoteCredentials(far) => done_or_refused(agent.set_remote_credentials(far)),
-        AgentCall::AddLocalCandidate(added) => added_or_refused(add_local(agent, added)),
-        AgentCall::AddRemoteCandidate(added) => done_or_refused(agent.add_remote_candidate(added)),
+        AgentCall::SetLocalCredentials(own) => done_or_rejected(agent.set_local_credentials(own)),
+        AgentCall::SetRemoteCredentials(far) => done_or_rejected(agent.set_remote_credentials(far)),
+        AgentCall::AddLocalCandidate(added) => added_or_rejected(add_local(agent, added)),
+        AgentCall::AddRemoteCandidate(added) => done_or_rejected(agent.add_remote_candidate(added)),
         AgentCall::InvalidateCandidate(lost) => Answer::Flag(agent.invalidate_candidate(&lost)),
-        AgentCall::RestartIce { creds, keep } => done_or_refused(agent.ice_restart(creds, keep)),
-        AgentCall::RecreateCandidatePairs => done_or_refused(agent.recreate_candidate_pairs()),
+        AgentCall::RestartIce { creds, keep } => done_or_rejected(agent.ice_restart(creds, keep)),
+        AgentCall::RecreateCandidatePairs => done_or_rejected(agent.recreate_candidate_pairs()),
         AgentCall::PollTransmit => Answer::Transmit(agent.poll_transmit()),
         AgentCall::PollTimeout => Answer::Wake(agent.poll_timeout()),
         AgentCall::PollEvent => Answer::Event(agent.poll_event()),
@@ -215,7 +215,7 @@ pub(crate) fn step<H: Sha1HmacProvider + Drop, P: LocalPreference, R: Rng>(
             };
             take_packet(agent, number, now, path, &bytes)
         }
-        AgentCall::HandleTimeout(now) => take_moment(agent, number, now, rng),
+        AgentCall::HandleTimeout(now) => take_timeout(agent, number, now, rng),
         other => quiet(number, take_quiet(agent, other)),
     }
 }

@@ -5,7 +5,7 @@ ghost use Rattle.is_stun.specs.declared.header.Class.TheVariants as classes;
 ghost use Rattle.is.specs.declared.calls.Answer.TheVariants as answers;
 ghost use Rattle.is.specs.World.{other};
 ghost use Rattle.is.specs.Traces.{IsFirstTrace, HasAnswer, IsTrace};
-ghost use Rattle.is.specs.Marks.{IsMarked, IsFirstMarked, IsAnnounced, IsCheckAt, IsFirstFrom, IsFirst};
+ghost use Rattle.is.specs.Marks.{IsMarked, IsFirstMarked, IsSelectedIn, IsCheckOfEntry, IsFirstFrom, IsFirst};
 
 use crate::calls::Answer;
 use crate::world::{Side, WorldEntry, WorldLog};
@@ -106,8 +106,8 @@ fn first_marked(entries: &[WorldEntry], from: usize, end: usize, mark: &Mark) ->
 }
 
 /// The agent that selected a path, and the path.
-fn announced_at(entries: &[WorldEntry], entry: usize, place: usize) -> Option<(Side, Path)>
-    ensures { IsAnnounced entries.now entry place result }
+fn selected_at(entries: &[WorldEntry], entry: usize, place: usize) -> Option<(Side, Path)>
+    ensures { IsSelectedIn entries.now entry place result }
 {
     let emitted = entries.get(entry)?;
     let side = emitted.side?;
@@ -133,7 +133,7 @@ fn is_check(issued: &Issued, path: Path) -> bool
 
 /// The transaction ID of the check that the entry issued on the path.
 fn check_at(entries: &[WorldEntry], side: Side, path: Path, entry: usize) -> Option<TransId>
-    ensures { IsCheckAt entries.now side path entry result }
+    ensures { IsCheckOfEntry entries.now side path entry result }
 {
     let emitted = entries.get(entry)?;
     if !is_side(emitted, side) {
@@ -218,7 +218,7 @@ impl WorldLog {
         if entry >= self.entries.len() {
             return None;
         }
-        match announced_at(&self.entries, entry, place) {
+        match selected_at(&self.entries, entry, place) {
             Some((side, path)) => first_trace(&self.entries, side, path, entry + 1),
             None => None,
         }

@@ -10,14 +10,14 @@ ghost use Rattle.is_rules.specs.Steps.{is_done};
 ghost use Rattle.is_rules.specs.Effects.{is_clearing};
 ghost use Rattle.is.specs.Views.{call_view, answer_view, entry_view};
 ghost use Rattle.is.specs.World as world;
-ghost use Rattle.is.specs.World.{world_of, in_flight_of, event_view, outcome_of, read_unless, roles_of, Happens, Turns};
+ghost use Rattle.is.specs.World.{world_of, in_flight_of, event_view, outcome_of, read_unless, roles_of, Happens, TakesTurn};
 ghost use Rattle.is.specs.World.{PolledInto, MakesMember, MakesWorld, made_world, logged, IsWorldLog};
 ghost use Rattle.is_agent.specs.View.{made};
-ghost use Rattle.is.specs.WorldRoles.{GreaterKeeps, LesserYieldsOnce, RolesDifferOnceMet};
-ghost use Rattle.is.specs.Traces.{AnnouncedAreTraced};
-ghost use Rattle.is.specs.Selections.{DeliveredRoundsAnnounce};
+ghost use Rattle.is.specs.WorldRoles.{GreaterKeeps, LesserSwitchesOnce, RolesDifferOnceMet};
+ghost use Rattle.is.specs.Traces.{SelectedAreTraced};
+ghost use Rattle.is.specs.Selections.{DeliveredRoundsSelect};
 ghost use Rattle.is.specs.Connections.{BothConnect};
-ghost use Rattle.is.specs.Granted.{GrantedPathsAnnounce};
+ghost use Rattle.is.specs.AcceptedNominations.{AcceptedNominationsSelect};
 ghost use Rattle.is.specs.Connects.{BothSelect};
 ghost use Rattle.is.specs.Meetings.{RolesMeet};
 ghost use Rattle.is.specs.Mirrors.{LonePathsMirror};
@@ -26,19 +26,19 @@ ghost use Rattle.is.specs.Floods.{BothAreBounded, BothHaveFewPairs, BothAreShort
 
 use crate::calls::{AgentCall, Answer, Entry};
 use crate::steps::{quiet, step, take_packet};
-use crate::world_laws::{
-    announced_are_traced, both_connect, both_select, delivered_rounds_announce,
-    granted_paths_announce, greater_keeps, lesser_yields_once, lone_paths_mirror,
-    one_path_is_selected, roles_differ_once_met, roles_meet,
+use crate::world_theorems::{
+    accepted_nominations_select, both_connect, both_select, delivered_rounds_select, greater_keeps,
+    lesser_switches_once, lone_paths_mirror, one_path_is_selected, roles_differ_once_met,
+    roles_meet, selected_are_traced,
 };
 use is_agent::{Agent, IceCreds};
 use is_candidate::LocalPreference;
-use is_laws::flooding::{
-    discoveries_stay_few, lists_stay_bounded, pairs_stay_few, queues_are_short,
-};
 use is_proto::{IceError, Instant, Protocol, Sha1HmacProvider, Transmit};
 use is_rules::emitted::{Issued, Path};
 use is_stun::stun::{Class, StunMessage, TransId};
+use is_theorems::flooding::{
+    discoveries_stay_few, lists_stay_bounded, pairs_stay_few, queues_are_short,
+};
 use rand_core::Rng;
 use std::alloc::Global;
 use std::net::SocketAddr;
@@ -120,7 +120,7 @@ pub type World<H> = TwoAgents<H, Box<dyn LocalPreference>>;
 pub struct TwoAgents<H, P> {
     pub(crate) a: Agent<H, P>,
     pub(crate) b: Agent<H, P>,
-    pub(crate) bag: Vec<InFlight>,
+    pub(crate) network: Vec<InFlight>,
 }
 
 /// The parameters of an agent of the network model.
@@ -203,28 +203,28 @@ fn emitted_as(
 /// `OutOfMemory` if the list can't grow.
 fn poll_into<H: Sha1HmacProvider + Drop, P: LocalPreference>(
     agent: &mut Agent<H, P>,
-    bag: &mut Vec<InFlight>,
+    network: &mut Vec<InFlight>,
     sender: Side,
 ) -> Answer
-    ensures { PolledInto (record_of agent.old) (map in_flight_of bag.old.items) sender (answer_view result) (record_of agent.new)
-        (map in_flight_of bag.new.items) }
+    ensures { PolledInto (record_of agent.old) (map in_flight_of network.old.items) sender (answer_view result) (record_of agent.new)
+        (map in_flight_of network.new.items) }
 {
-    if bag.reserve(1).is_err() {
+    if network.reserve(1).is_err() {
         return Answer::Refused(IceError::OutOfMemory);
     }
     match agent.poll_transmit() {
         Some(packet) => {
-            bag.push_reserved(InFlight { sender, packet });
+            network.push_reserved(InFlight { sender, packet });
             Answer::Flag(true)
         }
         None => Answer::Flag(false),
     }
 }
 
-fn in_flight_at(bag: &[InFlight], place: usize) -> Option<&InFlight>
-    ensures { MatchOption result (slice_get bag.now place ≡ None) (λ l. slice_get bag.now place ≡ Some l.now) }
+fn in_flight_at(network: &[InFlight], place: usize) -> Option<&InFlight>
+    ensures { MatchOption result (slice_get network.now place ≡ None) (λ l. slice_get network.now place ≡ Some l.now) }
 {
-    bag.get(place)
+    network.get(place)
 }
 
 /// A newly created agent, in its role.
@@ -251,7 +251,7 @@ impl<H: Sha1HmacProvider + Drop, P: LocalPreference> TwoAgents<H, P> {
         Ok(TwoAgents {
             a,
             b,
-            bag: Vec::new(alloc),
+            network: Vec::new(alloc),
         })
     }
 
@@ -305,7 +305,7 @@ impl<H: Sha1HmacProvider + Drop, P: LocalPreference> TwoAgents<H, P> {
         rng: &mut R,
     ) -> WorldEntry
         requires { world.in_world (call_view call) ≡ true }
-        ensures did { Turns H.mac P.answers (world_of self.old) (R.stream rng.old) side (call_view call) (outcome_of result)
+        ensures did { TakesTurn H.mac P.answers (world_of self.old) (R.stream rng.old) side (call_view call) (outcome_of result)
             (world_of self.new) (R.stream rng.new) }
         ensures numbered { result.number ≡ number }
     {
@@ -323,7 +323,7 @@ impl<H: Sha1HmacProvider + Drop, P: LocalPreference> TwoAgents<H, P> {
     }
 
     /// Nothing happens.
-    fn stand(&self, number: usize, answer: Answer, side: Option<Side>) -> WorldEntry
+    fn unchanged_step(&self, number: usize, answer: Answer, side: Option<Side>) -> WorldEntry
         ensures emitted { outcome_of result ≡ world.plain (answer_view answer) side (roles_of (world_of self.now)) }
         ensures numbered { result.number ≡ number }
     {
@@ -337,12 +337,12 @@ impl<H: Sha1HmacProvider + Drop, P: LocalPreference> TwoAgents<H, P> {
     {
         match side {
             Side::A => {
-                let polled = poll_into(&mut self.a, &mut self.bag, Side::A);
-                self.stand(number, polled, Some(Side::A))
+                let polled = poll_into(&mut self.a, &mut self.network, Side::A);
+                self.unchanged_step(number, polled, Some(Side::A))
             }
             Side::B => {
-                let polled = poll_into(&mut self.b, &mut self.bag, Side::B);
-                self.stand(number, polled, Some(Side::B))
+                let polled = poll_into(&mut self.b, &mut self.network, Side::B);
+                self.unchanged_step(number, polled, Some(Side::B))
             }
         }
     }
@@ -353,7 +353,7 @@ impl<H: Sha1HmacProvider + Drop, P: LocalPreference> TwoAgents<H, P> {
             (world_of self.new) s }
         ensures numbered { result.number ≡ number }
     {
-        match in_flight_at(&self.bag, place) {
+        match in_flight_at(&self.network, place) {
             Some(in_flight) => {
                 let bytes = &in_flight.packet.contents;
                 let moved = read_as(bytes);
@@ -368,7 +368,7 @@ impl<H: Sha1HmacProvider + Drop, P: LocalPreference> TwoAgents<H, P> {
                     }
                 }
             }
-            None => self.stand(number, Answer::NoSuchPacket, None),
+            None => self.unchanged_step(number, Answer::NoSuchPacket, None),
         }
     }
 
@@ -383,7 +383,7 @@ impl<H: Sha1HmacProvider + Drop, P: LocalPreference> TwoAgents<H, P> {
                 if in_world(&call) {
                     self.turn(side, number, call, rng)
                 } else {
-                    self.stand(number, Answer::NotInWorld, Some(side))
+                    self.unchanged_step(number, Answer::NotInWorld, Some(side))
                 }
             }
             TwoAgentsEvent::Poll(side) => self.poll(side, number),
@@ -437,7 +437,7 @@ impl<H: Sha1HmacProvider + Drop, P: LocalPreference> TwoAgents<H, P> {
         ensures keeps { GreaterKeeps (world_of self.old) (logged events.items result.entries.items) }
 
         // The other agent switches its role at most once.
-        ensures yields { LesserYieldsOnce (world_of self.old) (logged events.items result.entries.items) }
+        ensures switches_role { LesserSwitchesOnce (world_of self.old) (logged events.items result.entries.items) }
 
         // Once this other agent has met the role of the first (`Meets`), the roles are different.
         ensures differ { RolesDifferOnceMet H.mac P.answers (world_of self.old) (R.stream rng.old) (logged events.items result.entries.items) }
@@ -449,7 +449,7 @@ impl<H: Sha1HmacProvider + Drop, P: LocalPreference> TwoAgents<H, P> {
 
         // If an agent is never lite, each path that it selected was answered by the other agent, and the response was received on
         // its reverse path.
-        ensures traced { AnnouncedAreTraced (world_of self.old) (logged events.items result.entries.items) result.entries.items }
+        ensures traced { SelectedAreTraced (world_of self.old) (logged events.items result.entries.items) result.entries.items }
 
         // Progress of the controlling agent: n of its pairs are due by an earlier time at a `handle_timeout` call. If it sends a
         // check on the path of one of these pairs in the n rounds from this call on, the network delivers such a check, and its
@@ -457,7 +457,7 @@ impl<H: Sha1HmacProvider + Drop, P: LocalPreference> TwoAgents<H, P> {
         // differ, and the check reaches the other agent. Then the controlling agent selects a path by then, whatever else happens.
         // Candidates may be added in the rounds, if there are 2n - 1 for n pairs in all, and one more for each pair that is added,
         // unless an added candidate may remove a pair of the path.
-        ensures rounds { DeliveredRoundsAnnounce H.mac P.answers (world_of self.old) (R.stream rng.old) (logged events.items result.entries.items) }
+        ensures rounds { DeliveredRoundsSelect H.mac P.answers (world_of self.old) (R.stream rng.old) (logged events.items result.entries.items) }
 
         // Progress of the controlled agent: the controlling agent checks a path whose pairs it nominated, and the check arrives on
         // the reverse of a path that the controlled agent checks. The network delivers the first check, the second, and its success
@@ -465,7 +465,7 @@ impl<H: Sha1HmacProvider + Drop, P: LocalPreference> TwoAgents<H, P> {
         // next `handle_timeout` call that serves no early request, and the path that it selected last is that of an eligible pair of
         // greatest priority. Precondition: only one of its pairs uses the path's addresses, and none of its calls may have removed
         // such a pair.
-        ensures granted { GrantedPathsAnnounce H.mac P.answers (world_of self.old) (R.stream rng.old) (logged events.items result.entries.items) }
+        ensures nomination_accepted { AcceptedNominationsSelect H.mac P.answers (world_of self.old) (R.stream rng.old) (logged events.items result.entries.items) }
 
         // Progress of both: the controlling agent has a nominated pair, and the controlled agent a pair. Each has rounds that
         // suffice: 2n - 1 if it has n pairs, and one more for each pair that is added. If checks are sent on the two paths in these
@@ -487,7 +487,7 @@ impl<H: Sha1HmacProvider + Drop, P: LocalPreference> TwoAgents<H, P> {
         // And on the same path, with several paths and through any NATs: both have renomination, and the controlling agent nominates a
         // path last. This check is delivered, no nomination of another path comes after it, and the controlled agent's own check on the
         // path is answered. Then each selected this path last, as it sees it, from the controlled agent's next `handle_timeout` call
-        // on that serves no early request. Preconditions on its pairs of the path are those of `granted`.
+        // on that serves no early request. Preconditions on its pairs of the path are those of `nomination_accepted`.
         ensures one_path { OnePathIsSelected H.mac P.answers (world_of self.old) (R.stream rng.old) (logged events.items result.entries.items) }
 
         // Each agent stores what `run` bounds, whatever the network delivers. With a limit on what packets bring, whenever it receives
@@ -504,11 +504,11 @@ impl<H: Sha1HmacProvider + Drop, P: LocalPreference> TwoAgents<H, P> {
         ensures discovered { BothDiscoverFew H.mac P.answers (world_of self.old) (R.stream rng.old) (logged events.items result.entries.items) }
     {
         greater_keeps::<H, P>();
-        lesser_yields_once::<H, P>();
+        lesser_switches_once::<H, P>();
         roles_differ_once_met::<H, P>();
-        announced_are_traced::<H, P>();
-        delivered_rounds_announce::<H, P>();
-        granted_paths_announce::<H, P>();
+        selected_are_traced::<H, P>();
+        delivered_rounds_select::<H, P>();
+        accepted_nominations_select::<H, P>();
         both_connect::<H, P>();
         both_select::<H, P>();
         lone_paths_mirror::<H, P>();

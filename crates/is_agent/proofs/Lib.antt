@@ -1,6 +1,1 @@
-mod NumberLemmas
-mod DueLemmas
-mod QueueLemmas
-mod RoleLemmas
-mod AnswerLemmas
-mod RequestLemmas
+mod AgentParts

@@ -23,9 +23,9 @@ abbrev pub not_added : Option ℕ → Addition
 not_added None = Ignored
 not_added (Some index) = Known index
 
-abbrev pub told : {A : Type 0} → (A → Addition) → Result A IceError → Result Addition IceError
-told tell (Ok x) = Ok (tell x)
-told tell (Err e) = Err e
+abbrev pub reported : {A : Type 0} → (A → Addition) → Result A IceError → Result Addition IceError
+reported report_on (Ok x) = Ok (report_on x)
+reported report_on (Err e) = Err e
 
 -- by the place that a local candidate got, if it was added
 abbrev pub local_addition : CandidateRecord → List CandidateRecord → List CandidateRecord → Option ℕ → Addition
@@ -37,7 +37,7 @@ module _ {H P : Type 0} where
   abbrev pub AddsLocalListed : (P → CandidateRecord → ℕ → ℕ → Type 0) → AgentRecord H P → CandidateRecord → Result Addition IceError
       → AgentRecord H P → Type 0
   AddsLocalListed answers old c result new =
-      (place : Result (Option ℕ) IceError) × AddsLocal answers old c place new × (result ≡ told (local_addition c old.local new.local) place)
+      (place : Result (Option ℕ) IceError) × AddsLocal answers old c place new × (result ≡ reported (local_addition c old.local new.local) place)
 
   -- A remote candidate takes the place of the one that a request from its address added, else the last one.
   abbrev pub remote_addition : AgentRecord H P → CandidateRecord → Addition
@@ -48,4 +48,4 @@ module _ {H P : Type 0} where
   -- `add_remote_listed`
   abbrev pub AddsRemoteListed : AgentRecord H P → CandidateRecord → Result Addition IceError → AgentRecord H P → Type 0
   AddsRemoteListed old c result new =
-      (done : Result (Unit {0}) IceError) × AddsRemote old c done new × (result ≡ told (λ _. remote_addition old c) done)
+      (done : Result (Unit {0}) IceError) × AddsRemote old c done new × (result ≡ reported (λ _. remote_addition old c) done)

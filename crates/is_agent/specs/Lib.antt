@@ -1,5 +1,5 @@
 pub mod View
-pub mod Lends
+pub mod Borrows
 pub mod Added
 pub mod Pairs
 pub mod Listed

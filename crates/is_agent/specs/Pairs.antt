@@ -1,6 +1,6 @@
 -- What an agent returns of its pairs.
 use Rattle.std.specs.Prelude.{ℕ, Bool, Option, option_map}
-use Rattle.is_pair.specs.Due.{due_moment}
+use Rattle.is_pair.specs.Due.{due_time_of}
 use Rattle.is_pair.specs.Pairs.{PairRecord}
 use Rattle.is_rules.specs.Agent.{AgentRecord}
 use Rattle.is_rules.specs.Nominating.{is_named_by}
@@ -12,4 +12,4 @@ module _ {H P : Type 0} where
 
   -- when its next check is due, as of the last `handle_timeout` call
   abbrev pub next_due : AgentRecord H P → PairRecord → Option ℕ
-  next_due a p = option_map (λ now. due_moment now a.timing p) a.last_moment
+  next_due a p = option_map (λ now. due_time_of now a.timing p) a.last_time

@@ -2,7 +2,7 @@
 use Rattle.std.specs.Prelude.{map, option_map, Result, Ok, Err}
 use Rattle.is_proto.specs.declared.error.IceError.{IceError}
 use Rattle.is_proto.specs.Packets.{packet_of}
-use Rattle.is_pair.specs.Checklists.{bag_of}
+use Rattle.is_pair.specs.Checklists.{multiset_of}
 use Rattle.is_agent.specs.declared.agent.Agent as code
 use Rattle.is_rules.specs.declared.emitted.Emitted.{Emitted}
 use Rattle.is_rules.specs.RequestView.{waiting_view}
@@ -26,13 +26,13 @@ record_of a = record {
   tie_breaker = a.tie_breaker;
   local = a.local.items;
   remote = a.remote.items;
-  pairs = bag_of a.pairs;
+  pairs = multiset_of a.pairs;
   next_number = a.next_number;
   selected_pair = a.selected_pair;
   last_nominated = a.last_nominated;
   queue = map waiting_view a.queue.items;
   state = a.state;
-  last_moment = option_map (λ at. at.0) a.last_moment;
+  last_time = option_map (λ at. at.0) a.last_time;
   packets = map packet_of a.packets.items;
   events = a.events.items;
   discovered_sources = a.discovered_sources.items;

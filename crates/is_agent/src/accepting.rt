@@ -6,8 +6,9 @@ ghost use Rattle.is_stun.specs.Integrity.{IsSignedBy};
 ghost use Rattle.is_stun.specs.MessageView.{message_view};
 ghost use Rattle.is_agent.specs.View.{record_of, emitted_of};
 ghost use Rattle.is_rules.specs.RequestView.{request_view, packet_path};
-ghost use Rattle.is_rules.specs.Serving.{TakesRequest, MayRefuseArrival};
+ghost use Rattle.is_rules.specs.Serving.{TakesRequest, MayFailAtArrival};
 ghost use Rattle.is_rules.specs.Answers.{keeps_check_on};
+ghost use Rattle.is_agent.specs.Ready.{NamesPeer};
 ghost use Rattle.is_agent.specs.Room.{HasNewsRoom};
 ghost use Rattle.is_rules.specs.Limit.{is_crowded};
 ghost use Rattle.is_rules.specs.Accepting.{IsAddressed, IsAcceptedAs, IsAccepted, IsAcceptedOn, Arrives, discovered_emitted, HandlesPacket};
@@ -189,9 +190,10 @@ impl<H: Sha1HmacProvider + Drop, P: LocalPreference> Agent<H, P> {
 
     /// Serves a request, or queues it until the remote credentials are known.
     fn take_request(&mut self, request: &Request<'_>) -> Result<Emitted, IceError>
+        requires { NamesPeer (record_of self.old) (request_view request.now) }
         ensures taken { IfOk result (λ emitted. TakesRequest H.mac (request_view request.now) (record_of self.old) emitted (record_of self.new)) }
         ensures room { OnOk result (HasNewsRoom 1 self.new) }
-        ensures refused { IfErr result (λ error. MayRefuseArrival (record_of self.old) (request_view request.now) error
+        ensures rejected { IfErr result (λ error. MayFailAtArrival (record_of self.old) (request_view request.now) error
             × (record_of self.new ≡ record_of self.old)) }
     {
         match self.remote_creds {

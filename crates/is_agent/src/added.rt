@@ -3,7 +3,7 @@
 ghost use Rattle.std.specs.Prelude.{◌≡◌, ◌&&◌, position, take};
 ghost use Rattle.is_candidate.specs.Equality.{is_same_place, is_equivalent};
 ghost use Rattle.is_rules.specs.Forming.{is_alive};
-ghost use Rattle.is_agent.specs.Added.{listed_index, first_listed, not_added, remote_addition, AddsLocalListed, AddsRemoteListed};
+ghost use Rattle.is_agent.specs.Added.{listed_index, first_listed, not_added, AddsLocalListed, AddsRemoteListed};
 ghost use Rattle.is_agent.specs.View.{record_of};
 
 use crate::agent::Agent;
@@ -11,7 +11,7 @@ use is_candidate::candidate::equality::{is_equivalent, is_same_place};
 use is_candidate::candidate::internals::is_discarded;
 use is_candidate::{Candidate, LocalPreference};
 use is_proto::{IceError, Sha1HmacProvider};
-use is_rules::remote::{place_of_placeholder, place_or_end};
+use is_rules::remote::place_or_end;
 
 /// What became of a candidate. Its index counts the candidates that `local_candidates` or `remote_candidates` returns, from 0.
 #[derive(Clone, Copy, Debug, PartialEq, Eq)]
@@ -107,19 +107,6 @@ fn first_equal(candidates: &[Candidate], candidate: &Candidate) -> Option<usize>
 
 // ---- the calls
 
-impl<H: Sha1HmacProvider + Drop, P: LocalPreference> Agent<H, P> {
-    /// What adding the remote candidate does, if it does not fail.
-    fn remote_addition(&self, candidate: &Candidate) -> Addition
-        ensures { result ≡ remote_addition (record_of self.now) candidate.now }
-    {
-        if self.is_ignored(candidate) {
-            return not_added(first_equal(&self.remote, candidate));
-        }
-        let place = place_of_placeholder(&self.remote, candidate);
-        Addition::Added(listed_index(&self.remote, place_or_end(place, &self.remote)))
-    }
-}
-
 /// Adds a local candidate like `add_local_candidate`, and returns the index at which it is listed. A candidate that is not added
 /// equals one with the same address, base and protocol (RFC 8445, section 5.1.3).
 pub fn add_local_listed<H: Sha1HmacProvider + Drop, P: LocalPreference>(
@@ -143,7 +130,11 @@ pub fn add_remote_listed<H: Sha1HmacProvider + Drop, P: LocalPreference>(
 ) -> Result<Addition, IceError>
     ensures { AddsRemoteListed (record_of agent.old) candidate result (record_of agent.new) }
 {
-    let addition = agent.remote_addition(&candidate);
-    agent.add_remote_candidate(candidate)?;
-    Ok(addition)
+    if agent.is_ignored(&candidate) {
+        return Ok(not_added(first_equal(&agent.remote, &candidate)));
+    }
+    let place = agent.place_for(&candidate);
+    let index = listed_index(&agent.remote, place_or_end(place, &agent.remote));
+    agent.join_remote(candidate, place)?;
+    Ok(Addition::Added(index))
 }

@@ -2,9 +2,9 @@
 
 ghost use Rattle.std.specs.Prelude.{◌≡◌, ◌<◌, None, true, false, IfOk};
 ghost use Rattle.is_rules.specs.Fitting.{are_too_long};
-ghost use Rattle.is_rules.specs.Kept.{NoneTooHigh};
-ghost use Rattle.is_pair.specs.Bag.{are_below};
-ghost use Rattle.is_pair.specs.Checklists.{bag_of};
+ghost use Rattle.is_rules.specs.Kept.{NoneTooHigh, are_placed};
+ghost use Rattle.is_pair.specs.Multiset.{are_below};
+ghost use Rattle.is_pair.specs.Checklists.{multiset_of};
 ghost use Rattle.is_agent.specs.Keys.{IsKeyOf, peer_pass};
 
 use is_candidate::{Candidate, LocalPreference};
@@ -20,6 +20,21 @@ use is_rules::request::Waiting;
 use is_stun::stun::StunTiming;
 use std::alloc::Global;
 use std::collections::VecDeque;
+
+/// The candidates, role and kind of an agent, as the rules of pairs read them. It is a macro, since the rules that also change
+/// pairs borrow another field.
+macro_rules! sides {
+    ($agent:expr) => {
+        Sides {
+            local: &$agent.local,
+            remote: &$agent.remote,
+            controlling: $agent.controlling,
+            lite: $agent.lite,
+        }
+    };
+}
+
+pub(crate) use sides;
 
 /// The greatest number of pairs after forming, until another limit is set (RFC 8445, section 6.1.2.5).
 pub const DEFAULT_MAX_PAIRS: usize = 100;
@@ -77,7 +92,7 @@ pub struct Agent<H, P> {
     pub(crate) queue: VecDeque<Waiting>,
     pub(crate) state: IceConnectionState,
     /// The time of the last `handle_timeout` call.
-    pub(crate) last_moment: Option<Instant>,
+    pub(crate) last_time: Option<Instant>,
     pub(crate) packets: VecDeque<Transmit>,
     pub(crate) events: VecDeque<IceAgentEvent>,
     /// The sources for which `DiscoveredRecv` was emitted.
@@ -94,7 +109,9 @@ pub struct Agent<H, P> {
     ghost local_key_kept: { IsKeyOf local_key local_creds.pass },
     ghost remote_key_kept: { IsKeyOf remote_key (peer_pass remote_creds) },
     // no pair has the next number
-    ghost numbered: { are_below next_number (bag_of pairs) ≡ true },
+    ghost numbered: { are_below next_number (multiset_of pairs) ≡ true },
+    // the indices of each pair are in the lists
+    ghost placed: { are_placed local.items remote.items (multiset_of pairs) ≡ true },
 }
 
 impl<P: LocalPreference> Agent<DefaultSha1HmacProvider, P> {
@@ -170,7 +187,7 @@ impl<H: Sha1HmacProvider + Drop, P: LocalPreference> Agent<H, P> {
             last_nominated: None,
             queue: VecDeque::new(alloc),
             state: IceConnectionState::New,
-            last_moment: None,
+            last_time: None,
             packets: VecDeque::new(alloc),
             events: VecDeque::new(alloc),
             discovered_sources: Vec::new(alloc),

@@ -2,12 +2,12 @@
 //!
 //! A response counts only if it is received on the reverse of its check's path.
 
-ghost use Rattle.std.specs.Prelude.{◌≡◌, ◌<◌, ◌↔◌, IsTrue, IsSomeAnd, IfOk, IfErr, IfSome, IfNone, OnOk, true, is_some, vec_len, vec_capacity};
+ghost use Rattle.std.specs.Prelude.{◌≡◌, ◌<◌, ◌↔◌, IsTrue, IsSomeAnd, IfOk, IfErr, IfSome, IfNone, OnOk, true, is_some, length, vec_len, vec_capacity};
 ghost use Rattle.std.specs.List.{list_any};
 ghost use Rattle.is_candidate.specs.Priorities.{candidate_priority, TOO_HIGH};
 ghost use Rattle.is_pair.specs.Checks.{is_kept};
 ghost use Rattle.is_pair.specs.Pairs.{PairRecord};
-ghost use Rattle.is_pair.specs.Bag.{keeps, pair_numbered};
+ghost use Rattle.is_pair.specs.Multiset.{has_number, keeps, pair_numbered};
 ghost use Rattle.is_stun.specs.Integrity.{IsSignedBy};
 ghost use Rattle.is_stun.specs.MessageView.{message_view};
 ghost use Rattle.is_rules.specs.Emitted.{nothing_emitted};
@@ -16,9 +16,9 @@ ghost use Rattle.is_agent.specs.Room.{HasEventRoom, HasNewsRoom, UsesNews};
 ghost use Rattle.is_rules.specs.Due.{KeepsCheckOn, IsRecorded, IsSentUnder};
 ghost use Rattle.is_rules.specs.Accepting.{IsAwaited};
 ghost use Rattle.is_rules.specs.Answers.{is_left_out, is_role_conflict, keeps_check_on, joined_by, local_with, mapped_candidate};
-ghost use Rattle.is_rules.specs.Answers.{success_counted, Concludes, GivesUpRole, TakesSuccess, TakesFailure};
+ghost use Rattle.is_rules.specs.Answers.{success_counted, Concludes, LeavesRole, TakesSuccess, TakesFailure};
 
-use crate::agent::Agent;
+use crate::agent::{Agent, sides};
 use is_candidate::candidate::making::peer_reflexive;
 use is_candidate::{Candidate, LocalPreference};
 use is_proto::{Instant, Sha1HmacProvider};
@@ -39,13 +39,7 @@ impl<H: Sha1HmacProvider + Drop, P: LocalPreference> Agent<H, P> {
         ensures any { list_any (keeps_check_on (record_of self.now) path.now id.0) (record_of self.now).pairs ≡ is_some result }
         ensures kept { IfSome result (λ number. KeepsCheckOn (record_of self.now) path.now id.0 number) }
     {
-        let sides = Sides {
-            local: &self.local,
-            remote: &self.remote,
-            controlling: self.controlling,
-            lite: self.lite,
-        };
-        pair_awaiting(&self.pairs, sides, path, id)
+        pair_awaiting(&self.pairs, sides!(self), path, id)
     }
 
     /// The message is signed with the peer's password.
@@ -81,17 +75,20 @@ impl<H: Sha1HmacProvider + Drop, P: LocalPreference> Agent<H, P> {
 impl<H: Sha1HmacProvider + Drop, P: LocalPreference> Agent<H, P> {
     /// The index of the local candidate of the pair with this number.
     fn local_place_of(&self, number: u64) -> usize
-        ensures { IfSome (pair_numbered number (record_of self.now).pairs) (λ p. result ≡ p.local) }
+        requires { has_number number (record_of self.now).pairs ≡ true }
+        ensures place { IfSome (pair_numbered number (record_of self.now).pairs) (λ p. result ≡ p.local) }
+        ensures within { result < length self.now.local.items }
     {
         match self.pairs.get(number) {
             Some(pair) => pair.local_idx(),
-            None => 0,
+            None => unreachable!(),
         }
     }
 
     /// The candidate that a mapped address becomes. It has the protocol and the base of the pair's local candidate,
     /// which is at this index, and the priority in that candidate's checks (RFC 8445, section 7.2.5.3.1).
     fn mapped_candidate(&self, l: usize, mapped: SocketAddr) -> Result<Candidate, AllocError>
+        requires { l < length self.now.local.items }
         ensures made { (p : PairRecord) → l ≡ p.local → IfOk result (λ c. c ≡ mapped_candidate (record_of self.now) p mapped) }
         ensures low { IfOk result (λ c. candidate_priority c < TOO_HIGH) }
     {
@@ -107,8 +104,13 @@ impl<H: Sha1HmacProvider + Drop, P: LocalPreference> Agent<H, P> {
     }
 
     /// The candidate that the mapped address adds, if no local candidate has that address and the limit allows one more.
-    fn learnt(&self, l: usize, mapped: Option<SocketAddr>) -> Result<Option<Candidate>, AllocError>
-        ensures learnt { (p : PairRecord) → l ≡ p.local → IfOk result (λ c. joined_by c self.now.local.items
+    fn new_mapped_candidate(
+        &self,
+        l: usize,
+        mapped: Option<SocketAddr>,
+    ) -> Result<Option<Candidate>, AllocError>
+        requires { l < length self.now.local.items }
+        ensures new_mapped_candidate { (p : PairRecord) → l ≡ p.local → IfOk result (λ c. joined_by c self.now.local.items
             ≡ local_with p mapped (success_counted (record_of self.now))) }
         ensures low { IfOk result (λ c. IfSome c (λ c. candidate_priority c < TOO_HIGH)) }
     {
@@ -154,7 +156,7 @@ impl<H: Sha1HmacProvider + Drop, P: LocalPreference> Agent<H, P> {
     {
         let path = self.evaluate_nomination();
         self.evaluate_state(now);
-        Emitted::announced_only(path)
+        Emitted::selected_only(path)
     }
 
     /// The pair with this number records the success response, the mapped address is added as a candidate if it is unknown
@@ -169,11 +171,11 @@ impl<H: Sha1HmacProvider + Drop, P: LocalPreference> Agent<H, P> {
         requires kept { KeepsCheckOn (record_of self.old) path.now (message_view message.now).id number }
         ensures taken { IfOk result (λ emitted. TakesSuccess now.0 (record_of self.old) path.now (message_view message.now) emitted (record_of self.new)) }
         ensures room { OnOk result (HasNewsRoom 1 self.new) }
-        ensures refused { IfErr result (λ _. record_of self.new ≡ record_of self.old) }
+        ensures rejected { IfErr result (λ _. record_of self.new ≡ record_of self.old) }
     {
         self.pairs.numbers_rise();
         let l = self.local_place_of(number);
-        let mapped = self.learnt(l, message.mapped_address())?;
+        let mapped = self.new_mapped_candidate(l, message.mapped_address())?;
         self.take_success_room()?;
         self.record(number, now, message.trans_id(), mapped);
         Ok(self.conclude(now))
@@ -195,9 +197,9 @@ impl<H: Sha1HmacProvider + Drop, P: LocalPreference> Agent<H, P> {
     }
 
     /// Switches the role if the check of the pair with this number was sent in the current role (RFC 8445, section 7.2.5.1).
-    fn give_up_role(&mut self, number: u64, path: &Path, message: &StunMessage<'_>)
+    fn leave_role(&mut self, number: u64, path: &Path, message: &StunMessage<'_>)
         requires kept { KeepsCheckOn (record_of self.old) path.now (message_view message.now).id number }
-        ensures gives_up { GivesUpRole (record_of self.old) path.now (message_view message.now) nothing_emitted (record_of self.new) }
+        ensures removes_expired { LeavesRole (record_of self.old) path.now (message_view message.now) nothing_emitted (record_of self.new) }
         ensures news { UsesNews 0 self.old self.new }
     {
         if self.is_of_present_role(number, message.trans_id()) {
@@ -212,7 +214,7 @@ impl<H: Sha1HmacProvider + Drop, P: LocalPreference> Agent<H, P> {
         ensures news { UsesNews 0 self.old self.new }
     {
         if is_role_conflict(message) {
-            self.give_up_role(number, path, message);
+            self.leave_role(number, path, message);
         }
     }
 }

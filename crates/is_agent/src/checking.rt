@@ -1,9 +1,9 @@
 //! Writing a connectivity check and finding its path (RFC 8445, section 7.2); the rules: `is_rules::checking`.
 
-ghost use Rattle.std.specs.Prelude.{◌≡◌, Some, None, IfSome, length};
-ghost use Rattle.is_stun.specs.Laws.{IsClass, IsChannelNumber, IsPut, plain};
+ghost use Rattle.std.specs.Prelude.{◌≡◌, ◌<◌, Some, None, IfSome, length};
+ghost use Rattle.is_stun.specs.Theorems.{IsClass, IsChannelNumber, IsPut, plain};
 ghost use Rattle.is_stun.specs.MessageView.{message_view};
-ghost use Rattle.is_stun.specs.Writing.{written, refusal};
+ghost use Rattle.is_stun.specs.Writing.{written, rejection};
 ghost use Rattle.is_pair.specs.Pairs.{PairRecord};
 ghost use Rattle.is_rules.specs.declared.credentials.IceCreds as model;
 ghost use Rattle.is_rules.specs.Fitting.{MTU_FLOOR};
@@ -21,12 +21,14 @@ use is_rules::checking::Draft;
 use is_rules::emitted::Path;
 use is_rules::places::{address_at, base_at, check_priority_at, proto_at};
 use is_rules::reply::write_signed;
-use is_stun::laws::checks_fit;
 use is_stun::stun::{StunMessage, TransId};
+use is_stun::theorems::checks_fit;
 
 impl<H: Sha1HmacProvider + Drop, P: LocalPreference> Agent<H, P> {
     /// The path from the local candidate's base to the remote candidate's address.
     pub(crate) fn path_between(&self, l: usize, r: usize) -> Path
+        requires local { l < length self.now.local.items }
+        requires remote { r < length self.now.remote.items }
         ensures { result ≡ path_between (record_of self.now) l r }
     {
         Path {
@@ -37,6 +39,8 @@ impl<H: Sha1HmacProvider + Drop, P: LocalPreference> Agent<H, P> {
     }
 
     pub(crate) fn path_of(&self, pair: &CandidatePair) -> Path
+        requires local { pair.now.local < length self.now.local.items }
+        requires remote { pair.now.remote < length self.now.remote.items }
         ensures { result ≡ path_between (record_of self.now) pair.now.local pair.now.remote }
     {
         self.path_between(pair.local_idx(), pair.remote_idx())
@@ -44,6 +48,8 @@ impl<H: Sha1HmacProvider + Drop, P: LocalPreference> Agent<H, P> {
 
     /// The content of a check of the pair.
     pub(crate) fn draft(&self, pair: &CandidatePair) -> Draft
+        requires local { pair.now.local < length self.now.local.items }
+        requires remote { pair.now.remote < length self.now.remote.items }
         ensures { Drafts (record_of self.now) pair.now result }
     {
         Draft {
@@ -55,7 +61,7 @@ impl<H: Sha1HmacProvider + Drop, P: LocalPreference> Agent<H, P> {
 
     /// Writes a check, signed with the peer's password, to the front of the buffer, and truncates the buffer to its length.
     fn write_check(&self, contents: &mut Vec<u8>, check: StunMessage<'_>, password: &str)
-        requires fits { refusal (Some password.now) (length contents.old.items) (message_view check) ≡ None }
+        requires fits { rejection (Some password.now) (length contents.old.items) (message_view check) ≡ None }
         requires class { IsClass (message_view check).class }
         requires channel { IfSome (message_view check).attributes.channel_number IsChannelNumber }
         ensures written { contents.new.items ≡ written (H.mac self.now.provider) (Some password.now) (message_view check.entry) }

@@ -16,8 +16,8 @@ pub fn last_issued<H, P>(agent: &Agent<H, P>) -> Option<Issued>
 
 /// The paths that the agent selected at the last packet or `handle_timeout` call, in order. Other calls select none, and do
 /// not change this.
-pub fn last_announced<H, P>(agent: &Agent<H, P>) -> [Option<Path>; 2]
-    ensures { result ≡ (emitted_of agent.now).announced }
+pub fn last_selected<H, P>(agent: &Agent<H, P>) -> [Option<Path>; 2]
+    ensures { result ≡ (emitted_of agent.now).selected_paths }
 {
-    agent.emitted.announced
+    agent.emitted.selected_paths
 }

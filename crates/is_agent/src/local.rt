@@ -1,18 +1,18 @@
 //! Adding local candidates (RFC 8445, section 5.1); the rules: `is_rules::local`.
 
-ghost use Rattle.std.specs.Prelude.{◌≡◌, ◌≤◌, ◌<◌, length, position, nat_lt, ◌↔◌, IsTrue, Some, IfOk, IfSome, OnOk};
+ghost use Rattle.std.specs.Prelude.{◌≡◌, ◌+◌, ◌≤◌, ◌<◌, length, position, nat_lt, ◌↔◌, IsTrue, Some, Err, IfOk, IfErr, IfSome, OnOk};
 ghost use Rattle.is_candidate.specs.Priorities.{candidate_priority, TOO_HIGH};
 ghost use Rattle.std.specs.Borrow.{sem};
 ghost use Rattle.is_candidate.specs.Equality.{is_same_place};
 ghost use Rattle.is_candidate.specs.Candidates.{candidate_at};
 ghost use Rattle.is_agent.specs.contracts.agent.Agent.{the_row};
 ghost use Rattle.is_agent.specs.View.{record_of};
-ghost use Rattle.is_agent.specs.Lends.{EndsAs};
+ghost use Rattle.is_agent.specs.Borrows.{EndsAs};
 ghost use Rattle.is_agent.specs.Room.{HasLocalRoom};
 ghost use Rattle.is_rules.specs.Discarding.{local_discarded};
-ghost use Rattle.is_rules.specs.Forming.{HasNumbers, FormsAll, local_combinations};
+ghost use Rattle.is_rules.specs.Forming.{AreIn, HasNumbers, FormsAll, local_combinations};
 ghost use Rattle.is_rules.specs.Local.{Prefers, comes_again, preferred, as_own, appended, is_unwanted, HasNumbersAt, EntersAgain};
-ghost use Rattle.is_rules.specs.Local.{EntersNew, Enrols, EnrolsPreferred, AddsLocal, LendsLocal, widened};
+ghost use Rattle.is_rules.specs.Local.{EntersNew, Enrols, EnrolsPreferred, AddsLocal, BorrowsLocal, error_of, widened};
 
 use crate::agent::Agent;
 use is_candidate::candidate::equality::is_same_place;
@@ -21,7 +21,7 @@ use is_candidate::{Candidate, CandidateKind, LocalPreference};
 use is_proto::{IceError, Sha1HmacProvider};
 use is_rules::forming::{has_numbers_for, local_combinations};
 use is_rules::local::{
-    Refusal, append, as_own, comes_again, enable_at, lent_at, place_of_same, preference_for,
+    Rejection, append, as_own, borrowed_at, comes_again, enable_at, place_of_same, preference_for,
     preferred,
 };
 use is_rules::places::{candidate_at, priority_at};
@@ -81,6 +81,7 @@ impl<H: Sha1HmacProvider + Drop, P: LocalPreference> Agent<H, P> {
     }
 
     fn is_below(&self, candidate: &Candidate, place: usize) -> bool
+        requires { place < length self.now.local.items }
         ensures { result ≡ nat_lt (candidate_priority candidate.now) (candidate_priority (candidate_at (record_of self.now).local place)) }
     {
         candidate.prio() < priority_at(&self.local, place)
@@ -100,23 +101,33 @@ impl<H: Sha1HmacProvider + Drop, P: LocalPreference> Agent<H, P> {
         Ok(())
     }
 
-    /// Allocates what is needed to store the candidate.
-    fn newcomer(&self, candidate: Candidate) -> Result<Newcomer, AllocError>
+    /// Allocates and reserves what is needed to store the candidate. Numbers are checked before memory.
+    fn newcomer(&mut self, candidate: Candidate) -> Result<Newcomer, Rejection>
         requires low { candidate_priority candidate < TOO_HIGH }
-        ensures own { IfOk result (λ n. n.own ≡ as_own (record_of self.now) candidate) }
+        ensures record { record_of self.new ≡ record_of self.old }
+        ensures own { IfOk result (λ n. n.own ≡ as_own (record_of self.old) candidate) }
         ensures low { IfOk result (λ n. candidate_priority n.own < TOO_HIGH) }
-        ensures all { IfOk result (λ n. n.all.items ≡ local_combinations candidate (length self.now.local.items) self.now.remote.items) }
-        ensures numbers { HasNumbersAt (record_of self.now) candidate → IfOk result (λ n. HasNumbers self.now.next_number (length n.all.items)) }
+        ensures all { IfOk result (λ n. n.all.items ≡ local_combinations candidate (length self.old.local.items) self.old.remote.items) }
+        ensures within { IfOk result (λ n. AreIn (length self.old.local.items + 1) (length self.old.remote.items) n.all.items) }
+        ensures numbers { IfOk result (λ n. HasNumbersAt (record_of self.old) candidate × HasNumbers self.old.next_number (length n.all.items)) }
+        ensures room { IfOk result (λ n. HasLocalRoom (length n.all.items) self.new) }
+        ensures rejected { IfErr result (λ rejection. EntersNew (record_of self.old) candidate (record_of self.old) (Err (error_of rejection))
+            (record_of self.new)) }
     {
+        if !self.has_numbers_at(&candidate) {
+            return Err(Rejection::PairIdsExhausted);
+        }
         let alloc = *self.local.allocator();
         let all = local_combinations(alloc, &candidate, self.local.len(), &self.remote)?;
         let own = as_own(candidate, &self.local_creds.ufrag, alloc)?;
+        self.take_local_room(all.len())?;
         Ok(Newcomer { own, all })
     }
 
     /// The combinations of the discarded candidate at the index.
     fn combinations_again(&self, place: usize) -> Result<Vec<(usize, usize)>, AllocError>
         requires { place < length self.now.local.items }
+        ensures within { IfOk result (λ all. AreIn (length self.now.local.items) (length self.now.remote.items) all.items) }
         ensures all { IfOk result (λ all. all.items ≡ local_combinations (candidate_at self.now.local.items place) place self.now.remote.items) }
         ensures numbers { HasNumbersAt (record_of self.now) (candidate_at self.now.local.items place)
             → IfOk result (λ all. HasNumbers self.now.next_number (length all.items)) }
@@ -131,6 +142,7 @@ impl<H: Sha1HmacProvider + Drop, P: LocalPreference> Agent<H, P> {
 impl<H: Sha1HmacProvider + Drop, P: LocalPreference> Agent<H, P> {
     /// Appends the candidate, and forms these combinations.
     fn store_local(&mut self, own: Candidate, all: &[(usize, usize)]) -> usize
+        requires within { AreIn (length self.old.local.items + 1) (length self.old.remote.items) all.now }
         requires room { HasLocalRoom (length all.now) self.old }
         requires low { candidate_priority own < TOO_HIGH }
         requires numbers { HasNumbers self.old.next_number (length all.now) }
@@ -143,40 +155,32 @@ impl<H: Sha1HmacProvider + Drop, P: LocalPreference> Agent<H, P> {
     }
 
     /// Appends the candidate after the others.
-    fn enter_last(&mut self, candidate: Candidate) -> Result<Option<usize>, Refusal>
+    fn enter_last(&mut self, candidate: Candidate) -> Result<Option<usize>, Rejection>
         requires low { candidate_priority candidate < TOO_HIGH }
         ensures { EntersNew (record_of self.old) candidate (record_of self.old) (widened result) (record_of self.new) }
     {
-        if !self.has_numbers_at(&candidate) {
-            return Err(Refusal::PairIdsExhausted);
-        }
         let Newcomer { own, all } = self.newcomer(candidate)?;
-        self.take_local_room(all.len())?;
         Ok(Some(self.store_local(own, &all)))
     }
 
     /// Discards the candidate at the index, and appends this one.
-    fn supersede(&mut self, place: usize, candidate: Candidate) -> Result<Option<usize>, Refusal>
+    fn supersede(&mut self, place: usize, candidate: Candidate) -> Result<Option<usize>, Rejection>
         requires within { place < length self.old.local.items }
         requires low { candidate_priority candidate < TOO_HIGH }
         ensures { EntersNew (record_of self.old) candidate (local_discarded place (record_of self.old)) (widened result) (record_of self.new) }
     {
-        if !self.has_numbers_at(&candidate) {
-            return Err(Refusal::PairIdsExhausted);
-        }
         let Newcomer { own, all } = self.newcomer(candidate)?;
-        self.take_local_room(all.len())?;
         self.discard_local(place);
         Ok(Some(self.store_local(own, &all)))
     }
 
     /// The discarded candidate at the index is enabled again.
-    fn enable_again(&mut self, place: usize) -> Result<Option<usize>, Refusal>
+    fn enable_again(&mut self, place: usize) -> Result<Option<usize>, Rejection>
         requires within { place < length self.old.local.items }
         ensures { EntersAgain (record_of self.old) place (widened result) (record_of self.new) }
     {
         if !self.has_numbers_again(place) {
-            return Err(Refusal::PairIdsExhausted);
+            return Err(Rejection::PairIdsExhausted);
         }
         let all = self.combinations_again(place)?;
         self.take_local_room(all.len())?;
@@ -186,7 +190,7 @@ impl<H: Sha1HmacProvider + Drop, P: LocalPreference> Agent<H, P> {
     }
 
     /// The first local candidate of equal address, base and protocol decides.
-    fn enrol(&mut self, candidate: Candidate) -> Result<Option<usize>, Refusal>
+    fn enrol(&mut self, candidate: Candidate) -> Result<Option<usize>, Rejection>
         requires low { candidate_priority candidate < TOO_HIGH }
         ensures { Enrols (record_of self.old) candidate (widened result) (record_of self.new) }
     {
@@ -205,7 +209,7 @@ impl<H: Sha1HmacProvider + Drop, P: LocalPreference> Agent<H, P> {
     }
 
     /// The candidate gets its preference, then `enrol` decides.
-    fn enrol_preferred(&mut self, candidate: Candidate) -> Result<Option<usize>, Refusal>
+    fn enrol_preferred(&mut self, candidate: Candidate) -> Result<Option<usize>, Rejection>
         requires low { candidate_priority candidate < TOO_HIGH }
         ensures { EnrolsPreferred P.answers (record_of self.old) candidate (widened result) (record_of self.new) }
     {
@@ -214,11 +218,11 @@ impl<H: Sha1HmacProvider + Drop, P: LocalPreference> Agent<H, P> {
     }
 
     /// Adds a local candidate, and returns its index; see `add_local_candidate`.
-    pub(crate) fn add_local(&mut self, candidate: Candidate) -> Result<Option<usize>, Refusal>
+    pub(crate) fn add_local(&mut self, candidate: Candidate) -> Result<Option<usize>, Rejection>
         ensures { AddsLocal P.answers (record_of self.old) candidate (widened result) (record_of self.new) }
     {
         if candidate.prio() == u32::MAX {
-            return Err(Refusal::PriorityTooHigh);
+            return Err(Rejection::PriorityTooHigh);
         }
         if self.is_unwanted(&candidate) {
             return Ok(None);
@@ -227,12 +231,15 @@ impl<H: Sha1HmacProvider + Drop, P: LocalPreference> Agent<H, P> {
     }
 
     /// Adds a local candidate and returns a reference to it; see `add_local_candidate`. The errors own no memory.
-    pub(crate) fn lend_local(&mut self, candidate: Candidate) -> Result<Option<&Candidate>, Refusal>
-        ensures* step { sem 𝓛 (EndsAs (the_row H.row P.row) self.entry (λ after. LendsLocal P.answers (record_of self.old) candidate
+    pub(crate) fn add_and_borrow_local(
+        &mut self,
+        candidate: Candidate,
+    ) -> Result<Option<&Candidate>, Rejection>
+        ensures* step { sem 𝓛 (EndsAs (the_row H.row P.row) self.entry (λ after. BorrowsLocal P.answers (record_of self.old) candidate
             (widened result) (record_of after))) }
     {
         let place = self.add_local(candidate)?;
-        Ok(lent_at(&self.local, place))
+        Ok(borrowed_at(&self.local, place))
     }
 
     /// Adds a local candidate, with the agent's username fragment, and returns a reference to it (RFC 8445, section 5.1). Its
@@ -250,22 +257,22 @@ impl<H: Sha1HmacProvider + Drop, P: LocalPreference> Agent<H, P> {
         &mut self,
         candidate: Candidate,
     ) -> Result<Option<&Candidate>, IceError>
-        ensures* step { sem 𝓛 (EndsAs (the_row H.row P.row) self.entry (λ after. LendsLocal P.answers (record_of self.old) candidate result
+        ensures* step { sem 𝓛 (EndsAs (the_row H.row P.row) self.entry (λ after. BorrowsLocal P.answers (record_of self.old) candidate result
             (record_of after))) }
     {
-        widen(self.lend_local(candidate))
+        widen(self.add_and_borrow_local(candidate))
     }
 }
 
 /// The failure as an error.
 fn widen<'a>(
-    lent: Result<Option<&'a Candidate>, Refusal>,
+    borrowed: Result<Option<&'a Candidate>, Rejection>,
 ) -> Result<Option<&'a Candidate>, IceError>
-    ensures { result ≡ widened lent.entry }
+    ensures { result ≡ widened borrowed.entry }
 {
-    match lent {
-        Ok(lent) => Ok(lent),
-        Err(refusal) => Err(refusal.into()),
+    match borrowed {
+        Ok(borrowed) => Ok(borrowed),
+        Err(rejection) => Err(rejection.into()),
     }
 }
 

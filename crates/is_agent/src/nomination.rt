@@ -9,7 +9,7 @@ ghost use Rattle.is_agent.specs.Room.{HasEventRoom, HasPacketRoom, HasCheckRoomA
 ghost use Rattle.is_rules.specs.Nominating.{followed, nominated_emitted, stays_nominated, Nominates, NominatesWhere};
 ghost use Rattle.is_pair.specs.Pairs.{PairRecord};
 
-use crate::agent::Agent;
+use crate::agent::{Agent, sides};
 use is_candidate::LocalPreference;
 use is_pair::pair::CandidatePair;
 use is_proto::Sha1HmacProvider;
@@ -66,13 +66,12 @@ impl<H: Sha1HmacProvider + Drop, P: LocalPreference> Agent<H, P> {
         ensures checks { (now : ℕ) → HasCheckRoomAt now self.old → HasCheckRoomAt now self.new }
     {
         let followed = self.followed();
-        let sides = Sides {
-            local: &self.local,
-            remote: &self.remote,
-            controlling: self.controlling,
-            lite: self.lite,
-        };
-        let path = select_pair(sides, followed, &mut self.pairs, &mut self.selected_pair);
+        let path = select_pair(
+            sides!(self),
+            followed,
+            &mut self.pairs,
+            &mut self.selected_pair,
+        );
         self.emit_nominated(path);
         path
     }

@@ -97,12 +97,14 @@ struct ViableAt<'a> {
 }
 
 impl PairTest for ViableAt<'_> {
+    ghost use Rattle.std.specs.Prelude.{◌&&◌, nat_lt, length};
     ghost use Rattle.is_rules.specs.Questions.{is_viable_at};
 
-    ghost passes = { λ t p. is_viable_at t.remote.now t.address p };
+    ghost passes = { λ t p. nat_lt p.remote (length t.remote.now) && is_viable_at t.remote.now t.address p };
 
     fn passes(&self, pair: &CandidatePair) -> bool {
-        pair.state() == CheckState::Succeeded
+        pair.remote_idx() < self.remote.len()
+            && pair.state() == CheckState::Succeeded
             && same_address(address_at(self.remote, pair.remote_idx()), self.address)
     }
 }

@@ -5,11 +5,11 @@ ghost use Rattle.std.specs.List.{list_any};
 ghost use Rattle.is_pair.specs.Checklists.{HasRoom};
 ghost use Rattle.is_agent.specs.View.{record_of};
 ghost use Rattle.is_agent.specs.Room.{HasFormingRoom};
-ghost use Rattle.is_rules.specs.Forming.{HasNumbers, FormsAll, remote_combinations};
+ghost use Rattle.is_rules.specs.Forming.{AreIn, HasNumbers, FormsAll, remote_combinations};
 ghost use Rattle.is_rules.specs.Remote.{has_other_ufrag, has_equivalent, is_placeholder, as_remote, place_or_end, is_ignored, StoresAt};
 ghost use Rattle.is_rules.specs.Remote.{JoinsRemote, AddsRemote};
 
-use crate::agent::Agent;
+use crate::agent::{Agent, sides};
 use is_candidate::candidate::internals::component;
 use is_candidate::{Candidate, LocalPreference};
 use is_proto::{IceError, Sha1HmacProvider};
@@ -43,19 +43,14 @@ impl<H: Sha1HmacProvider + Drop, P: LocalPreference> Agent<H, P> {
 
     /// The combinations become pairs, within the reserved capacity, and then the limit is applied.
     pub(crate) fn form(&mut self, all: &[(usize, usize)])
+        requires within { AreIn (length self.old.local.items) (length self.old.remote.items) all.now }
         requires room { HasRoom (length all.now) self.old.pairs }
         requires numbers { HasNumbers self.old.next_number (length all.now) }
         ensures { FormsAll (record_of self.old) all.now (record_of self.new) }
     {
-        let sides = Sides {
-            local: &self.local,
-            remote: &self.remote,
-            controlling: self.controlling,
-            lite: self.lite,
-        };
         form_each(
             *self.packets.allocator(),
-            sides,
+            sides!(self),
             self.max_pairs,
             all,
             &mut self.pairs,
@@ -74,10 +69,12 @@ impl<H: Sha1HmacProvider + Drop, P: LocalPreference> Agent<H, P> {
         if self.is_ignored(&candidate) {
             return Ok(());
         }
-        self.join_remote(as_remote(candidate))
+        let place = self.place_for(&candidate);
+        self.join_remote(candidate, place)
     }
 
-    fn place_for(&self, candidate: &Candidate) -> Option<usize>
+    /// The index of the candidate that this one replaces.
+    pub(crate) fn place_for(&self, candidate: &Candidate) -> Option<usize>
         ensures place { result ≡ position (is_placeholder candidate.now) (record_of self.now).remote }
         ensures within { IfSome result (λ place. place < length self.now.remote.items) }
     {
@@ -88,21 +85,27 @@ impl<H: Sha1HmacProvider + Drop, P: LocalPreference> Agent<H, P> {
     fn take_forming_room(&mut self, pairs: usize) -> Result<(), IceError>
         ensures record { record_of self.new ≡ record_of self.old }
         ensures room { OnOk result (HasFormingRoom pairs self.new) }
-        ensures refused { IsOkUnless result IceError.OutOfMemory }
+        ensures rejected { IsOkUnless result IceError.OutOfMemory }
     {
         self.pairs.reserve(pairs)?;
         self.remote.reserve(1)?;
         Ok(())
     }
 
-    /// Stores the candidate at its index, and forms pairs with it.
-    fn join_remote(&mut self, candidate: Candidate) -> Result<(), IceError>
-        ensures { JoinsRemote (record_of self.old) candidate result (record_of self.new) }
+    /// Stores the candidate at the index, or appends it, and forms pairs with it.
+    pub(crate) fn join_remote(
+        &mut self,
+        candidate: Candidate,
+        place: Option<usize>,
+    ) -> Result<(), IceError>
+        requires place { place ≡ position (is_placeholder candidate) (record_of self.old).remote }
+        requires within { IfSome place (λ place. place < length self.old.remote.items) }
+        ensures { JoinsRemote (record_of self.old) (as_remote candidate) result (record_of self.new) }
     {
+        let candidate = as_remote(candidate);
         if !has_numbers_for(self.next_number, &candidate, &self.local) {
             return Err(IceError::PairIdsExhausted);
         }
-        let place = self.place_for(&candidate);
         let end = place_or_end(place, &self.remote);
         let alloc = *self.remote.allocator();
         let all = remote_combinations(alloc, &candidate, end, &self.local)?;

@@ -1,8 +1,8 @@
 //! ICE restarts (RFC 8445, section 9), and pairs that are formed again; the rules: `is_rules::restarting`.
 
-ghost use Rattle.std.specs.Prelude.{◌≡◌, ◌+◌, ◌↔◌, IsTrue, None, false, IfOk, OnOk};
+ghost use Rattle.std.specs.Prelude.{◌≡◌, ◌+◌, ◌↔◌, IsTrue, None, false, IfOk, OnOk, length};
 ghost use Rattle.is_rules.specs.Fitting.{are_too_long};
-ghost use Rattle.is_rules.specs.Forming.{live_combinations};
+ghost use Rattle.is_rules.specs.Forming.{AreIn, live_combinations};
 ghost use Rattle.is_rules.specs.Kept.{NoneTooHigh};
 ghost use Rattle.is_agent.specs.Room.{HasEventRoom, HasPairRoom};
 ghost use Rattle.is_agent.specs.View.{record_of};
@@ -36,7 +36,8 @@ impl<H: Sha1HmacProvider + Drop, P: LocalPreference> Agent<H, P> {
         Ok(Beginning { local, creds })
     }
 
-    fn take_event_room(&mut self, events: usize) -> Result<(), AllocError>
+    /// Reserves capacity for this many events.
+    pub(crate) fn take_event_room(&mut self, events: usize) -> Result<(), AllocError>
         ensures record { record_of self.new ≡ record_of self.old }
         ensures room { OnOk result (HasEventRoom events self.new) }
     {
@@ -103,7 +104,8 @@ impl<H: Sha1HmacProvider + Drop, P: LocalPreference> Agent<H, P> {
     }
 
     fn live_combinations(&self) -> Result<Vec<(usize, usize)>, AllocError>
-        ensures { IfOk result (λ all. all.items ≡ live_combinations (record_of self.now).local (record_of self.now).remote) }
+        ensures all { IfOk result (λ all. all.items ≡ live_combinations (record_of self.now).local (record_of self.now).remote) }
+        ensures within { IfOk result (λ all. AreIn (length self.now.local.items) (length self.now.remote.items) all.items) }
     {
         live_combinations(*self.local.allocator(), &self.local, &self.remote)
     }

@@ -6,7 +6,7 @@ ghost use Rattle.is_rules.specs.RequestView.{request_view};
 ghost use Rattle.is_agent.specs.Room.{HasServingRoom, UsesNews};
 ghost use Rattle.is_rules.specs.Roles.{conflict_by, conflict_of, rival, switched};
 
-use crate::agent::Agent;
+use crate::agent::{Agent, sides};
 use is_candidate::LocalPreference;
 use is_proto::Sha1HmacProvider;
 use is_rules::request::Request;
@@ -38,12 +38,6 @@ impl<H: Sha1HmacProvider + Drop, P: LocalPreference> Agent<H, P> {
         ensures news { UsesNews 0 self.old self.new }
     {
         self.controlling = !self.controlling;
-        let sides = Sides {
-            local: &self.local,
-            remote: &self.remote,
-            controlling: self.controlling,
-            lite: self.lite,
-        };
-        reprioritize_all(&mut self.pairs, sides);
+        reprioritize_all(&mut self.pairs, sides!(self));
     }
 }

@@ -3,27 +3,27 @@
 //! There is a function for each rule, in the order in which they apply. Each ends in a call of the next one. Choices are made
 //! and capacity is reserved before anything changes; what follows can't fail.
 
-ghost use Rattle.std.specs.Prelude.{◌≡◌, ◌<◌, ◌&&◌, Some, None, true, false, not, length, IfOk, IfErr, OnOk, IsOkUnless};
+ghost use Rattle.std.specs.Prelude.{◌≡◌, ◌<◌, ◌&&◌, Some, None, true, false, not, length, IfOk, IfErr, IfSome, OnOk, IsOkUnless};
 ghost use Rattle.is_candidate.specs.Candidates.{candidate_at};
-ghost use Rattle.is_proto.specs.Moments.{MAX};
+ghost use Rattle.is_proto.specs.Times.{MAX};
 ghost use Rattle.is_proto.specs.declared.error.IceError.TheVariants as errors;
 ghost use Rattle.is_agent.specs.View.{record_of};
 ghost use Rattle.is_rules.specs.RequestView.{request_view};
 ghost use Rattle.is_agent.specs.Room.{HasEventRoom, HasServingRoom, HasPacketRoom, HasNewsRoom, UsesNews};
-ghost use Rattle.is_pair.specs.Bag.{is_valid_at};
+ghost use Rattle.is_pair.specs.Multiset.{is_valid_at};
 ghost use Rattle.is_pair.specs.Checklists.{HasRoom};
 ghost use Rattle.is_rules.specs.Forming.{formed, with_pair};
 ghost use Rattle.is_stun.specs.Checks.{binding_reply};
-ghost use Rattle.is_stun.specs.Laws.{IsPut, LONGEST_REPLY};
+ghost use Rattle.is_stun.specs.Theorems.{IsPut, LONGEST_REPLY};
 ghost use Rattle.is_stun.specs.Writing.{written};
 ghost use Rattle.is_rules.specs.Sending.{carried, with_packet};
 ghost use Rattle.is_rules.specs.Roles.{switched};
-ghost use Rattle.is_agent.specs.Ready.{IsReady};
+ghost use Rattle.is_agent.specs.Ready.{IsPlan, IsReady};
 ghost use Rattle.is_rules.specs.Serving.{names_another, is_misled, is_admitted, sender_at, nominated_last, pair_served, replied, RecordsAndResponds};
 ghost use Rattle.is_rules.specs.Serving.{AddsPairAndResponds, FindsOrAddsPair, AddsUnknownSender, CountsAndServes, SendsRoleConflict, ResolvesRoleConflict, Serves, Chooses};
-ghost use Rattle.is_rules.specs.Serving.{wants_pair_at, wants_pair, lacks_number, MayRefuseRequest};
+ghost use Rattle.is_rules.specs.Serving.{needs_pair_at, needs_pair, lacks_number, MayFailAtRequest};
 
-use crate::agent::Agent;
+use crate::agent::{Agent, sides};
 use is_candidate::candidate::equality::TEMPORARY_FOUNDATION;
 use is_candidate::candidate::making::peer_reflexive;
 use is_candidate::{Candidate, LocalPreference};
@@ -32,12 +32,12 @@ use is_proto::{IceError, Sha1HmacProvider, Text, Transmit};
 use is_rules::emitted::{Emitted, Issued, Path};
 use is_rules::forming::pair_of;
 use is_rules::limit::sender_place;
-use is_rules::pairs::{Standing, is_valid_at, pair_between, serve_pair};
+use is_rules::pairs::{ServingRole, is_valid_at, pair_between, serve_pair};
 use is_rules::places::{RemotePlace, is_discarded_at, local_place, remote_index};
 use is_rules::reply::{REPLY_LEN, write_conflict, write_reply};
 use is_rules::request::Request;
 use is_rules::roles::Conflict;
-use is_rules::serving::{Places, Supplies, is_admitted, is_misled, wants_pair_at};
+use is_rules::serving::{Places, Supplies, is_admitted, is_misled, needs_pair_at};
 use is_rules::sides::Sides;
 use is_stun::stun::Class;
 use std::alloc::AllocError;
@@ -45,22 +45,12 @@ use std::alloc::AllocError;
 // ---- the choices
 
 impl<H: Sha1HmacProvider + Drop, P: LocalPreference> Agent<H, P> {
-    fn names_another(&self, request: &Request<'_>) -> bool
-        ensures { result ≡ names_another (record_of self.now) (request_view request.now) }
-    {
-        match &self.remote_creds {
-            Some(peer) => request.ufrag != peer.ufrag.as_str(),
-            None => true,
-        }
-    }
-
     /// The candidates and the pair at which the request can be served, if a local candidate received it.
-    pub(crate) fn places_of(&self, request: &Request<'_>) -> Option<Places>
-        ensures { Chooses (record_of self.now) (request_view request.now) result }
+    fn places_of(&self, request: &Request<'_>) -> Option<Places>
+        requires { names_another (record_of self.now) (request_view request.now) ≡ false }
+        ensures chosen { Chooses (record_of self.now) (request_view request.now) result }
+        ensures within { IfSome result (λ at. at.local < length self.now.local.items) }
     {
-        if self.names_another(request) {
-            return None;
-        }
         let local = local_place(&self.local, request)?;
         let remote = sender_place(self.max_discovered, &self.remote, &self.pairs, request);
         let pair = pair_between(&self.pairs, local, remote_index(&self.remote, remote));
@@ -72,20 +62,22 @@ impl<H: Sha1HmacProvider + Drop, P: LocalPreference> Agent<H, P> {
     }
 
     /// A pair must be added there, given the role conflict and the role after it.
-    fn wants_pair(&self, request: &Request<'_>, at: Places) -> bool
-        ensures { result ≡ wants_pair (record_of self.now) (request_view request.now) at }
+    fn needs_pair(&self, request: &Request<'_>, at: Places) -> bool
+        requires { at.local < length self.now.local.items }
+        ensures { result ≡ needs_pair (record_of self.now) (request_view request.now) at }
     {
         is_admitted(self.conflict(request), self.controlling, request)
-            && wants_pair_at(at.remote, at.pair, is_discarded_at(&self.local, at.local))
+            && needs_pair_at(at.remote, at.pair, is_discarded_at(&self.local, at.local))
     }
 
     /// A pair must be added, and no number is left.
-    pub(crate) fn lacks_number(&self, request: &Request<'_>, at: Places) -> bool
+    fn lacks_number(&self, request: &Request<'_>, at: Places) -> bool
+        requires { at.local < length self.now.local.items }
         ensures lacks { result ≡ lacks_number (record_of self.now) (request_view request.now) at }
-        ensures left { result ≡ false → wants_pair (record_of self.now) (request_view request.now) at ≡ true
+        ensures left { result ≡ false → needs_pair (record_of self.now) (request_view request.now) at ≡ true
             → self.now.next_number < MAX }
     {
-        self.next_number == u64::MAX && self.wants_pair(request, at)
+        self.next_number == u64::MAX && self.needs_pair(request, at)
     }
 }
 
@@ -96,24 +88,23 @@ impl<H: Sha1HmacProvider + Drop, P: LocalPreference> Agent<H, P> {
     pub(crate) fn take_source_room(&mut self) -> Result<(), IceError>
         ensures record { record_of self.new ≡ record_of self.old }
         ensures room { OnOk result (HasNewsRoom 1 self.new) }
-        ensures refused { IsOkUnless result errors.OutOfMemory }
+        ensures rejected { IsOkUnless result errors.OutOfMemory }
     {
         self.discovered_sources.reserve(1)?;
         self.events.reserve(1)?;
         Ok(())
     }
 
-    /// Reserves capacity for all that serving a request can add.
-    fn take_serving_room(&mut self) -> Result<(), IceError>
+    /// Reserves capacity for all that serving a request can add, and for this many events.
+    pub(crate) fn take_serving_room(&mut self, events: usize) -> Result<(), AllocError>
         ensures record { record_of self.new ≡ record_of self.old }
-        ensures room { OnOk result (HasServingRoom self.new × HasNewsRoom 2 self.new) }
-        ensures refused { IsOkUnless result errors.OutOfMemory }
+        ensures room { OnOk result (HasServingRoom self.new × HasNewsRoom events self.new) }
     {
         self.remote.reserve(1)?;
         self.pairs.reserve(1)?;
         self.packets.reserve(1)?;
         self.discovered_sources.reserve(1)?;
-        self.events.reserve(2)?;
+        self.events.reserve(events)?;
         Ok(())
     }
 
@@ -144,17 +135,30 @@ impl<H: Sha1HmacProvider + Drop, P: LocalPreference> Agent<H, P> {
     }
 
     /// Allocates what serving the request needs.
-    pub(crate) fn supplies_for(
-        &self,
-        request: &Request<'_>,
-        at: Places,
-    ) -> Result<Supplies, AllocError>
+    fn supplies_for(&self, request: &Request<'_>, at: Places) -> Result<Supplies, AllocError>
         ensures reply { IfOk result (λ supplies. length supplies.reply.items ≡ LONGEST_REPLY) }
         ensures sender { IfOk result (λ supplies. supplies.sender ≡ sender_at (record_of self.now) (request_view request.now) at.remote) }
     {
         let sender = self.sender_at(request, at.remote)?;
         let reply = vec![in *self.packets.allocator(); 0; REPLY_LEN]?;
         Ok(Supplies { reply, sender })
+    }
+
+    /// The places at which the request is served, and what that needs; None if no local candidate received it. Numbers are checked before
+    /// memory.
+    pub(crate) fn plan(&self, request: &Request<'_>) -> Result<Option<(Places, Supplies)>, IceError>
+        requires { names_another (record_of self.now) (request_view request.now) ≡ false }
+        ensures planned { IfOk result (IsPlan (record_of self.now) (request_view request.now)) }
+        ensures rejected { IfErr result (MayFailAtRequest (record_of self.now) (request_view request.now)) }
+    {
+        let Some(at) = self.places_of(request) else {
+            return Ok(None);
+        };
+        if self.lacks_number(request, at) {
+            return Err(IceError::PairIdsExhausted);
+        }
+        let supplies = self.supplies_for(request, at)?;
+        Ok(Some((at, supplies)))
     }
 }
 
@@ -221,12 +225,12 @@ impl<H: Sha1HmacProvider + Drop, P: LocalPreference> Agent<H, P> {
         ensures packets { HasPacketRoom self.new }
         ensures news { UsesNews 0 self.old self.new }
     {
-        let standing = Standing {
+        let role = ServingRole {
             controlling: self.controlling,
             lite: self.lite,
         };
         self.last_nominated = self.nominated_last(request, number);
-        serve_pair(&mut self.pairs, number, request, standing);
+        serve_pair(&mut self.pairs, number, request, role);
     }
 
     /// The pair records the request, a controlling agent evaluates nomination if the pair is valid, and the response is sent.
@@ -238,6 +242,8 @@ impl<H: Sha1HmacProvider + Drop, P: LocalPreference> Agent<H, P> {
         number: u64,
         reply: Vec<u8>,
     ) -> Emitted
+        requires local { l < length self.old.local.items }
+        requires remote { r < length self.old.remote.items }
         requires packets { HasPacketRoom self.old }
         requires events { HasEventRoom 1 self.old }
         requires reply { length reply.items ≡ LONGEST_REPLY }
@@ -247,27 +253,26 @@ impl<H: Sha1HmacProvider + Drop, P: LocalPreference> Agent<H, P> {
         let path = self.path_between(l, r);
         let evaluates = self.evaluates_at(number);
         self.serve_pair(request, number);
-        let announced = self.nominate_where(evaluates);
+        let selected_paths = self.nominate_where(evaluates);
         self.reply(request, path, reply);
         let issued = Issued::new(path, Class::Success, request.id);
-        Emitted::by(Some(issued), announced, None)
+        Emitted::by(Some(issued), selected_paths, None)
     }
 
     /// The pair of the two candidates, with the next number.
     fn formed(&self, l: usize, r: usize) -> CandidatePair
+        requires local { l < length self.now.local.items }
+        requires remote { r < length self.now.remote.items }
         ensures { result ≡ formed (record_of self.now) l r }
     {
-        let sides = Sides {
-            local: &self.local,
-            remote: &self.remote,
-            controlling: self.controlling,
-            lite: self.lite,
-        };
-        pair_of(*self.packets.allocator(), sides, (l, r), self.next_number)
+        let alloc = *self.packets.allocator();
+        pair_of(alloc, sides!(self), (l, r), self.next_number)
     }
 
     /// Adds this pair, without limit or redundancy check.
     fn add_pair(&mut self, l: usize, r: usize)
+        requires local { l < length self.old.local.items }
+        requires remote { r < length self.old.remote.items }
         requires pairs { HasRoom 1 self.old.pairs }
         requires packets { HasPacketRoom self.old }
         requires number { self.old.next_number < MAX }
@@ -288,6 +293,8 @@ impl<H: Sha1HmacProvider + Drop, P: LocalPreference> Agent<H, P> {
         r: usize,
         reply: Vec<u8>,
     ) -> Emitted
+        requires local { l < length self.old.local.items }
+        requires remote { r < length self.old.remote.items }
         requires pairs { HasRoom 1 self.old.pairs }
         requires packets { HasPacketRoom self.old }
         requires events { HasEventRoom 1 self.old }
@@ -311,6 +318,8 @@ impl<H: Sha1HmacProvider + Drop, P: LocalPreference> Agent<H, P> {
         pair: Option<u64>,
         reply: Vec<u8>,
     ) -> Emitted
+        requires local { l < length self.old.local.items }
+        requires remote { r < length self.old.remote.items }
         requires pairs { HasRoom 1 self.old.pairs }
         requires packets { HasPacketRoom self.old }
         requires events { HasEventRoom 1 self.old }
@@ -339,7 +348,7 @@ impl<H: Sha1HmacProvider + Drop, P: LocalPreference> Agent<H, P> {
         at: Places,
         supplies: Supplies,
     ) -> Emitted
-        requires { IsReady (wants_pair_at at.remote at.pair (candidate_at self.old.local.items at.local).discarded) self.old
+        requires { IsReady (needs_pair_at at.remote at.pair (candidate_at self.old.local.items at.local).discarded) self.old
             (request_view request.now) at supplies }
         ensures served { AddsUnknownSender H.mac (request_view request.now) at.local at.remote (record_of self.old) result (record_of self.new) }
         ensures news { UsesNews 1 self.old self.new }
@@ -365,7 +374,7 @@ impl<H: Sha1HmacProvider + Drop, P: LocalPreference> Agent<H, P> {
     /// A request with USE-CANDIDATE is dropped while controlling, since only the controlling agent nominates (RFC 8445, section
     /// 8.1.1). Any other request counts and is served.
     fn count_and_serve(&mut self, request: &Request<'_>, at: Places, supplies: Supplies) -> Emitted
-        requires { IsReady (not (is_misled self.old.controlling (request_view request.now)) && wants_pair_at at.remote at.pair
+        requires { IsReady (not (is_misled self.old.controlling (request_view request.now)) && needs_pair_at at.remote at.pair
             (candidate_at self.old.local.items at.local).discarded) self.old (request_view request.now) at supplies }
         ensures served { CountsAndServes H.mac (request_view request.now) at.local (record_of self.old) result (record_of self.new) }
         ensures news { UsesNews 1 self.old self.new }
@@ -399,7 +408,7 @@ impl<H: Sha1HmacProvider + Drop, P: LocalPreference> Agent<H, P> {
         at: Places,
         supplies: Supplies,
     ) -> Emitted
-        requires { IsReady (not (is_misled (not self.old.controlling) (request_view request.now)) && wants_pair_at at.remote at.pair
+        requires { IsReady (not (is_misled (not self.old.controlling) (request_view request.now)) && needs_pair_at at.remote at.pair
             (candidate_at self.old.local.items at.local).discarded) self.old (request_view request.now) at supplies }
         ensures served { CountsAndServes H.mac (request_view request.now) at.local (switched (record_of self.old)) result (record_of self.new) }
         ensures news { UsesNews 1 self.old self.new }
@@ -415,34 +424,31 @@ impl<H: Sha1HmacProvider + Drop, P: LocalPreference> Agent<H, P> {
         at: Places,
         supplies: Supplies,
     ) -> Emitted
-        requires { IsReady (wants_pair (record_of self.old) (request_view request.now) at) self.old (request_view request.now) at supplies }
+        requires { IsReady (needs_pair (record_of self.old) (request_view request.now) at) self.old (request_view request.now) at supplies }
         ensures served { ResolvesRoleConflict H.mac (request_view request.now) at.local (record_of self.old) result (record_of self.new) }
         ensures news { UsesNews 1 self.old self.new }
     {
         match self.conflict(request) {
             Conflict::Absent => self.count_and_serve(request, at, supplies),
-            Conflict::Insists => self.send_role_conflict(request, supplies),
-            Conflict::Yields => self.switch_role_and_serve(request, at, supplies),
+            Conflict::Send487 => self.send_role_conflict(request, supplies),
+            Conflict::SwitchRole => self.switch_role_and_serve(request, at, supplies),
         }
     }
 
     /// Serves a request (RFC 8445, section 7.3), or drops it, and returns what was emitted. Numbers are checked before
     /// memory.
     pub(crate) fn serve(&mut self, request: &Request<'_>) -> Result<Emitted, IceError>
+        requires { names_another (record_of self.old) (request_view request.now) ≡ false }
         ensures served { IfOk result (λ emitted. Serves H.mac (request_view request.now) (record_of self.old) emitted (record_of self.new)) }
         ensures room { OnOk result (HasNewsRoom 1 self.new) }
-        ensures refused { IfErr result (λ error. MayRefuseRequest (record_of self.old) (request_view request.now) error
+        ensures rejected { IfErr result (λ error. MayFailAtRequest (record_of self.old) (request_view request.now) error
             × (record_of self.new ≡ record_of self.old)) }
     {
-        let Some(at) = self.places_of(request) else {
+        let Some((at, supplies)) = self.plan(request)? else {
             self.take_source_room()?;
             return Ok(Emitted::nothing());
         };
-        if self.lacks_number(request, at) {
-            return Err(IceError::PairIdsExhausted);
-        }
-        let supplies = self.supplies_for(request, at)?;
-        self.take_serving_room()?;
+        self.take_serving_room(2)?;
         Ok(self.resolve_role_conflict(request, at, supplies))
     }
 }

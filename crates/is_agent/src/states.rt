@@ -1,15 +1,15 @@
 //! The connection state of an agent, and when it changes; the rules: `is_rules::states`.
 
-ghost use Rattle.std.specs.Prelude.{◌≡◌, ◌<◌, ◌+◌};
+ghost use Rattle.std.specs.Prelude.{◌≡◌, ℕ, ◌<◌, ◌+◌};
 ghost use Rattle.is_agent.specs.View.{record_of};
 ghost use Rattle.is_rules.specs.States.{next_state, has_nominated, has_possible, evaluated};
-ghost use Rattle.is_agent.specs.Room.{HasEventRoom, UsesNews};
+ghost use Rattle.is_agent.specs.Room.{HasEventRoom, HasServingRoom, HasCheckRoomAt, UsesNews};
 
 use crate::agent::Agent;
 use is_candidate::LocalPreference;
 use is_proto::{Instant, Sha1HmacProvider};
 use is_rules::event::IceConnectionState;
-use is_rules::states::{PossibleBeside, Selected, emit_state, next_state};
+use is_rules::states::{OtherPossible, Selected, emit_state, next_state};
 
 impl<H: Sha1HmacProvider + Drop, P: LocalPreference> Agent<H, P> {
     fn has_nominated(&self) -> bool
@@ -22,7 +22,7 @@ impl<H: Sha1HmacProvider + Drop, P: LocalPreference> Agent<H, P> {
         ensures { result ≡ has_possible now.0 (record_of self.now) }
     {
         let timing = &self.timing;
-        self.pairs.any(&PossibleBeside { now, timing })
+        self.pairs.any(&OtherPossible { now, timing })
             || self.local.is_empty()
             || self.remote.is_empty()
     }
@@ -44,7 +44,9 @@ impl<H: Sha1HmacProvider + Drop, P: LocalPreference> Agent<H, P> {
     pub(crate) fn evaluate_state(&mut self, now: Instant)
         requires room { HasEventRoom 1 self.old }
         ensures evaluated { record_of self.new ≡ evaluated now.0 (record_of self.old) }
+        ensures serving { HasServingRoom self.old → HasServingRoom self.new }
         ensures news { UsesNews 1 self.old self.new }
+        ensures checks { (t : ℕ) → HasCheckRoomAt t self.old → HasCheckRoomAt t self.new }
     {
         let state = self.state_at(now);
         emit_state(&mut self.state, &mut self.events, state);

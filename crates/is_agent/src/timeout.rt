@@ -2,38 +2,38 @@
 //!
 //! Capacity for all of it is reserved before the agent changes; what follows can't fail.
 
-ghost use Rattle.std.specs.Prelude.{◌≡◌, ℕ, Option, Some, true, IfOk, IfSome, option_map, None, IfErr, OnOk, MatchOption};
+ghost use Rattle.std.specs.Prelude.{◌≡◌, ℕ, Option, Some, true, IfSome, IsSome, option_map, None, IfErr, OnOk, MatchOption};
 ghost use Rattle.std.specs.List.{list_any};
-ghost use Rattle.is_stun.specs.Laws.{IsPut};
+ghost use Rattle.is_stun.specs.Theorems.{IsPut};
 ghost use Rattle.is_stun.specs.Writing.{written};
 ghost use Rattle.is_stun.specs.declared.header.Class.TheVariants as classes;
 ghost use Rattle.is_rules.specs.declared.credentials.IceCreds as model;
 ghost use Rattle.is_agent.specs.View.{record_of, emitted_of};
 ghost use Rattle.is_agent.specs.Room.{HasPacketRoom, HasEventRoom, HasCheckRoom, HasCheckRoomAt, IsPrepared, UsesEvents};
 ghost use Rattle.is_rules.specs.Checking.{check_message, ChecksPair, ChecksNext, MayCheck};
-ghost use Rattle.is_pair.specs.Bag.{has_number, pair_numbered, rises};
+ghost use Rattle.is_pair.specs.Multiset.{has_number, pair_numbered, rises};
 ghost use Rattle.is_pair.specs.Due.{is_due, IsNextDue};
 ghost use Rattle.is_rules.specs.Agent.{AgentRecord};
 ghost use Rattle.is_rules.specs.Due.{may_fall_due, Drafts, check_counted};
 ghost use Rattle.is_rules.specs.Nominating.{Nominates};
 ghost use Rattle.is_pair.specs.Pairs.{PairRecord};
-ghost use Rattle.is_rules.specs.Queue.{request_at, queue_cleared};
+ghost use Rattle.is_rules.specs.Queue.{request_at};
 ghost use Rattle.is_rules.specs.Sending.{with_packet};
 ghost use Rattle.is_rules.specs.States.{evaluated};
 ghost use Rattle.is_rules.specs.Emitted.{issued_as, emitted_by};
 ghost use Rattle.is_rules.specs.declared.emitted.Issued.{Issued};
 ghost use Rattle.is_rules.specs.declared.emitted.Path.{Path};
-ghost use Rattle.is_rules.specs.Timeouts.{timeout_begun, is_given_up, given_up_gone, GivesUp, MayRefuseMoment, ServesQueued, MaintainsPairs, TimesOut};
+ghost use Rattle.is_rules.specs.TimeoutStart.{outdated};
+ghost use Rattle.is_rules.specs.Timeouts.{timeout_begun, is_expired, expired_gone, RemovesExpired, MayFailAtTimeout, ServesQueued, MaintainsPairs, TimesOut};
 
 use crate::agent::Agent;
 use crate::settings::MTU_FLOOR;
 use is_candidate::LocalPreference;
-use is_pair::checklist::GivenUp;
+use is_pair::checklist::Expired;
 use is_proto::{IceError, Instant, Sha1HmacProvider, Transmit};
 use is_rules::checking::{Draft, write_username};
 use is_rules::emitted::{Emitted, Issued, Path};
-use is_rules::event::IceConnectionState;
-use is_rules::states::{emit_state, same_state};
+use is_rules::queue::count_outdated;
 use is_rules::timeout::FallsDue;
 use is_stun::stun::{Class, TransId};
 use rand_core::Rng;
@@ -42,65 +42,56 @@ use std::alloc::AllocError;
 // ---- pairs that are removed after timeout
 
 impl<H: Sha1HmacProvider + Drop, P: LocalPreference> Agent<H, P> {
-    fn any_given_up(&self, now: Instant) -> bool
-        ensures { result ≡ list_any (is_given_up now.0 (record_of self.now)) (record_of self.now).pairs }
+    fn any_expired(&self, now: Instant) -> bool
+        ensures { result ≡ list_any (is_expired now.0 (record_of self.now)) (record_of self.now).pairs }
     {
-        self.pairs.any(&GivenUp {
+        self.pairs.any(&Expired {
             lite: self.lite,
             now,
             timing: &self.timing,
         })
     }
 
-    fn drop_given_up(&mut self, now: Instant)
-        ensures gone { record_of self.new ≡ given_up_gone now.0 (record_of self.old) }
+    fn drop_expired(&mut self, now: Instant)
+        ensures gone { record_of self.new ≡ expired_gone now.0 (record_of self.old) }
         ensures events { UsesEvents 0 self.old self.new }
         ensures checks { (t : ℕ) → HasCheckRoomAt t self.old → HasCheckRoomAt t self.new }
     {
-        self.pairs.remove_where(&GivenUp {
+        self.pairs.remove_where(&Expired {
             lite: self.lite,
             now,
             timing: &self.timing,
         });
     }
 
-    fn evaluate_at(&mut self, now: Instant)
-        requires room { HasEventRoom 1 self.old }
-        ensures evaluated { record_of self.new ≡ evaluated now.0 (record_of self.old) }
-        ensures checks { (t : ℕ) → HasCheckRoomAt t self.old → HasCheckRoomAt t self.new }
-    {
-        let state = self.state_at(now);
-        emit_state(&mut self.state, &mut self.events, state);
-    }
-
     /// Removes the pairs that failed, and evaluates nomination and state. It is a separate function, so that calls that
     /// remove no pair do not pay for it.
     #[inline(never)]
-    fn give_up_and_emit(&mut self, first: Option<Path>, now: Instant)
+    fn remove_expired_and_emit(&mut self, first: Option<Path>, now: Instant)
         requires room { HasEventRoom 2 self.old }
-        ensures given_up { (second : Option Path) × (mid : AgentRecord H P) × Nominates (given_up_gone now.0 (record_of self.old)) second mid
+        ensures expired { (second : Option Path) × (mid : AgentRecord H P) × Nominates (expired_gone now.0 (record_of self.old)) second mid
             × (record_of self.new ≡ evaluated now.0 mid) × (emitted_of self.new ≡ emitted_by None first second) }
         ensures checks { (t : ℕ) → HasCheckRoomAt t self.old → HasCheckRoomAt t self.new }
     {
-        self.drop_given_up(now);
+        self.drop_expired(now);
         let second = self.evaluate_nomination();
-        self.evaluate_at(now);
+        self.evaluate_state(now);
         self.emitted = Emitted::by(None, first, second);
     }
 
     /// Removes the pairs that are no longer possible. If there is one, nomination and state are evaluated. A path that this
     /// selects is emitted after the path that was selected before.
-    fn give_up(&mut self, first: Option<Path>, now: Instant)
+    fn remove_expired(&mut self, first: Option<Path>, now: Instant)
         requires room { HasEventRoom 2 self.old }
-        ensures given_up { (second : Option Path) × GivesUp now.0 (record_of self.old) second (record_of self.new)
+        ensures expired { (second : Option Path) × RemovesExpired now.0 (record_of self.old) second (record_of self.new)
             × (emitted_of self.new ≡ emitted_by None first second) }
         ensures checks { (t : ℕ) → HasCheckRoomAt t self.old → HasCheckRoomAt t self.new }
     {
-        if !self.any_given_up(now) {
-            self.emitted = Emitted::announced_only(first);
+        if !self.any_expired(now) {
+            self.emitted = Emitted::selected_only(first);
             return;
         }
-        self.give_up_and_emit(first, now);
+        self.remove_expired_and_emit(first, now);
     }
 }
 
@@ -297,77 +288,53 @@ impl<H: Sha1HmacProvider + Drop, P: LocalPreference> Agent<H, P> {
         requires checks { HasCheckRoomAt now.0 self.old }
         ensures { MaintainsPairs H.mac now.0 (record_of self.old) (R.stream rng.old) (emitted_of self.new) (record_of self.new) (R.stream rng.new) }
     {
-        self.last_moment = Some(now);
+        self.last_time = Some(now);
         let first = self.evaluate_nomination();
-        self.give_up(first, now);
+        self.remove_expired(first, now);
         self.may_check(now, rng);
     }
 
-    /// Updates the state and the early requests, then the pairs, within the reserved capacity. `IceRestart` was emitted
-    /// before.
-    fn update_and_maintain_pairs<R: Rng>(&mut self, now: Instant, rng: &mut R)
-        requires events { HasEventRoom 4 self.old }
-        requires checks { HasCheckRoomAt now.0 self.old }
-        ensures { MaintainsPairs H.mac now.0 (queue_cleared now.0 (evaluated now.0 (record_of self.old))) (R.stream rng.old) (emitted_of self.new)
-            (record_of self.new) (R.stream rng.new) }
-    {
-        self.update_state_and_queue(now);
-        self.maintain_pairs(now, rng);
-    }
-
-    /// The first `handle_timeout` call, if it serves no request: `IceRestart` is emitted first.
-    #[inline(never)]
-    fn run_first_timeout<R: Rng>(&mut self, now: Instant, rng: &mut R) -> Result<(), AllocError>
+    /// A `handle_timeout` call that serves no request. This many early requests are outdated.
+    fn run_timeout_without_request<R: Rng>(
+        &mut self,
+        now: Instant,
+        expired: usize,
+        rng: &mut R,
+    ) -> Result<(), AllocError>
+        requires { expired ≡ outdated now.0 self.old.timing self.old.remote_creds (record_of self.old) }
         ensures advanced { OnOk result (MaintainsPairs H.mac now.0 (timeout_begun now.0 (record_of self.old)) (R.stream rng.old) (emitted_of self.new)
             (record_of self.new) (R.stream rng.new)) }
         ensures unchanged { IfErr result (λ _. (record_of self.new ≡ record_of self.old) × (R.stream rng.new ≡ R.stream rng.old)) }
     {
         let start = self.start_event()?;
         self.take_round_room(now)?;
-        self.emit_start(start);
-        self.update_and_maintain_pairs(now, rng);
+        self.begin_timeout(now, start, expired);
+        self.maintain_pairs(now, rng);
         Ok(())
     }
 
-    /// A `handle_timeout` call that serves no request.
-    fn run_timeout_without_request<R: Rng>(
-        &mut self,
-        now: Instant,
-        rng: &mut R,
-    ) -> Result<(), AllocError>
-        ensures advanced { OnOk result (MaintainsPairs H.mac now.0 (timeout_begun now.0 (record_of self.old)) (R.stream rng.old) (emitted_of self.new)
-            (record_of self.new) (R.stream rng.new)) }
-        ensures unchanged { IfErr result (λ _. (record_of self.new ≡ record_of self.old) × (R.stream rng.new ≡ R.stream rng.old)) }
-    {
-        if same_state(self.state, IceConnectionState::New) {
-            return self.run_first_timeout(now, rng);
-        }
-        self.take_round_room(now)?;
-        self.update_and_maintain_pairs(now, rng);
-        Ok(())
-    }
-
-    /// The first early request is served, if there is one; else the call does its work without one.
+    /// The first early request that is not outdated is served, if there is one; else the call does its work without one.
     #[inline(never)]
     fn run_timeout_with_requests<R: Rng>(
         &mut self,
         now: Instant,
         rng: &mut R,
     ) -> Result<(), IceError>
+        requires { IsSome self.old.remote_creds }
         ensures passed { OnOk result (MatchOption (request_at now.0 (record_of self.old))
             (MaintainsPairs H.mac now.0 (timeout_begun now.0 (record_of self.old)) (R.stream rng.old) (emitted_of self.new) (record_of self.new) (R.stream rng.new))
             (λ q. ServesQueued H.mac q (timeout_begun now.0 (record_of self.old)) (R.stream rng.old) (emitted_of self.new) (record_of self.new)
             (R.stream rng.new))) }
-        ensures refused { IfErr result (λ error. MayRefuseMoment now.0 (record_of self.old) error) }
+        ensures rejected { IfErr result (λ error. MayFailAtTimeout now.0 (record_of self.old) error) }
         ensures unchanged { IfErr result (λ _. (record_of self.new ≡ record_of self.old) × (R.stream rng.new ≡ R.stream rng.old)) }
     {
-        match self.early_request(now)? {
-            Some(waiting) => {
-                self.emitted = self.serve_waiting(now, &waiting)?;
-                Ok(())
-            }
-            None => Ok(self.run_timeout_without_request(now, rng)?),
+        let expired = count_outdated(&self.queue, now, &self.timing);
+        if expired < self.queue.len() {
+            let plan = self.plan_early(expired)?;
+            self.emitted = self.serve_early_request(now, expired, plan)?;
+            return Ok(());
         }
+        Ok(self.run_timeout_without_request(now, expired, rng)?)
     }
 
     /// The same. Mostly the queue is empty.
@@ -376,13 +343,13 @@ impl<H: Sha1HmacProvider + Drop, P: LocalPreference> Agent<H, P> {
             (MaintainsPairs H.mac now.0 (timeout_begun now.0 (record_of self.old)) (R.stream rng.old) (emitted_of self.new) (record_of self.new) (R.stream rng.new))
             (λ q. ServesQueued H.mac q (timeout_begun now.0 (record_of self.old)) (R.stream rng.old) (emitted_of self.new) (record_of self.new)
             (R.stream rng.new))) }
-        ensures refused { IfErr result (λ error. MayRefuseMoment now.0 (record_of self.old) error) }
+        ensures rejected { IfErr result (λ error. MayFailAtTimeout now.0 (record_of self.old) error) }
         ensures unchanged { IfErr result (λ _. (record_of self.new ≡ record_of self.old) × (R.stream rng.new ≡ R.stream rng.old)) }
     {
-        if !self.queue.is_empty() {
-            return self.run_timeout_with_requests(now, rng);
+        if self.queue.is_empty() || self.remote_creds.is_none() {
+            return Ok(self.run_timeout_without_request(now, 0, rng)?);
         }
-        Ok(self.run_timeout_without_request(now, rng)?)
+        self.run_timeout_with_requests(now, rng)
     }
 
     /// Runs the agent's timers at time `now`. In New it first emits the start event. It evaluates the state. It serves an

@@ -10,14 +10,14 @@ use Rattle.is_c.specs.Held.{Held, HomeRecord}
 use Rattle.is_c.specs.Packets.{Mac}
 
 -- OK exactly if the bytes encode a message of which P holds, UNPARSED exactly if they encode none
-abbrev pub AnswersWhether : (Message → Type 0) → List ℕ → ℤ → Type 0
-AnswersWhether P bytes code =
+abbrev pub ReturnsWhether : (Message → Type 0) → List ℕ → ℤ → Type 0
+ReturnsWhether P bytes code =
     ((e : StunError) × FailsBy bytes e × (code ≡ UNPARSED))
     ⊎ ((m : Message) × Reads bytes m × ((yes : Bool) × (IsTrue yes ↔ P m) × (code ≡ found_code yes)))
 
 abbrev pub AsksOn : Mac → Held → Option Path → List ℕ → ℤ → Type 0
 AsksOn mac a None bytes code = code ≡ BAD_ADDRESS
-AsksOn mac a (Some path) bytes code = AnswersWhether (IsAcceptedOn mac a path) bytes code
+AsksOn mac a (Some path) bytes code = ReturnsWhether (IsAcceptedOn mac a path) bytes code
 
 -- `is_ice_accepts_packet`
 abbrev pub AsksWay : Mac → Option Path → List ℕ → HomeRecord → ℤ → HomeRecord → Type 0
@@ -25,4 +25,4 @@ AsksWay mac path bytes old code new = AsksOn mac old.agent path bytes code × (n
 
 -- `is_ice_accepts_message`
 abbrev pub AsksMessage : Mac → List ℕ → HomeRecord → ℤ → HomeRecord → Type 0
-AsksMessage mac bytes old code new = AnswersWhether (IsAccepted mac old.agent) bytes code × (new ≡ old)
+AsksMessage mac bytes old code new = ReturnsWhether (IsAccepted mac old.agent) bytes code × (new ≡ old)

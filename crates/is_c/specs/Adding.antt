@@ -1,6 +1,6 @@
 -- Candidates that C adds: each with the index at which it is listed.
 use Rattle.std.specs.Prelude.{◌≡◌, ℕ, List, Some, None, Result, Ok, Err, ℤ}
-use Rattle.is_proto.specs.Moments.{MAX}
+use Rattle.is_proto.specs.Times.{MAX}
 use Rattle.is_proto.specs.declared.error.IceError.{IceError}
 use Rattle.is_candidate.specs.Candidates.{CandidateRecord}
 use Rattle.is_agent.specs.Added.{AddsLocalListed, AddsRemoteListed}
@@ -9,7 +9,7 @@ use Rattle.is_agent.specs.declared.added.Addition.TheVariants.{Added, Known, Ign
 use Rattle.is_c.specs.declared.candidate.LocalCandidate.{LocalCandidate}
 use Rattle.is_c.specs.Candidates.{Made, MakesCandidate, ReadsBytes}
 use Rattle.is_c.specs.Codes.{OK, NOTHING, BAD_ADDRESS, NOT_UTF8, code_of}
-use Rattle.is_c.specs.Held.{Held, HomeRecord, Refuses}
+use Rattle.is_c.specs.Held.{Held, HomeRecord, Rejects}
 use Rattle.is_c.specs.Preferences.{answers}
 
 -- what the index is if no listed candidate is meant
@@ -26,8 +26,8 @@ PutsAddition (Err e) before code after = (code ≡ code_of e) × (after ≡ befo
 -- the library's call, if there is a candidate
 abbrev pub AddsMade : (Held → CandidateRecord → Result Addition IceError → Held → Type 0) → ℤ → Made → ℕ → ℕ
     → HomeRecord → ℤ → HomeRecord → Type 0
-AddsMade Does why None before after old code new = Refuses why old code new × (after ≡ before)
-AddsMade Does why (Some (Err e)) before after old code new = Refuses (code_of e) old code new × (after ≡ before)
+AddsMade Does why None before after old code new = Rejects why old code new × (after ≡ before)
+AddsMade Does why (Some (Err e)) before after old code new = Rejects (code_of e) old code new × (after ≡ before)
 AddsMade Does why (Some (Ok c)) before after old code new =
     (r : Result Addition IceError) × Does old.agent c r new.agent × PutsAddition r before code after × (new.waiting ≡ old.waiting)
 

@@ -29,11 +29,11 @@ IsEvent (NominatedSend proto source destination) before after =
     × (protocol_of after.protocol ≡ Some proto) × (socket_of after.source ≡ Some source)
     × (socket_of after.destination ≡ Some destination)
 
-abbrev pub TellsOf : Option IceAgentEvent → Event → Event → ℤ → Type 0
-TellsOf None before after code = (code ≡ NOTHING) × (after ≡ before)
-TellsOf (Some e) before after code = (code ≡ OK) × IsEvent e before after
+abbrev pub ReturnsOf : Option IceAgentEvent → Event → Event → ℤ → Type 0
+ReturnsOf None before after code = (code ≡ NOTHING) × (after ≡ before)
+ReturnsOf (Some e) before after code = (code ≡ OK) × IsEvent e before after
 
 -- `is_ice_poll_event`
-abbrev pub TellsEvent : Event → Event → HomeRecord → ℤ → HomeRecord → Type 0
-TellsEvent before after old code new =
-    (given : Option IceAgentEvent) × PollsEvent old.agent given new.agent × TellsOf given before after code × (new.waiting ≡ old.waiting)
+abbrev pub ReturnsEvent : Event → Event → HomeRecord → ℤ → HomeRecord → Type 0
+ReturnsEvent before after old code new =
+    (given : Option IceAgentEvent) × PollsEvent old.agent given new.agent × ReturnsOf given before after code × (new.waiting ≡ old.waiting)

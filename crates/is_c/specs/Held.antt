@@ -30,8 +30,8 @@ At Does (Some old) code None = ⊥
 At Does (Some old) code (Some new) = Does old code new
 
 -- a call that always succeeds
-abbrev pub Becomes : (Held → Held) → HomeRecord → ℤ → HomeRecord → Type 0
-Becomes change old code new = (code ≡ OK) × (new ≡ record old { agent = change old.agent })
+abbrev pub AgentBecomes : (Held → Held) → HomeRecord → ℤ → HomeRecord → Type 0
+AgentBecomes change old code new = (code ≡ OK) × (new ≡ record old { agent = change old.agent })
 
 -- a call of the library, whose result the code contains
 abbrev pub Calls : {R : Type 0} → (Held → R → Held → Type 0) → (R → ℤ) → HomeRecord → ℤ → HomeRecord → Type 0
@@ -39,5 +39,5 @@ Calls {R} Does to_code old code new =
     (r : R) × Does old.agent r new.agent × (code ≡ to_code r) × (new.waiting ≡ old.waiting)
 
 -- a call that fails before the library is called
-abbrev pub Refuses : ℤ → HomeRecord → ℤ → HomeRecord → Type 0
-Refuses why old code new = (code ≡ why) × (new ≡ old)
+abbrev pub Rejects : ℤ → HomeRecord → ℤ → HomeRecord → Type 0
+Rejects why old code new = (code ≡ why) × (new ≡ old)

@@ -7,7 +7,7 @@ use Rattle.is_candidate.specs.Infos.{info_of, ReadsInfoText}
 use Rattle.is_c.specs.Candidates.{Made, ReadsBytes}
 use Rattle.is_c.specs.Codes.{NOT_UTF8, OUT_OF_MEMORY, code_of}
 use Rattle.is_c.specs.Lines.{PutsMade}
-use Rattle.is_c.specs.Refusals.{TellsWhy}
+use Rattle.is_c.specs.Rejections.{ReturnsWhy}
 use Rattle.is_c.specs.Texts.{Puts, PutsNone}
 
 -- the candidate of a JSON text, if the bytes are UTF-8
@@ -25,15 +25,15 @@ PutsInfoMade (Some (Err e)) before was code after count = PutsNone (code_of e) b
 PutsInfoMade (Some (Ok c)) before was code after count = PutsInfo c before was code after count
 
 -- `is_ice_line_to_json`
-abbrev pub TellsInfo : List ℕ → List ℕ → ℕ → ℤ → List ℕ → ℕ → Type 0
-TellsInfo line before was code after count = (made : Made) × ReadsBytes line made × PutsInfoMade made before was code after count
+abbrev pub ReturnsInfo : List ℕ → List ℕ → ℕ → ℤ → List ℕ → ℕ → Type 0
+ReturnsInfo line before was code after count = (made : Made) × ReadsBytes line made × PutsInfoMade made before was code after count
 
 -- `is_ice_line_from_json`
-abbrev pub TellsLineOf : List ℕ → List ℕ → ℕ → ℤ → List ℕ → ℕ → Type 0
-TellsLineOf json before was code after count =
+abbrev pub ReturnsLineOf : List ℕ → List ℕ → ℕ → ℤ → List ℕ → ℕ → Type 0
+ReturnsLineOf json before was code after count =
     (made : Made) × ReadsInfoBytes json made × PutsMade NOT_UTF8 made before was code after count
 
 -- `is_ice_json_refusal`
-abbrev pub TellsOfInfo : List ℕ → List ℕ → ℕ → ℤ → List ℕ → ℕ → Type 0
-TellsOfInfo json before was code after count =
-    (made : Made) × ReadsInfoBytes json made × TellsWhy NOT_UTF8 made before was code after count
+abbrev pub ReturnsOfInfo : List ℕ → List ℕ → ℕ → ℤ → List ℕ → ℕ → Type 0
+ReturnsOfInfo json before was code after count =
+    (made : Made) × ReadsInfoBytes json made × ReturnsWhy NOT_UTF8 made before was code after count

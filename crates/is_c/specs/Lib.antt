@@ -7,10 +7,11 @@ pub mod Texts
 pub mod Preferences
 pub mod Candidates
 pub mod Held
+pub mod Borrowing
 pub mod Limits
 pub mod Given
 pub mod Adding
-pub mod Refusals
+pub mod Rejections
 pub mod Credentials
 pub mod Making
 pub mod Packets

@@ -20,8 +20,8 @@ PutsMade why (Some (Err e)) before was code after count = PutsNone (code_of e) b
 PutsMade why (Some (Ok c)) before was code after count = PutsLine (Some c) before was code after count
 
 -- `is_ice_candidate_line`
-abbrev pub TellsGiven : LocalCandidate → List ℕ → ℕ → ℤ → List ℕ → ℕ → Type 0
-TellsGiven c before was code after count =
+abbrev pub ReturnsGiven : LocalCandidate → List ℕ → ℕ → ℤ → List ℕ → ℕ → Type 0
+ReturnsGiven c before was code after count =
     (made : Made) × MakesCandidate c made × PutsMade BAD_ADDRESS made before was code after count
 
 -- the candidate with this username fragment
@@ -40,8 +40,8 @@ NamesBytes line ufrag made =
     (λ r. (read : Result CandidateRecord IceError) × ReadsLine line read × NamesRead ufrag read r)
 
 -- `is_ice_line_with_ufrag`
-abbrev pub TellsNamed : List ℕ → List ℕ → List ℕ → ℕ → ℤ → List ℕ → ℕ → Type 0
-TellsNamed line ufrag before was code after count =
+abbrev pub ReturnsNamed : List ℕ → List ℕ → List ℕ → ℕ → ℤ → List ℕ → ℕ → Type 0
+ReturnsNamed line ufrag before was code after count =
     (made : Made) × NamesBytes line ufrag made × PutsMade NOT_UTF8 made before was code after count
 
 -- the default local preference of a candidate after so many of its kind and IP version

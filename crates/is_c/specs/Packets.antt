@@ -22,7 +22,7 @@ use Rattle.is_c.specs.declared.packets.Packet.{Packet}
 use Rattle.is_c.specs.Addresses.{socket_of, protocol_of}
 use Rattle.is_c.specs.Codes.{OK, NOTHING, BAD_ADDRESS, UNPARSED, BUFFER_TOO_SHORT, TOO_FEW_RANDOM_BYTES, done_code, flag_code}
 use Rattle.is_c.specs.Credentials.{MakesCreds}
-use Rattle.is_c.specs.Held.{Held, HomeRecord, Refuses}
+use Rattle.is_c.specs.Held.{Held, HomeRecord, Rejects}
 use Rattle.is_c.specs.Random.{given_steps}
 use Rattle.is_c.specs.Texts.{with_front}
 
@@ -46,14 +46,14 @@ Accepts mac a path bytes = (m : Message) × Reads bytes m × IsAcceptedOn mac a 
 -- bytes that encode no message change nothing; those that do are a transition of the agent
 abbrev pub TakesBytes : Mac → ℕ → Path → List ℕ → HomeRecord → ℤ → HomeRecord → Type 0
 TakesBytes mac now path bytes old code new =
-    ((e : StunError) × FailsBy bytes e × Refuses UNPARSED old code new)
+    ((e : StunError) × FailsBy bytes e × Rejects UNPARSED old code new)
     ⊎ ((m : Message) × Reads bytes m × ((r : Result Bool IceError) × ((emitted : Emitted)
     × HandlesPacket mac now old.agent path m r emitted new.agent × (code ≡ flag_code r) × (new.waiting ≡ old.waiting))))
 
 -- `is_ice_handle_packet`
-abbrev pub Receives : Mac → ℕ → Option Path → List ℕ → HomeRecord → ℤ → HomeRecord → Type 0
-Receives mac now None bytes old code new = Refuses BAD_ADDRESS old code new
-Receives mac now (Some path) bytes old code new = TakesBytes mac now path bytes old code new
+abbrev pub HandlesDatagram : Mac → ℕ → Option Path → List ℕ → HomeRecord → ℤ → HomeRecord → Type 0
+HandlesDatagram mac now None bytes old code new = Rejects BAD_ADDRESS old code new
+HandlesDatagram mac now (Some path) bytes old code new = TakesBytes mac now path bytes old code new
 
 -- the bytes are accepted on a path that C passes
 abbrev pub AcceptsOn : Mac → Held → Option Path → List ℕ → Type 0
@@ -70,29 +70,29 @@ IsSettled mac path bytes old code new = (code ≡ OK → AcceptsOn mac old.agent
 abbrev pub TimesOutBy : Mac → ℕ → List ℕ → HomeRecord → ℤ → HomeRecord → Type 0
 TimesOutBy mac now random old code new =
     MatchBool (nat_lt (length random) 12)
-    (Refuses TOO_FEW_RANDOM_BYTES old code new)
+    (Rejects TOO_FEW_RANDOM_BYTES old code new)
     ((r : Result (Unit {0}) IceError) × ((emitted : Emitted) × ((left : Stream)
     × TimesOut mac now old.agent (stream_of given_steps random) r emitted new.agent left × (code ≡ done_code r) × (new.waiting ≡ old.waiting))))
 
 -- `is_ice_poll_timeout`
-abbrev pub WakesAt : ℕ → ℕ → HomeRecord → ℤ → HomeRecord → Type 0
-WakesAt before after old code new =
-    (wake : Option ℕ) × PollsTimeout old.agent wake new.agent × (new.waiting ≡ old.waiting)
-    × MatchOption wake ((code ≡ NOTHING) × (after ≡ before)) (λ at. (code ≡ OK) × (after ≡ at))
+abbrev pub ReturnsTimeout : ℕ → ℕ → HomeRecord → ℤ → HomeRecord → Type 0
+ReturnsTimeout before after old code new =
+    (deadline : Option ℕ) × PollsTimeout old.agent deadline new.agent × (new.waiting ≡ old.waiting)
+    × MatchOption deadline ((code ≡ NOTHING) × (after ≡ before)) (λ at. (code ≡ OK) × (after ≡ at))
 
 -- ---- packets to send
 
-abbrev pub queued : Option packets.Packet → List packets.Packet → List packets.Packet
-queued None ps = ps
-queued (Some p) ps = p ∷ ps
+abbrev pub with_pending : Option packets.Packet → List packets.Packet → List packets.Packet
+with_pending None ps = ps
+with_pending (Some p) ps = p ∷ ps
 
 -- the packet that waits is first
 abbrev pub queue_of : HomeRecord → List packets.Packet
-queue_of h = queued h.waiting h.agent.packets
+queue_of h = with_pending h.waiting h.agent.packets
 
 -- C gets this packet
-abbrev pub IsTold : packets.Packet → Packet → Type 0
-IsTold p packet =
+abbrev pub IsReported : packets.Packet → Packet → Type 0
+IsReported p packet =
     (packet.length ≡ length p.contents) × (protocol_of packet.protocol ≡ Some p.proto)
     × (socket_of packet.source ≡ Some p.source) × (socket_of packet.destination ≡ Some p.destination)
 
@@ -106,14 +106,14 @@ GivesFirst before after p rest code new =
 
 -- without a packet, the caller's buffer and packet stay as they were
 abbrev pub GivesOf : Option packets.Packet → List packets.Packet → List ℕ → List ℕ → Packet → Packet → ℤ → List packets.Packet → Type 0
-GivesOf None rest before after known told code new = (code ≡ NOTHING) × (after ≡ before) × (told ≡ known) × (new ≡ rest)
-GivesOf (Some p) rest before after known told code new = IsTold p told × GivesFirst before after p rest code new
+GivesOf None rest before after known reported code new = (code ≡ NOTHING) × (after ≡ before) × (reported ≡ known) × (new ≡ rest)
+GivesOf (Some p) rest before after known reported code new = IsReported p reported × GivesFirst before after p rest code new
 
 -- `is_ice_poll_transmit`: nothing of the agent changes except the packets to send
 abbrev pub Gives : List ℕ → List ℕ → Packet → Packet → HomeRecord → ℤ → HomeRecord → Type 0
-Gives before after known told old code new =
+Gives before after known reported old code new =
     ((first : Option packets.Packet) × ((rest : List packets.Packet) × IsPolled (queue_of old) first rest
-    × GivesOf first rest before after known told code (queue_of new)))
+    × GivesOf first rest before after known reported code (queue_of new)))
     × (new.agent ≡ record old.agent { packets = new.agent.packets })
 
 -- ---- ICE restarts
@@ -130,4 +130,4 @@ abbrev pub RestartsWith : Bool → List ℕ → List ℕ → HomeRecord → ℤ 
 RestartsWith keep ufrag pass old code new =
     (made : Result IceCreds ℤ) × MakesCreds ufrag pass made
     × MatchResult made (λ creds. (r : Result (Unit {0}) IceError) × Restarted keep creds old r new × (code ≡ done_code r))
-    (λ why. Refuses why old code new)
+    (λ why. Rejects why old code new)

@@ -34,29 +34,29 @@ IsPair a p s =
     × IsTime p.last_request s.has_request s.last_request
     × IsTime (next_due a p) s.has_due s.due
 
-abbrev pub TellsOfPair : Held → Option PairRecord → Pair → Pair → ℤ → Type 0
-TellsOfPair a None before after code = (code ≡ NOTHING) × (after ≡ before)
-TellsOfPair a (Some p) before after code = (code ≡ OK) × IsPair a p after
+abbrev pub ReturnsOfPair : Held → Option PairRecord → Pair → Pair → ℤ → Type 0
+ReturnsOfPair a None before after code = (code ≡ NOTHING) × (after ≡ before)
+ReturnsOfPair a (Some p) before after code = (code ≡ OK) × IsPair a p after
 
 -- `is_ice_pair_at`: pairs are counted from 0 in the order in which they were formed
-abbrev pub TellsPair : ℕ → Pair → Pair → HomeRecord → ℤ → HomeRecord → Type 0
-TellsPair index before after old code new =
-    TellsOfPair old.agent (slice_get old.agent.pairs index) before after code × (new ≡ old)
+abbrev pub ReturnsPair : ℕ → Pair → Pair → HomeRecord → ℤ → HomeRecord → Type 0
+ReturnsPair index before after old code new =
+    ReturnsOfPair old.agent (slice_get old.agent.pairs index) before after code × (new ≡ old)
 
 -- `is_ice_pair_count`
-abbrev pub TellsCount : ℕ → HomeRecord → ℤ → HomeRecord → Type 0
-TellsCount count old code new = (code ≡ OK) × (count ≡ length old.agent.pairs) × (new ≡ old)
+abbrev pub ReportsCount : ℕ → HomeRecord → ℤ → HomeRecord → Type 0
+ReportsCount count old code new = (code ≡ OK) × (count ≡ length old.agent.pairs) × (new ≡ old)
 
 -- the pair whose remote candidate equals this one, if there is a candidate
 abbrev pub FindsMade : Made → Pair → Pair → Held → ℤ → Type 0
 FindsMade None before after a code = (code ≡ NOT_UTF8) × (after ≡ before)
 FindsMade (Some (Err e)) before after a code = (code ≡ code_of e) × (after ≡ before)
 FindsMade (Some (Ok c)) before after a code =
-    (found : Option PairRecord) × FindsEquivalent a c found × TellsOfPair a found before after code
+    (found : Option PairRecord) × FindsEquivalent a c found × ReturnsOfPair a found before after code
 
 abbrev pub FindsPair : List ℕ → Pair → Pair → Held → ℤ → Type 0
 FindsPair line before after a code = (made : Made) × ReadsBytes line made × FindsMade made before after a code
 
 -- `is_ice_find_pair`
-abbrev pub TellsFound : List ℕ → Pair → Pair → HomeRecord → ℤ → HomeRecord → Type 0
-TellsFound line before after old code new = FindsPair line before after old.agent code × (new ≡ old)
+abbrev pub ReturnsFound : List ℕ → Pair → Pair → HomeRecord → ℤ → HomeRecord → Type 0
+ReturnsFound line before after old code new = FindsPair line before after old.agent code × (new ≡ old)

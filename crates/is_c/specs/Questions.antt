@@ -21,8 +21,8 @@ IsStatus a s =
     (s.state ≡ state_number a.state) × (s.controlling ≡ a.controlling) × (s.lite ≡ a.lite)
     × (s.mtu ≡ a.mtu) × (s.mtu_warn ≡ a.mtu_warn) × (s.ice_timeout ≡ ice_timeout a)
 
-abbrev pub TellsStatus : Status → HomeRecord → ℤ → HomeRecord → Type 0
-TellsStatus status old code new = (code ≡ OK) × IsStatus old.agent status × (new ≡ old)
+abbrev pub ReturnsStatus : Status → HomeRecord → ℤ → HomeRecord → Type 0
+ReturnsStatus status old code new = (code ≡ OK) × IsStatus old.agent status × (new ≡ old)
 
 -- `is_ice_stats`
 abbrev pub stats_of : Stats → IceAgentStats
@@ -34,16 +34,16 @@ stats_of s = record {
   nomination_send_count = s.nomination_send_count;
 }
 
-abbrev pub TellsStats : Stats → HomeRecord → ℤ → HomeRecord → Type 0
-TellsStats stats old code new = (code ≡ OK) × (stats_of stats ≡ old.agent.stats) × (new ≡ old)
+abbrev pub ReturnsStats : Stats → HomeRecord → ℤ → HomeRecord → Type 0
+ReturnsStats stats old code new = (code ≡ OK) × (stats_of stats ≡ old.agent.stats) × (new ≡ old)
 
 -- `is_ice_nominated`: the figures of the pair that was selected last, if it still exists
 abbrev pub IsRtt : Option ℕ → Nominated → Type 0
 IsRtt None n = n.has_rtt ≡ false
 IsRtt (Some time) n = (n.has_rtt ≡ true) × (n.rtt ≡ time)
 
-abbrev pub TellsNominated : Nominated → Nominated → HomeRecord → ℤ → HomeRecord → Type 0
-TellsNominated before after old code new =
+abbrev pub ReturnsNominated : Nominated → Nominated → HomeRecord → ℤ → HomeRecord → Type 0
+ReturnsNominated before after old code new =
     MatchOption (nominated_total_rtt old.agent)
     ((code ≡ NOTHING) × (after ≡ before))
     (λ total. (code ≡ OK) × (after.total_rtt ≡ total) × (after.responses ≡ unwrap_or (nominated_responses old.agent) 0)
@@ -57,8 +57,8 @@ PutsLine (Some c) before was code after count = PutsNone OUT_OF_MEMORY before wa
 
 -- `is_ice_local_candidate` and `is_ice_remote_candidate`: candidates are counted from 0 in the order in which they were
 -- added, without the discarded ones
-abbrev pub TellsLine : (Held → List CandidateRecord) → ℕ → List ℕ → ℕ → List ℕ → ℕ → HomeRecord → ℤ → HomeRecord → Type 0
-TellsLine candidates index before was after count old code new =
+abbrev pub ReturnsLine : (Held → List CandidateRecord) → ℕ → List ℕ → ℕ → List ℕ → ℕ → HomeRecord → ℤ → HomeRecord → Type 0
+ReturnsLine candidates index before was after count old code new =
     PutsLine (slice_get (live (candidates old.agent)) index) before was code after count × (new ≡ old)
 
 -- `is_ice_has_viable_remote`
@@ -66,13 +66,13 @@ abbrev pub AnswersViable : Address → Held → ℤ → Type 0
 AnswersViable address a code =
     MatchOption (socket_of address) (code ≡ BAD_ADDRESS) (λ at. code ≡ found_code (has_viable_remote a at))
 
-abbrev pub TellsViable : Address → HomeRecord → ℤ → HomeRecord → Type 0
-TellsViable address old code new = AnswersViable address old.agent code × (new ≡ old)
+abbrev pub ReturnsViable : Address → HomeRecord → ℤ → HomeRecord → Type 0
+ReturnsViable address old code new = AnswersViable address old.agent code × (new ≡ old)
 
 -- a text of the remote credentials, if they are known
 abbrev pub PutsOf : (IceCreds → List ℕ) → Option IceCreds → List ℕ → ℕ → ℤ → List ℕ → ℕ → Type 0
 PutsOf text None before was code after count = PutsNone NOTHING before was code after count
 PutsOf text (Some creds) before was code after count = Puts (text creds) before code after count
 
-abbrev pub TellsRemote : (IceCreds → List ℕ) → List ℕ → ℕ → List ℕ → ℕ → HomeRecord → ℤ → HomeRecord → Type 0
-TellsRemote text before was after count old code new = PutsOf text old.agent.remote_creds before was code after count × (new ≡ old)
+abbrev pub ReturnsRemote : (IceCreds → List ℕ) → List ℕ → ℕ → List ℕ → ℕ → HomeRecord → ℤ → HomeRecord → Type 0
+ReturnsRemote text before was after count old code new = PutsOf text old.agent.remote_creds before was code after count × (new ≡ old)

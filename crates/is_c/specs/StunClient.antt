@@ -26,14 +26,14 @@ said_of Binding Failure a = option_map (λ e. Err e) a.error_code
 said_of _ _ a = None
 
 -- what C gets of it
-abbrev pub TellsSaid : Option Said → Response → ℤ → Response → Type 0
-TellsSaid None before code after = (code ≡ NOTHING) × (after ≡ before)
-TellsSaid (Some (Ok at)) before code after =
+abbrev pub ReturnsSaid : Option Said → Response → ℤ → Response → Type 0
+ReturnsSaid None before code after = (code ≡ NOTHING) × (after ≡ before)
+ReturnsSaid (Some (Ok at)) before code after =
     (code ≡ OK) × (after ≡ record before { mapped = after.mapped; error_code = 0 }) × (socket_of after.mapped ≡ Some at)
-TellsSaid (Some (Err e)) before code after = (code ≡ OK) × (after ≡ record before { error_code = e.0 })
+ReturnsSaid (Some (Err e)) before code after = (code ≡ OK) × (after ≡ record before { error_code = e.0 })
 
 -- only the response with this transaction ID says anything
-abbrev pub TellsResponse : List ℕ → Message → Response → ℤ → Response → Type 0
-TellsResponse id m before code after =
-    ((m.id ≡ id) × TellsSaid (said_of m.method m.class m.attributes) before code after)
+abbrev pub ReturnsResponse : List ℕ → Message → Response → ℤ → Response → Type 0
+ReturnsResponse id m before code after =
+    ((m.id ≡ id) × ReturnsSaid (said_of m.method m.class m.attributes) before code after)
     ⊎ (¬ (m.id ≡ id) × (code ≡ NOTHING) × (after ≡ before))

@@ -1,12 +1,20 @@
 -- The attributes that `stun_fill` puts into a builder: each that is set replaces an earlier value.
-use Rattle.std.specs.Prelude.{ℕ, ◌||◌, List, Option, option_map}
+use Rattle.std.specs.Prelude.{◌≡◌, ℕ, ◌||◌, List, Option, option_map}
 use Rattle.std.specs.Option.{option_copied, option_or}
+use Rattle.is_stun.specs.declared.builder.Builder.{Builder}
+use Rattle.is_stun.specs.declared.builder.HasClass.{HasClass}
+use Rattle.is_stun.specs.Builder.{attributes_so_far, kind_so_far}
 use Rattle.is_stun.specs.Message.{AttributesRecord}
 use Rattle.is_c.specs.declared.stun_message.Message.{Message as Flat}
 use Rattle.is_c.specs.declared.stun_texts.Words.{Words}
 use Rattle.is_c.specs.Addresses.{socket_of}
 use Rattle.is_c.specs.StunMessage.{number_in}
 use Rattle.is_c.specs.StunWrite.{cost_in, reason_of}
+
+-- only the attributes change, in this way
+abbrev pub Sets : (AttributesRecord → AttributesRecord) → Builder HasClass → Builder HasClass → Type 0
+Sets change before after =
+    (kind_so_far after ≡ kind_so_far before) × (attributes_so_far after ≡ change (attributes_so_far before))
 
 abbrev pub numbers_set : Flat → AttributesRecord → AttributesRecord
 numbers_set f a =

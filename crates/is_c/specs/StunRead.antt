@@ -8,8 +8,8 @@ use Rattle.is_c.specs.Codes.{NOTHING, UNPARSED}
 use Rattle.is_c.specs.Texts.{Puts}
 
 -- P holds of the message that the bytes encode; if they encode none, the code says so and all is as it was
-abbrev pub TellsMessage : List ℕ → (Message → ℤ → Type 0) → Type 0 → ℤ → Type 0
-TellsMessage bytes P Same code =
+abbrev pub ReturnsMessage : List ℕ → (Message → ℤ → Type 0) → Type 0 → ℤ → Type 0
+ReturnsMessage bytes P Same code =
     ((e : StunError) × FailsAnyBy bytes e × (code ≡ UNPARSED) × Same)
     ⊎ ((m : Message) × ReadsAny bytes m × P m code)
 

@@ -9,7 +9,7 @@ use Rattle.is_stun.specs.declared.header.Method.{Method}
 use Rattle.is_stun.specs.declared.header.Method.TheVariants as methods
 use Rattle.is_stun.specs.Builder.{built}
 use Rattle.is_stun.specs.Message.{AttributesRecord, Message}
-use Rattle.is_stun.specs.Writing.{refusal, written, is_known}
+use Rattle.is_stun.specs.Writing.{rejection, written, is_known}
 use Rattle.is_c.specs.declared.stun_message.Message.{Message as Flat}
 use Rattle.is_c.specs.declared.stun_message.Number.{Number}
 use Rattle.is_c.specs.declared.stun_texts.Texts.{Texts}
@@ -139,6 +139,6 @@ key_if is_signed key = if is_signed then Some key else None
 abbrev pub WritesMessage : Flat → Texts → List ℕ → List ℕ → List ℕ → ℕ → ℤ → List ℕ → ℕ → Type 0
 WritesMessage f t bytes key old count code new new_count =
     WritesIn (fault_in f t bytes)
-    (refusal (key_if f.has_integrity key) (length old) (message_in f t bytes))
+    (rejection (key_if f.has_integrity key) (length old) (message_in f t bytes))
     (written hmac_sha1 (key_if f.has_integrity key) (message_in f t bytes))
     old count code new new_count

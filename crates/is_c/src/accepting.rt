@@ -1,7 +1,7 @@
 //! Which datagrams are for an agent, queried before one is passed in: for example if several agents share a socket.
-ghost use Rattle.is_rules.specs.Accepting.{IsAccepted, IsAcceptedOn};
+ghost use Rattle.is_rules.specs.Accepting.{IsAcceptedOn};
 ghost use Rattle.is_agent.specs.View.{record_of};
-ghost use Rattle.is_c.specs.Accepting.{AnswersWhether, AsksOn, AsksWay, AsksMessage};
+ghost use Rattle.is_c.specs.Accepting.{ReturnsWhether, AsksWay, AsksMessage};
 ghost use Rattle.is_c.specs.Held.{held_by, At};
 ghost use Rattle.is_c.specs.Packets.{packet_path};
 
@@ -16,7 +16,7 @@ use is_stun::stun::{StunMessage, StunPacket};
 use std::alloc::Global;
 
 fn accepts_bytes(home: &Home, path: Path, bytes: &[u8]) -> i32
-    ensures { AnswersWhether (IsAcceptedOn ⟦<DefaultSha1HmacProvider as Sha1HmacProvider>⟧.mac (record_of home.now.agent) path) bytes.now result }
+    ensures { ReturnsWhether (IsAcceptedOn ⟦<DefaultSha1HmacProvider as Sha1HmacProvider>⟧.mac (record_of home.now.agent) path) bytes.now result }
 {
     match StunMessage::parse(bytes) {
         Ok(message) => {
@@ -29,15 +29,6 @@ fn accepts_bytes(home: &Home, path: Path, bytes: &[u8]) -> i32
             codes::found_code(home.agent.accepts_packet(&packet))
         }
         Err(_) => codes::UNPARSED,
-    }
-}
-
-fn accepts_via(home: &Home, path: Option<Path>, bytes: &[u8]) -> i32
-    ensures { AsksOn ⟦<DefaultSha1HmacProvider as Sha1HmacProvider>⟧.mac (record_of home.now.agent) path bytes.now result }
-{
-    match path {
-        Some(path) => accepts_bytes(home, path, bytes),
-        None => codes::BAD_ADDRESS,
     }
 }
 
@@ -54,20 +45,12 @@ pub extern "C" fn is_ice_accepts_packet(
     ensures { At (AsksWay ⟦<DefaultSha1HmacProvider as Sha1HmacProvider>⟧.mac (packet_path protocol source.now destination.now) bytes.now)
         (held_by slot.old) result (held_by slot.new) }
 {
-    let Some(home) = slot.take(alloc) else {
+    let Some(home) = slot.home() else {
         return codes::NO_AGENT;
     };
-    let code = accepts_via(&home, packet_path(protocol, source, destination), bytes);
-    *slot = Slot::of(home);
-    code
-}
-
-fn accepts_message(home: &Home, bytes: &[u8]) -> i32
-    ensures { AnswersWhether (IsAccepted ⟦<DefaultSha1HmacProvider as Sha1HmacProvider>⟧.mac (record_of home.now.agent)) bytes.now result }
-{
-    match StunMessage::parse(bytes) {
-        Ok(message) => codes::found_code(home.agent.accepts_message(&message)),
-        Err(_) => codes::UNPARSED,
+    match packet_path(protocol, source, destination) {
+        Some(path) => accepts_bytes(home, path, bytes),
+        None => codes::BAD_ADDRESS,
     }
 }
 
@@ -76,10 +59,11 @@ fn accepts_message(home: &Home, bytes: &[u8]) -> i32
 pub extern "C" fn is_ice_accepts_message(alloc: Global, slot: &mut Slot, bytes: &[u8]) -> i32
     ensures { At (AsksMessage ⟦<DefaultSha1HmacProvider as Sha1HmacProvider>⟧.mac bytes.now) (held_by slot.old) result (held_by slot.new) }
 {
-    let Some(home) = slot.take(alloc) else {
+    let Some(home) = slot.home() else {
         return codes::NO_AGENT;
     };
-    let code = accepts_message(&home, bytes);
-    *slot = Slot::of(home);
-    code
+    match StunMessage::parse(bytes) {
+        Ok(message) => codes::found_code(home.agent.accepts_message(&message)),
+        Err(_) => codes::UNPARSED,
+    }
 }

@@ -4,12 +4,11 @@ ghost use Rattle.std.specs.Prelude.{◌≡◌, None};
 ghost use Rattle.is_rules.specs.Discarding.{Invalidates};
 ghost use Rattle.is_c.specs.Adding.{PutsAddition, AddsGiven, AddsRead};
 ghost use Rattle.is_c.specs.Codes.{found_code};
-ghost use Rattle.is_c.specs.Held.{home_of, held_by, At};
+ghost use Rattle.is_c.specs.Held.{held_by, At};
 ghost use Rattle.is_c.specs.Given.{CallsGiven, CallsRead};
 
 use crate::candidate::{LocalCandidate, line_candidate, local_candidate};
 use crate::codes;
-use crate::home::Home;
 use crate::slot::Slot;
 use is_agent::Addition;
 use is_agent::added::{add_local_listed, add_remote_listed};
@@ -40,16 +39,6 @@ fn put_addition(outcome: Result<Addition, IceError>, index: &mut usize) -> i32
     }
 }
 
-fn add(alloc: Global, home: &mut Home, candidate: &LocalCandidate, index: &mut usize) -> i32
-    ensures { AddsGiven candidate.now index.old index.new (home_of home.old) result (home_of home.new) }
-{
-    match local_candidate(alloc, candidate) {
-        Some(Ok(candidate)) => put_addition(add_local_listed(&mut home.agent, candidate), index),
-        Some(Err(error)) => codes::code_of(&error),
-        None => codes::BAD_ADDRESS,
-    }
-}
-
 /// Adds a local candidate, and writes the index at which it is listed: of one that is not added, that of the candidate that
 /// equals it, or `NO_INDEX`.
 #[unsafe(no_mangle)]
@@ -62,21 +51,13 @@ pub extern "C" fn is_ice_add_local(
     ensures added { At (AddsGiven candidate.now index.old index.new) (held_by slot.old) result (held_by slot.new) }
     ensures without { held_by slot.old ≡ None → index.new ≡ index.old }
 {
-    let Some(mut home) = slot.take(alloc) else {
+    let Some(home) = slot.home() else {
         return codes::NO_AGENT;
     };
-    let code = add(alloc, &mut home, candidate, index);
-    *slot = Slot::of(home);
-    code
-}
-
-fn add_line(alloc: Global, home: &mut Home, line: &[u8], index: &mut usize) -> i32
-    ensures { AddsRead line.now index.old index.new (home_of home.old) result (home_of home.new) }
-{
-    match line_candidate(alloc, line) {
-        Some(Ok(candidate)) => put_addition(add_remote_listed(&mut home.agent, candidate), index),
+    match local_candidate(alloc, candidate) {
+        Some(Ok(candidate)) => put_addition(add_local_listed(&mut home.agent, candidate), index),
         Some(Err(error)) => codes::code_of(&error),
-        None => codes::NOT_UTF8,
+        None => codes::BAD_ADDRESS,
     }
 }
 
@@ -91,21 +72,13 @@ pub extern "C" fn is_ice_add_remote(
     ensures added { At (AddsRead line.now index.old index.new) (held_by slot.old) result (held_by slot.new) }
     ensures without { held_by slot.old ≡ None → index.new ≡ index.old }
 {
-    let Some(mut home) = slot.take(alloc) else {
+    let Some(home) = slot.home() else {
         return codes::NO_AGENT;
     };
-    let code = add_line(alloc, &mut home, line, index);
-    *slot = Slot::of(home);
-    code
-}
-
-fn invalidate(alloc: Global, home: &mut Home, candidate: &LocalCandidate) -> i32
-    ensures { CallsGiven Invalidates found_code candidate.now (home_of home.old) result (home_of home.new) }
-{
-    match local_candidate(alloc, candidate) {
-        Some(Ok(candidate)) => codes::found_code(home.agent.invalidate_candidate(&candidate)),
+    match line_candidate(alloc, line) {
+        Some(Ok(candidate)) => put_addition(add_remote_listed(&mut home.agent, candidate), index),
         Some(Err(error)) => codes::code_of(&error),
-        None => codes::BAD_ADDRESS,
+        None => codes::NOT_UTF8,
     }
 }
 
@@ -118,21 +91,13 @@ pub extern "C" fn is_ice_invalidate_local(
 ) -> i32
     ensures { At (CallsGiven Invalidates found_code candidate.now) (held_by slot.old) result (held_by slot.new) }
 {
-    let Some(mut home) = slot.take(alloc) else {
+    let Some(home) = slot.home() else {
         return codes::NO_AGENT;
     };
-    let code = invalidate(alloc, &mut home, candidate);
-    *slot = Slot::of(home);
-    code
-}
-
-fn invalidate_line(alloc: Global, home: &mut Home, line: &[u8]) -> i32
-    ensures { CallsRead Invalidates found_code line.now (home_of home.old) result (home_of home.new) }
-{
-    match line_candidate(alloc, line) {
+    match local_candidate(alloc, candidate) {
         Some(Ok(candidate)) => codes::found_code(home.agent.invalidate_candidate(&candidate)),
         Some(Err(error)) => codes::code_of(&error),
-        None => codes::NOT_UTF8,
+        None => codes::BAD_ADDRESS,
     }
 }
 
@@ -141,10 +106,12 @@ fn invalidate_line(alloc: Global, home: &mut Home, line: &[u8]) -> i32
 pub extern "C" fn is_ice_invalidate(alloc: Global, slot: &mut Slot, line: &[u8]) -> i32
     ensures { At (CallsRead Invalidates found_code line.now) (held_by slot.old) result (held_by slot.new) }
 {
-    let Some(mut home) = slot.take(alloc) else {
+    let Some(home) = slot.home() else {
         return codes::NO_AGENT;
     };
-    let code = invalidate_line(alloc, &mut home, line);
-    *slot = Slot::of(home);
-    code
+    match line_candidate(alloc, line) {
+        Some(Ok(candidate)) => codes::found_code(home.agent.invalidate_candidate(&candidate)),
+        Some(Err(error)) => codes::code_of(&error),
+        None => codes::NOT_UTF8,
+    }
 }

@@ -1,12 +1,11 @@
 //! Credentials: set, made and read.
 
 ghost use Rattle.std.specs.Prelude.{◌≡◌, IfOk};
-ghost use Rattle.is_c.specs.Credentials.{MakesCreds, CallsWith, drawn, PutsBoth, Draws, Tells};
-ghost use Rattle.is_c.specs.Held.{home_of, held_by, At};
+ghost use Rattle.is_c.specs.Credentials.{MakesCreds, CallsWith, drawn, PutsBoth, Draws, Returns};
+ghost use Rattle.is_c.specs.Held.{held_by, At};
 ghost use Rattle.is_rules.specs.Credentials.{SetsLocal, SetsRemote};
 
 use crate::codes;
-use crate::home::Home;
 use crate::random::Given;
 use crate::slot::Slot;
 use crate::text::put;
@@ -27,15 +26,6 @@ pub(crate) fn creds_of(alloc: Global, ufrag: &[u8], pass: &[u8]) -> Result<IceCr
     }
 }
 
-fn set_local(alloc: Global, home: &mut Home, ufrag: &[u8], pass: &[u8]) -> i32
-    ensures { CallsWith SetsLocal ufrag.now pass.now (home_of home.old) result (home_of home.new) }
-{
-    match creds_of(alloc, ufrag, pass) {
-        Ok(creds) => codes::done_code(home.agent.set_local_credentials(creds)),
-        Err(code) => code,
-    }
-}
-
 /// Sets the agent's own credentials.
 #[unsafe(no_mangle)]
 pub extern "C" fn is_ice_set_local_credentials(
@@ -46,19 +36,11 @@ pub extern "C" fn is_ice_set_local_credentials(
 ) -> i32
     ensures { At (CallsWith SetsLocal ufrag.now pass.now) (held_by slot.old) result (held_by slot.new) }
 {
-    let Some(mut home) = slot.take(alloc) else {
+    let Some(home) = slot.home() else {
         return codes::NO_AGENT;
     };
-    let code = set_local(alloc, &mut home, ufrag, pass);
-    *slot = Slot::of(home);
-    code
-}
-
-fn set_remote(alloc: Global, home: &mut Home, ufrag: &[u8], pass: &[u8]) -> i32
-    ensures { CallsWith SetsRemote ufrag.now pass.now (home_of home.old) result (home_of home.new) }
-{
     match creds_of(alloc, ufrag, pass) {
-        Ok(creds) => codes::done_code(home.agent.set_remote_credentials(creds)),
+        Ok(creds) => codes::done_code(home.agent.set_local_credentials(creds)),
         Err(code) => code,
     }
 }
@@ -73,18 +55,19 @@ pub extern "C" fn is_ice_set_remote_credentials(
 ) -> i32
     ensures { At (CallsWith SetsRemote ufrag.now pass.now) (held_by slot.old) result (held_by slot.new) }
 {
-    let Some(mut home) = slot.take(alloc) else {
+    let Some(home) = slot.home() else {
         return codes::NO_AGENT;
     };
-    let code = set_remote(alloc, &mut home, ufrag, pass);
-    *slot = Slot::of(home);
-    code
+    match creds_of(alloc, ufrag, pass) {
+        Ok(creds) => codes::done_code(home.agent.set_remote_credentials(creds)),
+        Err(code) => code,
+    }
 }
 
 // ---- random credentials
 
 /// How many random bytes credentials need.
-const WANTED: usize = 38;
+const NEEDED: usize = 38;
 
 #[tactic(auto, using(crate::proofs::Drawn::drawn_again))]
 fn drawn(alloc: Global, random: &[u8]) -> Result<IceCreds, IceError>
@@ -118,7 +101,7 @@ pub extern "C" fn is_ice_make_credentials(
 ) -> i32
     ensures { Draws random.now ufrag.old pass.old result ufrag.new pass.new }
 {
-    if random.len() < WANTED {
+    if random.len() < NEEDED {
         return codes::TOO_FEW_RANDOM_BYTES;
     }
     match drawn(alloc, random) {
@@ -137,15 +120,13 @@ pub extern "C" fn is_ice_local_ufrag(
     buffer: &mut [u8],
     length: &mut usize,
 ) -> i32
-    ensures { At (Tells (λ a. a.local_creds.ufrag) buffer.old buffer.new length.new) (held_by slot.old) result (held_by slot.new) }
+    ensures { At (Returns (λ a. a.local_creds.ufrag) buffer.old buffer.new length.new) (held_by slot.old) result (held_by slot.new) }
 {
-    let Some(home) = slot.take(alloc) else {
+    let Some(home) = slot.home() else {
         return codes::NO_AGENT;
     };
     let text = home.agent.local_credentials().ufrag.as_str();
-    let code = put(text.as_bytes(), buffer, length);
-    *slot = Slot::of(home);
-    code
+    put(text.as_bytes(), buffer, length)
 }
 
 /// Writes the agent's own password to the buffer.
@@ -156,13 +137,11 @@ pub extern "C" fn is_ice_local_pass(
     buffer: &mut [u8],
     length: &mut usize,
 ) -> i32
-    ensures { At (Tells (λ a. a.local_creds.pass) buffer.old buffer.new length.new) (held_by slot.old) result (held_by slot.new) }
+    ensures { At (Returns (λ a. a.local_creds.pass) buffer.old buffer.new length.new) (held_by slot.old) result (held_by slot.new) }
 {
-    let Some(home) = slot.take(alloc) else {
+    let Some(home) = slot.home() else {
         return codes::NO_AGENT;
     };
     let text = home.agent.local_credentials().pass.as_str();
-    let code = put(text.as_bytes(), buffer, length);
-    *slot = Slot::of(home);
-    code
+    put(text.as_bytes(), buffer, length)
 }

@@ -1,10 +1,10 @@
 //! Candidates as the JSON in which browsers signal them: the W3C's RTCIceCandidateInit.
-ghost use Rattle.is_c.specs.Infos.{ReadsInfoBytes, PutsInfo, TellsInfo, TellsLineOf, TellsOfInfo};
+ghost use Rattle.is_c.specs.Infos.{ReadsInfoBytes, PutsInfo, ReturnsInfo, ReturnsLineOf, ReturnsOfInfo};
 
 use crate::candidate::line_candidate;
 use crate::codes;
 use crate::lines::put_made;
-use crate::refusals::put_refusal;
+use crate::rejections::put_rejection;
 use crate::text::put;
 use is_candidate::{Candidate, JsonScratch};
 use is_proto::IceError;
@@ -27,7 +27,7 @@ pub extern "C" fn is_ice_line_to_json(
     buffer: &mut [u8],
     length: &mut usize,
 ) -> i32
-    ensures { TellsInfo line.now buffer.old length.old result buffer.new length.new }
+    ensures { ReturnsInfo line.now buffer.old length.old result buffer.new length.new }
 {
     match line_candidate(alloc, line) {
         Some(Ok(candidate)) => put_info(alloc, &candidate, buffer, length),
@@ -57,7 +57,7 @@ pub extern "C" fn is_ice_line_from_json(
     buffer: &mut [u8],
     length: &mut usize,
 ) -> i32
-    ensures { TellsLineOf json.now buffer.old length.old result buffer.new length.new }
+    ensures { ReturnsLineOf json.now buffer.old length.old result buffer.new length.new }
 {
     let made = info_candidate(alloc, json);
     put_made(alloc, &made, codes::NOT_UTF8, buffer, length)
@@ -71,10 +71,10 @@ pub extern "C" fn is_ice_json_refusal(
     buffer: &mut [u8],
     length: &mut usize,
 ) -> i32
-    ensures { TellsOfInfo json.now buffer.old length.old result buffer.new length.new }
+    ensures { ReturnsOfInfo json.now buffer.old length.old result buffer.new length.new }
 {
     match info_candidate(alloc, json) {
-        Some(outcome) => put_refusal(&outcome, buffer, length),
+        Some(outcome) => put_rejection(&outcome, buffer, length),
         None => codes::NOT_UTF8,
     }
 }

@@ -1,7 +1,6 @@
 //! The agent for C: one export for each call, and C's view of addresses, candidates, packets and events.
 //!
-//! C holds an agent in a slot of its own. An export takes the agent out of the slot, makes the library's call, and puts the
-//! agent back.
+//! C holds an agent in a slot of its own. An export borrows the agent from the slot, and makes the library's call.
 #![tactic(auto)]
 
 mod accepting;
@@ -22,7 +21,7 @@ mod parts;
 mod preference;
 mod questions;
 mod random;
-mod refusals;
+mod rejections;
 mod session;
 mod settings;
 mod slot;

@@ -1,5 +1,5 @@
 //! Candidates that no agent has: their text, their username fragment and their default local preference.
-ghost use Rattle.is_c.specs.Lines.{NamesAs, NamesBytes, PutsMade, TellsGiven, TellsNamed, PutsPreference, PrefersGiven, PrefersRead};
+ghost use Rattle.is_c.specs.Lines.{NamesAs, NamesBytes, PutsMade, ReturnsGiven, ReturnsNamed, PutsPreference, PrefersGiven, PrefersRead};
 
 use crate::candidate::{LocalCandidate, line_candidate, local_candidate};
 use crate::codes;
@@ -34,7 +34,7 @@ pub extern "C" fn is_ice_candidate_line(
     buffer: &mut [u8],
     length: &mut usize,
 ) -> i32
-    ensures { TellsGiven candidate.now buffer.old length.old result buffer.new length.new }
+    ensures { ReturnsGiven candidate.now buffer.old length.old result buffer.new length.new }
 {
     let made = local_candidate(alloc, candidate);
     put_made(alloc, &made, codes::BAD_ADDRESS, buffer, length)
@@ -69,7 +69,7 @@ pub extern "C" fn is_ice_line_with_ufrag(
     buffer: &mut [u8],
     length: &mut usize,
 ) -> i32
-    ensures { TellsNamed line.now ufrag.now buffer.old length.old result buffer.new length.new }
+    ensures { ReturnsNamed line.now ufrag.now buffer.old length.old result buffer.new length.new }
 {
     let made = named(alloc, line, ufrag);
     put_made(alloc, &made, codes::NOT_UTF8, buffer, length)

@@ -23,7 +23,7 @@ fn discovered_limit() -> usize
 
 fn boxed_agent(alloc: Global, creds: IceCreds, tie_breaker: u64) -> Result<Box<Home>, i32>
     ensures made { IfOk result (λ home. (are_too_long creds None ≡ false) × (home_of home.value ≡ fresh_home creds tie_breaker)) }
-    ensures refused { IfErr result (λ why. MatchBool (are_too_long creds None) (why ≡ CREDENTIALS_TOO_LONG) (why ≡ OUT_OF_MEMORY)) }
+    ensures rejected { IfErr result (λ why. MatchBool (are_too_long creds None) (why ≡ CREDENTIALS_TOO_LONG) (why ≡ OUT_OF_MEMORY)) }
 {
     let mut agent = match Agent::new(alloc, creds, tie_breaker) {
         Ok(agent) => agent,
@@ -48,8 +48,7 @@ pub extern "C" fn is_ice_agent_new(
 ) -> i32
     ensures { MakesAt ufrag.now pass.now tie_breaker (held_by slot.old) result (held_by slot.new) }
 {
-    if let Some(home) = slot.take(alloc) {
-        *slot = Slot::of(home);
+    if slot.is_held() {
         return codes::HAS_AGENT;
     }
     let creds = match creds_of(alloc, ufrag, pass) {

@@ -4,7 +4,7 @@ ghost use Rattle.std.specs.Prelude.{◌≡◌, None, option_map};
 ghost use Rattle.is_rules.specs.Polls.{IsPolled};
 ghost use Rattle.is_proto.specs.Packets.{packet_of};
 ghost use Rattle.is_c.specs.Held.{home_of, held_by, At};
-ghost use Rattle.is_c.specs.Packets.{packet_path, TakesBytes, Receives, IsSettled, TimesOutBy, WakesAt, queue_of, IsTold, GivesFirst, Gives};
+ghost use Rattle.is_c.specs.Packets.{packet_path, TakesBytes, HandlesDatagram, IsSettled, TimesOutBy, ReturnsTimeout, queue_of, IsReported, GivesFirst, Gives};
 
 use crate::address::{Address, address_of, number_of, protocol_of, socket_of};
 use crate::codes;
@@ -66,7 +66,7 @@ fn receive(
     destination: &Address,
     bytes: &[u8],
 ) -> i32
-    ensures step { Receives ⟦<DefaultSha1HmacProvider as Sha1HmacProvider>⟧.mac now (packet_path protocol source.now destination.now) bytes.now
+    ensures step { HandlesDatagram ⟦<DefaultSha1HmacProvider as Sha1HmacProvider>⟧.mac now (packet_path protocol source.now destination.now) bytes.now
         (home_of home.old) result (home_of home.new) }
     ensures settled { IsSettled ⟦<DefaultSha1HmacProvider as Sha1HmacProvider>⟧.mac (packet_path protocol source.now destination.now) bytes.now
         (home_of home.old) result (home_of home.new) }
@@ -88,33 +88,21 @@ pub extern "C" fn is_ice_handle_packet(
     destination: &Address,
     bytes: &[u8],
 ) -> i32
-    ensures step { At (Receives ⟦<DefaultSha1HmacProvider as Sha1HmacProvider>⟧.mac now (packet_path protocol source.now destination.now)
+    ensures step { At (HandlesDatagram ⟦<DefaultSha1HmacProvider as Sha1HmacProvider>⟧.mac now (packet_path protocol source.now destination.now)
         bytes.now) (held_by slot.old) result (held_by slot.new) }
     ensures settled { At (IsSettled ⟦<DefaultSha1HmacProvider as Sha1HmacProvider>⟧.mac (packet_path protocol source.now destination.now)
         bytes.now) (held_by slot.old) result (held_by slot.new) }
 {
-    let Some(mut home) = slot.take(alloc) else {
+    let Some(home) = slot.home() else {
         return codes::NO_AGENT;
     };
-    let code = receive(&mut home, now, protocol, source, destination, bytes);
-    *slot = Slot::of(home);
-    code
+    receive(home, now, protocol, source, destination, bytes)
 }
 
 // ---- timeouts
 
 /// How many random bytes a `handle_timeout` call uses at most.
-const WANTED: usize = 12;
-
-fn time_out(home: &mut Home, now: u64, random: &[u8]) -> i32
-    ensures { TimesOutBy ⟦<DefaultSha1HmacProvider as Sha1HmacProvider>⟧.mac now random.now (home_of home.old) result (home_of home.new) }
-{
-    if random.len() < WANTED {
-        return codes::TOO_FEW_RANDOM_BYTES;
-    }
-    let mut given = Given { rest: random };
-    codes::done_code(home.agent.handle_timeout(Instant(now), &mut given))
-}
+const NEEDED: usize = 12;
 
 /// Runs the agent's timers at time `now`, with 12 random bytes for the check that it may send.
 #[unsafe(no_mangle)]
@@ -126,37 +114,31 @@ pub extern "C" fn is_ice_handle_timeout(
 ) -> i32
     ensures { At (TimesOutBy ⟦<DefaultSha1HmacProvider as Sha1HmacProvider>⟧.mac now random.now) (held_by slot.old) result (held_by slot.new) }
 {
-    let Some(mut home) = slot.take(alloc) else {
+    let Some(home) = slot.home() else {
         return codes::NO_AGENT;
     };
-    let code = time_out(&mut home, now, random);
-    *slot = Slot::of(home);
-    code
-}
-
-fn wake(home: &mut Home, at: &mut u64) -> i32
-    ensures { WakesAt at.old at.new (home_of home.old) result (home_of home.new) }
-{
-    match home.agent.poll_timeout() {
-        Some(moment) => {
-            *at = moment.0;
-            codes::OK
-        }
-        None => codes::NOTHING,
+    if random.len() < NEEDED {
+        return codes::TOO_FEW_RANDOM_BYTES;
     }
+    let mut given = Given { rest: random };
+    codes::done_code(home.agent.handle_timeout(Instant(now), &mut given))
 }
 
 /// The time of the next `is_ice_handle_timeout` call.
 #[unsafe(no_mangle)]
 pub extern "C" fn is_ice_poll_timeout(alloc: Global, slot: &mut Slot, at: &mut u64) -> i32
-    ensures { At (WakesAt at.old at.new) (held_by slot.old) result (held_by slot.new) }
+    ensures { At (ReturnsTimeout at.old at.new) (held_by slot.old) result (held_by slot.new) }
 {
-    let Some(mut home) = slot.take(alloc) else {
+    let Some(home) = slot.home() else {
         return codes::NO_AGENT;
     };
-    let code = wake(&mut home, at);
-    *slot = Slot::of(home);
-    code
+    match home.agent.poll_timeout() {
+        Some(time) => {
+            *at = time.0;
+            codes::OK
+        }
+        None => codes::NOTHING,
+    }
 }
 
 // ---- packets to send
@@ -173,8 +155,8 @@ fn next_packet(home: &mut Home) -> Option<Transmit>
     }
 }
 
-fn told(next: &Transmit) -> Packet
-    ensures { IsTold (packet_of next.now) result }
+fn reported(next: &Transmit) -> Packet
+    ensures { IsReported (packet_of next.now) result }
 {
     Packet {
         source: address_of(next.source),
@@ -205,7 +187,7 @@ fn transmit(home: &mut Home, buffer: &mut [u8], packet: &mut Packet) -> i32
     let Some(next) = next_packet(home) else {
         return codes::NOTHING;
     };
-    *packet = told(&next);
+    *packet = reported(&next);
     hand_over(home, next, buffer)
 }
 
@@ -219,10 +201,8 @@ pub extern "C" fn is_ice_poll_transmit(
 ) -> i32
     ensures { At (Gives buffer.old buffer.new packet.old packet.new) (held_by slot.old) result (held_by slot.new) }
 {
-    let Some(mut home) = slot.take(alloc) else {
+    let Some(home) = slot.home() else {
         return codes::NO_AGENT;
     };
-    let code = transmit(&mut home, buffer, packet);
-    *slot = Slot::of(home);
-    code
+    transmit(home, buffer, packet)
 }

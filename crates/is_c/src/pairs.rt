@@ -4,7 +4,7 @@ ghost use Rattle.std.specs.Prelude.{◌≡◌};
 ghost use Rattle.std.specs.Option.{option_copied};
 ghost use Rattle.is_agent.specs.View.{record_of};
 ghost use Rattle.is_c.specs.Held.{held_by, At};
-ghost use Rattle.is_c.specs.Pairs.{check_number, IsPair, TellsOfPair, TellsPair, TellsCount, FindsPair, TellsFound};
+ghost use Rattle.is_c.specs.Pairs.{check_number, IsPair, ReturnsOfPair, ReturnsPair, ReportsCount, ReturnsFound};
 
 use crate::candidate::line_candidate;
 use crate::codes;
@@ -54,7 +54,7 @@ fn check_number(state: CheckState) -> i32
     }
 }
 
-fn told_pair(home: &Home, pair: &CandidatePair) -> Pair
+fn reported_pair(home: &Home, pair: &CandidatePair) -> Pair
     ensures { IsPair (record_of home.now.agent) pair.now result }
 {
     let agent = &home.agent;
@@ -90,12 +90,12 @@ fn told_pair(home: &Home, pair: &CandidatePair) -> Pair
     }
 }
 
-fn tell_pair(home: &Home, found: Option<&CandidatePair>, pair: &mut Pair) -> i32
-    ensures { TellsOfPair (record_of home.now.agent) (option_copied found.entry) pair.old pair.new result }
+fn return_pair(home: &Home, found: Option<&CandidatePair>, pair: &mut Pair) -> i32
+    ensures { ReturnsOfPair (record_of home.now.agent) (option_copied found.entry) pair.old pair.new result }
 {
     match found {
         Some(found) => {
-            *pair = told_pair(home, found);
+            *pair = reported_pair(home, found);
             codes::OK
         }
         None => codes::NOTHING,
@@ -110,42 +110,24 @@ pub extern "C" fn is_ice_pair_at(
     index: usize,
     pair: &mut Pair,
 ) -> i32
-    ensures { At (TellsPair index pair.old pair.new) (held_by slot.old) result (held_by slot.new) }
+    ensures { At (ReturnsPair index pair.old pair.new) (held_by slot.old) result (held_by slot.new) }
 {
-    let Some(home) = slot.take(alloc) else {
+    let Some(home) = slot.home() else {
         return codes::NO_AGENT;
     };
-    let code = tell_pair(&home, home.agent.candidate_pair(index), pair);
-    *slot = Slot::of(home);
-    code
+    return_pair(home, home.agent.candidate_pair(index), pair)
 }
 
 /// Writes how many pairs there are.
 #[unsafe(no_mangle)]
 pub extern "C" fn is_ice_pair_count(alloc: Global, slot: &mut Slot, count: &mut usize) -> i32
-    ensures { At (TellsCount count.new) (held_by slot.old) result (held_by slot.new) }
+    ensures { At (ReportsCount count.new) (held_by slot.old) result (held_by slot.new) }
 {
-    let Some(home) = slot.take(alloc) else {
+    let Some(home) = slot.home() else {
         return codes::NO_AGENT;
     };
     *count = home.agent.candidate_pair_count();
-    *slot = Slot::of(home);
     codes::OK
-}
-
-fn find_pair(alloc: Global, home: &Home, line: &[u8], pair: &mut Pair) -> i32
-    ensures { FindsPair line.now pair.old pair.new (record_of home.now.agent) result }
-{
-    match line_candidate(alloc, line) {
-        Some(Ok(candidate)) => {
-            let found = home
-                .agent
-                .find_pair_for_equivalent_remote_candidate(&candidate);
-            tell_pair(home, found, pair)
-        }
-        Some(Err(error)) => codes::code_of(&error),
-        None => codes::NOT_UTF8,
-    }
 }
 
 /// Writes a pair whose remote candidate equals the one of the candidate attribute: one of the greatest priority.
@@ -156,12 +138,19 @@ pub extern "C" fn is_ice_find_pair(
     line: &[u8],
     pair: &mut Pair,
 ) -> i32
-    ensures { At (TellsFound line.now pair.old pair.new) (held_by slot.old) result (held_by slot.new) }
+    ensures { At (ReturnsFound line.now pair.old pair.new) (held_by slot.old) result (held_by slot.new) }
 {
-    let Some(home) = slot.take(alloc) else {
+    let Some(home) = slot.home() else {
         return codes::NO_AGENT;
     };
-    let code = find_pair(alloc, &home, line, pair);
-    *slot = Slot::of(home);
-    code
+    match line_candidate(alloc, line) {
+        Some(Ok(candidate)) => {
+            let found = home
+                .agent
+                .find_pair_for_equivalent_remote_candidate(&candidate);
+            return_pair(home, found, pair)
+        }
+        Some(Err(error)) => codes::code_of(&error),
+        None => codes::NOT_UTF8,
+    }
 }

@@ -4,9 +4,9 @@ ghost use Rattle.std.specs.Prelude.{◌≡◌, slice_get};
 ghost use Rattle.std.specs.Option.{option_copied};
 ghost use Rattle.is_rules.specs.Questions.{live};
 ghost use Rattle.is_agent.specs.View.{record_of};
-ghost use Rattle.is_c.specs.Held.{home_of, held_by, At};
-ghost use Rattle.is_c.specs.Questions.{IsStatus, TellsStatus, stats_of, TellsStats, TellsNominated, PutsLine, TellsLine, PutsOf};
-ghost use Rattle.is_c.specs.Questions.{TellsRemote, AnswersViable, TellsViable};
+ghost use Rattle.is_c.specs.Held.{held_by, At};
+ghost use Rattle.is_c.specs.Questions.{IsStatus, ReturnsStatus, stats_of, ReturnsStats, ReturnsNominated, PutsLine, ReturnsLine};
+ghost use Rattle.is_c.specs.Questions.{ReturnsRemote, ReturnsViable};
 
 use crate::address::{Address, socket_of};
 use crate::codes;
@@ -54,7 +54,7 @@ pub struct Nominated {
     pub has_rtt: bool,
 }
 
-fn told_status(home: &Home) -> Status
+fn reported_status(home: &Home) -> Status
     ensures { IsStatus (record_of home.now.agent) result }
 {
     let agent = &home.agent;
@@ -71,17 +71,16 @@ fn told_status(home: &Home) -> Status
 /// Writes the agent's settings and its connection state.
 #[unsafe(no_mangle)]
 pub extern "C" fn is_ice_status(alloc: Global, slot: &mut Slot, figures: &mut Status) -> i32
-    ensures { At (TellsStatus figures.new) (held_by slot.old) result (held_by slot.new) }
+    ensures { At (ReturnsStatus figures.new) (held_by slot.old) result (held_by slot.new) }
 {
-    let Some(home) = slot.take(alloc) else {
+    let Some(home) = slot.home() else {
         return codes::NO_AGENT;
     };
-    *figures = told_status(&home);
-    *slot = Slot::of(home);
+    *figures = reported_status(home);
     codes::OK
 }
 
-fn told_stats(home: &Home) -> Stats
+fn reported_stats(home: &Home) -> Stats
     ensures { stats_of result ≡ (record_of home.now.agent).stats }
 {
     let stats = home.agent.stats();
@@ -97,19 +96,23 @@ fn told_stats(home: &Home) -> Stats
 /// Writes the counters since the last ICE restart.
 #[unsafe(no_mangle)]
 pub extern "C" fn is_ice_stats(alloc: Global, slot: &mut Slot, figures: &mut Stats) -> i32
-    ensures { At (TellsStats figures.new) (held_by slot.old) result (held_by slot.new) }
+    ensures { At (ReturnsStats figures.new) (held_by slot.old) result (held_by slot.new) }
 {
-    let Some(home) = slot.take(alloc) else {
+    let Some(home) = slot.home() else {
         return codes::NO_AGENT;
     };
-    *figures = told_stats(&home);
-    *slot = Slot::of(home);
+    *figures = reported_stats(home);
     codes::OK
 }
 
-fn tell_nominated(home: &mut Home, figures: &mut Nominated) -> i32
-    ensures { TellsNominated figures.old figures.new (home_of home.old) result (home_of home.new) }
+/// Writes the figures of the pair that was selected last.
+#[unsafe(no_mangle)]
+pub extern "C" fn is_ice_nominated(alloc: Global, slot: &mut Slot, figures: &mut Nominated) -> i32
+    ensures { At (ReturnsNominated figures.old figures.new) (held_by slot.old) result (held_by slot.new) }
 {
+    let Some(home) = slot.home() else {
+        return codes::NO_AGENT;
+    };
     let Some(total) = home.agent.nominated_pair_total_rtt() else {
         return codes::NOTHING;
     };
@@ -124,19 +127,6 @@ fn tell_nominated(home: &mut Home, figures: &mut Nominated) -> i32
         has_rtt: rtt.is_some(),
     };
     codes::OK
-}
-
-/// Writes the figures of the pair that was selected last.
-#[unsafe(no_mangle)]
-pub extern "C" fn is_ice_nominated(alloc: Global, slot: &mut Slot, figures: &mut Nominated) -> i32
-    ensures { At (TellsNominated figures.old figures.new) (held_by slot.old) result (held_by slot.new) }
-{
-    let Some(mut home) = slot.take(alloc) else {
-        return codes::NO_AGENT;
-    };
-    let code = tell_nominated(&mut home, figures);
-    *slot = Slot::of(home);
-    code
 }
 
 // ---- candidates
@@ -181,14 +171,12 @@ pub extern "C" fn is_ice_local_candidate(
     buffer: &mut [u8],
     length: &mut usize,
 ) -> i32
-    ensures { At (TellsLine (λ a. a.local) index buffer.old length.old buffer.new length.new) (held_by slot.old) result (held_by slot.new) }
+    ensures { At (ReturnsLine (λ a. a.local) index buffer.old length.old buffer.new length.new) (held_by slot.old) result (held_by slot.new) }
 {
-    let Some(home) = slot.take(alloc) else {
+    let Some(home) = slot.home() else {
         return codes::NO_AGENT;
     };
-    let code = put_line(alloc, local_at(&home, index), buffer, length);
-    *slot = Slot::of(home);
-    code
+    put_line(alloc, local_at(home, index), buffer, length)
 }
 
 /// Writes the candidate attribute of a remote candidate. Candidates are counted from 0, without the discarded ones.
@@ -200,48 +188,29 @@ pub extern "C" fn is_ice_remote_candidate(
     buffer: &mut [u8],
     length: &mut usize,
 ) -> i32
-    ensures { At (TellsLine (λ a. a.remote) index buffer.old length.old buffer.new length.new) (held_by slot.old) result (held_by slot.new) }
+    ensures { At (ReturnsLine (λ a. a.remote) index buffer.old length.old buffer.new length.new) (held_by slot.old) result (held_by slot.new) }
 {
-    let Some(home) = slot.take(alloc) else {
+    let Some(home) = slot.home() else {
         return codes::NO_AGENT;
     };
-    let code = put_line(alloc, remote_at(&home, index), buffer, length);
-    *slot = Slot::of(home);
-    code
+    put_line(alloc, remote_at(home, index), buffer, length)
 }
 
-fn has_viable(home: &Home, address: &Address) -> i32
-    ensures { AnswersViable address.now (record_of home.now.agent) result }
+/// Whether a check succeeded on a pair whose remote candidate has this address.
+#[unsafe(no_mangle)]
+pub extern "C" fn is_ice_has_viable_remote(alloc: Global, slot: &mut Slot, address: &Address) -> i32
+    ensures { At (ReturnsViable address.now) (held_by slot.old) result (held_by slot.new) }
 {
+    let Some(home) = slot.home() else {
+        return codes::NO_AGENT;
+    };
     match socket_of(address) {
         Some(address) => codes::found_code(home.agent.has_viable_remote_candidate(address)),
         None => codes::BAD_ADDRESS,
     }
 }
 
-/// Whether a check succeeded on a pair whose remote candidate has this address.
-#[unsafe(no_mangle)]
-pub extern "C" fn is_ice_has_viable_remote(alloc: Global, slot: &mut Slot, address: &Address) -> i32
-    ensures { At (TellsViable address.now) (held_by slot.old) result (held_by slot.new) }
-{
-    let Some(home) = slot.take(alloc) else {
-        return codes::NO_AGENT;
-    };
-    let code = has_viable(&home, address);
-    *slot = Slot::of(home);
-    code
-}
-
 // ---- the peer's credentials
-
-fn put_remote_ufrag(home: &Home, buffer: &mut [u8], length: &mut usize) -> i32
-    ensures { PutsOf (λ creds. creds.ufrag) (record_of home.now.agent).remote_creds buffer.old length.old result buffer.new length.new }
-{
-    match home.agent.remote_credentials() {
-        Some(creds) => put(creds.ufrag.as_str().as_bytes(), buffer, length),
-        None => codes::NOTHING,
-    }
-}
 
 /// Writes the peer's username fragment to the buffer.
 #[unsafe(no_mangle)]
@@ -251,21 +220,13 @@ pub extern "C" fn is_ice_remote_ufrag(
     buffer: &mut [u8],
     length: &mut usize,
 ) -> i32
-    ensures { At (TellsRemote (λ creds. creds.ufrag) buffer.old length.old buffer.new length.new) (held_by slot.old) result (held_by slot.new) }
+    ensures { At (ReturnsRemote (λ creds. creds.ufrag) buffer.old length.old buffer.new length.new) (held_by slot.old) result (held_by slot.new) }
 {
-    let Some(home) = slot.take(alloc) else {
+    let Some(home) = slot.home() else {
         return codes::NO_AGENT;
     };
-    let code = put_remote_ufrag(&home, buffer, length);
-    *slot = Slot::of(home);
-    code
-}
-
-fn put_remote_pass(home: &Home, buffer: &mut [u8], length: &mut usize) -> i32
-    ensures { PutsOf (λ creds. creds.pass) (record_of home.now.agent).remote_creds buffer.old length.old result buffer.new length.new }
-{
     match home.agent.remote_credentials() {
-        Some(creds) => put(creds.pass.as_str().as_bytes(), buffer, length),
+        Some(creds) => put(creds.ufrag.as_str().as_bytes(), buffer, length),
         None => codes::NOTHING,
     }
 }
@@ -278,12 +239,13 @@ pub extern "C" fn is_ice_remote_pass(
     buffer: &mut [u8],
     length: &mut usize,
 ) -> i32
-    ensures { At (TellsRemote (λ creds. creds.pass) buffer.old length.old buffer.new length.new) (held_by slot.old) result (held_by slot.new) }
+    ensures { At (ReturnsRemote (λ creds. creds.pass) buffer.old length.old buffer.new length.new) (held_by slot.old) result (held_by slot.new) }
 {
-    let Some(home) = slot.take(alloc) else {
+    let Some(home) = slot.home() else {
         return codes::NO_AGENT;
     };
-    let code = put_remote_pass(&home, buffer, length);
-    *slot = Slot::of(home);
-    code
+    match home.agent.remote_credentials() {
+        Some(creds) => put(creds.pass.as_str().as_bytes(), buffer, length),
+        None => codes::NOTHING,
+    }
 }

@@ -21,15 +21,6 @@ fn begin(home: &mut Home, creds: IceCreds, keep: bool) -> Result<(), IceError>
     Ok(())
 }
 
-fn restart(alloc: Global, home: &mut Home, ufrag: &[u8], pass: &[u8], keep: bool) -> i32
-    ensures { RestartsWith keep ufrag.now pass.now (home_of home.old) result (home_of home.new) }
-{
-    match creds_of(alloc, ufrag, pass) {
-        Ok(creds) => codes::done_code(begin(home, creds, keep)),
-        Err(code) => code,
-    }
-}
-
 /// Restarts the session with new credentials; local candidates stay or are removed.
 #[unsafe(no_mangle)]
 pub extern "C" fn is_ice_restart(
@@ -41,12 +32,13 @@ pub extern "C" fn is_ice_restart(
 ) -> i32
     ensures { At (RestartsWith keep ufrag.now pass.now) (held_by slot.old) result (held_by slot.new) }
 {
-    let Some(mut home) = slot.take(alloc) else {
+    let Some(home) = slot.home() else {
         return codes::NO_AGENT;
     };
-    let code = restart(alloc, &mut home, ufrag, pass, keep);
-    *slot = Slot::of(home);
-    code
+    match creds_of(alloc, ufrag, pass) {
+        Ok(creds) => codes::done_code(begin(home, creds, keep)),
+        Err(code) => code,
+    }
 }
 
 /// Forms all pairs again, of all candidates that are not discarded.
@@ -54,10 +46,8 @@ pub extern "C" fn is_ice_restart(
 pub extern "C" fn is_ice_recreate_pairs(alloc: Global, slot: &mut Slot) -> i32
     ensures { At (Calls (λ a r b. Recreates a r b) done_code) (held_by slot.old) result (held_by slot.new) }
 {
-    let Some(mut home) = slot.take(alloc) else {
+    let Some(home) = slot.home() else {
         return codes::NO_AGENT;
     };
-    let code = codes::done_code(home.agent.recreate_candidate_pairs());
-    *slot = Slot::of(home);
-    code
+    codes::done_code(home.agent.recreate_candidate_pairs())
 }

@@ -4,11 +4,10 @@ ghost use Rattle.std.specs.Prelude.{◌≡◌, ◌==◌, Some, MatchBool};
 ghost use Rattle.is_rules.specs.Settings.{SetsMtu, with_rtos, with_retransmits, with_lite_timeout, numbers_skipped};
 ghost use Rattle.is_c.specs.Codes.{BAD_LIMIT, done_code};
 ghost use Rattle.is_c.specs.Limits.{limit_of};
-ghost use Rattle.is_c.specs.Held.{home_of, held_by, At, Becomes, Calls, Refuses};
+ghost use Rattle.is_c.specs.Held.{held_by, At, AgentBecomes, Calls, Rejects};
 ghost use Rattle.is_c.specs.declared.preference.Preference.TheVariants.{ByDefault, Fixed, ByTable};
 
 use crate::codes;
-use crate::home::Home;
 use crate::preference::{Preference, PreferenceTable};
 use crate::slot::Slot;
 use is_proto::Duration;
@@ -17,65 +16,60 @@ use std::alloc::Global;
 /// Gives the agent the controlling or the controlled role.
 #[unsafe(no_mangle)]
 pub extern "C" fn is_ice_set_controlling(alloc: Global, slot: &mut Slot, controlling: bool) -> i32
-    ensures { At (Becomes (λ a. record a { controlling = controlling })) (held_by slot.old) result (held_by slot.new) }
+    ensures { At (AgentBecomes (λ a. record a { controlling = controlling })) (held_by slot.old) result (held_by slot.new) }
 {
-    let Some(mut home) = slot.take(alloc) else {
+    let Some(home) = slot.home() else {
         return codes::NO_AGENT;
     };
     home.agent.set_controlling(controlling);
-    *slot = Slot::of(home);
     codes::OK
 }
 
 /// Makes the agent a lite agent, or a full one.
 #[unsafe(no_mangle)]
 pub extern "C" fn is_ice_set_lite(alloc: Global, slot: &mut Slot, lite: bool) -> i32
-    ensures { At (Becomes (λ a. record a { lite = lite })) (held_by slot.old) result (held_by slot.new) }
+    ensures { At (AgentBecomes (λ a. record a { lite = lite })) (held_by slot.old) result (held_by slot.new) }
 {
-    let Some(mut home) = slot.take(alloc) else {
+    let Some(home) = slot.home() else {
         return codes::NO_AGENT;
     };
     home.agent.set_ice_lite(lite);
-    *slot = Slot::of(home);
     codes::OK
 }
 
 /// Lets each nomination replace the ones before, so that both agents select the same path.
 #[unsafe(no_mangle)]
 pub extern "C" fn is_ice_set_renomination(alloc: Global, slot: &mut Slot, enabled: bool) -> i32
-    ensures { At (Becomes (λ a. record a { renominates = enabled })) (held_by slot.old) result (held_by slot.new) }
+    ensures { At (AgentBecomes (λ a. record a { renominates = enabled })) (held_by slot.old) result (held_by slot.new) }
 {
-    let Some(mut home) = slot.take(alloc) else {
+    let Some(home) = slot.home() else {
         return codes::NO_AGENT;
     };
     home.agent.set_renomination(enabled);
-    *slot = Slot::of(home);
     codes::OK
 }
 
 /// Sets the number that resolves role conflicts.
 #[unsafe(no_mangle)]
 pub extern "C" fn is_ice_set_tie_breaker(alloc: Global, slot: &mut Slot, tie_breaker: u64) -> i32
-    ensures { At (Becomes (λ a. record a { tie_breaker = tie_breaker })) (held_by slot.old) result (held_by slot.new) }
+    ensures { At (AgentBecomes (λ a. record a { tie_breaker = tie_breaker })) (held_by slot.old) result (held_by slot.new) }
 {
-    let Some(mut home) = slot.take(alloc) else {
+    let Some(home) = slot.home() else {
         return codes::NO_AGENT;
     };
     home.agent.set_control_tie_breaker(tie_breaker);
-    *slot = Slot::of(home);
     codes::OK
 }
 
 /// Sets the greatest number of pairs after forming.
 #[unsafe(no_mangle)]
 pub extern "C" fn is_ice_set_max_pairs(alloc: Global, slot: &mut Slot, limit: usize) -> i32
-    ensures { At (Becomes (λ a. record a { max_pairs = limit })) (held_by slot.old) result (held_by slot.new) }
+    ensures { At (AgentBecomes (λ a. record a { max_pairs = limit })) (held_by slot.old) result (held_by slot.new) }
 {
-    let Some(mut home) = slot.take(alloc) else {
+    let Some(home) = slot.home() else {
         return codes::NO_AGENT;
     };
     home.agent.set_max_candidate_pairs(limit);
-    *slot = Slot::of(home);
     codes::OK
 }
 
@@ -93,78 +87,72 @@ fn limit_of(number: usize) -> Option<usize>
 /// Sets how many remote candidates requests may bring; the greatest number means that there is no limit.
 #[unsafe(no_mangle)]
 pub extern "C" fn is_ice_set_max_discovered(alloc: Global, slot: &mut Slot, limit: usize) -> i32
-    ensures { At (Becomes (λ a. record a { max_discovered = limit_of limit })) (held_by slot.old) result (held_by slot.new) }
+    ensures { At (AgentBecomes (λ a. record a { max_discovered = limit_of limit })) (held_by slot.old) result (held_by slot.new) }
 {
-    let Some(mut home) = slot.take(alloc) else {
+    let Some(home) = slot.home() else {
         return codes::NO_AGENT;
     };
     home.agent.set_max_discovered(limit_of(limit));
-    *slot = Slot::of(home);
     codes::OK
 }
 
 /// Sets the pacing interval of what the agent sends, in nanoseconds.
 #[unsafe(no_mangle)]
 pub extern "C" fn is_ice_set_timing_advance(alloc: Global, slot: &mut Slot, nanoseconds: u64) -> i32
-    ensures { At (Becomes (λ a. record a { timing_advance = nanoseconds })) (held_by slot.old) result (held_by slot.new) }
+    ensures { At (AgentBecomes (λ a. record a { timing_advance = nanoseconds })) (held_by slot.old) result (held_by slot.new) }
 {
-    let Some(mut home) = slot.take(alloc) else {
+    let Some(home) = slot.home() else {
         return codes::NO_AGENT;
     };
     home.agent.set_timing_advance(Duration(nanoseconds));
-    *slot = Slot::of(home);
     codes::OK
 }
 
 /// Sets the RTO after a pair's first check, in nanoseconds.
 #[unsafe(no_mangle)]
 pub extern "C" fn is_ice_set_initial_rto(alloc: Global, slot: &mut Slot, nanoseconds: u64) -> i32
-    ensures { At (Becomes (λ a. with_rtos nanoseconds a.timing.max_rto.0 a)) (held_by slot.old) result (held_by slot.new) }
+    ensures { At (AgentBecomes (λ a. with_rtos nanoseconds a.timing.max_rto.0 a)) (held_by slot.old) result (held_by slot.new) }
 {
-    let Some(mut home) = slot.take(alloc) else {
+    let Some(home) = slot.home() else {
         return codes::NO_AGENT;
     };
     home.agent.set_initial_stun_rto(Duration(nanoseconds));
-    *slot = Slot::of(home);
     codes::OK
 }
 
 /// Sets the greatest RTO after a check, in nanoseconds.
 #[unsafe(no_mangle)]
 pub extern "C" fn is_ice_set_max_rto(alloc: Global, slot: &mut Slot, nanoseconds: u64) -> i32
-    ensures { At (Becomes (λ a. with_rtos a.timing.initial_rto.0 nanoseconds a)) (held_by slot.old) result (held_by slot.new) }
+    ensures { At (AgentBecomes (λ a. with_rtos a.timing.initial_rto.0 nanoseconds a)) (held_by slot.old) result (held_by slot.new) }
 {
-    let Some(mut home) = slot.take(alloc) else {
+    let Some(home) = slot.home() else {
         return codes::NO_AGENT;
     };
     home.agent.set_max_stun_rto(Duration(nanoseconds));
-    *slot = Slot::of(home);
     codes::OK
 }
 
 /// Sets how long an ICE-lite agent keeps a pair after the peer's last check on it, in nanoseconds.
 #[unsafe(no_mangle)]
 pub extern "C" fn is_ice_set_lite_timeout(alloc: Global, slot: &mut Slot, nanoseconds: u64) -> i32
-    ensures { At (Becomes (with_lite_timeout nanoseconds)) (held_by slot.old) result (held_by slot.new) }
+    ensures { At (AgentBecomes (with_lite_timeout nanoseconds)) (held_by slot.old) result (held_by slot.new) }
 {
-    let Some(mut home) = slot.take(alloc) else {
+    let Some(home) = slot.home() else {
         return codes::NO_AGENT;
     };
     home.agent.set_lite_timeout(Duration(nanoseconds));
-    *slot = Slot::of(home);
     codes::OK
 }
 
 /// Makes the number of the next pair at least this one.
 #[unsafe(no_mangle)]
 pub extern "C" fn is_ice_skip_pair_ids(alloc: Global, slot: &mut Slot, number: u64) -> i32
-    ensures { At (Becomes (numbers_skipped number)) (held_by slot.old) result (held_by slot.new) }
+    ensures { At (AgentBecomes (numbers_skipped number)) (held_by slot.old) result (held_by slot.new) }
 {
-    let Some(mut home) = slot.take(alloc) else {
+    let Some(home) = slot.home() else {
         return codes::NO_AGENT;
     };
     home.agent.skip_pair_ids(number);
-    *slot = Slot::of(home);
     codes::OK
 }
 
@@ -173,12 +161,10 @@ pub extern "C" fn is_ice_skip_pair_ids(alloc: Global, slot: &mut Slot, number: u
 pub extern "C" fn is_ice_set_mtu(alloc: Global, slot: &mut Slot, mtu: usize, warn: usize) -> i32
     ensures { At (Calls (λ a r b. SetsMtu a mtu warn r b) done_code) (held_by slot.old) result (held_by slot.new) }
 {
-    let Some(mut home) = slot.take(alloc) else {
+    let Some(home) = slot.home() else {
         return codes::NO_AGENT;
     };
-    let code = codes::done_code(home.agent.set_mtu(mtu..=warn));
-    *slot = Slot::of(home);
-    code
+    codes::done_code(home.agent.set_mtu(mtu..=warn))
 }
 
 /// Sets this number as the preference of local candidates that are added from now on.
@@ -188,14 +174,13 @@ pub extern "C" fn is_ice_set_local_preference(
     slot: &mut Slot,
     preference: u16,
 ) -> i32
-    ensures { At (Becomes (λ a. record a { preference = Some (Fixed preference) })) (held_by slot.old) result (held_by slot.new) }
+    ensures { At (AgentBecomes (λ a. record a { preference = Some (Fixed preference) })) (held_by slot.old) result (held_by slot.new) }
 {
-    let Some(mut home) = slot.take(alloc) else {
+    let Some(home) = slot.home() else {
         return codes::NO_AGENT;
     };
     home.agent
         .set_local_preference(Preference::Fixed(preference));
-    *slot = Slot::of(home);
     codes::OK
 }
 
@@ -206,51 +191,39 @@ pub extern "C" fn is_ice_set_preference_table(
     slot: &mut Slot,
     table: &PreferenceTable,
 ) -> i32
-    ensures { At (Becomes (λ a. record a { preference = Some (ByTable table.now) })) (held_by slot.old) result (held_by slot.new) }
+    ensures { At (AgentBecomes (λ a. record a { preference = Some (ByTable table.now) })) (held_by slot.old) result (held_by slot.new) }
 {
-    let Some(mut home) = slot.take(alloc) else {
+    let Some(home) = slot.home() else {
         return codes::NO_AGENT;
     };
     home.agent.set_local_preference(Preference::ByTable(*table));
-    *slot = Slot::of(home);
     codes::OK
 }
 
 /// Resets the preferences of local candidates that are added from now on to the default.
 #[unsafe(no_mangle)]
 pub extern "C" fn is_ice_reset_local_preference(alloc: Global, slot: &mut Slot) -> i32
-    ensures { At (Becomes (λ a. record a { preference = Some ByDefault })) (held_by slot.old) result (held_by slot.new) }
+    ensures { At (AgentBecomes (λ a. record a { preference = Some ByDefault })) (held_by slot.old) result (held_by slot.new) }
 {
-    let Some(mut home) = slot.take(alloc) else {
+    let Some(home) = slot.home() else {
         return codes::NO_AGENT;
     };
     home.agent.set_local_preference(Preference::ByDefault);
-    *slot = Slot::of(home);
-    codes::OK
-}
-
-/// Sets how many checks a pair sends without a response.
-fn limit_retransmits(home: &mut Home, limit: usize) -> i32
-    ensures { MatchBool (limit == 0) (Refuses BAD_LIMIT (home_of home.old) result (home_of home.new))
-        (Becomes (with_retransmits limit) (home_of home.old) result (home_of home.new)) }
-{
-    if limit == 0 {
-        return codes::BAD_LIMIT;
-    }
-    home.agent.set_max_stun_retransmits(limit);
     codes::OK
 }
 
 /// Sets how many checks a pair sends without a response before it is removed. Fails with `BAD_LIMIT` if the limit is 0.
 #[unsafe(no_mangle)]
 pub extern "C" fn is_ice_set_max_retransmits(alloc: Global, slot: &mut Slot, limit: usize) -> i32
-    ensures { At (λ old code new. MatchBool (limit == 0) (Refuses BAD_LIMIT old code new) (Becomes (with_retransmits limit) old code new))
+    ensures { At (λ old code new. MatchBool (limit == 0) (Rejects BAD_LIMIT old code new) (AgentBecomes (with_retransmits limit) old code new))
         (held_by slot.old) result (held_by slot.new) }
 {
-    let Some(mut home) = slot.take(alloc) else {
+    let Some(home) = slot.home() else {
         return codes::NO_AGENT;
     };
-    let code = limit_retransmits(&mut home, limit);
-    *slot = Slot::of(home);
-    code
+    if limit == 0 {
+        return codes::BAD_LIMIT;
+    }
+    home.agent.set_max_stun_retransmits(limit);
+    codes::OK
 }

@@ -5,8 +5,8 @@ ghost use Rattle.std.specs.Prelude.{◌≡◌, None, length};
 ghost use Rattle.is_proto.specs.Hmac.{hmac_sha1};
 ghost use Rattle.is_stun.specs.MessageView.{message_view};
 ghost use Rattle.is_stun.specs.Writing.{written};
-ghost use Rattle.is_c.specs.StunClient.{binding_query, said_of, TellsSaid, TellsResponse};
-ghost use Rattle.is_c.specs.StunRead.{TellsMessage};
+ghost use Rattle.is_c.specs.StunClient.{binding_query, said_of, ReturnsSaid, ReturnsResponse};
+ghost use Rattle.is_c.specs.StunRead.{ReturnsMessage};
 ghost use Rattle.is_c.specs.Texts.{Puts};
 
 use crate::address::{Address, address_of};
@@ -58,8 +58,8 @@ pub extern "C" fn is_ice_stun_request(
     }
 }
 
-fn tell(message: &StunMessage<'_>, response: &mut Response) -> i32
-    ensures { TellsSaid (said_of (message_view message.now).method (message_view message.now).class (message_view message.now).attributes)
+fn report_on(message: &StunMessage<'_>, response: &mut Response) -> i32
+    ensures { ReturnsSaid (said_of (message_view message.now).method (message_view message.now).class (message_view message.now).attributes)
         response.old result response.new }
 {
     match (message.method(), message.class()) {
@@ -82,11 +82,11 @@ fn tell(message: &StunMessage<'_>, response: &mut Response) -> i32
     }
 }
 
-fn tell_of(id: &Transaction, message: &StunMessage<'_>, response: &mut Response) -> i32
-    ensures { TellsResponse id.now.bytes (message_view message.now) response.old result response.new }
+fn return_of(id: &Transaction, message: &StunMessage<'_>, response: &mut Response) -> i32
+    ensures { ReturnsResponse id.now.bytes (message_view message.now) response.old result response.new }
 {
     if message.trans_id().0 == id.bytes {
-        tell(message, response)
+        report_on(message, response)
     } else {
         codes::NOTHING
     }
@@ -100,10 +100,10 @@ pub extern "C" fn is_ice_stun_response(
     bytes: &[u8],
     response: &mut Response,
 ) -> i32
-    ensures { TellsMessage bytes.now (λ m code. TellsResponse id.now.bytes m response.old code response.new) (response.new ≡ response.old) result }
+    ensures { ReturnsMessage bytes.now (λ m code. ReturnsResponse id.now.bytes m response.old code response.new) (response.new ≡ response.old) result }
 {
     match StunMessage::parse_any(bytes) {
-        Ok(message) => tell_of(id, &message, response),
+        Ok(message) => return_of(id, &message, response),
         Err(_) => codes::UNPARSED,
     }
 }

@@ -7,7 +7,7 @@ ghost use Rattle.is_stun.specs.Message.{no_attributes};
 ghost use Rattle.is_c.specs.Addresses.{socket_of};
 ghost use Rattle.is_c.specs.StunMessage.{number_in};
 ghost use Rattle.is_c.specs.StunWrite.{is_above, has_bad_number, cost_in};
-ghost use Rattle.is_c.specs.StunFill.{error_of, numbers_set, addresses_set, words_set};
+ghost use Rattle.is_c.specs.StunFill.{error_of, Sets, numbers_set, addresses_set, words_set};
 
 use crate::address::socket_of;
 use crate::stun_message::{Message, Number};
@@ -65,10 +65,7 @@ fn network_cost(message: &Message) -> Option<(u16, u16)>
 }
 
 fn with_priority<'a>(to: Begun<'a>, value: Option<u32>) -> Begun<'a>
-    ensures kind { kind_so_far result ≡ kind_so_far to.entry }
-    ensures attributes { attributes_so_far result ≡ record (attributes_so_far to.entry) {
-      priority = option_or value (attributes_so_far to.entry).priority;
-    } }
+    ensures { Sets (λ a. record a { priority = option_or value a.priority }) to.entry result }
 {
     match value {
         Some(value) => to.prio(value),
@@ -77,10 +74,7 @@ fn with_priority<'a>(to: Begun<'a>, value: Option<u32>) -> Begun<'a>
 }
 
 fn with_controlled<'a>(to: Begun<'a>, value: Option<u64>) -> Begun<'a>
-    ensures kind { kind_so_far result ≡ kind_so_far to.entry }
-    ensures attributes { attributes_so_far result ≡ record (attributes_so_far to.entry) {
-      ice_controlled = option_or value (attributes_so_far to.entry).ice_controlled;
-    } }
+    ensures { Sets (λ a. record a { ice_controlled = option_or value a.ice_controlled }) to.entry result }
 {
     match value {
         Some(value) => to.ice_controlled(value),
@@ -89,10 +83,7 @@ fn with_controlled<'a>(to: Begun<'a>, value: Option<u64>) -> Begun<'a>
 }
 
 fn with_controlling<'a>(to: Begun<'a>, value: Option<u64>) -> Begun<'a>
-    ensures kind { kind_so_far result ≡ kind_so_far to.entry }
-    ensures attributes { attributes_so_far result ≡ record (attributes_so_far to.entry) {
-      ice_controlling = option_or value (attributes_so_far to.entry).ice_controlling;
-    } }
+    ensures { Sets (λ a. record a { ice_controlling = option_or value a.ice_controlling }) to.entry result }
 {
     match value {
         Some(value) => to.ice_controlling(value),
@@ -101,10 +92,7 @@ fn with_controlling<'a>(to: Begun<'a>, value: Option<u64>) -> Begun<'a>
 }
 
 fn with_lifetime<'a>(to: Begun<'a>, value: Option<u32>) -> Begun<'a>
-    ensures kind { kind_so_far result ≡ kind_so_far to.entry }
-    ensures attributes { attributes_so_far result ≡ record (attributes_so_far to.entry) {
-      lifetime = option_or value (attributes_so_far to.entry).lifetime;
-    } }
+    ensures { Sets (λ a. record a { lifetime = option_or value a.lifetime }) to.entry result }
 {
     match value {
         Some(value) => to.lifetime(value),
@@ -113,10 +101,7 @@ fn with_lifetime<'a>(to: Begun<'a>, value: Option<u32>) -> Begun<'a>
 }
 
 fn with_channel_number<'a>(to: Begun<'a>, value: Option<u16>) -> Begun<'a>
-    ensures kind { kind_so_far result ≡ kind_so_far to.entry }
-    ensures attributes { attributes_so_far result ≡ record (attributes_so_far to.entry) {
-      channel_number = option_or value (attributes_so_far to.entry).channel_number;
-    } }
+    ensures { Sets (λ a. record a { channel_number = option_or value a.channel_number }) to.entry result }
 {
     match value {
         Some(value) => to.channel_number(value),
@@ -125,10 +110,7 @@ fn with_channel_number<'a>(to: Begun<'a>, value: Option<u16>) -> Begun<'a>
 }
 
 fn with_network_cost<'a>(to: Begun<'a>, value: Option<(u16, u16)>) -> Begun<'a>
-    ensures kind { kind_so_far result ≡ kind_so_far to.entry }
-    ensures attributes { attributes_so_far result ≡ record (attributes_so_far to.entry) {
-      network_cost = option_or value (attributes_so_far to.entry).network_cost;
-    } }
+    ensures { Sets (λ a. record a { network_cost = option_or value a.network_cost }) to.entry result }
 {
     match value {
         Some((network, cost)) => to.network_cost(network, cost),
@@ -139,8 +121,7 @@ fn with_network_cost<'a>(to: Begun<'a>, value: Option<(u16, u16)>) -> Begun<'a>
 /// Puts all numbers except that of ERROR-CODE into the builder, and USE-CANDIDATE.
 fn with_numbers<'a>(to: Begun<'a>, message: &Message) -> Begun<'a>
     requires { has_bad_number message.now ≡ false }
-    ensures kind { kind_so_far result ≡ kind_so_far to.entry }
-    ensures attributes { attributes_so_far result ≡ numbers_set message.now (attributes_so_far to.entry) }
+    ensures { Sets (numbers_set message.now) to.entry result }
 {
     let to = with_priority(to, number32(&message.priority));
     let to = with_controlled(to, number(&message.controlled));
@@ -158,10 +139,7 @@ fn with_numbers<'a>(to: Begun<'a>, message: &Message) -> Begun<'a>
 // ---- addresses
 
 fn with_mapped<'a>(to: Begun<'a>, value: Option<SocketAddr>) -> Begun<'a>
-    ensures kind { kind_so_far result ≡ kind_so_far to.entry }
-    ensures attributes { attributes_so_far result ≡ record (attributes_so_far to.entry) {
-      xor_mapped_address = option_or value (attributes_so_far to.entry).xor_mapped_address;
-    } }
+    ensures { Sets (λ a. record a { xor_mapped_address = option_or value a.xor_mapped_address }) to.entry result }
 {
     match value {
         Some(value) => to.xor_mapped_address(value),
@@ -170,10 +148,7 @@ fn with_mapped<'a>(to: Begun<'a>, value: Option<SocketAddr>) -> Begun<'a>
 }
 
 fn with_peer<'a>(to: Begun<'a>, value: Option<SocketAddr>) -> Begun<'a>
-    ensures kind { kind_so_far result ≡ kind_so_far to.entry }
-    ensures attributes { attributes_so_far result ≡ record (attributes_so_far to.entry) {
-      xor_peer_address = option_or value (attributes_so_far to.entry).xor_peer_address;
-    } }
+    ensures { Sets (λ a. record a { xor_peer_address = option_or value a.xor_peer_address }) to.entry result }
 {
     match value {
         Some(value) => to.xor_peer_address(value),
@@ -182,10 +157,7 @@ fn with_peer<'a>(to: Begun<'a>, value: Option<SocketAddr>) -> Begun<'a>
 }
 
 fn with_relayed<'a>(to: Begun<'a>, value: Option<SocketAddr>) -> Begun<'a>
-    ensures kind { kind_so_far result ≡ kind_so_far to.entry }
-    ensures attributes { attributes_so_far result ≡ record (attributes_so_far to.entry) {
-      xor_relayed_address = option_or value (attributes_so_far to.entry).xor_relayed_address;
-    } }
+    ensures { Sets (λ a. record a { xor_relayed_address = option_or value a.xor_relayed_address }) to.entry result }
 {
     match value {
         Some(value) => to.xor_relayed_address(value),
@@ -195,8 +167,7 @@ fn with_relayed<'a>(to: Begun<'a>, value: Option<SocketAddr>) -> Begun<'a>
 
 /// Puts the addresses into the builder.
 fn with_addresses<'a>(to: Begun<'a>, message: &Message) -> Begun<'a>
-    ensures kind { kind_so_far result ≡ kind_so_far to.entry }
-    ensures attributes { attributes_so_far result ≡ addresses_set message.now (attributes_so_far to.entry) }
+    ensures { Sets (addresses_set message.now) to.entry result }
 {
     let to = with_mapped(to, socket_of(&message.mapped));
     let to = with_peer(to, socket_of(&message.peer));
@@ -206,10 +177,7 @@ fn with_addresses<'a>(to: Begun<'a>, message: &Message) -> Begun<'a>
 // ---- texts
 
 fn with_username<'a>(to: Begun<'a>, value: Option<&'a str>) -> Begun<'a>
-    ensures kind { kind_so_far result ≡ kind_so_far to.entry }
-    ensures attributes { attributes_so_far result ≡ record (attributes_so_far to.entry) {
-      username = option_or (option_copied value.entry) (attributes_so_far to.entry).username;
-    } }
+    ensures { Sets (λ a. record a { username = option_or (option_copied value.entry) a.username }) to.entry result }
 {
     match value {
         Some(value) => to.username(value),
@@ -218,10 +186,7 @@ fn with_username<'a>(to: Begun<'a>, value: Option<&'a str>) -> Begun<'a>
 }
 
 fn with_realm<'a>(to: Begun<'a>, value: Option<&'a str>) -> Begun<'a>
-    ensures kind { kind_so_far result ≡ kind_so_far to.entry }
-    ensures attributes { attributes_so_far result ≡ record (attributes_so_far to.entry) {
-      realm = option_or (option_copied value.entry) (attributes_so_far to.entry).realm;
-    } }
+    ensures { Sets (λ a. record a { realm = option_or (option_copied value.entry) a.realm }) to.entry result }
 {
     match value {
         Some(value) => to.realm(value),
@@ -230,10 +195,7 @@ fn with_realm<'a>(to: Begun<'a>, value: Option<&'a str>) -> Begun<'a>
 }
 
 fn with_nonce<'a>(to: Begun<'a>, value: Option<&'a str>) -> Begun<'a>
-    ensures kind { kind_so_far result ≡ kind_so_far to.entry }
-    ensures attributes { attributes_so_far result ≡ record (attributes_so_far to.entry) {
-      nonce = option_or (option_copied value.entry) (attributes_so_far to.entry).nonce;
-    } }
+    ensures { Sets (λ a. record a { nonce = option_or (option_copied value.entry) a.nonce }) to.entry result }
 {
     match value {
         Some(value) => to.nonce(value),
@@ -242,10 +204,7 @@ fn with_nonce<'a>(to: Begun<'a>, value: Option<&'a str>) -> Begun<'a>
 }
 
 fn with_software<'a>(to: Begun<'a>, value: Option<&'a str>) -> Begun<'a>
-    ensures kind { kind_so_far result ≡ kind_so_far to.entry }
-    ensures attributes { attributes_so_far result ≡ record (attributes_so_far to.entry) {
-      software = option_or (option_copied value.entry) (attributes_so_far to.entry).software;
-    } }
+    ensures { Sets (λ a. record a { software = option_or (option_copied value.entry) a.software }) to.entry result }
 {
     match value {
         Some(value) => to.software(value),
@@ -254,10 +213,7 @@ fn with_software<'a>(to: Begun<'a>, value: Option<&'a str>) -> Begun<'a>
 }
 
 fn with_data<'a>(to: Begun<'a>, value: Option<&'a [u8]>) -> Begun<'a>
-    ensures kind { kind_so_far result ≡ kind_so_far to.entry }
-    ensures attributes { attributes_so_far result ≡ record (attributes_so_far to.entry) {
-      «data» = option_or (option_copied value.entry) (attributes_so_far to.entry).«data»;
-    } }
+    ensures { Sets (λ a. record a { «data» = option_or (option_copied value.entry) a.«data» }) to.entry result }
 {
     match value {
         Some(value) => to.data(value),
@@ -266,10 +222,7 @@ fn with_data<'a>(to: Begun<'a>, value: Option<&'a [u8]>) -> Begun<'a>
 }
 
 fn with_error<'a>(to: Begun<'a>, code: Option<u16>, reason: Option<&'a str>) -> Begun<'a>
-    ensures kind { kind_so_far result ≡ kind_so_far to.entry }
-    ensures attributes { attributes_so_far result ≡ record (attributes_so_far to.entry) {
-      error_code = option_or (error_of code (option_copied reason.entry)) (attributes_so_far to.entry).error_code;
-    } }
+    ensures { Sets (λ a. record a { error_code = option_or (error_of code (option_copied reason.entry)) a.error_code }) to.entry result }
 {
     match (code, reason) {
         (Some(code), Some(reason)) => to.error_code(code, reason),
@@ -281,8 +234,7 @@ fn with_error<'a>(to: Begun<'a>, code: Option<u16>, reason: Option<&'a str>) -> 
 /// Puts the texts into the builder, and ERROR-CODE.
 fn with_words<'a>(to: Begun<'a>, message: &Message, words: &Words<'a>) -> Begun<'a>
     requires { has_bad_number message.now ≡ false }
-    ensures kind { kind_so_far result ≡ kind_so_far to.entry }
-    ensures attributes { attributes_so_far result ≡ words_set message.now words.now (attributes_so_far to.entry) }
+    ensures { Sets (words_set message.now words.now) to.entry result }
 {
     let to = with_username(to, words.username);
     let to = with_error(to, number16(&message.error_code), words.reason);

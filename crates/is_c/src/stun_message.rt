@@ -7,7 +7,7 @@ ghost use Rattle.is_stun.specs.Header.{method_bits};
 ghost use Rattle.is_stun.specs.MessageView.{message_view};
 ghost use Rattle.is_c.specs.Addresses.{socket_of};
 ghost use Rattle.is_c.specs.StunMessage.{class_number, number_in, IsFlat, IsFlatOf, AnswersSigned};
-ghost use Rattle.is_c.specs.StunRead.{TellsMessage};
+ghost use Rattle.is_c.specs.StunRead.{ReturnsMessage};
 
 use crate::address::{Address, address_of};
 use crate::codes;
@@ -176,7 +176,7 @@ fn flat(message: &StunMessage<'_>) -> Message
 /// Reads a message of any method and class; its texts are read by `is_ice_stun_text`.
 #[unsafe(no_mangle)]
 pub extern "C" fn is_ice_stun_read(bytes: &[u8], message: &mut Message) -> i32
-    ensures { TellsMessage bytes.now (λ m code. IsFlatOf m code message.new) (message.new ≡ message.old) result }
+    ensures { ReturnsMessage bytes.now (λ m code. IsFlatOf m code message.new) (message.new ≡ message.old) result }
 {
     match StunMessage::parse_any(bytes) {
         Ok(found) => {
@@ -190,7 +190,7 @@ pub extern "C" fn is_ice_stun_read(bytes: &[u8], message: &mut Message) -> i32
 /// Whether a message has the MESSAGE-INTEGRITY of this key (RFC 8489, section 14.5).
 #[unsafe(no_mangle)]
 pub extern "C" fn is_ice_stun_verify(bytes: &[u8], key: &[u8]) -> i32
-    ensures { TellsMessage bytes.now (λ m code. AnswersSigned m key.now code) (Unit {0}) result }
+    ensures { ReturnsMessage bytes.now (λ m code. AnswersSigned m key.now code) (Unit {0}) result }
 {
     match StunMessage::parse_any(bytes) {
         Ok(message) => codes::found_code(message.verify(key, &DefaultSha1HmacProvider)),

@@ -4,7 +4,7 @@ ghost use Rattle.std.specs.Prelude.{◌≡◌};
 ghost use Rattle.std.specs.Option.{option_copied, option_map};
 ghost use Rattle.is_stun.specs.ErrorCodeView.{error_view};
 ghost use Rattle.is_stun.specs.MessageView.{message_view};
-ghost use Rattle.is_c.specs.StunRead.{text_of, PutsText, TellsMessage};
+ghost use Rattle.is_c.specs.StunRead.{text_of, PutsText, ReturnsMessage};
 
 use crate::codes;
 use crate::text::put;
@@ -68,7 +68,7 @@ pub extern "C" fn is_ice_stun_text(
     buffer: &mut [u8],
     length: &mut usize,
 ) -> i32
-    ensures { TellsMessage bytes.now
+    ensures { ReturnsMessage bytes.now
         (λ m code. PutsText (text_of attribute m.attributes) buffer.old length.old code buffer.new length.new)
         ((buffer.new ≡ buffer.old) × (length.new ≡ length.old)) result }
 {

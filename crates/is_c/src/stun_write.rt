@@ -6,7 +6,7 @@ ghost use Rattle.is_proto.specs.Hmac.{hmac_sha1};
 ghost use Rattle.is_stun.specs.Builder.{attributes_so_far, method_so_far, kind_so_far};
 ghost use Rattle.is_stun.specs.Message.{no_attributes};
 ghost use Rattle.is_stun.specs.MessageView.{message_view};
-ghost use Rattle.is_stun.specs.Writing.{is_known, refusal, written};
+ghost use Rattle.is_stun.specs.Writing.{is_known, rejection, written};
 ghost use Rattle.is_c.specs.StunWrite.{method_in, class_in, is_kind, is_above, is_half, has_bad_number, is_bad_family, has_bad_family, write_code, key_if, fault_in, message_in, WritesIn, WritesMessage};
 
 use crate::address::Address;
@@ -140,7 +140,7 @@ fn key_of<'a>(message: &Message, key: &'a [u8]) -> Option<&'a [u8]>
 
 #[tactic(auto, using(crate::proofs::WriteLemmas::put_written))]
 fn write(drafted: StunMessage<'_>, key: Option<&[u8]>, buffer: &mut [u8], count: &mut usize) -> i32
-    ensures { WritesIn None (refusal (option_copied key.entry) (length buffer.old) (message_view drafted.entry))
+    ensures { WritesIn None (rejection (option_copied key.entry) (length buffer.old) (message_view drafted.entry))
         (written hmac_sha1 (option_copied key.entry) (message_view drafted.entry))
         buffer.old count.old result buffer.new count.new }
 {

@@ -17,7 +17,7 @@ use crate::packets::{
 };
 use crate::preference::{KindPreferences, PreferenceTable};
 use crate::questions::{Status, is_ice_has_viable_remote, is_ice_local_candidate, is_ice_status};
-use crate::refusals::{is_ice_candidate_refusal, is_ice_line_refusal};
+use crate::rejections::{is_ice_candidate_refusal, is_ice_line_refusal};
 use crate::session::is_ice_restart;
 use crate::settings::{
     is_ice_set_controlling, is_ice_set_max_discovered, is_ice_set_max_retransmits, is_ice_set_mtu,
@@ -96,8 +96,8 @@ fn a_request_is_replied_to(rt: HostRuntime) {
     assert!(rt; made == codes::OK);
     let again = is_ice_agent_new(alloc, &mut slot, b"p9KA", b"x", 1);
     assert!(rt; again == codes::HAS_AGENT);
-    let told = is_ice_set_remote_credentials(alloc, &mut slot, b"SQAt", b"x");
-    assert!(rt; told == codes::OK);
+    let reported = is_ice_set_remote_credentials(alloc, &mut slot, b"SQAt", b"x");
+    assert!(rt; reported == codes::OK);
     let added = is_ice_add_local(alloc, &mut slot, &host(own), &mut index);
     assert!(rt; added == codes::OK);
     let known = is_ice_add_local(alloc, &mut slot, &host(own), &mut index);
@@ -124,8 +124,8 @@ fn a_request_is_replied_to(rt: HostRuntime) {
     assert!(rt; event.source.port == 2000);
     let viable = is_ice_has_viable_remote(alloc, &mut slot, &peer);
     assert!(rt; viable == codes::NOTHING);
-    let wake = is_ice_poll_timeout(alloc, &mut slot, &mut at);
-    assert!(rt; wake == codes::NOTHING);
+    let deadline = is_ice_poll_timeout(alloc, &mut slot, &mut at);
+    assert!(rt; deadline == codes::NOTHING);
     is_ice_agent_free(alloc, &mut slot);
     let gone = is_ice_poll_timeout(alloc, &mut slot, &mut at);
     assert!(rt; gone == codes::NO_AGENT);
@@ -145,8 +145,8 @@ fn requests_bring_as_many_candidates_as_the_limit(rt: HostRuntime) {
     assert!(rt; none == codes::NO_AGENT);
     let made = is_ice_agent_new(alloc, &mut slot, b"p9KA", b"xJcE9AQAR7kczUDVOXRUCl", 1);
     assert!(rt; made == codes::OK);
-    let told = is_ice_set_remote_credentials(alloc, &mut slot, b"SQAt", b"x");
-    assert!(rt; told == codes::OK);
+    let reported = is_ice_set_remote_credentials(alloc, &mut slot, b"SQAt", b"x");
+    assert!(rt; reported == codes::OK);
     let added = is_ice_add_local(alloc, &mut slot, &host(own), &mut index);
     assert!(rt; added == codes::OK);
     let set = is_ice_set_max_discovered(alloc, &mut slot, 1);
@@ -181,8 +181,8 @@ fn a_check_has_the_random_bytes_as_its_id(rt: HostRuntime) {
     assert!(rt; made == codes::OK);
     let leads = is_ice_set_controlling(alloc, &mut slot, true);
     assert!(rt; leads == codes::OK);
-    let told = is_ice_set_remote_credentials(alloc, &mut slot, b"BBBB", b"QQQQ");
-    assert!(rt; told == codes::OK);
+    let reported = is_ice_set_remote_credentials(alloc, &mut slot, b"BBBB", b"QQQQ");
+    assert!(rt; reported == codes::OK);
     let added = is_ice_add_local(alloc, &mut slot, &host(address(1, 1000)), &mut index);
     assert!(rt; added == codes::OK);
     let line = b"candidate:1 1 udp 2130706175 10.0.0.2 2000 typ host";
@@ -201,7 +201,7 @@ fn a_check_has_the_random_bytes_as_its_id(rt: HostRuntime) {
 }
 
 #[test]
-fn credentials_are_made_and_told(rt: HostRuntime) {
+fn credentials_are_made_and_reported(rt: HostRuntime) {
     let alloc = rt.alloc();
     let mut slot = Slot::empty(alloc);
     let mut ufrag = [0; 16];
@@ -220,23 +220,23 @@ fn credentials_are_made_and_told(rt: HostRuntime) {
     let made = is_ice_agent_new(alloc, &mut slot, &ufrag, &pass, 1);
     assert!(rt; made == codes::OK);
     let mut text = [7; 22];
-    let told = is_ice_local_ufrag(alloc, &mut slot, &mut text, &mut length);
-    assert!(rt; told == codes::OK);
+    let reported = is_ice_local_ufrag(alloc, &mut slot, &mut text, &mut length);
+    assert!(rt; reported == codes::OK);
     assert!(rt; length == 16);
     assert!(rt; text[16..] == [7; 6]);
-    let told = is_ice_local_pass(alloc, &mut slot, &mut text, &mut length);
-    assert!(rt; told == codes::OK);
+    let reported = is_ice_local_pass(alloc, &mut slot, &mut text, &mut length);
+    assert!(rt; reported == codes::OK);
     assert!(rt; text[..] == pass[..]);
     let again = is_ice_restart(alloc, &mut slot, b"CCCC", b"RRRR", true);
     assert!(rt; again == codes::OK);
-    let told = is_ice_local_ufrag(alloc, &mut slot, &mut text[..3], &mut length);
-    assert!(rt; told == codes::BUFFER_TOO_SHORT);
+    let reported = is_ice_local_ufrag(alloc, &mut slot, &mut text[..3], &mut length);
+    assert!(rt; reported == codes::BUFFER_TOO_SHORT);
     assert!(rt; length == 4);
     is_ice_agent_free(alloc, &mut slot);
 }
 
 #[test]
-fn settings_and_lines_are_told(rt: HostRuntime) {
+fn settings_and_lines_are_reported(rt: HostRuntime) {
     let alloc = rt.alloc();
     let mut slot = Slot::empty(alloc);
     let mut line = [0; 100];
@@ -262,8 +262,8 @@ fn settings_and_lines_are_told(rt: HostRuntime) {
     assert!(rt; status.mtu == 1150);
     let added = is_ice_add_local(alloc, &mut slot, &host(address(1, 1000)), &mut index);
     assert!(rt; added == codes::OK);
-    let told = is_ice_local_candidate(alloc, &mut slot, 0, &mut line, &mut length);
-    assert!(rt; told == codes::OK);
+    let reported = is_ice_local_candidate(alloc, &mut slot, 0, &mut line, &mut length);
+    assert!(rt; reported == codes::OK);
     assert!(rt; length == 85);
     assert!(rt; line[51..85] == b" 10.0.0.1 1000 typ host ufrag AAAA"[..]);
     let after = is_ice_local_candidate(alloc, &mut slot, 1, &mut line, &mut length);
@@ -272,17 +272,17 @@ fn settings_and_lines_are_told(rt: HostRuntime) {
 }
 
 #[test]
-fn a_refused_line_tells_its_fault(rt: HostRuntime) {
+fn a_rejected_line_returns_its_fault(rt: HostRuntime) {
     let alloc = rt.alloc();
     let mut text = [0; 40];
     let mut length = 0;
-    let told = is_ice_line_refusal(alloc, b"candidate:1 x", &mut text, &mut length);
-    assert!(rt; told == codes::OK);
+    let reported = is_ice_line_refusal(alloc, b"candidate:1 x", &mut text, &mut length);
+    assert!(rt; reported == codes::OK);
     assert!(rt; text[..length] == b"candidate:1 x: bad component-id"[..]);
 }
 
 #[test]
-fn a_refusal_wants_a_message_and_room(rt: HostRuntime) {
+fn a_failure_needs_a_message_and_room(rt: HostRuntime) {
     let alloc = rt.alloc();
     let mut text = [0; 30];
     let mut length = 0;
@@ -321,14 +321,14 @@ fn a_table_gives_the_preference(rt: HostRuntime) {
     assert!(rt; set == codes::OK);
     let first = is_ice_add_local(alloc, &mut slot, &host(address(1, 1000)), &mut index);
     assert!(rt; first == codes::OK);
-    let told = is_ice_local_candidate(alloc, &mut slot, 0, &mut line, &mut length);
-    assert!(rt; told == codes::OK);
+    let reported = is_ice_local_candidate(alloc, &mut slot, 0, &mut line, &mut length);
+    assert!(rt; reported == codes::OK);
     assert!(rt; line[41..51] == b"2113995007"[..]);
     let second = is_ice_add_local(alloc, &mut slot, &host(address(3, 1000)), &mut index);
     assert!(rt; second == codes::OK);
     assert!(rt; index == 1);
-    let told = is_ice_local_candidate(alloc, &mut slot, index, &mut line, &mut length);
-    assert!(rt; told == codes::OK);
+    let reported = is_ice_local_candidate(alloc, &mut slot, index, &mut line, &mut length);
+    assert!(rt; reported == codes::OK);
     assert!(rt; line[41..51] == b"2113994751"[..]);
     is_ice_agent_free(alloc, &mut slot);
 }

@@ -37,16 +37,16 @@ fault_text BadTcptype = codes "bad tcptype"
 fault_text MissingUfrag = codes "missing ufrag value"
 
 -- an error gives the whole text, a colon and the first fault; or an allocation failed
-abbrev pub RefusesText : List ℕ → IceError → Type 0
-RefusesText text (BadCandidate s) =
+abbrev pub RejectsText : List ℕ → IceError → Type 0
+RejectsText text (BadCandidate s) =
     (message : List ℕ) × HasFault text message × (string_bytes s ≡ text ++ codes ": " ++ message)
-RefusesText text OutOfMemory = Unit {0}
-RefusesText text PairIdsExhausted = ⊥
-RefusesText text MtuTooSmall = ⊥
-RefusesText text CredentialsTooLong = ⊥
-RefusesText text PriorityTooHigh = ⊥
+RejectsText text OutOfMemory = Unit {0}
+RejectsText text PairIdsExhausted = ⊥
+RejectsText text MtuTooSmall = ⊥
+RejectsText text CredentialsTooLong = ⊥
+RejectsText text PriorityTooHigh = ⊥
 
 -- the candidate of the line, or the error
 abbrev pub ReadsLine : List ℕ → Result CandidateRecord IceError → Type 0
 ReadsLine text (Ok c) = IsLineOf text c
-ReadsLine text (Err e) = RefusesText text e
+ReadsLine text (Err e) = RejectsText text e

@@ -21,5 +21,5 @@ IsPlain d Null = d ≡ null
 IsPlain d Other = Unit {0}
 
 -- the value has this line and this ufrag
-abbrev pub Tells : Data → FlatInfo → Type 0
-Tells d info = (line_in d ≡ Ok info.line.now) × (ufrag_in d ≡ Ok (option_copied info.ufrag))
+abbrev pub HasLineAndUfrag : Data → FlatInfo → Type 0
+HasLineAndUfrag d info = (line_in d ≡ Ok info.line.now) × (ufrag_in d ≡ Ok (option_copied info.ufrag))

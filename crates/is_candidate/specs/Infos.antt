@@ -8,9 +8,9 @@ use Rattle.is_proto.specs.declared.error.IceError.{IceError}
 use Rattle.is_proto.specs.declared.error.IceError.TheVariants.{BadCandidate, OutOfMemory, PairIdsExhausted, MtuTooSmall, CredentialsTooLong}
 use Rattle.is_proto.specs.declared.error.IceError.TheVariants.{PriorityTooHigh}
 use Rattle.is_candidate.specs.Candidates.{CandidateRecord}
-use Rattle.is_candidate.specs.Faults.{RefusesText}
+use Rattle.is_candidate.specs.Faults.{RejectsText}
 use Rattle.is_candidate.specs.Lines.{Answer, IsLineOf}
-use Rattle.is_candidate.specs.Refusals.{RefusesWith}
+use Rattle.is_candidate.specs.Rejections.{RejectsWith}
 use Rattle.is_candidate.specs.Sdp.{sdp_text}
 
 -- a text, or null
@@ -82,26 +82,26 @@ HasUfragFault d message =
     (line : List ℕ) × (read : CandidateRecord) × (line_in d ≡ Ok line) × IsLineOf line read × (ufrag_in d ≡ Err message)
 
 -- an error is about the value, otherwise about its line, otherwise about its ufrag; or an allocation failed
-abbrev pub RefusesInfo : Data → IceError → Type 0
-RefusesInfo d (BadCandidate s) =
+abbrev pub RejectsInfo : Data → IceError → Type 0
+RejectsInfo d (BadCandidate s) =
     (line_in d ≡ Err (string_bytes s))
-    ⊎ (((line : List ℕ) × (line_in d ≡ Ok line) × RefusesText line (BadCandidate s))
+    ⊎ (((line : List ℕ) × (line_in d ≡ Ok line) × RejectsText line (BadCandidate s))
     ⊎ HasUfragFault d (string_bytes s))
-RefusesInfo d OutOfMemory = Unit {0}
-RefusesInfo d PairIdsExhausted = ⊥
-RefusesInfo d MtuTooSmall = ⊥
-RefusesInfo d CredentialsTooLong = ⊥
-RefusesInfo d PriorityTooHigh = ⊥
+RejectsInfo d OutOfMemory = Unit {0}
+RejectsInfo d PairIdsExhausted = ⊥
+RejectsInfo d MtuTooSmall = ⊥
+RejectsInfo d CredentialsTooLong = ⊥
+RejectsInfo d PriorityTooHigh = ⊥
 
 -- the candidate of the value, or the error
 abbrev pub ReadsInfo : Data → Result CandidateRecord IceError → Type 0
 ReadsInfo d (Ok c) = IsInfoOf d c
-ReadsInfo d (Err e) = RefusesInfo d e
+ReadsInfo d (Err e) = RejectsInfo d e
 
 -- the candidate of a text's value, or the error; a text that has no value is no JSON
 abbrev pub ReadsValue : Option Data → Result CandidateRecord IceError → Type 0
 ReadsValue (Some d) r = ReadsInfo d r
-ReadsValue None r = IsErrAnd r (RefusesWith (codes "candidate info is not JSON"))
+ReadsValue None r = IsErrAnd r (RejectsWith (codes "candidate info is not JSON"))
 
 abbrev pub ReadsInfoText : List ℕ → Result CandidateRecord IceError → Type 0
 ReadsInfoText text r = ReadsValue (read text) r

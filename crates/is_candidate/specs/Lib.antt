@@ -3,7 +3,7 @@ pub mod Addresses
 pub mod Candidates
 pub mod Priorities
 pub mod Preferences
-pub mod Refusals
+pub mod Rejections
 pub mod Making
 pub mod Building
 pub mod Equality

@@ -104,19 +104,19 @@ abbrev pub no_keys : Keys
 no_keys = record { raddr = None; rport = None; tcptype = None; ufrag = None }
 
 -- the value is present and parses, and so is stored; or it is missing, or does not parse
-abbrev pub Takes : {A : Type 0} → Option (List ℕ) → (List ℕ → A → Type 0) → List ℕ → List ℕ → Answer Keys → (A → Keys) → Type 0
-Takes value Is missing bad r with_value =
+abbrev pub TakesValue : {A : Type 0} → Option (List ℕ) → (List ℕ → A → Type 0) → List ℕ → List ℕ → Answer Keys → (A → Keys) → Type 0
+TakesValue value Is missing bad r with_value =
     MatchOption value (r ≡ Err missing) (λ word. ReadsAs (Is word) bad r (λ a. r ≡ Ok (with_value a)))
 
 -- one more key, whose value may be missing
 abbrev pub ReadsKey : List ℕ → Option (List ℕ) → Keys → Answer Keys → Type 0
 ReadsKey key value k r =
     MatchBool (bytes_eq key (codes "raddr"))
-    (Takes value IsIpText (codes "missing raddr value") (codes "bad raddr") r (λ a. record k { raddr = Some a }))
+    (TakesValue value IsIpText (codes "missing raddr value") (codes "bad raddr") r (λ a. record k { raddr = Some a }))
     (MatchBool (bytes_eq key (codes "rport"))
-    (Takes value (IsNumberBelow (2 ^ 16)) (codes "missing rport value") (codes "bad rport") r (λ n. record k { rport = Some n }))
+    (TakesValue value (IsNumberBelow (2 ^ 16)) (codes "missing rport value") (codes "bad rport") r (λ n. record k { rport = Some n }))
     (MatchBool (bytes_eq key (codes "tcptype"))
-    (Takes value (λ w (t : TcpType). Spells w (tcp_type_word t)) (codes "missing tcptype value") (codes "bad tcptype") r
+    (TakesValue value (λ w (t : TcpType). Spells w (tcp_type_word t)) (codes "missing tcptype value") (codes "bad tcptype") r
     (λ t. record k { tcptype = Some t }))
     (MatchBool (bytes_eq key (codes "ufrag"))
     (MatchOption value (r ≡ Err (codes "missing ufrag value")) (λ w. r ≡ Ok (record k { ufrag = Some w })))

@@ -13,26 +13,26 @@ use Rattle.is_candidate.specs.Sdp.{sdp_text}
 use Rattle.is_candidate.specs.Words.{IsWord}
 
 -- the part of an address that a line carries: no flow information and no scope
-abbrev pub told_address : SocketAddr → SocketAddr
-told_address a = plain_socket (socket_ip a) (socket_port a)
+abbrev pub reported_address : SocketAddr → SocketAddr
+reported_address a = plain_socket (socket_ip a) (socket_port a)
 
-abbrev pub told_related : Option SocketAddr → Option SocketAddr
-told_related (Some a) = Some (told_address a)
-told_related None = None
+abbrev pub reported_related : Option SocketAddr → Option SocketAddr
+reported_related (Some a) = Some (reported_address a)
+reported_related None = None
 
 -- the candidate that its line describes (RFC 5245, section 15.1)
 abbrev pub as_signalled : CandidateRecord → CandidateRecord
 as_signalled c =
-    signalled_candidate (foundation_of c) c.component c.proto (candidate_priority c) (told_address c.addr) c.kind
-    (told_related c.raddr) c.tcptype c.ufrag
+    signalled_candidate (foundation_of c) c.component c.proto (candidate_priority c) (reported_address c.addr) c.kind
+    (reported_related c.raddr) c.tcptype c.ufrag
 
 -- foundation and ufrag, if given, are not empty and hold no white space
 abbrev pub HasPlainTexts : CandidateRecord → Type 0
 HasPlainTexts c = IfSome c.foundation IsWord × IfSome c.ufrag IsWord
 
 -- the printed line parses as the candidate that it describes, which prints the same
-abbrev pub LineReadsAgain : CandidateRecord → Type 0
-LineReadsAgain c = IsLineOf (sdp_text c) (as_signalled c) × (sdp_text (as_signalled c) ≡ sdp_text c)
+abbrev pub LineRoundTrips : CandidateRecord → Type 0
+LineRoundTrips c = IsLineOf (sdp_text c) (as_signalled c) × (sdp_text (as_signalled c) ≡ sdp_text c)
 
 -- the parts of an address that a line carries are in range
 abbrev pub PartsFit : SocketAddr → Type 0

@@ -138,7 +138,7 @@ impl Candidate {
     pub fn set_ufrag(&mut self, alloc: Global, ufrag: &str) -> Result<(), IceError>
         ensures ok { OnOk result (self.new ≡ record self.old { ufrag = Some ufrag.now }) }
         ensures err { OnErr result (self.new ≡ self.old) }
-        ensures refusal { IsOkUnless result OutOfMemory }
+        ensures rejection { IsOkUnless result OutOfMemory }
     {
         self.ufrag = Some(Text::from_str(alloc, ufrag)?);
         Ok(())

@@ -3,7 +3,7 @@ ghost use Rattle.std.specs.Prelude.{◌≡◌, ◌≤◌, ◌++◌, codes, lengt
 ghost use Rattle.is_candidate.specs.Candidates.{CandidateRecord};
 ghost use Rattle.is_candidate.specs.Lines.{Answer, ReadsText};
 ghost use Rattle.is_candidate.specs.Faults.{fault_text, ReadsLine};
-ghost use Rattle.is_candidate.specs.Refusals.{RefusesWith};
+ghost use Rattle.is_candidate.specs.Rejections.{RejectsWith};
 
 mod fault;
 mod head;
@@ -29,7 +29,7 @@ pub fn parse_candidate(alloc: Global, text: &str) -> Result<Candidate, IceError>
     ensures { ReadsLine text.now result }
 {
     let Some(rest) = text.strip_prefix("candidate:") else {
-        return Err(refusal(alloc, text, Fault::MissingPrefix));
+        return Err(rejection(alloc, text, Fault::MissingPrefix));
     };
     let mut room = [""; MANY_WORDS];
     let count = place_words(rest, &mut room);
@@ -39,7 +39,7 @@ pub fn parse_candidate(alloc: Global, text: &str) -> Result<Candidate, IceError>
     };
     match read_words(placed_or_all(&room, count, &more)) {
         Ok(line) => Ok(candidate_of(alloc, &line)?),
-        Err(fault) => Err(refusal(alloc, text, fault)),
+        Err(fault) => Err(rejection(alloc, text, fault)),
     }
 }
 
@@ -61,8 +61,8 @@ fn placed_or_all<'r, 'a>(
 
 /// Returns the error for a text, or `OutOfMemory` if there is no memory for its message.
 #[cold]
-fn refusal(alloc: Global, text: &str, fault: Fault<'_>) -> IceError
-    ensures { RefusesWith (text.now ++ codes ": " ++ fault_text fault.entry) result }
+fn rejection(alloc: Global, text: &str, fault: Fault<'_>) -> IceError
+    ensures { RejectsWith (text.now ++ codes ": " ++ fault_text fault.entry) result }
 {
     match format!(in alloc; "{text}: {fault}") {
         Ok(message) => IceError::BadCandidate(message),

@@ -4,12 +4,12 @@ use Rattle.std.specs.HashMap.{spare}
 use Rattle.std.specs.VecDeque.{deque_capacity}
 use Rattle.is_pair.specs.declared.checklist.Checklist as code
 use Rattle.is_pair.specs.Pairs.{PairRecord}
-use Rattle.is_pair.specs.Bag.{keep_fewer}
+use Rattle.is_pair.specs.Multiset.{keep_fewer}
 use Rattle.is_pair.specs.Entries.{pairs_of}
 
 -- the pairs, in the order of their numbers
-abbrev pub bag_of : code.Checklist → List PairRecord
-bag_of c = pairs_of c.pairs.entries
+abbrev pub multiset_of : code.Checklist → List PairRecord
+multiset_of c = pairs_of c.pairs.entries
 
 -- there is capacity for n more pairs
 abbrev pub HasRoom : ℕ → code.Checklist → Type 0
@@ -18,4 +18,4 @@ HasRoom n c = (n ≤ spare c.pairs) × (vec_len c.ranks + n ≤ vec_capacity c.r
 -- there is capacity for one more check, on any pair
 abbrev pub HasCheckRoom : code.Checklist → Type 0
 HasCheckRoom c =
-    (vec_len c.index < vec_capacity c.index) × (0 < deque_capacity c.spare) × (keep_fewer (deque_capacity c.spare) (bag_of c) ≡ true)
+    (vec_len c.index < vec_capacity c.index) × (0 < deque_capacity c.spare) × (keep_fewer (deque_capacity c.spare) (multiset_of c) ≡ true)

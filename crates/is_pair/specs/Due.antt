@@ -3,7 +3,7 @@ use Rattle.std.specs.Prelude.{[], ◌≡◌, ℕ, ◌<◌, ◌≤◌, ◌-◌, �
 use Rattle.std.specs.Prelude.{Some, None, unwrap_or, if◌then◌else◌}
 use Rattle.std.specs.Option.{option_map_or}
 use Rattle.is_proto.specs.Lists.{Has, NonePass}
-use Rattle.is_proto.specs.Moments.{SECOND, later}
+use Rattle.is_proto.specs.Times.{SECOND, later}
 use Rattle.is_stun.specs.declared.timing.StunTiming.{StunTiming}
 use Rattle.is_stun.specs.Timing.{resend_delay, last_resend_delay}
 use Rattle.is_pair.specs.declared.pair.states.NominationState.{NominationState}
@@ -26,23 +26,23 @@ abbrev pub delaying_count : ℕ → StunTiming → List Check → ℕ
 delaying_count now t checks = if is_silent now t checks then unanswered_count checks else length checks
 
 -- one RTO after the last check, or now if there was none
-abbrev pub next_moment : ℕ → StunTiming → List Check → ℕ
-next_moment now t checks =
+abbrev pub next_due_time : ℕ → StunTiming → List Check → ℕ
+next_due_time now t checks =
     option_map_or (λ c. later c.sent (resend_delay t (delaying_count now t checks))) (last_check checks) now
 
 -- a nominated pair without a check since its nomination is due before all others
-abbrev pub wanted_moment : NominationState → ℕ → StunTiming → List Check → ℕ
-wanted_moment Unnominated now t checks = next_moment now t checks
-wanted_moment Nominated now t checks = long_before now
-wanted_moment Attempt now t checks = next_moment now t checks
-wanted_moment Success now t checks = next_moment now t checks
+abbrev pub computed_due_time : NominationState → ℕ → StunTiming → List Check → ℕ
+computed_due_time Unnominated now t checks = next_due_time now t checks
+computed_due_time Nominated now t checks = long_before now
+computed_due_time Attempt now t checks = next_due_time now t checks
+computed_due_time Success now t checks = next_due_time now t checks
 
 -- the due time: the fixed one, if any, otherwise the one that is computed now
-abbrev pub due_moment : ℕ → StunTiming → PairRecord → ℕ
-due_moment now t p = unwrap_or p.due (min (wanted_moment p.nomination now t p.checks) (later now t.max_rto.0))
+abbrev pub due_time_of : ℕ → StunTiming → PairRecord → ℕ
+due_time_of now t p = unwrap_or p.due (min (computed_due_time p.nomination now t p.checks) (later now t.max_rto.0))
 
 abbrev pub asked : ℕ → StunTiming → PairRecord → PairRecord
-asked now t p = record p { due = Some (due_moment now t p) }
+asked now t p = record p { due = Some (due_time_of now t p) }
 
 -- ---- when it fails
 
@@ -65,18 +65,18 @@ is_possible now t p =
 abbrev pub stays : Bool → ℕ → StunTiming → PairRecord → Bool
 stays lite now t p = if lite then is_lite_alive now t p else is_possible now t p
 
-abbrev pub is_given_up : Bool → ℕ → StunTiming → PairRecord → Bool
-is_given_up lite now t p = not (stays lite now t p)
+abbrev pub is_pair_expired : Bool → ℕ → StunTiming → PairRecord → Bool
+is_pair_expired lite now t p = not (stays lite now t p)
 
 -- ---- which pair is checked next (RFC 8445, section 6.1.4.2)
 
 abbrev pub is_due : ℕ → StunTiming → PairRecord → Bool
-is_due now t p = nat_le (due_moment now t p) now
+is_due now t p = nat_le (due_time_of now t p) now
 
 -- due earlier, or at the same time with no smaller priority
 abbrev pub GoesBefore : ℕ → StunTiming → PairRecord → PairRecord → Type 0
 GoesBefore now t p q =
-    (due_moment now t p < due_moment now t q) ⊎ ((due_moment now t p ≡ due_moment now t q) × (q.priority ≤ p.priority))
+    (due_time_of now t p < due_time_of now t q) ⊎ ((due_time_of now t p ≡ due_time_of now t q) × (q.priority ≤ p.priority))
 
 -- the pair that is due before all others, or none if there is none; ties may be broken in any way
 abbrev pub IsEarliest : ℕ → StunTiming → List PairRecord → Option PairRecord → Type 0

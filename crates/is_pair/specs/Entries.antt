@@ -9,7 +9,7 @@ use Rattle.is_pair.specs.declared.checklist.entries.Kept.{Kept}
 use Rattle.is_pair.specs.declared.checklist.entries.Rank.{Rank}
 use Rattle.is_pair.specs.Checks.{is_kept}
 use Rattle.is_pair.specs.Pairs.{PairRecord}
-use Rattle.is_pair.specs.Bag.{passes_at, keeps, ranks}
+use Rattle.is_pair.specs.Multiset.{passes_at, keeps, ranks}
 
 -- an ID comes before another in the order of their bytes
 abbrev pub is_before : List ℕ → List ℕ → Bool

@@ -2,7 +2,7 @@
 -- nanoseconds.
 use Rattle.std.specs.Prelude.{◌≡◌, ℕ, ◌-◌, ◌*◌, Bool, true, false, nat_lt, List, [], ◌∷◌, ◌++◌, slice_set, Option, Some, None, if◌then◌else◌}
 use Rattle.std.specs.Option.{option_map_or}
-use Rattle.is_proto.specs.Moments.{SECOND, counted, later}
+use Rattle.is_proto.specs.Times.{SECOND, counted, later}
 use Rattle.is_stun.specs.declared.timing.StunTiming.{StunTiming}
 use Rattle.is_pair.specs.declared.pair.states.CheckState.{CheckState}
 use Rattle.is_pair.specs.declared.pair.states.CheckState.TheVariants.{Waiting, Succeeded}

@@ -1,11 +1,11 @@
 -- Pairs are checked in turn.
 use Rattle.std.specs.Prelude.{◌≡◌, ℕ, ◌<◌, ◌≤◌, min, Bool, true, nat_le, List, filter, length}
 use Rattle.is_proto.specs.Lists.{Has}
-use Rattle.is_proto.specs.Moments.{MAX, MILLISECOND}
+use Rattle.is_proto.specs.Times.{MAX, MILLISECOND}
 use Rattle.is_stun.specs.declared.timing.StunTiming.{StunTiming}
 use Rattle.is_pair.specs.Pairs.{PairRecord, checked}
-use Rattle.is_pair.specs.Due.{due_moment}
-use Rattle.is_pair.specs.Bag.{change_pair}
+use Rattle.is_pair.specs.Due.{due_time_of}
+use Rattle.is_pair.specs.Multiset.{change_pair}
 
 -- checks are at least a millisecond apart, and a pair stores its last one
 pub record IsPaced (t : StunTiming) : Type 0 where
@@ -15,7 +15,7 @@ pub record IsPaced (t : StunTiming) : Type 0 where
 
 -- computed at `now`, the due time of the pair is at most `by`
 abbrev pub is_due_by : ℕ → ℕ → StunTiming → PairRecord → Bool
-is_due_by by now t p = nat_le (due_moment now t p) by
+is_due_by by now t p = nat_le (due_time_of now t p) by
 
 -- the pairs that are due by then
 abbrev pub due_by : ℕ → ℕ → StunTiming → List PairRecord → List PairRecord
@@ -25,7 +25,7 @@ due_by by now t pairs = filter (is_due_by by now t) pairs
 abbrev pub CheckedIsLater : Type 0
 CheckedIsLater =
     (now at : ℕ) (t : StunTiming) (controlling : Bool) (id : List ℕ) (p : PairRecord) → IsPaced t → now < MAX
-    → min now at < due_moment at t (checked now t controlling id p)
+    → min now at < due_time_of at t (checked now t controlling id p)
 
 abbrev pub FewerAreAhead : Type 0
 FewerAreAhead =

@@ -3,13 +3,13 @@
 
 ghost use Rattle.std.specs.Prelude.{◌≡◌, true};
 ghost use Rattle.is_pair.specs.Entries.{pairs_of, are_keyed, are_ordered, ids_rise, IsIndex, IsRanking};
-ghost use Rattle.is_pair.specs.Bag.{rises};
+ghost use Rattle.is_pair.specs.Multiset.{rises};
 
 mod changes;
 mod checks;
 mod entries;
 mod evicting;
-mod given_up;
+mod expired;
 mod index;
 mod mapped;
 mod pair_change;
@@ -20,7 +20,7 @@ mod rule;
 
 use crate::pair::{BindingAttempt, CandidatePair};
 use entries::{Kept, Rank};
-pub use given_up::GivenUp;
+pub use expired::Expired;
 use indexmap::IndexMap;
 pub use pair_change::PairChange;
 pub use pair_test::PairTest;
@@ -50,12 +50,12 @@ pub struct Checklist {
 impl Checklist {
     ghost use Rattle.std.specs.Prelude.{◌<◌, ◌+◌, ◌↔◌, ℕ, IsTrue, is_some, length, OnOk, [], ◌++◌, ◌∷◌};
     ghost use Rattle.std.specs.Option.{option_copied};
-    ghost use Rattle.is_pair.specs.Bag.{is_numbered, has_number, pair_numbered, are_below, without};
-    ghost use Rattle.is_pair.specs.Checklists.{bag_of, HasRoom, HasCheckRoom};
+    ghost use Rattle.is_pair.specs.Multiset.{is_numbered, has_number, pair_numbered, are_below, without};
+    ghost use Rattle.is_pair.specs.Checklists.{multiset_of, HasRoom, HasCheckRoom};
 
     /// Makes a checklist without pairs.
     pub fn new(alloc: Global) -> Checklist
-        ensures { bag_of result ≡ [] }
+        ensures { multiset_of result ≡ [] }
     {
         Checklist {
             pairs: IndexMap::new(alloc),
@@ -68,27 +68,27 @@ impl Checklist {
     /// No two pairs have the same number, and the pairs are in the order of their numbers. Does nothing; code whose
     /// proof needs this calls it.
     pub fn numbers_rise(&self)
-        ensures { rises (bag_of self.now) ≡ true }
+        ensures { rises (multiset_of self.now) ≡ true }
     {}
 
     /// Returns how many pairs there are.
     pub fn len(&self) -> usize
-        ensures { result ≡ length (bag_of self.now) }
+        ensures { result ≡ length (multiset_of self.now) }
     {
         self.pairs.len()
     }
 
     /// Whether there are no pairs.
     pub fn is_empty(&self) -> bool
-        ensures { IsTrue result ↔ (bag_of self.now ≡ []) }
+        ensures { IsTrue result ↔ (multiset_of self.now ≡ []) }
     {
         self.pairs.is_empty()
     }
 
     /// Returns the pair with the number, if there is one.
     pub fn get(&self, number: u64) -> Option<&CandidatePair>
-        ensures found { option_copied result ≡ pair_numbered number (bag_of self.now) }
-        ensures has { is_some result ≡ has_number number (bag_of self.now) }
+        ensures found { option_copied result ≡ pair_numbered number (multiset_of self.now) }
+        ensures has { is_some result ≡ has_number number (multiset_of self.now) }
     {
         self.pairs.get(&number)
     }
@@ -97,7 +97,7 @@ impl Checklist {
     ///
     /// If the allocation fails, the pairs are unchanged.
     pub fn reserve(&mut self, n: usize) -> Result<(), AllocError>
-        ensures bag { bag_of self.new ≡ bag_of self.old }
+        ensures multiset { multiset_of self.new ≡ multiset_of self.old }
         ensures reserved { OnOk result (HasRoom n self.new) }
         ensures room { (n : ℕ) → HasRoom n self.old → HasRoom n self.new }
         ensures check_room { HasCheckRoom self.old → HasCheckRoom self.new }
@@ -109,12 +109,12 @@ impl Checklist {
     /// Adds a newly created pair, whose number is above all others.
     pub fn add(&mut self, pair: CandidatePair)
         requires room { HasRoom 1 self.old }
-        requires last { are_below pair.number (bag_of self.old) ≡ true }
+        requires last { are_below pair.number (multiset_of self.old) ≡ true }
         requires unchecked { pair.checks ≡ [] }
-        ensures added { bag_of self.new ≡ bag_of self.old ++ pair ∷ [] }
+        ensures added { multiset_of self.new ≡ multiset_of self.old ++ pair ∷ [] }
         ensures room { (n : ℕ) → HasRoom (n + 1) self.old → HasRoom n self.new }
         ensures check_room { HasCheckRoom self.old → HasCheckRoom self.new }
-        ensures below { are_below (pair.number + 1) (bag_of self.new) ≡ true }
+        ensures below { are_below (pair.number + 1) (multiset_of self.new) ≡ true }
     {
         let rank = Rank {
             priority: pair.prio(),
@@ -126,10 +126,10 @@ impl Checklist {
 
     /// Removes the pairs that pass the test.
     pub fn remove_where<T: PairTest>(&mut self, test: &T)
-        ensures left { bag_of self.new ≡ without (T.passes test.now) (bag_of self.old) }
+        ensures left { multiset_of self.new ≡ without (T.passes test.now) (multiset_of self.old) }
         ensures room { (n : ℕ) → HasRoom n self.old → HasRoom n self.new }
         ensures check_room { HasCheckRoom self.old → HasCheckRoom self.new }
-        ensures below { (n : ℕ) → are_below n (bag_of self.old) ≡ true → are_below n (bag_of self.new) ≡ true }
+        ensures below { (n : ℕ) → are_below n (multiset_of self.old) ≡ true → are_below n (multiset_of self.new) ≡ true }
     {
         mapped::drop_passing(&mut self.pairs, test);
         index::keep_known(&mut self.index, &self.pairs);
@@ -138,10 +138,10 @@ impl Checklist {
 
     /// Removes the pair with the number, if there is one.
     pub fn remove(&mut self, number: u64)
-        ensures left { bag_of self.new ≡ without (is_numbered number) (bag_of self.old) }
+        ensures left { multiset_of self.new ≡ without (is_numbered number) (multiset_of self.old) }
         ensures room { (n : ℕ) → HasRoom n self.old → HasRoom n self.new }
         ensures check_room { HasCheckRoom self.old → HasCheckRoom self.new }
-        ensures below { (n : ℕ) → are_below n (bag_of self.old) ≡ true → are_below n (bag_of self.new) ≡ true }
+        ensures below { (n : ℕ) → are_below n (multiset_of self.old) ≡ true → are_below n (multiset_of self.new) ≡ true }
     {
         mapped::take_out(&mut self.pairs, number);
         index::drop_number(&mut self.index, number);
@@ -150,7 +150,7 @@ impl Checklist {
 
     /// Removes all pairs; the capacity stays.
     pub fn clear(&mut self)
-        ensures cleared { bag_of self.new ≡ [] }
+        ensures cleared { multiset_of self.new ≡ [] }
         ensures room { (n : ℕ) → HasRoom n self.old → HasRoom n self.new }
         ensures check_room { HasCheckRoom self.old → HasCheckRoom self.new }
     {

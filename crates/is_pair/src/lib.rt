@@ -2,8 +2,8 @@
 #![tactic(auto)]
 
 pub mod checklist;
-pub mod laws;
 pub mod pair;
+pub mod theorems;
 
-pub use pair::due::{due_moment, is_asked, reset_next_binding_attempt};
+pub use pair::due::{due_time_of, is_asked, reset_next_binding_attempt};
 pub use pair::replacing::take_over;

@@ -184,7 +184,7 @@ impl CandidatePair {
     /// Fails with `OutOfMemory` if there is no memory for the pending transactions.
     pub fn try_clone(&self) -> Result<CandidatePair, IceError>
         ensures copy { IfOk result (λ copy. copy ≡ self.now) }
-        ensures refusal { IfErr result (λ e. e ≡ IceError.OutOfMemory) }
+        ensures rejection { IfErr result (λ e. e ≡ IceError.OutOfMemory) }
     {
         Ok(CandidatePair {
             id: self.id,

@@ -1,6 +1,6 @@
 pub mod Lists
 pub mod Reads
-pub mod Moments
+pub mod Times
 pub mod Words
 pub mod Sockets
 pub mod Packets

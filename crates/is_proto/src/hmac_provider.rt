@@ -2,7 +2,7 @@
 
 ghost use Rattle.std.specs.Prelude.{◌≡◌, ◌++◌, ℕ, List};
 ghost use Rattle.sha1.specs.Sha1.{sha1, Holds};
-ghost use Rattle.is_proto.specs.Hmac.{key_block, xor_each, hmac_sha1, IsBehind};
+ghost use Rattle.is_proto.specs.Hmac.{key_block, xor_each, hmac_sha1, IsAfter};
 ghost use Rattle.is_proto.specs.Macs.{joined};
 
 use crate::proto::Sha1HmacProvider;
@@ -40,8 +40,8 @@ pub struct HmacKey {
     block: [u8; BLOCK_LEN],
     inner: Sha1,
     outer: Sha1,
-    ghost inner_holds: { IsBehind inner 0x36 block },
-    ghost outer_holds: { IsBehind outer 0x5C block },
+    ghost inner_holds: { IsAfter inner 0x36 block },
+    ghost outer_holds: { IsAfter outer 0x5C block },
 }
 
 impl HmacKey {
@@ -63,7 +63,7 @@ impl HmacKey {
     fn inner_digest(&self, payloads: &[&[u8]]) -> [u8; 20]
         ensures { result ≡ sha1 (xor_each 0x36 self.now.block ++ joined payloads.now) }
     {
-        digest_behind(copy_of(&self.inner), payloads)
+        digest_after(copy_of(&self.inner), payloads)
     }
 
     /// Returns the digest of the outer pad followed by the payloads.
@@ -71,7 +71,7 @@ impl HmacKey {
     fn outer_digest(&self, payloads: &[&[u8]]) -> [u8; 20]
         ensures { result ≡ sha1 (xor_each 0x5C self.now.block ++ joined payloads.now) }
     {
-        digest_behind(copy_of(&self.outer), payloads)
+        digest_after(copy_of(&self.outer), payloads)
     }
 
     /// Returns HMAC-SHA1 under any key. It saves work only under the key that was precomputed; for another key it does
@@ -147,7 +147,7 @@ fn copy_of(hashed: &Sha1) -> Sha1
 }
 
 /// Returns the digest of what was hashed so far, followed by the pieces.
-fn digest_behind(mut hasher: Sha1, pieces: &[&[u8]]) -> [u8; 20]
+fn digest_after(mut hasher: Sha1, pieces: &[&[u8]]) -> [u8; 20]
     ensures { (m : List ℕ) → Holds hasher m → result ≡ sha1 (m ++ joined pieces.now) }
 {
     for piece in pieces {
@@ -160,5 +160,5 @@ fn digest_behind(mut hasher: Sha1, pieces: &[&[u8]]) -> [u8; 20]
 fn padded_digest(block: &[u8; BLOCK_LEN], pad: u8, pieces: &[&[u8]]) -> [u8; 20]
     ensures { result ≡ sha1 (xor_each pad block.now ++ joined pieces.now) }
 {
-    digest_behind(padded(block, pad), pieces)
+    digest_after(padded(block, pad), pieces)
 }

@@ -4,9 +4,9 @@
 
 pub mod error;
 pub mod hmac_provider;
-pub mod laws;
 pub mod proto;
 pub mod text;
+pub mod theorems;
 
 pub use error::{IceError, ParseFault, StunError};
 pub use hmac_provider::{DefaultSha1HmacProvider, HmacKey, KeptProvider};

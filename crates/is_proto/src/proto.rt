@@ -3,7 +3,7 @@
 
 ghost use Rattle.std.specs.Prelude.{◌≡◌, ◌+◌, ◌-◌, ◌*◌, ◌/◌, ◌<◌, ◌≤◌, ℕ, List, min, Some, MatchOption};
 ghost use Rattle.is_proto.specs.Macs.{joined};
-ghost use Rattle.is_proto.specs.Moments.{MAX, MILLISECOND, later};
+ghost use Rattle.is_proto.specs.Times.{MAX, MILLISECOND, later};
 ghost use Rattle.is_proto.specs.Sockets.{ReadsSocketText, plain_socket_text};
 ghost use Rattle.is_proto.specs.Words.{protocol_word, tcp_type_word, ReadsProtocol, ReadsTcpType};
 

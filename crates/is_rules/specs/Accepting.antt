@@ -2,7 +2,7 @@
 use Rattle.std.specs.Prelude.{◌≡◌, ℕ, ◌&&◌, ◌||◌, Bool, true, false, List, [], ◌∷◌, ◌++◌, IfSome, IsSomeAnd, Option, Some, None, Result, Ok, Err}
 use Rattle.std.specs.Prelude.{if◌then◌else◌}
 use Rattle.std.specs.List.{list_any}
-use Rattle.is_proto.specs.Moments.{counted}
+use Rattle.is_proto.specs.Times.{counted}
 use Rattle.is_proto.specs.declared.error.IceError.{IceError}
 use Rattle.is_proto.specs.declared.error.IceError.TheVariants.{OutOfMemory}
 use Rattle.is_candidate.specs.Addresses.{same_address, same_protocol}
@@ -20,8 +20,8 @@ use Rattle.is_rules.specs.Request.{RequestRecord, request_in}
 use Rattle.is_rules.specs.Emitted.{nothing_emitted}
 use Rattle.is_rules.specs.Agent.{AgentRecord}
 use Rattle.is_rules.specs.Limit.{newest, is_crowded}
-use Rattle.is_rules.specs.Serving.{TakesRequest, MayRefuseArrival}
-use Rattle.is_pair.specs.Bag.{keeps_check}
+use Rattle.is_rules.specs.Serving.{TakesRequest, MayFailAtArrival}
+use Rattle.is_pair.specs.Multiset.{keeps_check}
 use Rattle.is_rules.specs.Answers.{keeps_check_on, TakesSuccess, TakesFailure}
 
 -- The packet came from this discovered source.
@@ -90,12 +90,12 @@ module _ {H P : Type 0} where
   Takes mac _ now old path m emitted new = ⊥
 
   -- An accepted request may fail as its arrival may; a response fails only for an allocation failure.
-  abbrev pub MayRefuseAs : Class → AgentRecord H P → RequestRecord → IceError → Type 0
-  MayRefuseAs Request a q error = MayRefuseArrival a q error
-  MayRefuseAs _ a q error = error ≡ OutOfMemory
+  abbrev pub MayFailAs : Class → AgentRecord H P → RequestRecord → IceError → Type 0
+  MayFailAs Request a q error = MayFailAtArrival a q error
+  MayFailAs _ a q error = error ≡ OutOfMemory
 
-  abbrev pub MayRefusePacket : (H → List ℕ → List ℕ → List ℕ) → ℕ → AgentRecord H P → Path → Message → IceError → Type 0
-  MayRefusePacket mac now a path m error = IsAcceptedOn mac a path m × MayRefuseAs m.class a (request_in now path m) error
+  abbrev pub MayFailAtPacket : (H → List ℕ → List ℕ → List ℕ) → ℕ → AgentRecord H P → Path → Message → IceError → Type 0
+  MayFailAtPacket mac now a path m error = IsAcceptedOn mac a path m × MayFailAs m.class a (request_in now path m) error
 
   -- `handle_packet`: a packet that is not accepted changes nothing.
   abbrev pub HandlesPacket : (H → List ℕ → List ℕ → List ℕ) → ℕ → AgentRecord H P → Path → Message → Result Bool IceError → Emitted
@@ -103,11 +103,11 @@ module _ {H P : Type 0} where
   HandlesPacket mac now old path m (Ok false) emitted new = ¬ IsAcceptedOn mac old path m × (emitted ≡ nothing_emitted) × (new ≡ old)
   HandlesPacket mac now old path m (Ok true) emitted new =
       IsAcceptedOn mac old path m × ((mid : AgentRecord H P) × Takes mac m.class now old path m emitted mid × (new ≡ discovered_emitted path mid))
-  HandlesPacket mac now old path m (Err error) emitted new = MayRefusePacket mac now old path m error × (emitted ≡ nothing_emitted) × (new ≡ old)
+  HandlesPacket mac now old path m (Err error) emitted new = MayFailAtPacket mac now old path m error × (emitted ≡ nothing_emitted) × (new ≡ old)
 
   -- what happens to a packet of this class, by whether it is accepted
   abbrev pub Arrives : Type 0 → (H → List ℕ → List ℕ → List ℕ) → Class → ℕ → AgentRecord H P → Path → Message
       → Result (Option Emitted) IceError → AgentRecord H P → Type 0
   Arrives Accepted mac class now old path m (Ok None) new = ¬ Accepted × (new ≡ old)
   Arrives Accepted mac class now old path m (Ok (Some emitted)) new = Accepted × Takes mac class now old path m emitted new
-  Arrives Accepted mac class now old path m (Err error) new = Accepted × MayRefuseAs class old (request_in now path m) error × (new ≡ old)
+  Arrives Accepted mac class now old path m (Err error) new = Accepted × MayFailAs class old (request_in now path m) error × (new ≡ old)

@@ -1,7 +1,7 @@
 -- The abstract state of an agent (RFC 8445): what contracts say of it.
 use Rattle.std.specs.Prelude.{◌≡◌, ℕ, ◌*◌, Bool, true, false, List, [], Option, None, Result, Ok, Err}
 use Rattle.is_proto.specs.Packets.{Packet}
-use Rattle.is_proto.specs.Moments.{MILLISECOND, SECOND}
+use Rattle.is_proto.specs.Times.{MILLISECOND, SECOND}
 use Rattle.is_stun.specs.declared.timing.StunTiming.{StunTiming}
 use Rattle.is_proto.specs.declared.error.IceError.{IceError}
 use Rattle.is_proto.specs.declared.error.IceError.TheVariants.{CredentialsTooLong}
@@ -50,7 +50,7 @@ pub record AgentRecord (H P : Type 0) : Type 0 where
   pub queue : List RequestRecord
   pub state : IceConnectionState
   -- the time of the last `handle_timeout` call that served no early request
-  pub last_moment : Option ℕ
+  pub last_time : Option ℕ
   -- the packets and events that are still to be polled
   pub packets : List Packet
   pub events : List IceAgentEvent
@@ -102,7 +102,7 @@ module _ {H P : Type 0} where
     last_nominated = None;
     queue = [];
     state = New;
-    last_moment = None;
+    last_time = None;
     packets = [];
     events = [];
     discovered_sources = [];

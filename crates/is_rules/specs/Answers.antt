@@ -5,19 +5,19 @@ use Rattle.std.specs.List.{list_any}
 use Rattle.std.specs.Option.{option_map_or}
 use Rattle.std.specs.declared.net.socket_addr.SocketAddr.{SocketAddr}
 use Rattle.is_proto.specs.Lists.{Has, same}
-use Rattle.is_proto.specs.Moments.{counted}
+use Rattle.is_proto.specs.Times.{counted}
 use Rattle.is_candidate.specs.Addresses.{same_address}
 use Rattle.is_candidate.specs.Candidates.{CandidateRecord, base_of, candidate_at}
 use Rattle.is_candidate.specs.Making.{peer_reflexive_candidate}
 use Rattle.is_candidate.specs.Priorities.{check_priority}
-use Rattle.is_pair.specs.Bag.{keeps_check}
+use Rattle.is_pair.specs.Multiset.{keeps_check}
 use Rattle.is_pair.specs.Checks.{Check}
 use Rattle.is_pair.specs.Pairs.{PairRecord, TakesAnswer}
 use Rattle.is_stun.specs.Checks.{ROLE_CONFLICT}
 use Rattle.is_stun.specs.Message.{Message}
 use Rattle.is_rules.specs.declared.emitted.Path.{Path}
 use Rattle.is_rules.specs.declared.emitted.Emitted.{Emitted}
-use Rattle.is_rules.specs.Emitted.{announced_only}
+use Rattle.is_rules.specs.Emitted.{selected_only}
 use Rattle.is_rules.specs.Agent.{AgentRecord}
 use Rattle.is_rules.specs.Sending.{path_of}
 use Rattle.is_rules.specs.Limit.{has_local_room}
@@ -68,19 +68,19 @@ module _ {H P : Type 0} where
   local_with p (Some mapped) a = if is_left_out a.max_discovered a.local mapped then a.local else a.local ++ mapped_candidate a p mapped ∷ []
 
   -- The candidate is added here without forming a pair.
-  abbrev pub mapped_learnt : PairRecord → Option SocketAddr → AgentRecord H P → AgentRecord H P
-  mapped_learnt p mapped a = record a { local = local_with p mapped a }
+  abbrev pub mapped_added : PairRecord → Option SocketAddr → AgentRecord H P → AgentRecord H P
+  mapped_added p mapped a = record a { local = local_with p mapped a }
 
   -- The pair at this index records the response.
   abbrev pub Records : ℕ → AgentRecord H P → Path → Message → AgentRecord H P → Type 0
   Records now old via m new =
       (place : ℕ) × (p after : PairRecord)
       × (slice_get old.pairs place ≡ Some p) × (keeps_check_on old via m.id p ≡ true) × TakesAnswer p now m.id after
-      × (new ≡ record (mapped_learnt p m.attributes.xor_mapped_address (success_counted old)) { pairs = slice_set old.pairs place after })
+      × (new ≡ record (mapped_added p m.attributes.xor_mapped_address (success_counted old)) { pairs = slice_set old.pairs place after })
 
   abbrev pub Concludes : ℕ → AgentRecord H P → Emitted → AgentRecord H P → Type 0
   Concludes now old emitted new =
-      (path : Option Path) × (mid : AgentRecord H P) × Nominates old path mid × (emitted ≡ announced_only path) × (new ≡ evaluated now mid)
+      (path : Option Path) × (mid : AgentRecord H P) × Nominates old path mid × (emitted ≡ selected_only path) × (new ≡ evaluated now mid)
 
   -- Then nomination and state are evaluated.
   abbrev pub TakesSuccess : ℕ → AgentRecord H P → Path → Message → Emitted → AgentRecord H P → Type 0
@@ -90,10 +90,10 @@ module _ {H P : Type 0} where
   -- ---- errors: a 487 (RFC 8445, section 7.2.5.1) has an effect only if its check was sent in the present role
 
   -- Nomination and state are not evaluated, and the check is not marked as answered.
-  abbrev pub GivesUpRole : AgentRecord H P → Path → Message → Emitted → AgentRecord H P → Type 0
-  GivesUpRole old via m emitted new =
+  abbrev pub LeavesRole : AgentRecord H P → Path → Message → Emitted → AgentRecord H P → Type 0
+  LeavesRole old via m emitted new =
       (p : PairRecord) × (c : Check) × Has old.pairs p × (keeps_check_on old via m.id p ≡ true) × Has p.checks c × (c.id ≡ m.id)
       × MatchBool (same c.controlling old.controlling) (Drops (switched old) emitted new) (Drops old emitted new)
 
   abbrev pub TakesFailure : AgentRecord H P → Path → Message → Emitted → AgentRecord H P → Type 0
-  TakesFailure old via m emitted new = MatchBool (is_role_conflict m) (GivesUpRole old via m emitted new) (Drops old emitted new)
+  TakesFailure old via m emitted new = MatchBool (is_role_conflict m) (LeavesRole old via m emitted new) (Drops old emitted new)

@@ -13,7 +13,7 @@ use Rattle.is_rules.specs.Places.{local_place}
 use Rattle.is_rules.specs.Request.{RequestRecord, request_in}
 use Rattle.is_rules.specs.Steps.{Done, Flag, Entry}
 use Rattle.is_rules.specs.declared.roles.Conflict.{Conflict}
-use Rattle.is_rules.specs.declared.roles.Conflict.TheVariants.{Yields}
+use Rattle.is_rules.specs.declared.roles.Conflict.TheVariants.{SwitchRole}
 use Rattle.is_rules.specs.Emitted.{reversed}
 use Rattle.is_rules.specs.Agent.{AgentRecord}
 use Rattle.is_rules.specs.Sending.{path_of}
@@ -25,7 +25,7 @@ use Rattle.is_rules.specs.Steps.{Call, SetControlling, ReceivePacket, HandleTime
 
 -- the role after a request that is served and passes the tests
 abbrev pub role_once : Conflict → Bool → Bool
-role_once Yields controlling = not controlling
+role_once SwitchRole controlling = not controlling
 role_once _ controlling = controlling
 
 -- The agent received this message in the call, on this path at this time, and accepted it.
@@ -68,8 +68,8 @@ module _ {H P : Type 0} where
       × (q ≡ request_in at by m)
 
   -- The peer nominates the path.
-  abbrev pub IsAskedFor : AgentRecord H P → Call P → Entry → Path → Type 0
-  IsAskedFor old call e path = (q : RequestRecord) × IsServing old call e q × (q.use_candidate ≡ true) × (reversed q.path ≡ path)
+  abbrev pub IsNominatedByPeer : AgentRecord H P → Call P → Entry → Path → Type 0
+  IsNominatedByPeer old call e path = (q : RequestRecord) × IsServing old call e q × (q.use_candidate ≡ true) × (reversed q.path ≡ path)
 
   -- ----
 
@@ -90,13 +90,13 @@ module _ {H P : Type 0} where
   -- ---- roles
 
   -- A request claims the agent's role with a greater tie-breaker, and the agent switches its role.
-  abbrev pub YieldsTo : AgentRecord H P → Call P → Entry → AgentRecord H P → Type 0
-  YieldsTo old call e new =
-      (q : RequestRecord) × IsServing old call e q × (conflict_of old q ≡ Yields) × (new.controlling ≡ not old.controlling)
+  abbrev pub SwitchesRoleFor : AgentRecord H P → Call P → Entry → AgentRecord H P → Type 0
+  SwitchesRoleFor old call e new =
+      (q : RequestRecord) × IsServing old call e q × (conflict_of old q ≡ SwitchRole) × (new.controlling ≡ not old.controlling)
 
   -- A 487 was received for a check, and the agent then has the role that the check was not sent in.
-  abbrev pub IsRefusedBy : AgentRecord H P → Call P → Entry → AgentRecord H P → Type 0
-  IsRefusedBy old call e new =
+  abbrev pub IsRejectedBy : AgentRecord H P → Call P → Entry → AgentRecord H P → Type 0
+  IsRejectedBy old call e new =
       (at : ℕ) × (by path : Path) × (m : Message) × (controlling : Bool)
       × Brings call e at by m × (m.class ≡ class.Failure) × (is_role_conflict m ≡ true)
       × IsKept old path m.id controlling × (new.controlling ≡ not controlling)

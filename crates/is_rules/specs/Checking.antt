@@ -1,7 +1,7 @@
 -- Which pair is checked next, and its check (RFC 8445, sections 6.1.4.2 and 7.2.4).
 use Rattle.std.specs.Prelude.{◌≡◌, ℕ, ◌&&◌, List, ◌∷◌, ◌++◌, map, Option, Some, None, MatchBool}
 use Rattle.rand_core.specs.Stream.{Stream, fill_bytes}
-use Rattle.is_proto.specs.Moments.{counted}
+use Rattle.is_proto.specs.Times.{counted}
 use Rattle.is_candidate.specs.Candidates.{candidate_at}
 use Rattle.is_candidate.specs.Priorities.{check_priority}
 use Rattle.is_pair.specs.Pairs.{PairRecord, heard, checked}
@@ -9,12 +9,12 @@ use Rattle.is_pair.specs.Due.{asked, IsNextDue}
 use Rattle.is_stun.specs.declared.header.Class.TheVariants.{Request}
 use Rattle.is_stun.specs.Message.{Message}
 use Rattle.is_stun.specs.Checks.{binding_request}
-use Rattle.is_stun.specs.Laws.{IsPut}
+use Rattle.is_stun.specs.Theorems.{IsPut}
 use Rattle.is_stun.specs.Writing.{written}
 use Rattle.is_rules.specs.declared.credentials.IceCreds.{IceCreds}
 use Rattle.is_rules.specs.declared.emitted.Issued.{Issued}
 use Rattle.is_rules.specs.Emitted.{issued_as}
-use Rattle.is_pair.specs.Bag.{change_pair}
+use Rattle.is_pair.specs.Multiset.{change_pair}
 use Rattle.is_rules.specs.Agent.{AgentRecord}
 use Rattle.is_rules.specs.Nominating.{stays_nominated}
 use Rattle.is_rules.specs.Sending.{with_packet, path_of}

@@ -2,7 +2,7 @@
 use Rattle.std.specs.Prelude.{◌≡◌, ℕ, ◌≤◌, Bool, true, false, List, filter, length, min}
 use Rattle.is_proto.specs.Lists.{Has}
 use Rattle.is_pair.specs.Pairs.{PairRecord}
-use Rattle.is_pair.specs.Bag.{rises, Evicts}
+use Rattle.is_pair.specs.Multiset.{rises, Evicts}
 
 -- As many pairs stay as the limit allows, and no removed pair has a higher priority than one that stays. Ties are broken
 -- arbitrarily.

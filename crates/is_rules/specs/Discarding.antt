@@ -3,7 +3,7 @@ use Rattle.std.specs.Prelude.{◌≡◌, ℕ, ◌==◌, Bool, true, false, List,
 use Rattle.is_candidate.specs.Candidates.{CandidateRecord, candidate_at}
 use Rattle.is_candidate.specs.Equality.{is_equivalent}
 use Rattle.is_pair.specs.Pairs.{PairRecord}
-use Rattle.is_pair.specs.Bag.{without}
+use Rattle.is_pair.specs.Multiset.{without}
 use Rattle.is_rules.specs.Agent.{AgentRecord}
 
 abbrev pub discarded : CandidateRecord → CandidateRecord

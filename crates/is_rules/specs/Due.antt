@@ -3,10 +3,10 @@
 use Rattle.std.specs.Prelude.{◌≡◌, ℕ, ◌&&◌, ◌||◌, Bool, true, not, List, Some, is_some}
 use Rattle.std.specs.List.{list_any}
 use Rattle.is_proto.specs.Lists.{Has, same}
-use Rattle.is_proto.specs.Moments.{counted}
+use Rattle.is_proto.specs.Times.{counted}
 use Rattle.is_candidate.specs.Candidates.{CandidateRecord, candidate_at}
 use Rattle.is_candidate.specs.Priorities.{check_priority}
-use Rattle.is_pair.specs.Bag.{pair_numbered, RecordsAnswer}
+use Rattle.is_pair.specs.Multiset.{pair_numbered, RecordsAnswer}
 use Rattle.is_pair.specs.Checks.{Check}
 use Rattle.is_pair.specs.Due.{is_due}
 use Rattle.is_pair.specs.Pairs.{PairRecord, is_nominated, is_valid}

@@ -14,7 +14,7 @@ use Rattle.is_rules.specs.declared.credentials.IceCreds.{IceCreds}
 use Rattle.is_rules.specs.declared.emitted.Issued.{Issued}
 use Rattle.is_rules.specs.declared.emitted.Path.{Path}
 use Rattle.is_rules.specs.Request.{RequestRecord}
-use Rattle.is_rules.specs.Steps.{Answer, Entry, is_done, is_refusal, is_turned_down}
+use Rattle.is_rules.specs.Steps.{Answer, Entry, is_done, is_rejection, is_not_accepted}
 use Rattle.is_rules.specs.Emitted.{nothing_emitted, issued_as, reversed}
 use Rattle.is_rules.specs.Agent.{AgentRecord}
 use Rattle.is_rules.specs.Sending.{path_of}
@@ -24,11 +24,11 @@ use Rattle.is_rules.specs.Answers.{is_role_conflict}
 use Rattle.is_rules.specs.Steps.{Call, SetControlTieBreaker, SetIceLite, SetLocalCredentials, SetRemoteCredentials, RestartIce}
 use Rattle.is_rules.specs.Steps.{RecreateCandidatePairs, ReceivePacket, Step}
 use Rattle.is_rules.specs.Sound.{IsSound, GivesBased}
-use Rattle.is_rules.specs.Brought.{role_once, Brings, IsBrought, IsKept, IsValidOn, IsNominatedOn, Continues, IsServing, IsAskedFor}
-use Rattle.is_rules.specs.Brought.{IsServedPastTests, IsAnswered, YieldsTo, IsRefusedBy, IsRoleSet}
+use Rattle.is_rules.specs.Brought.{role_once, Brings, IsBrought, IsKept, IsValidOn, IsNominatedOn, Continues, IsServing, IsNominatedByPeer}
+use Rattle.is_rules.specs.Brought.{IsServedPastTests, IsAnswered, SwitchesRoleFor, IsRejectedBy, IsRoleSet}
 use Rattle.is_rules.specs.Owed.{Owes}
-use Rattle.is_rules.specs.Points.{IsNominationPoint, IsTopAnnounced, AnswersAreValid}
-use Rattle.is_rules.specs.Issuing.{via_out, Queues, Waits, IsIssued}
+use Rattle.is_rules.specs.Points.{IsNominationPoint, IsTopSelected, AnswersAreValid}
+use Rattle.is_rules.specs.Issuing.{via_out, QueuesPackets, Waits, IsIssued}
 
 -- ---- what a call that returns Ok sets
 
@@ -73,9 +73,9 @@ last_of (path ∷ paths) = option_or (last_of paths) path
 module _ {H P : Type 0} where
   module _ (mac : H → List ℕ → List ℕ → List ℕ) where
     -- The bytes that were received in the call do not encode a message that the agent accepts.
-    abbrev pub IsTurnedDown : AgentRecord H P → Call P → Type 0
-    IsTurnedDown old (ReceivePacket now path bytes) = ¬ ((m : Message) × Reads bytes m × IsAcceptedOn mac old path m)
-    IsTurnedDown old _ = ⊥
+    abbrev pub IsNotAccepted : AgentRecord H P → Call P → Type 0
+    IsNotAccepted old (ReceivePacket now path bytes) = ¬ ((m : Message) × Reads bytes m × IsAcceptedOn mac old path m)
+    IsNotAccepted old _ = ⊥
 
     -- ---- paths: the basis of the theorems of one agent. Fields with a precondition on lite may fail for a lite agent
 
@@ -100,7 +100,7 @@ module _ {H P : Type 0} where
       pub valid : old.lite ≡ false → (path : Path) → IsValidOn new path → IsValidOn old path ⊎ IsAnswered mac old call e path
       -- While the agent is controlled, each nominated path was nominated before, or the peer nominates it now.
       pub nominated : old.lite ≡ false → old.controlling ≡ false → new.controlling ≡ false
-          → (path : Path) → IsNominatedOn new path → IsNominatedOn old path ⊎ IsAskedFor old call e path
+          → (path : Path) → IsNominatedOn new path → IsNominatedOn old path ⊎ IsNominatedByPeer old call e path
       -- A success response replies to the request that is served. If that has USE-CANDIDATE and the agent is controlled, the path
       -- is nominated.
       pub replied : (issued : Issued) → e.emitted.issued ≡ Some issued → issued.class ≡ class.Success
@@ -108,14 +108,14 @@ module _ {H P : Type 0} where
           × (q.use_candidate ≡ true → new.controlling ≡ false → IsNominatedOn new (reversed q.path))
       -- Each selected path was valid before, or its success response is received now. While the agent is controlled, it was
       -- nominated before, or the peer nominates it now.
-      pub announced : old.lite ≡ false → (path : Path) → Has e.emitted.announced (Some path)
+      pub selected_paths : old.lite ≡ false → (path : Path) → Has e.emitted.selected_paths (Some path)
           → IsValidOn old path ⊎ IsAnswered mac old call e path
-      pub announced_asked : old.lite ≡ false → old.controlling ≡ false → new.controlling ≡ false
-          → (path : Path) → Has e.emitted.announced (Some path) → IsNominatedOn old path ⊎ IsAskedFor old call e path
+      pub selected_asked : old.lite ≡ false → old.controlling ≡ false → new.controlling ≡ false
+          → (path : Path) → Has e.emitted.selected_paths (Some path) → IsNominatedOn old path ⊎ IsNominatedByPeer old call e path
       -- The selected number does not change if no path is selected. Otherwise it is that of the last selected path, and its pair,
       -- if it still exists, is valid and nominated.
-      pub number_stays : last_of e.emitted.announced ≡ None → new.selected_pair ≡ old.selected_pair
-      pub number_names : (path : Path) → last_of e.emitted.announced ≡ Some path
+      pub number_stays : last_of e.emitted.selected_paths ≡ None → new.selected_pair ≡ old.selected_pair
+      pub number_names : (path : Path) → last_of e.emitted.selected_paths ≡ Some path
           → (p : PairRecord) → Has new.pairs p → new.selected_pair ≡ Some p.number
           → (path_of new p ≡ path) × (is_valid p ≡ true) × (is_nominated p ≡ true)
       -- A clear emits nothing. All pairs after it are new: without pending transactions, not valid and not nominated.
@@ -129,7 +129,7 @@ module _ {H P : Type 0} where
       -- The pair that records a success response is valid. If nomination is evaluated at the end, the selected pair is one of the
       -- greatest.
       pub taken : AnswersAreValid call e new
-      pub points : IsNominationPoint old call e → IsTopAnnounced new
+      pub points : IsNominationPoint old call e → IsTopSelected new
 
     -- ---- packets and roles: the basis of the theorems of two agents
 
@@ -137,37 +137,37 @@ module _ {H P : Type 0} where
       pub tie_breaker : new.tie_breaker ≡ tie_set_by call old.tie_breaker
       pub local_creds : new.local_creds ≡ local_after call e.answer old.local_creds
       -- A call that fails changes nothing and emits nothing. Nor do bytes that are not accepted.
-      pub refused : is_refusal e.answer ≡ true → (new ≡ old) × (e.emitted ≡ nothing_emitted)
-      pub turned_down : IsTurnedDown old call → (new ≡ old) × (e.emitted ≡ nothing_emitted) × (is_turned_down e.answer ≡ true)
+      pub rejected : is_rejection e.answer ≡ true → (new ≡ old) × (e.emitted ≡ nothing_emitted)
+      pub not_accepted : IsNotAccepted old call → (new ≡ old) × (e.emitted ≡ nothing_emitted) × (is_not_accepted e.answer ≡ true)
       -- Each packet was in the queue before, or is issued now. What is reported as issued is in the queue.
       pub packets : (packet : Packet) → Has new.packets packet → Has old.packets packet ⊎ IsIssued mac old call e packet new.controlling
       pub issued : (issued : Issued) → e.emitted.issued ≡ Some issued
           → (packet : Packet) × Has new.packets packet × (via_out packet ≡ issued.path) × IsIssued mac old call e packet new.controlling
-      pub sends : Queues call e old.packets new.packets
+      pub sends : QueuesPackets call e old.packets new.packets
       pub waits : Waits old call e new
       -- The role does not change, or it switches because of a request or of a 487, or the user sets it.
       pub role : (new.controlling ≡ old.controlling)
-          ⊎ (YieldsTo old call e new ⊎ (IsRefusedBy old call e new ⊎ IsRoleSet call new.controlling))
+          ⊎ (SwitchesRoleFor old call e new ⊎ (IsRejectedBy old call e new ⊎ IsRoleSet call new.controlling))
       -- A served request that passes the tests determines the role (`role_once`). After an accepted 487 the agent has the role
       -- that its check was not sent in.
       pub settled : (q : RequestRecord) → IsServing old call e q → IsServedPastTests old q
           → new.controlling ≡ role_once (conflict_of old q) old.controlling
-      pub given_up : (at : ℕ) (by : Path) (m : Message) → Brings call e at by m → m.class ≡ class.Failure → is_role_conflict m ≡ true
-          → IsRefusedBy old call e new
+      pub expired : (at : ℕ) (by : Path) (m : Message) → Brings call e at by m → m.class ≡ class.Failure → is_role_conflict m ≡ true
+          → IsRejectedBy old call e new
 
     -- the lemmas that the theorems use
-    abbrev pub PathLaw : (P → CandidateRecord → ℕ → ℕ → Type 0) → Type 0
-    PathLaw answers =
+    abbrev pub PathTheorem : (P → CandidateRecord → ℕ → ℕ → Type 0) → Type 0
+    PathTheorem answers =
         (old new : AgentRecord H P) (s t : Stream) (call : Call P) (e : Entry)
         → IsSound old → GivesBased call → Step mac answers old s call e new t → PathEffect old call e new × IsSound new
 
-    abbrev pub TradeLaw : (P → CandidateRecord → ℕ → ℕ → Type 0) → Type 0
-    TradeLaw answers =
+    abbrev pub TradeTheorem : (P → CandidateRecord → ℕ → ℕ → Type 0) → Type 0
+    TradeTheorem answers =
         (old new : AgentRecord H P) (s t : Stream) (call : Call P) (e : Entry)
         → IsSound old → GivesBased call → Step mac answers old s call e new t → TradeEffect old call e new
 
     -- A call that fails leaves the state and the random stream unchanged.
-    abbrev pub RefusalKeeps : (P → CandidateRecord → ℕ → ℕ → Type 0) → Type 0
-    RefusalKeeps answers =
+    abbrev pub RejectionKeeps : (P → CandidateRecord → ℕ → ℕ → Type 0) → Type 0
+    RejectionKeeps answers =
         (old new : AgentRecord H P) (s t : Stream) (call : Call P) (e : Entry)
-        → Step mac answers old s call e new t → is_refusal e.answer ≡ true → (new ≡ old) × (t ≡ s)
+        → Step mac answers old s call e new t → is_rejection e.answer ≡ true → (new ≡ old) × (t ≡ s)

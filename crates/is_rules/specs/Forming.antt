@@ -1,12 +1,12 @@
 -- Forming pairs (RFC 8445, section 6.1.2.2).
-use Rattle.std.specs.Prelude.{◌≡◌, ℕ, ◌+◌, ◌≤◌, ◌&&◌, Bool, not, nat_lt, List, [], ◌∷◌, ◌++◌, map, Option, Some, None, if◌then◌else◌}
+use Rattle.std.specs.Prelude.{◌≡◌, ℕ, ◌+◌, ◌<◌, ◌≤◌, ◌&&◌, Bool, not, nat_lt, List, [], ◌∷◌, ◌++◌, All, map, Option, Some, None, if◌then◌else◌}
 use Rattle.std.specs.List.{flat_map}
 use Rattle.is_proto.specs.Lists.{places_where}
-use Rattle.is_proto.specs.Moments.{MAX}
+use Rattle.is_proto.specs.Times.{MAX}
 use Rattle.is_candidate.specs.Addresses.{same_address, same_protocol, same_version}
 use Rattle.is_candidate.specs.Candidates.{CandidateRecord, base_of, candidate_at, nowhere}
 use Rattle.is_candidate.specs.Priorities.{candidate_priority}
-use Rattle.is_pair.specs.Bag.{is_numbered, without, IsGreatest, Evicts}
+use Rattle.is_pair.specs.Multiset.{is_numbered, without, IsGreatest, Evicts}
 use Rattle.is_pair.specs.Pairs.{PairRecord, new_pair, taking_over}
 use Rattle.is_pair.specs.Priorities.{pair_priority}
 use Rattle.is_rules.specs.Each.{Each}
@@ -33,6 +33,10 @@ formed_as pairs next_number = record { pairs = pairs; next_number = next_number 
 -- the index of a local candidate and that of a remote one
 abbrev pub Combination : Type 0
 Combination = ℕ × ℕ
+
+-- The indices of each combination are in lists of so many local and remote candidates.
+abbrev pub AreIn : ℕ → ℕ → List Combination → Type 0
+AreIn locals remotes all = All (λ (at : Combination). (at.0 < locals) × (at.1 < remotes)) all
 
 abbrev pub is_alive : CandidateRecord → Bool
 is_alive c = not c.discarded

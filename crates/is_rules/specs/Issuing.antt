@@ -9,14 +9,14 @@ use Rattle.is_stun.specs.declared.header.Class.TheVariants as class
 use Rattle.is_stun.specs.Message.{Message}
 use Rattle.is_stun.specs.Checks.{binding_request, binding_reply, binding_role_conflict_reply}
 use Rattle.is_stun.specs.Writing.{written}
-use Rattle.is_stun.specs.Laws.{IsPut}
+use Rattle.is_stun.specs.Theorems.{IsPut}
 use Rattle.is_rules.specs.declared.credentials.IceCreds.{IceCreds}
 use Rattle.is_rules.specs.declared.emitted.Issued.{Issued}
 use Rattle.is_rules.specs.declared.emitted.Path.{Path}
 use Rattle.is_rules.specs.Request.{RequestRecord, request_in}
 use Rattle.is_rules.specs.Polls.{IsPolled}
 use Rattle.is_rules.specs.Steps.{Answer, Done, Polled, Entry, quiet, is_done}
-use Rattle.is_rules.specs.declared.roles.Conflict.TheVariants.{Insists}
+use Rattle.is_rules.specs.declared.roles.Conflict.TheVariants.{Send487}
 use Rattle.is_rules.specs.Emitted.{reversed}
 use Rattle.is_rules.specs.Agent.{AgentRecord}
 use Rattle.is_rules.specs.Sending.{carried}
@@ -42,10 +42,10 @@ IsEmptied answer old new = new ≡ (if is_done answer then [] else old)
 
 -- `poll_transmit` removes the first packet, an ICE restart empties the queue, and any other call appends the packet that it
 -- reports.
-abbrev pub Queues : {P : Type 0} → Call P → Entry → List Packet → List Packet → Type 0
-Queues PollTransmit e old new = (given : Option Packet) × (e ≡ quiet (Polled given)) × IsPolled old given new
-Queues (RestartIce creds keep) e old new = (e.emitted.issued ≡ None) × IsEmptied e.answer old new
-Queues _ e old new = IsQueued e.emitted.issued old new
+abbrev pub QueuesPackets : {P : Type 0} → Call P → Entry → List Packet → List Packet → Type 0
+QueuesPackets PollTransmit e old new = (given : Option Packet) × (e ≡ quiet (Polled given)) × IsPolled old given new
+QueuesPackets (RestartIce creds keep) e old new = (e.emitted.issued ≡ None) × IsEmptied e.answer old new
+QueuesPackets _ e old new = IsQueued e.emitted.issued old new
 
 -- ---- the queue of early requests
 
@@ -90,7 +90,7 @@ module _ {H P : Type 0} where
   -- So does a 487. Its request claimed the agent's own role with a tie-breaker that is not greater. The role does not change.
   Says class.Failure old call e bytes m path controlling =
       (q : RequestRecord) × IsServing old call e q × (m ≡ binding_role_conflict_reply q.id) × (path ≡ reversed q.path)
-      × IsPut bytes m × (conflict_of old q ≡ Insists) × (controlling ≡ old.controlling)
+      × IsPut bytes m × (conflict_of old q ≡ Send487) × (controlling ≡ old.controlling)
   -- No other message is issued.
   Says _ old call e bytes m path controlling = ⊥
 

@@ -11,8 +11,8 @@ use Rattle.is_candidate.specs.Candidates.{CandidateRecord, candidate_at}
 use Rattle.is_candidate.specs.Priorities.{candidate_priority, TOO_HIGH}
 use Rattle.is_candidate.specs.Preferences.{default_preference}
 use Rattle.is_candidate.specs.Equality.{is_alike, is_same_place, is_same_origin}
-use Rattle.is_rules.specs.declared.local.Refusal.{Refusal}
-use Rattle.is_rules.specs.declared.local.Refusal.TheVariants as refusal
+use Rattle.is_rules.specs.declared.local.Rejection.{Rejection}
+use Rattle.is_rules.specs.declared.local.Rejection.TheVariants as rejection
 use Rattle.is_rules.specs.Agent.{AgentRecord}
 use Rattle.is_rules.specs.Discarding.{change_place, local_discarded}
 use Rattle.is_rules.specs.Forming.{HasNumbers, partners, local_combinations, FormsAll}
@@ -113,18 +113,18 @@ module _ {H P : Type 0} where
       (MatchBool (is_unwanted old c) (IsNotAdded old result new) (EnrolsPreferred answers old c result new))
 
   -- The call returns a reference to the candidate at the index.
-  abbrev pub LendsLocal : (P → CandidateRecord → ℕ → ℕ → Type 0) → AgentRecord H P → CandidateRecord
+  abbrev pub BorrowsLocal : (P → CandidateRecord → ℕ → ℕ → Type 0) → AgentRecord H P → CandidateRecord
       → Result (Option (Bor CandidateRecord)) IceError → AgentRecord H P → Type 0
-  LendsLocal answers old c (Ok lent) new =
-      (place : Option ℕ) × AddsLocal answers old c (Ok place) new × (option_copied lent ≡ option_and_then (slice_get new.local) place)
-  LendsLocal answers old c (Err error) new = AddsLocal answers old c (Err error) new
+  BorrowsLocal answers old c (Ok borrowed) new =
+      (place : Option ℕ) × AddsLocal answers old c (Ok place) new × (option_copied borrowed ≡ option_and_then (slice_get new.local) place)
+  BorrowsLocal answers old c (Err error) new = AddsLocal answers old c (Err error) new
 
 -- the errors of this call, which own no memory, as `IceError`
-abbrev pub error_of : Refusal → IceError
-error_of refusal.OutOfMemory = OutOfMemory
-error_of refusal.PairIdsExhausted = PairIdsExhausted
-error_of refusal.PriorityTooHigh = PriorityTooHigh
+abbrev pub error_of : Rejection → IceError
+error_of rejection.OutOfMemory = OutOfMemory
+error_of rejection.PairIdsExhausted = PairIdsExhausted
+error_of rejection.PriorityTooHigh = PriorityTooHigh
 
-abbrev pub widened : {A : Type 0} → Result A Refusal → Result A IceError
+abbrev pub widened : {A : Type 0} → Result A Rejection → Result A IceError
 widened (Ok x) = Ok x
 widened (Err r) = Err (error_of r)

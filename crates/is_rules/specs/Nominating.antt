@@ -1,13 +1,13 @@
 -- Nomination, which is not final (RFC 8445, section 8.1.1).
 use Rattle.std.specs.Prelude.{◌≡◌, ℕ, ◌==◌, ◌&&◌, ◌||◌, Bool, false, not, List, [], ◌∷◌, ◌++◌, Option, Some, None, MatchBool, MatchOption, if◌then◌else◌}
 use Rattle.std.specs.Option.{option_map_or, option_and_then, option_or}
-use Rattle.is_proto.specs.Moments.{counted}
+use Rattle.is_proto.specs.Times.{counted}
 use Rattle.is_candidate.specs.Candidates.{base_of, candidate_at}
 use Rattle.is_pair.specs.Pairs.{PairRecord, is_valid, is_nominated, nominated}
 use Rattle.is_rules.specs.declared.event.IceAgentEvent.TheVariants.{NominatedSend}
 use Rattle.is_rules.specs.declared.emitted.Path.{Path}
 use Rattle.is_rules.specs.Agent.{AgentRecord}
-use Rattle.is_pair.specs.Bag.{change_pair, IsGreatest, pair_numbered}
+use Rattle.is_pair.specs.Multiset.{change_pair, IsGreatest, pair_numbered}
 use Rattle.is_rules.specs.Forming.{SidesRecord, sides_of}
 
 -- valid and, if the agent is controlled, nominated
@@ -23,8 +23,8 @@ abbrev pub pair_selected : Option ℕ → List PairRecord → Option PairRecord
 pair_selected number pairs = option_and_then (λ n. pair_numbered n pairs) number
 
 -- The pair that was selected last still exists, with this priority.
-abbrev pub stands_at : Option ℕ → ℕ → List PairRecord → Bool
-stands_at number priority pairs = option_map_or (λ (p : PairRecord). p.priority == priority) (pair_selected number pairs) false
+abbrev pub persists_at : Option ℕ → ℕ → List PairRecord → Bool
+persists_at number priority pairs = option_map_or (λ (p : PairRecord). p.priority == priority) (pair_selected number pairs) false
 
 -- the pair, if it is eligible
 abbrev pub if_eligible : Bool → PairRecord → Option PairRecord
@@ -68,7 +68,7 @@ is_named_by number p = option_map_or (λ n. n == p.number) number false
 -- The pair that was selected last stays selected: it has the priority of the chosen one. If the agent follows its peer, it is the
 -- chosen one.
 abbrev pub remains : Option ℕ → PairRecord → Selection → Bool
-remains None top old = stands_at old.selected_pair top.priority old.pairs
+remains None top old = persists_at old.selected_pair top.priority old.pairs
 remains (Some number) top old = is_named_by old.selected_pair top
 
 -- The chosen pair is selected, unless the pair that was selected last stays selected.

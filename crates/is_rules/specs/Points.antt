@@ -18,15 +18,15 @@ use Rattle.is_rules.specs.Brought.{Brings}
 module _ {H P : Type 0} where
   -- If a pair is eligible, the selected pair exists, with the greatest priority of the eligible ones. If the agent follows its
   -- peer, it is the favored pair, if there is one.
-  abbrev pub IsTopAnnounced : AgentRecord H P → Type 0
-  IsTopAnnounced a =
+  abbrev pub IsTopSelected : AgentRecord H P → Type 0
+  IsTopSelected a =
       (top : Option PairRecord) × IsChosen a.controlling (followed a) (selection_of a) top
       × IfSome top (λ best. remains (followed a) best (selection_of a) ≡ true)
 
   -- The path is that of an eligible pair with the greatest stored priority. If the agent follows its peer, it is that of the favored
   -- pair, if there is one.
-  abbrev pub HasAnnounced : Option Path → AgentRecord H P → Type 0
-  HasAnnounced path a =
+  abbrev pub HasSelected : Option Path → AgentRecord H P → Type 0
+  HasSelected path a =
       (top : PairRecord) × Has a.pairs top × (is_eligible a.controlling top ≡ true) × (path ≡ Some (path_of a top))
       × IsChosen a.controlling (followed a) (selection_of a) (Some top)
 

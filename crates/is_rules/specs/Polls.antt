@@ -1,8 +1,8 @@
 -- What the polls return.
 use Rattle.std.specs.Prelude.{◌≡◌, ℕ, ◌*◌, min, max, ◌||◌, not, Bool, List, [], ◌∷◌, map, fold, Option, Some, None, MatchBool, IsSomeAnd}
 use Rattle.is_proto.specs.Lists.{is_empty}
-use Rattle.is_proto.specs.Moments.{MAX, SECOND, later}
-use Rattle.is_pair.specs.Due.{due_moment, asked}
+use Rattle.is_proto.specs.Times.{MAX, SECOND, later}
+use Rattle.is_pair.specs.Due.{due_time_of, asked}
 use Rattle.is_proto.specs.Packets.{Packet}
 use Rattle.is_rules.specs.declared.event.IceAgentEvent.{IceAgentEvent}
 use Rattle.is_rules.specs.Agent.{AgentRecord}
@@ -31,26 +31,26 @@ module _ {H P : Type 0} where
 
   -- the earliest due time of the pairs, computed at the time of the last call
   abbrev pub earliest_due : AgentRecord H P → ℕ → ℕ
-  earliest_due a last = fold min MAX (map (due_moment last a.timing) a.pairs)
+  earliest_due a last = fold min MAX (map (due_time_of last a.timing) a.pairs)
 
   -- There is nothing to check.
   abbrev pub is_idle : AgentRecord H P → Bool
   is_idle a = a.lite || is_empty a.pairs
 
   -- If nothing is queued, `poll_timeout` fixes the due times.
-  abbrev pub WakesIdle : AgentRecord H P → ℕ → ℕ → AgentRecord H P → Type 0
-  WakesIdle old last wake new =
+  abbrev pub IdleTimeout : AgentRecord H P → ℕ → ℕ → AgentRecord H P → Type 0
+  IdleTimeout old last deadline new =
       MatchBool (is_idle old)
-      ((wake ≡ later last (3 * SECOND)) × (new ≡ old))
-      ((wake ≡ max (earliest_due old last) (soon old last)) × (new ≡ record old { pairs = map (asked last old.timing) old.pairs }))
+      ((deadline ≡ later last (3 * SECOND)) × (new ≡ old))
+      ((deadline ≡ max (earliest_due old last) (soon old last)) × (new ≡ record old { pairs = map (asked last old.timing) old.pairs }))
 
-  abbrev pub Wakes : AgentRecord H P → ℕ → ℕ → AgentRecord H P → Type 0
-  Wakes old last wake new = MatchBool (is_waiting old) ((wake ≡ soon old last) × (new ≡ old)) (WakesIdle old last wake new)
+  abbrev pub NextTimeouts : AgentRecord H P → ℕ → ℕ → AgentRecord H P → Type 0
+  NextTimeouts old last deadline new = MatchBool (is_waiting old) ((deadline ≡ soon old last) × (new ≡ old)) (IdleTimeout old last deadline new)
 
   -- `poll_timeout`: without a time of a last call it returns none.
-  abbrev pub WakesFrom : Option ℕ → AgentRecord H P → Option ℕ → AgentRecord H P → Type 0
-  WakesFrom None old wake new = (wake ≡ None) × (new ≡ old)
-  WakesFrom (Some last) old wake new = IsSomeAnd wake (λ at. Wakes old last at new)
+  abbrev pub NextTimeoutFrom : Option ℕ → AgentRecord H P → Option ℕ → AgentRecord H P → Type 0
+  NextTimeoutFrom None old deadline new = (deadline ≡ None) × (new ≡ old)
+  NextTimeoutFrom (Some last) old deadline new = IsSomeAnd deadline (λ at. NextTimeouts old last at new)
 
   abbrev pub PollsTimeout : AgentRecord H P → Option ℕ → AgentRecord H P → Type 0
-  PollsTimeout old wake new = WakesFrom old.last_moment old wake new
+  PollsTimeout old deadline new = NextTimeoutFrom old.last_time old deadline new

@@ -11,7 +11,7 @@ use Rattle.is_stun.specs.Timing.{timeout_of}
 use Rattle.is_rules.specs.Agent.{AgentRecord}
 use Rattle.is_rules.specs.Forming.{is_alive}
 use Rattle.is_rules.specs.Nominating.{pair_selected}
-use Rattle.is_pair.specs.Bag.{IsGreatest}
+use Rattle.is_pair.specs.Multiset.{IsGreatest}
 use Rattle.is_rules.specs.Remote.{has_equivalent}
 
 -- `local_candidates` and `remote_candidates`, in list order

@@ -16,7 +16,7 @@ queued_last queue = drop (length queue - QUEUE_LIMIT) queue
 
 -- The request is as old as a whole series of unanswered checks takes.
 abbrev pub is_outdated : ℕ → StunTiming → RequestRecord → Bool
-is_outdated now t q = nat_le (timeout_of t) (now - q.moment)
+is_outdated now t q = nat_le (timeout_of t) (now - q.time)
 
 -- the queue without the outdated requests at its front, once the remote credentials are known
 abbrev pub queue_left : ℕ → StunTiming → Option IceCreds → List RequestRecord → List RequestRecord

@@ -6,7 +6,7 @@ use Rattle.is_rules.specs.declared.emitted.Path.{Path}
 
 pub record RequestRecord : Type 0 where
   -- when it was received
-  pub moment : ℕ
+  pub time : ℕ
   -- from the sender's address to the local one
   pub path : Path
   pub id : List ℕ
@@ -25,7 +25,7 @@ sender_ufrag m = option_map_or (λ (name : List ℕ × List ℕ). name.1) (split
 -- the request that a message is, if it was received at this time on this path
 abbrev pub request_in : ℕ → Path → Message → RequestRecord
 request_in now path m = record {
-  moment = now;
+  time = now;
   path = path;
   id = m.id;
   priority = unwrap_or m.attributes.priority 0;

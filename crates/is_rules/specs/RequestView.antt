@@ -7,7 +7,7 @@ use Rattle.is_rules.specs.Request.{RequestRecord}
 
 abbrev pub request_view : Request → RequestRecord
 request_view q = record {
-  moment = q.moment.0;
+  time = q.time.0;
   path = q.path;
   id = q.id.0;
   priority = q.priority;
@@ -20,7 +20,7 @@ request_view q = record {
 -- an early request
 abbrev pub waiting_view : Waiting → RequestRecord
 waiting_view q = record {
-  moment = q.moment.0;
+  time = q.time.0;
   path = q.path;
   id = q.id.0;
   priority = q.priority;

@@ -2,7 +2,7 @@
 use Rattle.std.specs.Prelude.{ℕ, not, nat_le, map, Option, Some, None, if◌then◌else◌}
 use Rattle.is_pair.specs.Pairs.{PairRecord}
 use Rattle.is_rules.specs.declared.roles.Conflict.{Conflict}
-use Rattle.is_rules.specs.declared.roles.Conflict.TheVariants.{Absent, Insists, Yields}
+use Rattle.is_rules.specs.declared.roles.Conflict.TheVariants.{Absent, Send487, SwitchRole}
 use Rattle.is_rules.specs.Request.{RequestRecord, rival_in}
 use Rattle.is_rules.specs.Agent.{AgentRecord}
 use Rattle.is_rules.specs.Forming.{SidesRecord, combined_priority, sides_of}
@@ -10,7 +10,7 @@ use Rattle.is_rules.specs.Forming.{SidesRecord, combined_priority, sides_of}
 -- Two controlled agents resolve a role conflict as two controlling ones do: the greater tie-breaker keeps its role.
 abbrev pub conflict_by : ℕ → Option ℕ → Conflict
 conflict_by own None = Absent
-conflict_by own (Some rival) = if nat_le rival own then Insists else Yields
+conflict_by own (Some rival) = if nat_le rival own then Send487 else SwitchRole
 
 -- the pair with its priority computed again
 abbrev pub with_priority_in : SidesRecord → PairRecord → PairRecord

@@ -3,7 +3,7 @@
 use Rattle.std.specs.Prelude.{◌≡◌, ℕ, ◌==◌, ◌&&◌, Bool, true, false, not, List, [], ◌∷◌, ◌++◌, length, slice_set, bytes_eq, Option, Some, None}
 use Rattle.std.specs.Prelude.{is_some, MatchBool, MatchOption, if◌then◌else◌}
 use Rattle.std.specs.Option.{option_map_or}
-use Rattle.is_proto.specs.Moments.{MAX, counted}
+use Rattle.is_proto.specs.Times.{MAX, counted}
 use Rattle.is_proto.specs.declared.error.IceError.{IceError}
 use Rattle.is_proto.specs.declared.error.IceError.TheVariants.{OutOfMemory, PairIdsExhausted}
 use Rattle.is_candidate.specs.Candidates.{CandidateRecord, candidate_at}
@@ -12,20 +12,20 @@ use Rattle.is_candidate.specs.Equality.{TEMPORARY}
 use Rattle.is_pair.specs.Pairs.{PairRecord, is_nominated, with_request, validated, nominated}
 use Rattle.is_stun.specs.declared.header.Class.TheVariants.{Success, Failure}
 use Rattle.is_stun.specs.Checks.{binding_reply, binding_role_conflict_reply}
-use Rattle.is_stun.specs.Laws.{IsPut}
+use Rattle.is_stun.specs.Theorems.{IsPut}
 use Rattle.is_stun.specs.Writing.{written}
 use Rattle.is_rules.specs.declared.credentials.IceCreds.{IceCreds}
 use Rattle.is_rules.specs.declared.places.RemotePlace.{RemotePlace}
 use Rattle.is_rules.specs.declared.places.RemotePlace.TheVariants.{Known, Barred, Unknown, Vacant, Full}
 use Rattle.is_rules.specs.declared.roles.Conflict.{Conflict}
-use Rattle.is_rules.specs.declared.roles.Conflict.TheVariants.{Absent, Insists, Yields}
+use Rattle.is_rules.specs.declared.roles.Conflict.TheVariants.{Absent, Send487, SwitchRole}
 use Rattle.is_rules.specs.declared.serving.Places.{Places}
 use Rattle.is_rules.specs.declared.emitted.Path.{Path}
 use Rattle.is_rules.specs.declared.emitted.Emitted.{Emitted}
 use Rattle.is_rules.specs.Emitted.{nothing_emitted, issued_as, issued_only, emitted_by, reversed}
 use Rattle.is_rules.specs.Request.{RequestRecord}
 use Rattle.is_rules.specs.Agent.{AgentRecord}
-use Rattle.is_pair.specs.Bag.{change_pair, is_valid_at, IsPairBetween}
+use Rattle.is_pair.specs.Multiset.{change_pair, is_valid_at, IsPairBetween}
 use Rattle.is_rules.specs.Places.{local_place, remote_index}
 use Rattle.is_rules.specs.Limit.{IsSenderPlace}
 use Rattle.is_rules.specs.Forming.{formed, with_pair}
@@ -49,7 +49,7 @@ nominated_last controlling q number last = if not controlling && q.use_candidate
 
 -- the pair records the peer's check, and may become valid and nominated
 abbrev pub served : Bool → Bool → RequestRecord → PairRecord → PairRecord
-served controlling lite q p = nominated_by_peer controlling lite q (validated_by_peer controlling lite (with_request q.moment p))
+served controlling lite q p = nominated_by_peer controlling lite q (validated_by_peer controlling lite (with_request q.time p))
 
 -- The peer sends USE-CANDIDATE while the agent is controlling.
 abbrev pub is_misled : Bool → RequestRecord → Bool
@@ -59,16 +59,16 @@ is_misled controlling q = controlling && q.use_candidate
 -- is the role before them.
 abbrev pub is_admitted : Conflict → Bool → RequestRecord → Bool
 is_admitted Absent controlling q = not (is_misled controlling q)
-is_admitted Insists controlling q = false
-is_admitted Yields controlling q = not (is_misled (not controlling) q)
+is_admitted Send487 controlling q = false
+is_admitted SwitchRole controlling q = not (is_misled (not controlling) q)
 
 -- There is no pair of the two candidates, and one would be added.
-abbrev pub wants_pair_at : RemotePlace → Option ℕ → Bool → Bool
-wants_pair_at Barred pair discarded = false
-wants_pair_at (Known r) pair discarded = not (is_some pair) && not discarded
-wants_pair_at Unknown pair discarded = not (is_some pair) && not discarded
-wants_pair_at (Vacant r) pair discarded = not (is_some pair) && not discarded
-wants_pair_at Full pair discarded = false
+abbrev pub needs_pair_at : RemotePlace → Option ℕ → Bool → Bool
+needs_pair_at Barred pair discarded = false
+needs_pair_at (Known r) pair discarded = not (is_some pair) && not discarded
+needs_pair_at Unknown pair discarded = not (is_some pair) && not discarded
+needs_pair_at (Vacant r) pair discarded = not (is_some pair) && not discarded
+needs_pair_at Full pair discarded = false
 
 module _ {H P : Type 0} where
   -- the request is dropped
@@ -127,11 +127,11 @@ module _ {H P : Type 0} where
     abbrev pub role_conflict_sent : RequestRecord → AgentRecord H P → AgentRecord H P
     role_conflict_sent q s = with_packet (reversed q.path) (written (mac s.provider) (Some s.local_creds.pass) (binding_role_conflict_reply q.id)) s
 
-    -- The response is sent, after the path `announced`, if any, was selected.
+    -- The response is sent, after the path `selected_paths`, if any, was selected.
     abbrev pub Replies : RequestRecord → Path → Option Path → AgentRecord H P → Emitted → AgentRecord H P → Type 0
-    Replies q path announced s emitted new =
+    Replies q path selected_paths s emitted new =
         IsPut (written (mac s.provider) (Some s.local_creds.pass) (binding_reply q.id q.path.source)) (binding_reply q.id (carried q.path.source))
-        × (emitted ≡ emitted_by (Some (issued_as path Success q.id)) announced None) × (new ≡ replied q path s)
+        × (emitted ≡ emitted_by (Some (issued_as path Success q.id)) selected_paths None) × (new ≡ replied q path s)
 
     -- The pair records the request. A controlling agent evaluates nomination if the pair is valid. Then the response is sent.
     abbrev pub RecordsAndResponds : RequestRecord → ℕ → ℕ → ℕ → AgentRecord H P → Emitted → AgentRecord H P → Type 0
@@ -180,8 +180,8 @@ module _ {H P : Type 0} where
     -- The sender claims the agent's own role: the greater tie-breaker keeps it (RFC 8445, section 7.3.1.1).
     abbrev pub ResolvesRoleConflictBy : Conflict → RequestRecord → ℕ → AgentRecord H P → Emitted → AgentRecord H P → Type 0
     ResolvesRoleConflictBy Absent q l s emitted new = CountsAndServes q l s emitted new
-    ResolvesRoleConflictBy Insists q l s emitted new = SendsRoleConflict q s emitted new
-    ResolvesRoleConflictBy Yields q l s emitted new = CountsAndServes q l (switched s) emitted new
+    ResolvesRoleConflictBy Send487 q l s emitted new = SendsRoleConflict q s emitted new
+    ResolvesRoleConflictBy SwitchRole q l s emitted new = CountsAndServes q l (switched s) emitted new
 
     abbrev pub ResolvesRoleConflict : RequestRecord → ℕ → AgentRecord H P → Emitted → AgentRecord H P → Type 0
     ResolvesRoleConflict q l s emitted new = ResolvesRoleConflictBy (conflict_of s q) q l s emitted new
@@ -208,13 +208,13 @@ module _ {H P : Type 0} where
       × IsPairBetween s.pairs at.local (remote_index s.remote at.remote) at.pair
 
   -- A pair must be added for these candidates.
-  abbrev pub wants_pair : AgentRecord H P → RequestRecord → Places → Bool
-  wants_pair s q at =
-      is_admitted (conflict_of s q) s.controlling q && wants_pair_at at.remote at.pair (candidate_at s.local at.local).discarded
+  abbrev pub needs_pair : AgentRecord H P → RequestRecord → Places → Bool
+  needs_pair s q at =
+      is_admitted (conflict_of s q) s.controlling q && needs_pair_at at.remote at.pair (candidate_at s.local at.local).discarded
 
   -- numbers run from 0 to one below the greatest counter
   abbrev pub lacks_number : AgentRecord H P → RequestRecord → Places → Bool
-  lacks_number s q at = s.next_number == MAX && wants_pair s q at
+  lacks_number s q at = s.next_number == MAX && needs_pair s q at
 
   -- For a choice of candidates a pair must be added, and no number is left.
   abbrev pub LacksNumber : AgentRecord H P → RequestRecord → Type 0
@@ -225,11 +225,11 @@ module _ {H P : Type 0} where
   AlwaysLacksNumber s q = LacksNumber s q × ((at : Places) → Chooses s q (Some at) → lacks_number s q at ≡ true)
 
   -- Why serving a request may fail: numbers are checked before memory.
-  abbrev pub MayRefuseRequest : AgentRecord H P → RequestRecord → IceError → Type 0
-  MayRefuseRequest s q PairIdsExhausted = LacksNumber s q
-  MayRefuseRequest s q OutOfMemory = ¬ AlwaysLacksNumber s q
-  MayRefuseRequest s q _ = ⊥
+  abbrev pub MayFailAtRequest : AgentRecord H P → RequestRecord → IceError → Type 0
+  MayFailAtRequest s q PairIdsExhausted = LacksNumber s q
+  MayFailAtRequest s q OutOfMemory = ¬ AlwaysLacksNumber s q
+  MayFailAtRequest s q _ = ⊥
 
   -- Why the arrival of a request may fail: queueing it fails only for an allocation failure, and serving it as above.
-  abbrev pub MayRefuseArrival : AgentRecord H P → RequestRecord → IceError → Type 0
-  MayRefuseArrival s q error = MatchOption s.remote_creds (error ≡ OutOfMemory) (λ _. MayRefuseRequest s q error)
+  abbrev pub MayFailAtArrival : AgentRecord H P → RequestRecord → IceError → Type 0
+  MayFailAtArrival s q error = MatchOption s.remote_creds (error ≡ OutOfMemory) (λ _. MayFailAtRequest s q error)

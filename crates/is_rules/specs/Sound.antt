@@ -6,7 +6,7 @@ use Rattle.is_candidate.specs.Candidates.{CandidateRecord, IsBased}
 use Rattle.is_pair.specs.declared.pair.states.CheckState.{CheckState}
 use Rattle.is_pair.specs.declared.pair.states.CheckState.TheVariants.{Waiting, InProgress, Succeeded}
 use Rattle.is_pair.specs.Checks.{Check}
-use Rattle.is_pair.specs.Bag.{are_below, rises}
+use Rattle.is_pair.specs.Multiset.{are_below, rises}
 use Rattle.is_pair.specs.Pairs.{PairRecord}
 use Rattle.is_rules.specs.declared.credentials.IceCreds.{IceCreds}
 use Rattle.is_rules.specs.Agent.{AgentRecord, fresh}
@@ -40,7 +40,7 @@ pub record IsSound {H P : Type 0} (a : AgentRecord H P) : Type 0 where
   pub rising : rises a.pairs ≡ true
   pub below : are_below a.next_number a.pairs ≡ true
   -- The selected number never becomes the number of another pair.
-  pub announced : IsBelow a.next_number a.selected_pair
+  pub selected_paths : IsBelow a.next_number a.selected_pair
   -- A pair with a pending transaction is no longer Waiting, so a success response makes it valid.
   pub started : (p : PairRecord) (c : Check) → Has a.pairs p → Has p.checks c → is_started_state p.state ≡ true
   -- A check that is sent stays as a pending transaction.

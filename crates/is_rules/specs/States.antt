@@ -25,8 +25,8 @@ abbrev pub is_nominated_and_valid : PairRecord → Bool
 is_nominated_and_valid p = is_valid p && is_nominated p
 
 -- a pair that is still possible, and not selected
-abbrev pub is_possible_beside : ℕ → StunTiming → PairRecord → Bool
-is_possible_beside now t p = not (is_nominated_and_valid p) && is_possible now t p
+abbrev pub is_other_possible : ℕ → StunTiming → PairRecord → Bool
+is_other_possible now t p = not (is_nominated_and_valid p) && is_possible now t p
 
 -- The next state, by the current state, whether a pair is selected, whether another one is still possible, and lite.
 abbrev pub next_state : IceConnectionState → Bool → Bool → Bool → IceConnectionState
@@ -41,7 +41,7 @@ module _ {H P : Type 0} where
   -- A pair that is not selected is still possible, or a list of candidates is empty.
   abbrev pub has_possible : ℕ → AgentRecord H P → Bool
   has_possible now a =
-      list_any (is_possible_beside now a.timing) a.pairs || is_empty a.local || is_empty a.remote
+      list_any (is_other_possible now a.timing) a.pairs || is_empty a.local || is_empty a.remote
 
   -- A state event is emitted only if the state changes.
   abbrev pub with_state : IceConnectionState → AgentRecord H P → AgentRecord H P

@@ -66,9 +66,9 @@ pub data Answer : Type 0 where
   Flag : Bool → Answer
   Polled : Option Packet → Answer
   Happened : Option IceAgentEvent → Answer
-  Wake : Option ℕ → Answer
+  NextTimeout : Option ℕ → Answer
   Unparsed : ParseFault → Answer
-  Refused : IceError → Answer
+  Rejected : IceError → Answer
   -- results of calls that were not made
   NotCalled : Answer
   NotInWorld : Answer
@@ -87,7 +87,7 @@ quiet answer = record { answer = answer; emitted = nothing_emitted }
 
 abbrev pub answer_by : {A : Type 0} → (A → Answer) → Result A IceError → Answer
 answer_by to_answer (Ok x) = to_answer x
-answer_by to_answer (Err error) = Refused error
+answer_by to_answer (Err error) = Rejected error
 
 abbrev pub done : Unit {0} → Answer
 done _ = Done
@@ -100,21 +100,21 @@ abbrev pub is_done : Answer → Bool
 is_done Done = true
 is_done _ = false
 
-abbrev pub is_refusal : Answer → Bool
-is_refusal (Refused error) = true
-is_refusal _ = false
+abbrev pub is_rejection : Answer → Bool
+is_rejection (Rejected error) = true
+is_rejection _ = false
 
 -- The bytes are not a STUN message, or are not accepted.
-abbrev pub is_turned_down : Answer → Bool
-is_turned_down (Flag accepted) = not accepted
-is_turned_down (Unparsed fault) = true
-is_turned_down _ = false
+abbrev pub is_not_accepted : Answer → Bool
+is_not_accepted (Flag accepted) = not accepted
+is_not_accepted (Unparsed fault) = true
+is_not_accepted _ = false
 
 -- ---- the transition relation
 
 -- The call succeeds, and draws no random words.
 abbrev pub Becomes : {A : Type 0} → A → Stream → Entry → A → Stream → Type 0
-Becomes wanted s e new t = (e ≡ quiet Done) × (new ≡ wanted) × (t ≡ s)
+Becomes needed s e new t = (e ≡ quiet Done) × (new ≡ needed) × (t ≡ s)
 
 -- The call succeeds or fails, and draws no random words.
 abbrev pub MayDo : {A : Type 0} → (Result (Unit {0}) IceError → A → Type 0) → Stream → Entry → A → Stream → Type 0
@@ -163,5 +163,5 @@ module _ {H P : Type 0} (mac : H → List ℕ → List ℕ → List ℕ) (answer
       (r : Result (Unit {0}) IceError) × (emitted : Emitted) × (e ≡ record { answer = answer_by done r; emitted = emitted })
       × TimesOut mac now old s r emitted new t
   Step old s PollTransmit e new t = (given : Option Packet) × (e ≡ quiet (Polled given)) × PollsTransmit old given new × (t ≡ s)
-  Step old s PollTimeout e new t = (wake : Option ℕ) × (e ≡ quiet (Wake wake)) × PollsTimeout old wake new × (t ≡ s)
+  Step old s PollTimeout e new t = (deadline : Option ℕ) × (e ≡ quiet (NextTimeout deadline)) × PollsTimeout old deadline new × (t ≡ s)
   Step old s PollEvent e new t = (given : Option IceAgentEvent) × (e ≡ quiet (Happened given)) × PollsEvent old given new × (t ≡ s)

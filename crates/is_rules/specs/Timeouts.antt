@@ -14,11 +14,11 @@ use Rattle.is_rules.specs.declared.emitted.Path.{Path}
 use Rattle.is_rules.specs.declared.emitted.Emitted.{Emitted}
 use Rattle.is_rules.specs.Request.{RequestRecord}
 use Rattle.is_rules.specs.Emitted.{nothing_emitted, emitted_by}
-use Rattle.is_pair.specs.Bag.{without}
+use Rattle.is_pair.specs.Multiset.{without}
 use Rattle.is_rules.specs.Agent.{AgentRecord}
 use Rattle.is_rules.specs.Nominating.{Nominates}
 use Rattle.is_rules.specs.States.{same_state, evaluated}
-use Rattle.is_rules.specs.Serving.{Serves, MayRefuseRequest}
+use Rattle.is_rules.specs.Serving.{Serves, MayFailAtRequest}
 use Rattle.is_rules.specs.Queue.{queue_cleared, first_taken, request_at}
 use Rattle.is_rules.specs.Checking.{MayCheck}
 
@@ -36,29 +36,29 @@ module _ {H P : Type 0} where
   -- ---- pairs that are removed after timeout
 
   -- Consent expired (RFC 7675). Under lite: the last request on the pair is too old.
-  abbrev pub is_given_up : ℕ → AgentRecord H P → PairRecord → Bool
-  is_given_up now a p = due.is_given_up a.lite now a.timing p
+  abbrev pub is_expired : ℕ → AgentRecord H P → PairRecord → Bool
+  is_expired now a p = due.is_pair_expired a.lite now a.timing p
 
-  abbrev pub given_up_gone : ℕ → AgentRecord H P → AgentRecord H P
-  given_up_gone now a = record a { pairs = without (is_given_up now a) a.pairs }
+  abbrev pub expired_gone : ℕ → AgentRecord H P → AgentRecord H P
+  expired_gone now a = record a { pairs = without (is_expired now a) a.pairs }
 
   -- If a pair is removed, nomination and state are evaluated.
-  abbrev pub GivesUp : ℕ → AgentRecord H P → Option Path → AgentRecord H P → Type 0
-  GivesUp now old path new =
-      MatchBool (list_any (is_given_up now old) old.pairs)
-      ((mid : AgentRecord H P) × Nominates (given_up_gone now old) path mid × (new ≡ evaluated now mid))
+  abbrev pub RemovesExpired : ℕ → AgentRecord H P → Option Path → AgentRecord H P → Type 0
+  RemovesExpired now old path new =
+      MatchBool (list_any (is_expired now old) old.pairs)
+      ((mid : AgentRecord H P) × Nominates (expired_gone now old) path mid × (new ≡ evaluated now mid))
       ((path ≡ None) × (new ≡ old))
 
   -- ---- the call
 
-  abbrev pub at_moment : ℕ → AgentRecord H P → AgentRecord H P
-  at_moment now a = record a { last_moment = Some now }
+  abbrev pub at_timeout : ℕ → AgentRecord H P → AgentRecord H P
+  at_timeout now a = record a { last_time = Some now }
 
   -- Why a `handle_timeout` call may fail: for a reason for which the early request that it serves may fail, and without one only
   -- for an allocation failure.
-  abbrev pub MayRefuseMoment : ℕ → AgentRecord H P → IceError → Type 0
-  MayRefuseMoment now a error =
-      MatchOption (request_at now a) (error ≡ OutOfMemory) (λ q. MayRefuseRequest (first_taken (timeout_begun now a)) q error)
+  abbrev pub MayFailAtTimeout : ℕ → AgentRecord H P → IceError → Type 0
+  MayFailAtTimeout now a error =
+      MatchOption (request_at now a) (error ≡ OutOfMemory) (λ q. MayFailAtRequest (first_taken (timeout_begun now a)) q error)
 
   module _ (mac : H → List ℕ → List ℕ → List ℕ) where
     -- An early request is served, and the call ends. The time of the last call does not change.
@@ -69,8 +69,8 @@ module _ {H P : Type 0} where
     abbrev pub MaintainsPairs : ℕ → AgentRecord H P → Stream → Emitted → AgentRecord H P → Stream → Type 0
     MaintainsPairs now old s emitted new t =
         (first second : Option Path) × (issued : Option Issued) × (named kept : AgentRecord H P)
-        × Nominates (at_moment now old) first named
-        × GivesUp now named second kept
+        × Nominates (at_timeout now old) first named
+        × RemovesExpired now named second kept
         × MayCheck mac now kept.remote_creds kept s issued new t
         × (emitted ≡ emitted_by issued first second)
 
@@ -80,4 +80,4 @@ module _ {H P : Type 0} where
         MatchOption (request_at now old)
         (MaintainsPairs now (timeout_begun now old) s emitted new t)
         (λ q. ServesQueued q (timeout_begun now old) s emitted new t)
-    TimesOut now old s (Err error) emitted new t = MayRefuseMoment now old error × (emitted ≡ nothing_emitted) × (new ≡ old) × (t ≡ s)
+    TimesOut now old s (Err error) emitted new t = MayFailAtTimeout now old error × (emitted ≡ nothing_emitted) × (new ≡ old) × (t ≡ s)

@@ -7,12 +7,12 @@ ghost use Rattle.std.specs.List.{list_any};
 ghost use Rattle.is_candidate.specs.Priorities.{candidate_priority, TOO_HIGH};
 ghost use Rattle.is_pair.specs.Checks.{is_kept};
 ghost use Rattle.is_pair.specs.Pairs.{PairRecord};
-ghost use Rattle.is_pair.specs.Bag.{is_awaiting, keeps_check, pair_numbered};
-ghost use Rattle.is_pair.specs.Checklists.{bag_of};
+ghost use Rattle.is_pair.specs.Multiset.{is_awaiting, keeps_check, pair_numbered};
+ghost use Rattle.is_pair.specs.Checklists.{multiset_of};
 ghost use Rattle.is_rules.specs.FormingView.{sides_view};
 ghost use Rattle.is_rules.specs.Nominating.{path_in};
 ghost use Rattle.is_stun.specs.MessageView.{message_view};
-ghost use Rattle.is_rules.specs.Kept.{NoneTooHigh};
+ghost use Rattle.is_rules.specs.Kept.{NoneTooHigh, are_placed};
 ghost use Rattle.is_rules.specs.Due.{IsSentUnder};
 ghost use Rattle.is_rules.specs.Answers.{is_known_address, is_left_out, is_role_conflict, goes_back, joined_by};
 
@@ -49,7 +49,7 @@ impl PairTest for Any {
 
 /// A pair has a pending transaction with this ID.
 pub fn keeps_any(pairs: &Checklist, id: TransId) -> bool
-    ensures { result ≡ list_any (keeps_check id.0) (bag_of pairs.now) }
+    ensures { result ≡ list_any (keeps_check id.0) (multiset_of pairs.now) }
 {
     pairs.has_awaiting(id, &Any)
 }
@@ -69,21 +69,24 @@ struct GoesBack<'a> {
 }
 
 impl PairTest for GoesBack<'_> {
+    ghost use Rattle.std.specs.Prelude.{◌&&◌};
     ghost use Rattle.is_rules.specs.Answers.{goes_back};
     ghost use Rattle.is_rules.specs.FormingView.{sides_view};
+    ghost use Rattle.is_rules.specs.Kept.{is_placed};
     ghost use Rattle.is_rules.specs.Nominating.{path_in};
 
-    ghost passes = { λ t p. goes_back t.via.now (path_in (sides_view t.sides) p) };
+    ghost passes = { λ t p. is_placed t.sides.local.now t.sides.remote.now p && goes_back t.via.now (path_in (sides_view t.sides) p) };
 
     fn passes(&self, pair: &CandidatePair) -> bool {
-        goes_back(self.via, &path_in(self.sides, pair))
+        self.sides.has(pair) && goes_back(self.via, &path_in(self.sides, pair))
     }
 }
 
 /// The number of a pair that has a pending transaction with this ID, and on the reverse of whose path the packet was received.
 pub fn pair_awaiting(pairs: &Checklist, sides: Sides<'_>, via: &Path, id: TransId) -> Option<u64>
-    ensures any { list_any (is_awaiting id.0 (λ p. goes_back via.now (path_in (sides_view sides.entry) p))) (bag_of pairs.now) ≡ is_some result }
-    ensures kept { IfSome result (λ number. (p : PairRecord) × (pair_numbered number (bag_of pairs.now) ≡ Some p)
+    requires { are_placed sides.local.now sides.remote.now (multiset_of pairs.now) ≡ true }
+    ensures any { list_any (is_awaiting id.0 (λ p. goes_back via.now (path_in (sides_view sides.entry) p))) (multiset_of pairs.now) ≡ is_some result }
+    ensures kept { IfSome result (λ number. (p : PairRecord) × (pair_numbered number (multiset_of pairs.now) ≡ Some p)
         × (is_awaiting id.0 (λ p. goes_back via.now (path_in (sides_view sides.entry) p)) p ≡ true)) }
 {
     pairs.numbers_rise();

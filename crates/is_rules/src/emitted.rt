@@ -1,7 +1,7 @@
 //! What a call emits: at most one packet, and up to two selected paths; the agent's part: `is_agent::emitted`.
 
 ghost use Rattle.std.specs.Prelude.{◌≡◌};
-ghost use Rattle.is_rules.specs.Emitted.{nothing_emitted, issued_only, announced_only, issued_as, emitted_by, reversed};
+ghost use Rattle.is_rules.specs.Emitted.{nothing_emitted, issued_only, selected_only, issued_as, emitted_by, reversed};
 
 use is_proto::Protocol;
 use is_stun::stun::{Class, TransId};
@@ -57,7 +57,7 @@ pub struct Emitted {
     /// The packet that the call issued.
     pub issued: Option<Issued>,
     /// The paths that it selected (`NominatedSend`), in order.
-    pub announced: [Option<Path>; 2],
+    pub selected_paths: [Option<Path>; 2],
 }
 
 impl Emitted {
@@ -67,17 +67,17 @@ impl Emitted {
     {
         Emitted {
             issued: None,
-            announced: [None, None],
+            selected_paths: [None, None],
         }
     }
 
     /// Nothing issued, and this path selected if there is one.
-    pub fn announced_only(path: Option<Path>) -> Emitted
-        ensures { result ≡ announced_only path }
+    pub fn selected_only(path: Option<Path>) -> Emitted
+        ensures { result ≡ selected_only path }
     {
         Emitted {
             issued: None,
-            announced: [path, None],
+            selected_paths: [path, None],
         }
     }
 
@@ -88,15 +88,18 @@ impl Emitted {
         if first.is_none() && second.is_none() {
             return Emitted {
                 issued,
-                announced: [None, None],
+                selected_paths: [None, None],
             };
         }
-        let announced = match second {
+        let selected_paths = match second {
             None => [first, None],
             Some(_) if first.is_none() => [second, None],
             Some(_) => [first, second],
         };
-        Emitted { issued, announced }
+        Emitted {
+            issued,
+            selected_paths,
+        }
     }
 
     /// This packet issued, and no path selected.
@@ -105,7 +108,7 @@ impl Emitted {
     {
         Emitted {
             issued: Some(Issued { path, class, id }),
-            announced: [None, None],
+            selected_paths: [None, None],
         }
     }
 }

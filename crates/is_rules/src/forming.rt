@@ -5,14 +5,15 @@
 ghost use Rattle.std.specs.Prelude.{◌≡◌, ℕ, ◌≤◌, ◌<◌, ◌+◌, ◌++◌, ◌∷◌, [], ◌↔◌, true, IsTrue, IfOk, filter, length, map};
 ghost use Rattle.std.specs.Option.{option_copied};
 ghost use Rattle.std.specs.List.{flat_map};
-ghost use Rattle.is_proto.specs.Moments.{MAX};
+ghost use Rattle.is_proto.specs.Times.{MAX};
 ghost use Rattle.is_candidate.specs.Candidates.{candidate_at};
-ghost use Rattle.is_pair.specs.Bag.{are_below, IsGreatest};
-ghost use Rattle.is_pair.specs.Checklists.{bag_of, HasRoom};
+ghost use Rattle.is_pair.specs.Multiset.{are_below, IsGreatest};
+ghost use Rattle.is_pair.specs.Checklists.{multiset_of, HasRoom};
 ghost use Rattle.is_rules.specs.Each.{Each};
+ghost use Rattle.is_rules.specs.Kept.{is_placed, are_placed};
 ghost use Rattle.is_rules.specs.Forming.{is_alive, is_alive_at, is_partner, is_partner_at, partners, remote_combinations};
 ghost use Rattle.is_rules.specs.Forming.{local_combinations, live_row, live_combinations, is_redundant, combined_priority, pair_of};
-ghost use Rattle.is_rules.specs.Forming.{formed_as, Tries, FormsEach, HasNumbers};
+ghost use Rattle.is_rules.specs.Forming.{formed_as, AreIn, Tries, FormsEach, HasNumbers};
 ghost use Rattle.is_rules.specs.FormingView.{sides_view};
 ghost use Rattle.is_rules.specs.Cuts.{EvictionCuts};
 
@@ -28,26 +29,40 @@ use std::alloc::{AllocError, Global};
 
 // ---- one combination
 
+/// A pair has the same path as a combination.
+fn is_redundant(sides: Sides<'_>, at: (usize, usize), pair: &CandidatePair) -> bool
+    requires placed { is_placed sides.local.now sides.remote.now pair.now ≡ true }
+    requires local { at.0 < length sides.local.now }
+    requires remote { at.1 < length sides.remote.now }
+    ensures { result ≡ is_redundant (sides_view sides.entry) at pair.now }
+{
+    let Sides { local, remote, .. } = sides;
+    let (l, r) = at;
+    same_address(base_at(local, pair.local_idx()), base_at(local, l))
+        && same_protocol(proto_at(local, pair.local_idx()), proto_at(local, l))
+        && same_address(address_at(remote, pair.remote_idx()), address_at(remote, r))
+        && same_protocol(proto_at(remote, pair.remote_idx()), proto_at(remote, r))
+}
+
 /// Whether a pair has the same path as a combination.
 #[derive(Clone, Copy)]
 struct Redundant<'a> {
     sides: Sides<'a>,
     at: (usize, usize),
+    ghost local: { at.0 < length sides.local.now },
+    ghost remote: { at.1 < length sides.remote.now },
 }
 
 impl PairTest for Redundant<'_> {
+    ghost use Rattle.std.specs.Prelude.{◌&&◌};
+    ghost use Rattle.is_rules.specs.Kept.{is_placed};
     ghost use Rattle.is_rules.specs.Forming.{is_redundant};
     ghost use Rattle.is_rules.specs.FormingView.{sides_view};
 
-    ghost passes = { λ t p. is_redundant (sides_view t.sides) t.at p };
+    ghost passes = { λ t p. is_placed t.sides.local.now t.sides.remote.now p && is_redundant (sides_view t.sides) t.at p };
 
     fn passes(&self, pair: &CandidatePair) -> bool {
-        let Sides { local, remote, .. } = self.sides;
-        let (l, r) = self.at;
-        same_address(base_at(local, pair.local_idx()), base_at(local, l))
-            && same_protocol(proto_at(local, pair.local_idx()), proto_at(local, l))
-            && same_address(address_at(remote, pair.remote_idx()), address_at(remote, r))
-            && same_protocol(proto_at(remote, pair.remote_idx()), proto_at(remote, r))
+        self.sides.has(pair) && is_redundant(self.sides, self.at, pair)
     }
 }
 
@@ -57,13 +72,18 @@ fn top_redundant<'a>(
     sides: Sides<'_>,
     at: (usize, usize),
 ) -> Option<&'a CandidatePair>
-    ensures { IsGreatest (is_redundant (sides_view sides.entry) at) (bag_of pairs.now) (option_copied result) }
+    requires placed { are_placed sides.local.now sides.remote.now (multiset_of pairs.now) ≡ true }
+    requires local { at.0 < length sides.local.now }
+    requires remote { at.1 < length sides.remote.now }
+    ensures { IsGreatest (is_redundant (sides_view sides.entry) at) (multiset_of pairs.now) (option_copied result) }
 {
     pairs.greatest(&Redundant { sides, at })
 }
 
 /// The priority of the pair of a combination.
 pub(crate) fn combined_priority(sides: Sides<'_>, at: (usize, usize)) -> u64
+    requires local { at.0 < length sides.local.now }
+    requires remote { at.1 < length sides.remote.now }
     ensures { result ≡ combined_priority (sides_view sides.entry) at }
 {
     let remote = priority_at(sides.remote, at.1);
@@ -73,6 +93,8 @@ pub(crate) fn combined_priority(sides: Sides<'_>, at: (usize, usize)) -> u64
 
 /// The pair of a combination.
 pub fn pair_of(alloc: Global, sides: Sides<'_>, at: (usize, usize), number: u64) -> CandidatePair
+    requires local { at.0 < length sides.local.now }
+    requires remote { at.1 < length sides.remote.now }
     ensures { result ≡ pair_of (sides_view sides.entry) at number }
 {
     CandidatePair::new(
@@ -91,12 +113,12 @@ fn add(pairs: &mut Checklist, next_number: &mut u64, pair: CandidatePair)
     requires room { HasRoom 1 pairs.old }
     requires number { next_number.old < MAX }
     requires its { pair.number ≡ next_number.old }
-    requires last { are_below next_number.old (bag_of pairs.old) ≡ true }
+    requires last { are_below next_number.old (multiset_of pairs.old) ≡ true }
     requires unchecked { pair.checks ≡ [] }
-    ensures added { bag_of pairs.new ≡ bag_of pairs.old ++ pair ∷ [] }
+    ensures added { multiset_of pairs.new ≡ multiset_of pairs.old ++ pair ∷ [] }
     ensures room { (n : ℕ) → HasRoom (n + 1) pairs.old → HasRoom n pairs.new }
     ensures next { next_number.new ≡ next_number.old + 1 }
-    ensures below { are_below next_number.new (bag_of pairs.new) ≡ true }
+    ensures below { are_below next_number.new (multiset_of pairs.new) ≡ true }
 {
     pairs.add(pair);
     *next_number += 1;
@@ -111,13 +133,17 @@ fn try_one(
     pairs: &mut Checklist,
     next_number: &mut u64,
 )
+    requires local { at.0 < length sides.local.now }
+    requires remote { at.1 < length sides.remote.now }
+    requires placed { are_placed sides.local.now sides.remote.now (multiset_of pairs.old) ≡ true }
     requires room { HasRoom 1 pairs.old }
     requires number { next_number.old < MAX }
-    requires last { are_below next_number.old (bag_of pairs.old) ≡ true }
-    ensures tries { Tries (sides_view sides.entry) at (formed_as (bag_of pairs.old) next_number.old) (formed_as (bag_of pairs.new) next_number.new) }
+    requires last { are_below next_number.old (multiset_of pairs.old) ≡ true }
+    ensures placed { are_placed sides.entry.local.now sides.entry.remote.now (multiset_of pairs.new) ≡ true }
+    ensures tries { Tries (sides_view sides.entry) at (formed_as (multiset_of pairs.old) next_number.old) (formed_as (multiset_of pairs.new) next_number.new) }
     ensures room { (n : ℕ) → HasRoom (n + 1) pairs.old → HasRoom n pairs.new }
     ensures next { next_number.new ≤ next_number.old + 1 }
-    ensures below { are_below next_number.new (bag_of pairs.new) ≡ true }
+    ensures below { are_below next_number.new (multiset_of pairs.new) ≡ true }
 {
     let mut pair = pair_of(alloc, sides, at, *next_number);
     match top_redundant(pairs, sides, at) {
@@ -142,12 +168,15 @@ fn try_each(
     pairs: &mut Checklist,
     next_number: &mut u64,
 )
+    requires within { AreIn (length sides.local.now) (length sides.remote.now) all.now }
+    requires placed { are_placed sides.local.now sides.remote.now (multiset_of pairs.old) ≡ true }
     requires room { HasRoom (length all.now) pairs.old }
     requires numbers { HasNumbers next_number.old (length all.now) }
-    requires last { are_below next_number.old (bag_of pairs.old) ≡ true }
-    ensures forms { Each (Tries (sides_view sides.entry)) all.now (formed_as (bag_of pairs.old) next_number.old)
-        (formed_as (bag_of pairs.new) next_number.new) }
-    ensures below { are_below next_number.new (bag_of pairs.new) ≡ true }
+    requires last { are_below next_number.old (multiset_of pairs.old) ≡ true }
+    ensures placed { are_placed sides.entry.local.now sides.entry.remote.now (multiset_of pairs.new) ≡ true }
+    ensures forms { Each (Tries (sides_view sides.entry)) all.now (formed_as (multiset_of pairs.old) next_number.old)
+        (formed_as (multiset_of pairs.new) next_number.new) }
+    ensures below { are_below next_number.new (multiset_of pairs.new) ≡ true }
 {
     for at in all {
         try_one(alloc, sides, *at, pairs, next_number);
@@ -168,12 +197,15 @@ pub fn form_each(
     pairs: &mut Checklist,
     next_number: &mut u64,
 )
+    requires within { AreIn (length sides.local.now) (length sides.remote.now) all.now }
+    requires placed { are_placed sides.local.now sides.remote.now (multiset_of pairs.old) ≡ true }
     requires room { HasRoom (length all.now) pairs.old }
     requires numbers { HasNumbers next_number.old (length all.now) }
-    requires last { are_below next_number.old (bag_of pairs.old) ≡ true }
-    ensures forms { FormsEach (sides_view sides.entry) limit all.now (formed_as (bag_of pairs.old) next_number.old)
-        (formed_as (bag_of pairs.new) next_number.new) }
-    ensures below { are_below next_number.new (bag_of pairs.new) ≡ true }
+    requires last { are_below next_number.old (multiset_of pairs.old) ≡ true }
+    ensures placed { are_placed sides.entry.local.now sides.entry.remote.now (multiset_of pairs.new) ≡ true }
+    ensures forms { FormsEach (sides_view sides.entry) limit all.now (formed_as (multiset_of pairs.old) next_number.old)
+        (formed_as (multiset_of pairs.new) next_number.new) }
+    ensures below { are_below next_number.new (multiset_of pairs.new) ≡ true }
 {
     try_each(alloc, sides, all, pairs, next_number);
     pairs.evict(limit);

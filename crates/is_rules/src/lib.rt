@@ -1,7 +1,7 @@
 //! The rules of an ICE agent (RFC 8445); the agent that implements them: `is_agent`.
 //!
-//! They define what each call does to an agent's abstract state, and what any transition and any execution can do. The functions
-//! here are those of the rules that need only parts of an agent. A file of the same name in `is_agent` has the agent's part.
+//! They define what each call does to an agent's abstract state, and what any transition can do. What any execution can do is in
+//! `is_theorems`. The functions here are those of the rules that need only parts of an agent. A file of the same name in `is_agent` has the agent's part.
 #![tactic(auto)]
 
 pub mod accepting;
@@ -12,7 +12,6 @@ pub mod discarding;
 pub mod emitted;
 pub mod event;
 pub mod forming;
-pub mod laws;
 pub mod limit;
 pub mod local;
 pub mod nomination;
@@ -27,5 +26,6 @@ pub mod roles;
 pub mod serving;
 pub mod sides;
 pub mod states;
+pub mod theorems;
 pub mod timeout;
 pub mod timeout_start;

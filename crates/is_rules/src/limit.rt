@@ -2,7 +2,7 @@
 //! gets under it.
 
 ghost use Rattle.std.specs.Prelude.{◌≡◌, ◌<◌, drop, length};
-ghost use Rattle.is_pair.specs.Checklists.{bag_of};
+ghost use Rattle.is_pair.specs.Checklists.{multiset_of};
 ghost use Rattle.is_rules.specs.RequestView.{request_view};
 ghost use Rattle.is_rules.specs.Limit.{discovered_count, is_below, has_room, has_local_room, is_mapped, is_vacant, mapped_count, IsVacancy, IsRoom, IsPlaceOf, newest};
 
@@ -58,14 +58,14 @@ impl PairTest for On {
 /// A request brought the candidate at the index, and no pair has it.
 fn is_vacant(remote: &[Candidate], pairs: &Checklist, place: usize) -> bool
     requires { place < length remote.now }
-    ensures { result ≡ is_vacant remote.now (bag_of pairs.now) place }
+    ensures { result ≡ is_vacant remote.now (multiset_of pairs.now) place }
 {
     is_temporary(candidate_at(remote, place)) && !pairs.any(&On { place })
 }
 
 /// The first vacant index, if there is one.
 fn vacancy(remote: &[Candidate], pairs: &Checklist) -> RemotePlace
-    ensures { IsVacancy remote.now (bag_of pairs.now) result }
+    ensures { IsVacancy remote.now (multiset_of pairs.now) result }
 {
     for place in 0..remote.len() {
         if is_vacant(remote, pairs, place) {
@@ -77,7 +77,7 @@ fn vacancy(remote: &[Candidate], pairs: &Checklist) -> RemotePlace
 
 /// The place of an unknown sender.
 fn room(limit: Option<usize>, remote: &[Candidate], pairs: &Checklist) -> RemotePlace
-    ensures { IsRoom limit remote.now (bag_of pairs.now) result }
+    ensures { IsRoom limit remote.now (multiset_of pairs.now) result }
 {
     if has_room(limit, remote) {
         return RemotePlace::Unknown;
@@ -92,7 +92,7 @@ pub fn sender_place(
     pairs: &Checklist,
     request: &Request<'_>,
 ) -> RemotePlace
-    ensures { IsPlaceOf limit remote.now (bag_of pairs.now) (request_view request.now) result }
+    ensures { IsPlaceOf limit remote.now (multiset_of pairs.now) (request_view request.now) result }
 {
     match remote_place(remote, request) {
         RemotePlace::Unknown => room(limit, remote, pairs),

@@ -18,7 +18,7 @@ use std::alloc::{AllocError, Global};
 
 /// Why `add_local_candidate` fails, in a form that owns no memory.
 #[derive(Clone, Copy, Debug, PartialEq, Eq)]
-pub enum Refusal {
+pub enum Rejection {
     /// The priority of the candidate is 4294967295.
     PriorityTooHigh,
     /// Fewer pair numbers are left than the candidate has combinations.
@@ -27,24 +27,24 @@ pub enum Refusal {
     OutOfMemory,
 }
 
-impl From<AllocError> for Refusal {
-    ghost use Rattle.is_rules.specs.declared.local.Refusal.TheVariants.{OutOfMemory};
+impl From<AllocError> for Rejection {
+    ghost use Rattle.is_rules.specs.declared.local.Rejection.TheVariants.{OutOfMemory};
 
     ghost from_gives = { λ _ r. r ≡ OutOfMemory };
 
-    fn from(_e: AllocError) -> Refusal {
-        Refusal::OutOfMemory
+    fn from(_e: AllocError) -> Rejection {
+        Rejection::OutOfMemory
     }
 }
 
-impl From<Refusal> for IceError {
+impl From<Rejection> for IceError {
     ghost from_gives = { λ r e. e ≡ error_of r };
 
-    fn from(refusal: Refusal) -> IceError {
-        match refusal {
-            Refusal::PriorityTooHigh => IceError::PriorityTooHigh,
-            Refusal::PairIdsExhausted => IceError::PairIdsExhausted,
-            Refusal::OutOfMemory => IceError::OutOfMemory,
+    fn from(rejection: Rejection) -> IceError {
+        match rejection {
+            Rejection::PriorityTooHigh => IceError::PriorityTooHigh,
+            Rejection::PairIdsExhausted => IceError::PairIdsExhausted,
+            Rejection::OutOfMemory => IceError::OutOfMemory,
         }
     }
 }
@@ -91,7 +91,7 @@ pub fn place_of_same(local: &[Candidate], candidate: &Candidate) -> Option<usize
 }
 
 /// The candidate at the index, if there is one.
-pub fn lent_at(local: &[Candidate], place: Option<usize>) -> Option<&Candidate>
+pub fn borrowed_at(local: &[Candidate], place: Option<usize>) -> Option<&Candidate>
     ensures { option_copied result ≡ option_and_then (slice_get local.now) place }
 {
     local.get(place?)

@@ -9,10 +9,11 @@ ghost use Rattle.std.specs.List.{list_any};
 ghost use Rattle.is_stun.specs.declared.timing.StunTiming.{StunTiming};
 ghost use Rattle.is_rules.specs.Due.{falls_due};
 ghost use Rattle.is_rules.specs.FormingView.{sides_view};
-ghost use Rattle.is_pair.specs.Bag.{are_below, change_pair, IsGreatest};
+ghost use Rattle.is_rules.specs.Kept.{is_placed, are_placed};
+ghost use Rattle.is_pair.specs.Multiset.{are_below, change_pair, IsGreatest};
 ghost use Rattle.is_pair.specs.Checklists as checklists;
-ghost use Rattle.is_pair.specs.Checklists.{bag_of, HasRoom};
-ghost use Rattle.is_rules.specs.Nominating.{eligible_numbered, favored, is_eligible, is_named_by, nominated_by_self, pair_selected, remains, stands_at};
+ghost use Rattle.is_pair.specs.Checklists.{multiset_of, HasRoom};
+ghost use Rattle.is_rules.specs.Nominating.{eligible_numbered, favored, is_eligible, is_named_by, nominated_by_self, pair_selected, remains, persists_at};
 ghost use Rattle.is_rules.specs.Nominating.{selection, path_in, IsChosen, Names};
 
 use crate::emitted::Path;
@@ -46,14 +47,14 @@ impl PairTest for Eligible {
 
 /// Of the pairs that may be selected, one with the greatest priority.
 fn top_eligible(pairs: &Checklist, controlling: bool) -> Option<&CandidatePair>
-    ensures { IsGreatest (is_eligible controlling) (bag_of pairs.now) (option_copied result) }
+    ensures { IsGreatest (is_eligible controlling) (multiset_of pairs.now) (option_copied result) }
 {
     pairs.greatest(&Eligible { controlling })
 }
 
 /// The pair that was selected last, if it still exists.
 pub fn pair_selected(selected: Option<u64>, pairs: &Checklist) -> Option<&CandidatePair>
-    ensures { option_copied result ≡ pair_selected selected (bag_of pairs.now) }
+    ensures { option_copied result ≡ pair_selected selected (multiset_of pairs.now) }
 {
     match selected {
         Some(number) => pairs.get(number),
@@ -62,8 +63,8 @@ pub fn pair_selected(selected: Option<u64>, pairs: &Checklist) -> Option<&Candid
 }
 
 /// The pair that was selected last still exists, with this priority.
-fn stands_at(selected: Option<u64>, priority: u64, pairs: &Checklist) -> bool
-    ensures { result ≡ stands_at selected priority (bag_of pairs.now) }
+fn persists_at(selected: Option<u64>, priority: u64, pairs: &Checklist) -> bool
+    ensures { result ≡ persists_at selected priority (multiset_of pairs.now) }
 {
     match pair_selected(selected, pairs) {
         Some(pair) => pair.prio() == priority,
@@ -73,7 +74,7 @@ fn stands_at(selected: Option<u64>, priority: u64, pairs: &Checklist) -> bool
 
 /// The pair with this number, if it may be selected.
 fn eligible_numbered(pairs: &Checklist, controlling: bool, number: u64) -> Option<&CandidatePair>
-    ensures { option_copied result ≡ eligible_numbered controlling (bag_of pairs.now) number }
+    ensures { option_copied result ≡ eligible_numbered controlling (multiset_of pairs.now) number }
 {
     match pairs.get(number) {
         Some(pair) => {
@@ -93,7 +94,7 @@ fn still_eligible(
     controlling: bool,
     selected: Option<u64>,
 ) -> Option<&CandidatePair>
-    ensures { option_copied result ≡ option_and_then (eligible_numbered controlling (bag_of pairs.now)) selected }
+    ensures { option_copied result ≡ option_and_then (eligible_numbered controlling (multiset_of pairs.now)) selected }
 {
     match selected {
         Some(number) => eligible_numbered(pairs, controlling, number),
@@ -108,7 +109,7 @@ fn favored(
     followed: Option<u64>,
     selected: Option<u64>,
 ) -> Option<&CandidatePair>
-    ensures { option_copied result ≡ favored controlling followed (selection (bag_of pairs.now) selected) }
+    ensures { option_copied result ≡ favored controlling followed (selection (multiset_of pairs.now) selected) }
 {
     match followed {
         None => None,
@@ -126,7 +127,7 @@ fn chosen(
     followed: Option<u64>,
     selected: Option<u64>,
 ) -> Option<&CandidatePair>
-    ensures { IsChosen controlling followed (selection (bag_of pairs.now) selected) (option_copied result) }
+    ensures { IsChosen controlling followed (selection (multiset_of pairs.now) selected) (option_copied result) }
 {
     match favored(pairs, controlling, followed, selected) {
         Some(pair) => Some(pair),
@@ -151,11 +152,11 @@ fn remains(
     selected: Option<u64>,
     top: &CandidatePair,
 ) -> bool
-    ensures { result ≡ remains followed top.now (selection (bag_of pairs.now) selected) }
+    ensures { result ≡ remains followed top.now (selection (multiset_of pairs.now) selected) }
 {
     match followed {
         Some(_) => is_named_by(selected, top),
-        None => stands_at(selected, top.prio(), pairs),
+        None => persists_at(selected, top.prio(), pairs),
     }
 }
 
@@ -180,15 +181,16 @@ impl PairChange for NominatesBySelf {
 
 /// The agent itself nominates the pair with this number, if it is not nominated.
 fn nominate_pair(pairs: &mut Checklist, number: u64, controlling: bool, lite: bool)
-    ensures nominated { bag_of pairs.new ≡ change_pair number (nominated_by_self controlling lite) (bag_of pairs.old) }
+    ensures nominated { multiset_of pairs.new ≡ change_pair number (nominated_by_self controlling lite) (multiset_of pairs.old) }
     ensures room { (n : ℕ) → HasRoom n pairs.old → HasRoom n pairs.new }
     ensures check_room { checklists.HasCheckRoom pairs.old → checklists.HasCheckRoom pairs.new }
-    ensures below { (n : ℕ) → are_below n (bag_of pairs.old) ≡ true → are_below n (bag_of pairs.new) ≡ true }
+    ensures below { (n : ℕ) → are_below n (multiset_of pairs.old) ≡ true → are_below n (multiset_of pairs.new) ≡ true }
 {
     pairs.change(number, &NominatesBySelf { controlling, lite });
 }
 
 pub(crate) fn path_in(sides: Sides<'_>, pair: &CandidatePair) -> Path
+    requires { is_placed sides.local.now sides.remote.now pair.now ≡ true }
     ensures { result ≡ path_in (sides_view sides.entry) pair.now }
 {
     Path {
@@ -206,12 +208,14 @@ pub fn select_pair(
     pairs: &mut Checklist,
     selected: &mut Option<u64>,
 ) -> Option<Path>
-    ensures named { Names (sides_view sides.entry) followed (selection (bag_of pairs.old) selected.old) result (selection (bag_of pairs.new) selected.new) }
+    requires { are_placed sides.local.now sides.remote.now (multiset_of pairs.old) ≡ true }
+    ensures placed { are_placed sides.entry.local.now sides.entry.remote.now (multiset_of pairs.new) ≡ true }
+    ensures named { Names (sides_view sides.entry) followed (selection (multiset_of pairs.old) selected.old) result (selection (multiset_of pairs.new) selected.new) }
     ensures room { (n : ℕ) → HasRoom n pairs.old → HasRoom n pairs.new }
     ensures check_room { checklists.HasCheckRoom pairs.old → checklists.HasCheckRoom pairs.new }
-    ensures below { (n : ℕ) → are_below n (bag_of pairs.old) ≡ true → are_below n (bag_of pairs.new) ≡ true }
-    ensures due { (now : ℕ) (t : StunTiming) → list_any (falls_due sides.entry.controlling now t) (bag_of pairs.new) ≡ true
-        → list_any (falls_due sides.entry.controlling now t) (bag_of pairs.old) ≡ true }
+    ensures below { (n : ℕ) → are_below n (multiset_of pairs.old) ≡ true → are_below n (multiset_of pairs.new) ≡ true }
+    ensures due { (now : ℕ) (t : StunTiming) → list_any (falls_due sides.entry.controlling now t) (multiset_of pairs.new) ≡ true
+        → list_any (falls_due sides.entry.controlling now t) (multiset_of pairs.old) ≡ true }
 {
     pairs.numbers_rise();
     let controlling = sides.controlling;

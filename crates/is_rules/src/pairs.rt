@@ -1,8 +1,10 @@
 //! The pair of a Binding request: how it is found, and how the request changes it.
 
-ghost use Rattle.std.specs.Prelude.{◌≡◌, ℕ, true};
-ghost use Rattle.is_pair.specs.Bag.{are_below, change_pair, is_valid_at, IsPairBetween};
-ghost use Rattle.is_pair.specs.Checklists.{bag_of, HasRoom};
+ghost use Rattle.std.specs.Prelude.{◌≡◌, ℕ, List, true};
+ghost use Rattle.is_candidate.specs.Candidates.{CandidateRecord};
+ghost use Rattle.is_pair.specs.Multiset.{are_below, change_pair, is_valid_at, IsPairBetween};
+ghost use Rattle.is_pair.specs.Checklists.{multiset_of, HasRoom};
+ghost use Rattle.is_rules.specs.Kept.{are_placed};
 ghost use Rattle.is_rules.specs.RequestView.{request_view};
 ghost use Rattle.is_rules.specs.Serving.{served, validated_by_peer, nominated_by_peer};
 
@@ -18,7 +20,7 @@ struct Between {
 }
 
 impl PairTest for Between {
-    ghost use Rattle.is_pair.specs.Bag.{is_between};
+    ghost use Rattle.is_pair.specs.Multiset.{is_between};
 
     ghost passes = { λ t p. is_between t.l t.r p };
 
@@ -29,7 +31,7 @@ impl PairTest for Between {
 
 /// The number of a pair of the two candidates.
 pub fn pair_between(pairs: &Checklist, l: usize, r: usize) -> Option<u64>
-    ensures { IsPairBetween (bag_of pairs.now) l r result }
+    ensures { IsPairBetween (multiset_of pairs.now) l r result }
 {
     match pairs.first(&Between { l, r }) {
         Some(pair) => Some(pair.id().0),
@@ -53,14 +55,14 @@ impl PairTest for Valid {
 
 /// The pair with this number is valid.
 pub fn is_valid_at(pairs: &Checklist, number: u64) -> bool
-    ensures { result ≡ is_valid_at number (bag_of pairs.now) }
+    ensures { result ≡ is_valid_at number (multiset_of pairs.now) }
 {
     pairs.passes(number, &Valid)
 }
 
 /// What determines how a request changes its pair.
 #[derive(Clone, Copy)]
-pub struct Standing {
+pub struct ServingRole {
     /// The agent is controlling.
     pub controlling: bool,
     /// The agent is ICE-lite.
@@ -68,20 +70,20 @@ pub struct Standing {
 }
 
 /// While a lite agent is controlled, each request makes the pair valid.
-fn validate_by_peer(pair: &mut CandidatePair, standing: Standing)
-    ensures { pair.new ≡ validated_by_peer standing.controlling standing.lite pair.old }
+fn validate_by_peer(pair: &mut CandidatePair, role: ServingRole)
+    ensures { pair.new ≡ validated_by_peer role.controlling role.lite pair.old }
 {
-    if standing.lite && !standing.controlling {
+    if role.lite && !role.controlling {
         pair.record_remote_binding_request_success();
     }
 }
 
 /// On a controlled agent, a request with USE-CANDIDATE nominates the pair if it is not nominated yet.
-fn nominate_by_peer(pair: &mut CandidatePair, request: &Request<'_>, standing: Standing)
-    ensures { pair.new ≡ nominated_by_peer standing.controlling standing.lite (request_view request.now) pair.old }
+fn nominate_by_peer(pair: &mut CandidatePair, request: &Request<'_>, role: ServingRole)
+    ensures { pair.new ≡ nominated_by_peer role.controlling role.lite (request_view request.now) pair.old }
 {
-    if !standing.controlling && request.use_candidate && !pair.is_nominated() {
-        pair.nominate(standing.lite);
+    if !role.controlling && request.use_candidate && !pair.is_nominated() {
+        pair.nominate(role.lite);
     }
 }
 
@@ -89,28 +91,29 @@ fn nominate_by_peer(pair: &mut CandidatePair, request: &Request<'_>, standing: S
 #[derive(Clone, Copy)]
 struct Serves<'a> {
     request: Request<'a>,
-    standing: Standing,
+    role: ServingRole,
 }
 
 impl PairChange for Serves<'_> {
     ghost use Rattle.is_rules.specs.RequestView.{request_view};
     ghost use Rattle.is_rules.specs.Serving.{served};
 
-    ghost makes = { λ t p. served t.standing.controlling t.standing.lite (request_view t.request) p };
+    ghost makes = { λ t p. served t.role.controlling t.role.lite (request_view t.request) p };
 
     fn change(&self, pair: &mut CandidatePair) {
-        pair.increase_remote_binding_requests(self.request.moment);
-        validate_by_peer(pair, self.standing);
-        nominate_by_peer(pair, &self.request, self.standing);
+        pair.increase_remote_binding_requests(self.request.time);
+        validate_by_peer(pair, self.role);
+        nominate_by_peer(pair, &self.request, self.role);
     }
 }
 
 /// The pair with this number records the request.
-pub fn serve_pair(pairs: &mut Checklist, number: u64, request: &Request<'_>, standing: Standing)
-    ensures served { bag_of pairs.new ≡ change_pair number (served standing.controlling standing.lite (request_view request.now)) (bag_of pairs.old) }
+pub fn serve_pair(pairs: &mut Checklist, number: u64, request: &Request<'_>, role: ServingRole)
+    ensures placed { (local remote : List CandidateRecord) → are_placed local remote (multiset_of pairs.old) ≡ true → are_placed local remote (multiset_of pairs.new) ≡ true }
+    ensures served { multiset_of pairs.new ≡ change_pair number (served role.controlling role.lite (request_view request.now)) (multiset_of pairs.old) }
     ensures room { (n : ℕ) → HasRoom n pairs.old → HasRoom n pairs.new }
-    ensures below { (n : ℕ) → are_below n (bag_of pairs.old) ≡ true → are_below n (bag_of pairs.new) ≡ true }
+    ensures below { (n : ℕ) → are_below n (multiset_of pairs.old) ≡ true → are_below n (multiset_of pairs.new) ≡ true }
 {
     let request = *request;
-    pairs.change(number, &Serves { request, standing });
+    pairs.change(number, &Serves { request, role });
 }

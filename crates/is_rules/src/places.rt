@@ -4,7 +4,7 @@ ghost use Rattle.std.specs.Prelude.{◌≡◌, ◌==◌, ◌&&◌, ◌+◌, ◌<
 ghost use Rattle.std.specs.Net.Socket.{socket_port};
 ghost use Rattle.is_candidate.specs.Addresses.{same_address, same_version};
 ghost use Rattle.std.specs.List.{list_any};
-ghost use Rattle.is_candidate.specs.Candidates.{base_of, candidate_at, nowhere};
+ghost use Rattle.is_candidate.specs.Candidates.{base_of, candidate_at};
 ghost use Rattle.is_candidate.specs.Priorities.{candidate_priority, check_priority, TOO_HIGH};
 ghost use Rattle.is_rules.specs.Kept.{NoneTooHigh};
 ghost use Rattle.is_rules.specs.RequestView.{request_view};
@@ -18,7 +18,7 @@ use is_candidate::candidate::kind::is_direct;
 use is_candidate::candidate::priority::check_priority;
 use is_candidate::{Candidate, CandidateKind};
 use is_proto::Protocol;
-use std::net::{Ipv4Addr, SocketAddr, SocketAddrV4};
+use std::net::SocketAddr;
 
 /// Where the remote candidate of a request is in its list.
 #[derive(Clone, Copy, Debug, PartialEq, Eq)]
@@ -43,90 +43,63 @@ pub fn candidate_at(candidates: &[Candidate], place: usize) -> &Candidate
     &candidates[place]
 }
 
-/// What an index past the end reads as; no pair has such an index.
-fn nowhere() -> SocketAddr
-    ensures { result ≡ nowhere.addr }
-{
-    SocketAddr::V4(SocketAddrV4::new(Ipv4Addr::UNSPECIFIED, 0))
-}
-
 /// The address of the candidate at an index.
 pub fn address_at(candidates: &[Candidate], place: usize) -> SocketAddr
+    requires { place < length candidates.now }
     ensures { result ≡ (candidate_at candidates.now place).addr }
 {
-    match candidates.get(place) {
-        Some(c) => c.addr(),
-        None => nowhere(),
-    }
+    candidate_at(candidates, place).addr()
 }
 
 /// The base of the candidate at an index.
 pub fn base_at(candidates: &[Candidate], place: usize) -> SocketAddr
+    requires { place < length candidates.now }
     ensures { result ≡ base_of (candidate_at candidates.now place) }
 {
-    match candidates.get(place) {
-        Some(c) => base(c),
-        None => nowhere(),
-    }
+    base(candidate_at(candidates, place))
 }
 
 /// The protocol of the candidate at an index.
 pub fn proto_at(candidates: &[Candidate], place: usize) -> Protocol
+    requires { place < length candidates.now }
     ensures { result ≡ (candidate_at candidates.now place).proto }
 {
-    match candidates.get(place) {
-        Some(c) => c.proto(),
-        None => Protocol::Udp,
-    }
+    candidate_at(candidates, place).proto()
 }
 
 /// The kind of the candidate at an index.
 pub(crate) fn kind_at(candidates: &[Candidate], place: usize) -> CandidateKind
+    requires { place < length candidates.now }
     ensures { result ≡ (candidate_at candidates.now place).kind }
 {
-    match candidates.get(place) {
-        Some(c) => c.kind(),
-        None => CandidateKind::Host,
-    }
+    candidate_at(candidates, place).kind()
 }
 
 /// Whether the candidate at an index is discarded.
 pub fn is_discarded_at(candidates: &[Candidate], place: usize) -> bool
+    requires { place < length candidates.now }
     ensures { result ≡ (candidate_at candidates.now place).discarded }
 {
-    match candidates.get(place) {
-        Some(c) => is_discarded(c),
-        None => true,
-    }
+    is_discarded(candidate_at(candidates, place))
 }
 
 /// The priority of the candidate at an index.
 pub fn priority_at(candidates: &[Candidate], place: usize) -> u32
+    requires { place < length candidates.now }
     ensures priority { result ≡ candidate_priority (candidate_at candidates.now place) }
     ensures low { NoneTooHigh candidates.now → result < TOO_HIGH }
 {
-    match candidates.get(place) {
-        Some(c) => c.prio(),
-        None => NOWHERE_PRIORITY,
-    }
+    candidate_at(candidates, place).prio()
 }
 
 /// The PRIORITY of a check from the candidate at an index.
 pub fn check_priority_at(candidates: &[Candidate], place: usize) -> u32
+    requires { place < length candidates.now }
     ensures priority { result ≡ check_priority (candidate_at candidates.now place) }
     ensures low { NoneTooHigh candidates.now → result < TOO_HIGH }
 {
-    match candidates.get(place) {
-        Some(c) => check_priority(c),
-        None => NOWHERE_CHECK_PRIORITY,
-    }
+    check_priority(candidate_at(candidates, place))
 }
-
-/// The priority that an index past the end reads as: that of a host candidate over UDP.
-const NOWHERE_PRIORITY: u32 = 126 * 0x100_0000 + 65534 * 0x100 + 255;
-
-/// The same for a peer-reflexive candidate.
-const NOWHERE_CHECK_PRIORITY: u32 = 110 * 0x100_0000 + 65534 * 0x100 + 255;
 
 /// Whether two addresses have the same IP version and port. Most addresses that differ do so in these, which are the fastest to
 /// compare.

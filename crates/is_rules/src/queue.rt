@@ -36,7 +36,7 @@ pub fn enqueue(queue: &mut VecDeque<Waiting>, waiting: Waiting)
 fn is_outdated(waiting: &Waiting, now: Instant, timing: &StunTiming) -> bool
     ensures { result ≡ is_outdated now.0 timing.now (waiting_view waiting.now) }
 {
-    now - waiting.moment >= timing.timeout()
+    now - waiting.time >= timing.timeout()
 }
 
 /// The number of outdated requests at the front.

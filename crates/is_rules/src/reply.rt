@@ -2,14 +2,14 @@
 
 ghost use Rattle.std.specs.Prelude.{◌≡◌, IfSome, Some, None, length};
 ghost use Rattle.is_stun.specs.Checks.{binding_reply, binding_role_conflict_reply};
-ghost use Rattle.is_stun.specs.Laws.{IsClass, IsChannelNumber, IsPut, LONGEST_REPLY, plain};
+ghost use Rattle.is_stun.specs.Theorems.{IsClass, IsChannelNumber, IsPut, LONGEST_REPLY, plain};
 ghost use Rattle.is_stun.specs.MessageView.{message_view};
-ghost use Rattle.is_stun.specs.Writing.{written, refusal};
+ghost use Rattle.is_stun.specs.Writing.{written, rejection};
 ghost use Rattle.is_rules.specs.Sending.{carried};
 
 use is_proto::Sha1HmacProvider;
-use is_stun::laws::replies_fit;
 use is_stun::stun::{StunMessage, TransId};
+use is_stun::theorems::replies_fit;
 use std::net::SocketAddr;
 
 /// The length of the longest response: header, an IPv6 address, MESSAGE-INTEGRITY and FINGERPRINT.
@@ -22,7 +22,7 @@ pub fn write_signed<H: Sha1HmacProvider>(
     password: &str,
     provider: &H,
 )
-    requires fits { refusal (Some password.now) (length contents.old.items) (message_view message) ≡ None }
+    requires fits { rejection (Some password.now) (length contents.old.items) (message_view message) ≡ None }
     requires class { IsClass (message_view message).class }
     requires channel { IfSome (message_view message).attributes.channel_number IsChannelNumber }
     ensures written { contents.new.items ≡ written (H.mac provider.now) (Some password.now) (message_view message.entry) }

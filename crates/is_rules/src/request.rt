@@ -14,7 +14,7 @@ use std::alloc::{AllocError, Global};
 #[derive(Clone, Copy)]
 pub struct Request<'a> {
     /// When it was received.
-    pub moment: Instant,
+    pub time: Instant,
     /// The path on which it was received: from the sender's address to the local one.
     pub path: Path,
     /// Its transaction id.
@@ -59,7 +59,7 @@ impl<'a> Request<'a> {
     {
         let message = &packet.message;
         Request {
-            moment: now,
+            time: now,
             path: packet_path(packet),
             id: message.trans_id(),
             priority: message.prio().unwrap_or(0),
@@ -75,7 +75,7 @@ impl<'a> Request<'a> {
 #[derive(Drop)]
 pub struct Waiting {
     /// When it was received.
-    pub moment: Instant,
+    pub time: Instant,
     /// The path on which it was received: from the sender's address to the local one.
     pub path: Path,
     /// Its transaction id.
@@ -98,7 +98,7 @@ impl Waiting {
         ensures { IfOk result (λ waiting. waiting_view waiting ≡ request_view request.now) }
     {
         Ok(Waiting {
-            moment: request.moment,
+            time: request.time,
             path: request.path,
             id: request.id,
             priority: request.priority,
@@ -114,7 +114,7 @@ impl Waiting {
         ensures { request_view result ≡ waiting_view self.now }
     {
         Request {
-            moment: self.moment,
+            time: self.time,
             path: self.path,
             id: self.id,
             priority: self.priority,

@@ -2,9 +2,10 @@
 //! `is_agent::roles`.
 
 ghost use Rattle.std.specs.Prelude.{◌≡◌, ℕ, true, map};
-ghost use Rattle.is_pair.specs.Bag.{are_below};
-ghost use Rattle.is_pair.specs.Checklists.{bag_of, HasRoom};
+ghost use Rattle.is_pair.specs.Multiset.{are_below};
+ghost use Rattle.is_pair.specs.Checklists.{multiset_of, HasRoom};
 ghost use Rattle.is_rules.specs.FormingView.{sides_view};
+ghost use Rattle.is_rules.specs.Kept.{are_placed};
 ghost use Rattle.is_rules.specs.Roles.{conflict_by, rival, with_priority_in};
 
 use crate::forming::combined_priority;
@@ -18,9 +19,9 @@ pub enum Conflict {
     /// The sender does not claim the agent's role.
     Absent,
     /// It does, with no greater tie-breaker: the agent keeps its role and sends a 487.
-    Insists,
+    Send487,
     /// It does, with a greater tie-breaker: the agent switches its role.
-    Yields,
+    SwitchRole,
 }
 
 /// The conflict, by the agent's own tie-breaker and that of a sender that claims the same role.
@@ -29,8 +30,8 @@ pub fn conflict_by(own: u64, rival: Option<u64>) -> Conflict
 {
     match rival {
         None => Conflict::Absent,
-        Some(rival) if rival <= own => Conflict::Insists,
-        Some(_) => Conflict::Yields,
+        Some(rival) if rival <= own => Conflict::Send487,
+        Some(_) => Conflict::SwitchRole,
     }
 }
 
@@ -41,21 +42,30 @@ struct Combined<'a> {
 }
 
 impl PairPriority for Combined<'_> {
+    ghost use Rattle.std.specs.Prelude.{if◌then◌else◌};
     ghost use Rattle.is_rules.specs.Forming.{combined_priority};
     ghost use Rattle.is_rules.specs.FormingView.{sides_view};
+    ghost use Rattle.is_rules.specs.Kept.{is_placed};
 
-    ghost gives = { λ t p. combined_priority (sides_view t.sides) (p.local, p.remote) };
+    ghost gives = { λ t p. if is_placed t.sides.local.now t.sides.remote.now p then combined_priority (sides_view t.sides) (p.local, p.remote)
+        else p.priority };
 
     fn priority(&self, pair: &CandidatePair) -> u64 {
-        combined_priority(self.sides, (pair.local_idx(), pair.remote_idx()))
+        if self.sides.has(pair) {
+            combined_priority(self.sides, (pair.local_idx(), pair.remote_idx()))
+        } else {
+            pair.prio()
+        }
     }
 }
 
 /// Computes all priorities again.
 pub fn reprioritize_all(pairs: &mut Checklist, sides: Sides<'_>)
-    ensures set { bag_of pairs.new ≡ map (with_priority_in (sides_view sides.entry)) (bag_of pairs.old) }
+    requires { are_placed sides.local.now sides.remote.now (multiset_of pairs.old) ≡ true }
+    ensures placed { are_placed sides.entry.local.now sides.entry.remote.now (multiset_of pairs.new) ≡ true }
+    ensures set { multiset_of pairs.new ≡ map (with_priority_in (sides_view sides.entry)) (multiset_of pairs.old) }
     ensures room { (n : ℕ) → HasRoom n pairs.old → HasRoom n pairs.new }
-    ensures below { (n : ℕ) → are_below n (bag_of pairs.old) ≡ true → are_below n (bag_of pairs.new) ≡ true }
+    ensures below { (n : ℕ) → are_below n (multiset_of pairs.old) ≡ true → are_below n (multiset_of pairs.new) ≡ true }
 {
     pairs.set_priorities(&Combined { sides });
 }

@@ -2,7 +2,7 @@
 
 ghost use Rattle.std.specs.Prelude.{◌≡◌, ◌<◌, ◌&&◌, false};
 ghost use Rattle.is_rules.specs.RequestView.{request_view};
-ghost use Rattle.is_rules.specs.Serving.{is_misled, is_admitted, wants_pair_at};
+ghost use Rattle.is_rules.specs.Serving.{is_misled, is_admitted, needs_pair_at};
 
 use crate::places::RemotePlace;
 use crate::request::Request;
@@ -43,14 +43,14 @@ pub fn is_admitted(conflict: Conflict, controlling: bool, request: &Request<'_>)
 {
     match conflict {
         Conflict::Absent => !is_misled(controlling, request),
-        Conflict::Insists => false,
-        Conflict::Yields => !is_misled(!controlling, request),
+        Conflict::Send487 => false,
+        Conflict::SwitchRole => !is_misled(!controlling, request),
     }
 }
 
 /// There is no pair of the two candidates, and one would be added.
-pub fn wants_pair_at(remote: RemotePlace, pair: Option<u64>, discarded: bool) -> bool
-    ensures { result ≡ wants_pair_at remote pair discarded }
+pub fn needs_pair_at(remote: RemotePlace, pair: Option<u64>, discarded: bool) -> bool
+    ensures { result ≡ needs_pair_at remote pair discarded }
 {
     match remote {
         RemotePlace::Barred | RemotePlace::Full => false,

@@ -3,6 +3,7 @@
 ghost use Rattle.is_rules.specs.Kept.{NoneTooHigh};
 
 use is_candidate::Candidate;
+use is_pair::pair::CandidatePair;
 
 /// The candidates from which pairs are formed, and the role that determines their priorities.
 #[derive(Clone, Copy)]
@@ -17,4 +18,17 @@ pub struct Sides<'a> {
     pub lite: bool,
     // so that each pair priority fits into 64 bits
     ghost low: { NoneTooHigh local.now },
+}
+
+impl Sides<'_> {
+    ghost use Rattle.std.specs.Prelude.{◌≡◌};
+    ghost use Rattle.is_rules.specs.Kept.{is_placed};
+
+    /// The indices of the pair are in the lists. A test of pairs asks this, since it may be given any pair; each pair of an
+    /// agent passes.
+    pub(crate) fn has(&self, pair: &CandidatePair) -> bool
+        ensures { result ≡ is_placed self.now.local.now self.now.remote.now pair.now }
+    {
+        pair.local_idx() < self.local.len() && pair.remote_idx() < self.remote.len()
+    }
 }

@@ -3,7 +3,7 @@
 ghost use Rattle.std.specs.Prelude.{◌≡◌, ◌<◌, ◌≤◌, ◌+◌, ◌++◌, ◌∷◌, [], if◌then◌else◌};
 ghost use Rattle.std.specs.VecDeque.{deque_len, deque_capacity};
 ghost use Rattle.is_rules.specs.declared.event.IceAgentEvent.TheVariants.{IceConnectionStateChange};
-ghost use Rattle.is_rules.specs.States.{same_state, next_state, is_nominated_and_valid, is_possible_beside};
+ghost use Rattle.is_rules.specs.States.{same_state, next_state, is_nominated_and_valid, is_other_possible};
 
 use crate::event::{IceAgentEvent, IceConnectionState};
 use is_pair::checklist::PairTest;
@@ -73,7 +73,7 @@ impl PairTest for Selected {
 
 /// Whether a pair is still possible, and not selected.
 #[derive(Clone, Copy)]
-pub struct PossibleBeside<'a> {
+pub struct OtherPossible<'a> {
     /// The time at which this is evaluated.
     pub now: Instant,
     /// The timing of checks.
@@ -81,10 +81,10 @@ pub struct PossibleBeside<'a> {
     ghost is_checked: { 0 < timing.now.max_retransmits },
 }
 
-impl PairTest for PossibleBeside<'_> {
-    ghost use Rattle.is_rules.specs.States.{is_possible_beside};
+impl PairTest for OtherPossible<'_> {
+    ghost use Rattle.is_rules.specs.States.{is_other_possible};
 
-    ghost passes = { λ t p. is_possible_beside t.now.0 t.timing.now p };
+    ghost passes = { λ t p. is_other_possible t.now.0 t.timing.now p };
 
     fn passes(&self, pair: &CandidatePair) -> bool {
         !is_nominated_and_valid(pair) && pair.is_still_possible(self.now, self.timing)

@@ -5,7 +5,7 @@ ghost use Rattle.is_rules.specs.Due.{awaits_nomination};
 
 use is_pair::checklist::PairTest;
 use is_pair::pair::{CandidatePair, CheckState};
-use is_pair::{due_moment, is_asked};
+use is_pair::{due_time_of, is_asked};
 use is_proto::Instant;
 use is_stun::stun::StunTiming;
 
@@ -26,7 +26,7 @@ impl PairTest for FallsDue<'_> {
     ghost passes = { λ t p. falls_due t.controlling t.now.0 t.timing.now p };
 
     fn passes(&self, pair: &CandidatePair) -> bool {
-        due_moment(pair, self.now, self.timing) <= self.now
+        due_time_of(pair, self.now, self.timing) <= self.now
             || (!is_asked(pair) && awaits_nomination(pair, self.controlling))
     }
 }

@@ -1,24 +1,4 @@
-pub mod TlvLemmas
-pub mod TextLemmas
-pub mod WalkLemmas
-pub mod PassLemmas
-pub mod ReadsLemmas
-pub mod FormLemmas
-pub mod PutLemmas
-pub mod CrcLemmas
-pub mod CrcTable
-pub mod RowLemmas
-pub mod WrittenLemmas
-pub mod LawLemmas
-pub mod AddressLemmas
-pub mod TimingLemmas
-pub mod WideLemmas
-pub mod RoundLemmas
-pub mod KindLemmas
-pub mod AddressTrip
-pub mod TripLemmas
-pub mod AttributesTrip
-pub mod PlainLemmas
-pub mod MessageTrip
-pub mod LengthLemmas
-pub mod SpellsLemmas
+mod MessageReading
+mod WrittenMessages
+mod RoundTrips
+mod BitsOfNumbers

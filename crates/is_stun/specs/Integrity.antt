@@ -23,9 +23,9 @@ unfoldable pub up_to_integrity : List Tlv → List Tlv
 up_to_integrity [] = []
 up_to_integrity (c ∷ cs) = c ∷ (if is_integrity c then [] else up_to_integrity cs)
 
-unfoldable pub behind_integrity : List Tlv → List Tlv
-behind_integrity [] = []
-behind_integrity (c ∷ cs) = if is_integrity c then cs else behind_integrity cs
+unfoldable pub after_integrity : List Tlv → List Tlv
+after_integrity [] = []
+after_integrity (c ∷ cs) = if is_integrity c then cs else after_integrity cs
 
 -- ---- the MAC
 

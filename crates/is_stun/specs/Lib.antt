@@ -20,5 +20,5 @@ pub mod Writing
 pub mod RowView
 pub mod Builder
 pub mod Checks
-pub mod Laws
+pub mod Theorems
 pub mod Timing

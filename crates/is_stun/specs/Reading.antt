@@ -21,7 +21,7 @@ use Rattle.is_stun.specs.Tlv.{Tlv, tlvs_of}
 use Rattle.is_stun.specs.Header.{type_of, class_of, method_of, body_of, header_fault}
 use Rattle.is_stun.specs.Kinds.{text, number, bytes_of_len, error_code, channel_number, network_cost, value_fault}
 use Rattle.is_stun.specs.Address.{address_in}
-use Rattle.is_stun.specs.Integrity.{before_integrity, first_integrity, up_to_integrity, behind_integrity, integrity_of}
+use Rattle.is_stun.specs.Integrity.{before_integrity, first_integrity, up_to_integrity, after_integrity, integrity_of}
 use Rattle.is_stun.specs.Message.{AttributesRecord, Message, split_username}
 
 -- ---- the attributes
@@ -42,18 +42,18 @@ last_of code (c ∷ cs) = option_or (last_of code cs) (if counts code c then Som
 -- The fault of an attribute. After MESSAGE-INTEGRITY, only FINGERPRINT is read, but the length of each attribute is
 -- checked.
 abbrev pub fault_at : Bool → Tlv → Option ParseFault
-fault_at is_behind c =
+fault_at is_after c =
     if nat_lt (length c.value) c.len then Some AttributeLength
-    else if is_behind && not (c.code == FINGERPRINT) then None
+    else if is_after && not (c.code == FINGERPRINT) then None
     else value_fault c.code c.value
 
 unfoldable pub first_fault : Bool → List Tlv → Option ParseFault
-first_fault is_behind [] = None
-first_fault is_behind (c ∷ cs) = option_or (fault_at is_behind c) (first_fault is_behind cs)
+first_fault is_after [] = None
+first_fault is_after (c ∷ cs) = option_or (fault_at is_after c) (first_fault is_after cs)
 
 -- the fault of the first attribute that has one
 unfoldable pub attributes_fault : List Tlv → Option ParseFault
-attributes_fault cs = option_or (first_fault false (up_to_integrity cs)) (first_fault true (behind_integrity cs))
+attributes_fault cs = option_or (first_fault false (up_to_integrity cs)) (first_fault true (after_integrity cs))
 
 abbrev pub value_in : {A : Type 0} → (List ℕ → Result A ParseFault) → Option (List ℕ) → Option A
 value_in read None = None

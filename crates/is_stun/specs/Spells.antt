@@ -18,7 +18,7 @@ use Rattle.is_stun.specs.Tlv.{Tlv, tlvs_of}
 use Rattle.is_stun.specs.Header.{type_of, length_field, magic_of, class_of, method_of, body_of}
 use Rattle.is_stun.specs.Kinds.{text, number, error_code, channel_number, network_cost, value_fault}
 use Rattle.is_stun.specs.Address.{address_in}
-use Rattle.is_stun.specs.Integrity.{before_integrity, first_integrity, up_to_integrity, behind_integrity, integrity_of}
+use Rattle.is_stun.specs.Integrity.{before_integrity, first_integrity, up_to_integrity, after_integrity, integrity_of}
 use Rattle.is_stun.specs.Message.{AttributesRecord, Message, split_username}
 use Rattle.is_stun.specs.Reading.{last_of, id_of}
 
@@ -30,9 +30,9 @@ pub record HasHeader (bytes : List ℕ) : Type 0 where
 
 -- The attribute is complete, and its value, if it is read, is one of its type. After MESSAGE-INTEGRITY, only
 -- FINGERPRINT is read.
-pub record IsSound (is_behind : Bool) (c : Tlv) : Type 0 where
+pub record IsWellFormed (is_after : Bool) (c : Tlv) : Type 0 where
   pub whole : c.len ≤ length c.value
-  pub value : (is_behind ≡ true → c.code ≡ FINGERPRINT) → value_fault c.code c.value ≡ None
+  pub value : (is_after ≡ true → c.code ≡ FINGERPRINT) → value_fault c.code c.value ≡ None
 
 -- the field is the parsed value of the attribute, if there is one
 abbrev pub IsReading : {A : Type 0} → (List ℕ → Result A ParseFault) → Option (List ℕ) → Option A → Type 0
@@ -67,8 +67,8 @@ pub record HasDemanded (m : Message) : Type 0 where
 -- the bytes encode the message
 pub record Spells (bytes : List ℕ) (m : Message) : Type 0 where
   pub header : HasHeader bytes
-  pub before : AllByRecursion (IsSound false) (up_to_integrity (tlvs_of (body_of bytes)))
-  pub behind : AllByRecursion (IsSound true) (behind_integrity (tlvs_of (body_of bytes)))
+  pub before : AllByRecursion (IsWellFormed false) (up_to_integrity (tlvs_of (body_of bytes)))
+  pub following : AllByRecursion (IsWellFormed true) (after_integrity (tlvs_of (body_of bytes)))
   pub method : m.method ≡ method_of (type_of bytes)
   pub class : m.class ≡ class_of (type_of bytes)
   pub id : m.id ≡ id_of bytes

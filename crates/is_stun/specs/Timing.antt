@@ -1,7 +1,7 @@
 -- The retransmission timing of checks (RFC 8489, section 6.2.1; RFC 8445, section 14.3). Durations are in nanoseconds.
 use Rattle.std.specs.Prelude.{ℕ, ◌+◌, ◌-◌, ◌*◌, ◌/◌, ◌^◌, ◌==◌, min, sum_by, if◌then◌else◌}
 use Rattle.std.specs.List.{range_with_len}
-use Rattle.is_proto.specs.Moments.{MAX, MILLISECOND}
+use Rattle.is_proto.specs.Times.{MAX, MILLISECOND}
 use Rattle.is_stun.specs.declared.timing.StunTiming.{StunTiming}
 
 -- the delay after the last of n checks, in whole milliseconds: it doubles with each check, up to a bound

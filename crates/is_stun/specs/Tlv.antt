@@ -27,12 +27,12 @@ tlv_at place code len rest = record { code = code; place = place; len = len; val
 
 -- The attributes from an offset on, after so many bytes of value and padding. Each next one follows the padding, up to
 -- the end or to the first that declares more bytes than are left.
-unfoldable pub tlvs_behind : ℕ → ℕ → List ℕ → List Tlv
-tlvs_behind (suc skip) place (byte ∷ bytes) = tlvs_behind skip (suc place) bytes
-tlvs_behind zero place (c0 ∷ c1 ∷ l0 ∷ l1 ∷ rest) =
+unfoldable pub tlvs_after : ℕ → ℕ → List ℕ → List Tlv
+tlvs_after (suc skip) place (byte ∷ bytes) = tlvs_after skip (suc place) bytes
+tlvs_after zero place (c0 ∷ c1 ∷ l0 ∷ l1 ∷ rest) =
     tlv_at place (u16_of c0 c1) (u16_of l0 l1) rest
-    ∷ (if nat_lt (length rest) (u16_of l0 l1) then [] else tlvs_behind (padded_len (u16_of l0 l1)) (place + 4) rest)
-tlvs_behind _ place _ = []
+    ∷ (if nat_lt (length rest) (u16_of l0 l1) then [] else tlvs_after (padded_len (u16_of l0 l1)) (place + 4) rest)
+tlvs_after _ place _ = []
 
 abbrev pub tlvs_of : List ℕ → List Tlv
-tlvs_of body = tlvs_behind 0 0 body
+tlvs_of body = tlvs_after 0 0 body

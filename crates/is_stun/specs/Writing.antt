@@ -134,8 +134,8 @@ abbrev pub HasMacOfRows : (List ℕ → List ℕ → List ℕ) → Option (List 
 HasMacOfRows mac key typ id rows = HasMacOf mac key (length (rows_text rows) + 24) (front_of key typ id rows)
 
 -- the error if the rows do not fit the room
-abbrev pub rows_refusal : Option (List ℕ) → ℕ → List Row → Option StunError
-rows_refusal key room rows =
+abbrev pub rows_rejection : Option (List ℕ) → ℕ → List Row → Option StunError
+rows_rejection key room rows =
     if nat_lt 65535 (body_len key rows) then Some MessageTooLong
     else if nat_lt room (HEADER_LEN + body_len key rows) then Some BufferTooShort
     else None
@@ -143,8 +143,8 @@ rows_refusal key room rows =
 -- Either the bytes are at the front of the buffer and the rest of it is unchanged, or all of it is unchanged and the
 -- error says why.
 abbrev pub WritesOr : Result ℕ StunError → List ℕ → List ℕ → Option StunError → List ℕ → Type 0
-WritesOr (Ok n) old new refusal written = (refusal ≡ None) × (n ≡ length written) × (new ≡ written ++ drop n old)
-WritesOr (Err e) old new refusal written = (refusal ≡ Some e) × (new ≡ old)
+WritesOr (Ok n) old new rejection written = (rejection ≡ None) × (n ≡ length written) × (new ≡ written ++ drop n old)
+WritesOr (Err e) old new rejection written = (rejection ≡ Some e) × (new ≡ old)
 
 -- ---- whole messages
 
@@ -171,16 +171,16 @@ is_bad_code None = false
 is_bad_code (Some e) = nat_lt e.0 300 || nat_lt 699 e.0
 
 -- the error if a message can't be written into any buffer, however large
-unfoldable pub value_refusal : Message → Option StunError
-value_refusal m =
+unfoldable pub value_rejection : Message → Option StunError
+value_rejection m =
     if not (is_known m.method) then Some UnknownMethod
     else if has_long_value m.attributes then Some ValueTooLong
     else if is_bad_code m.attributes.error_code then Some BadErrorCode
     else None
 
 -- the first error of writing a message, if there is one
-unfoldable pub refusal : Option (List ℕ) → ℕ → Message → Option StunError
-refusal key room m = option_or (value_refusal m) (rows_refusal key room (rows_of m.id m.attributes))
+unfoldable pub rejection : Option (List ℕ) → ℕ → Message → Option StunError
+rejection key room m = option_or (value_rejection m) (rows_rejection key room (rows_of m.id m.attributes))
 
 -- the bytes of a message
 unfoldable pub written : (List ℕ → List ℕ → List ℕ) → Option (List ℕ) → Message → List ℕ

@@ -5,7 +5,7 @@ ghost use Rattle.std.specs.Option.{option_map};
 ghost use Rattle.is_stun.specs.Kinds.{value_fault};
 ghost use Rattle.is_stun.specs.TlvView.{tlv_view};
 ghost use Rattle.is_stun.specs.Message.{split_at_colon, no_attributes};
-ghost use Rattle.is_stun.specs.Pass.{kept, kept_behind};
+ghost use Rattle.is_stun.specs.Pass.{kept, kept_after};
 
 use crate::address::keep_address;
 use crate::kinds::{
@@ -133,9 +133,9 @@ impl<'a> Attributes<'a> {
     }
 
     /// Reads an attribute after MESSAGE-INTEGRITY; only FINGERPRINT is read there.
-    #[tactic(auto, unfolding(crate::specs::Pass::kept_behind, crate::specs::Kinds::value_fault))]
-    pub(crate) fn keep_behind(&mut self, tlv: &Tlv<'a>) -> Result<(), ParseFault>
-        ensures kept { OnOk result (attributes_view self.new ≡ kept_behind (tlv_view tlv.now) (attributes_view self.old)) }
+    #[tactic(auto, unfolding(crate::specs::Pass::kept_after, crate::specs::Kinds::value_fault))]
+    pub(crate) fn keep_after(&mut self, tlv: &Tlv<'a>) -> Result<(), ParseFault>
+        ensures kept { OnOk result (attributes_view self.new ≡ kept_after (tlv_view tlv.now) (attributes_view self.old)) }
         ensures faultless { OnOk result (tlv.now.code ≡ FINGERPRINT → value_fault tlv.now.code tlv.now.value.now ≡ None) }
         ensures fault { IfErr result (λ f. (tlv.now.code ≡ FINGERPRINT) × (value_fault tlv.now.code tlv.now.value.now ≡ Some f)) }
     {

@@ -52,7 +52,7 @@ pub(crate) fn bytes_of_len(len: usize, value: &[u8], fault: ParseFault) -> Resul
 }
 
 /// Returns the bytes after the first four of ERROR-CODE.
-fn behind_code(value: &[u8]) -> &[u8]
+fn after_code(value: &[u8]) -> &[u8]
     requires { 4 ≤ length value.now }
     ensures { result.now ≡ drop 4 value.now }
 {
@@ -79,7 +79,7 @@ pub(crate) fn keep_error_code<'a>(
     if class < 3 || class > 6 {
         return Err(ParseFault::ErrorClass);
     }
-    match text(TEXT_LIMIT, behind_code(value)) {
+    match text(TEXT_LIMIT, after_code(value)) {
         Ok(reason) => {
             *place = Some((100 * u16::from(class) + u16::from(value[3] % 100), reason));
             Ok(())

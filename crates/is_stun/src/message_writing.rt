@@ -2,8 +2,8 @@
 
 ghost use Rattle.std.specs.Prelude.{◌≡◌, length, take, None, IfNone, IfOk, IfSome};
 ghost use Rattle.std.specs.Option.{option_copied, option_map};
-ghost use Rattle.is_stun.specs.Writing.{WritesOr, is_longer, is_bad_code, has_long_value, value_refusal, refusal, written};
-ghost use Rattle.is_stun.specs.Laws.{ReadsAgain};
+ghost use Rattle.is_stun.specs.Writing.{WritesOr, is_longer, is_bad_code, has_long_value, value_rejection, rejection, written};
+ghost use Rattle.is_stun.specs.Theorems.{RoundTripsAs};
 ghost use Rattle.is_stun.specs.MessageView.{attributes_view, message_view};
 ghost use Rattle.is_stun.specs.ErrorCode.{error_value};
 ghost use Rattle.is_stun.specs.ErrorCodeView.{error_bytes, error_view, WritableError};
@@ -66,9 +66,9 @@ fn has_long_value(attrs: &Attributes<'_>) -> bool
 }
 
 /// Returns the error if the message can't be written into any buffer, however large.
-#[tactic(auto, unfolding(crate::specs::Writing::value_refusal))]
-fn value_refusal(message: &StunMessage<'_>) -> Option<StunError>
-    ensures refusal { result ≡ value_refusal (message_view message.now) }
+#[tactic(auto, unfolding(crate::specs::Writing::value_rejection))]
+fn value_rejection(message: &StunMessage<'_>) -> Option<StunError>
+    ensures rejection { result ≡ value_rejection (message_view message.now) }
     ensures writable { IfNone result (WritableError message.now.attrs.error_code) }
 {
     if message.method == Method::Unknown {
@@ -91,12 +91,12 @@ fn write_message<H: Sha1HmacProvider>(
     buf: &mut [u8],
     provider: &H,
 ) -> Result<usize, StunError>
-    requires writable { value_refusal (message_view message.now) ≡ None }
+    requires writable { value_rejection (message_view message.now) ≡ None }
     requires error { option_map error_bytes (option_copied error) ≡ option_map error_value (error_view message.now.attrs.error_code) }
-    ensures written { WritesOr result buf.old buf.new (refusal (option_copied password.entry) (length buf.old)
+    ensures written { WritesOr result buf.old buf.new (rejection (option_copied password.entry) (length buf.old)
         (message_view message.now)) (written (H.mac provider.now) (option_copied password.entry) (message_view message.now)) }
-    ensures read_again { IfOk result (λ len. IfSome (option_copied password.entry)
-        (λ key. ReadsAgain (H.mac provider.now) key (take len buf.new) (message_view message.now))) }
+    ensures round_trip { IfOk result (λ len. IfSome (option_copied password.entry)
+        (λ key. RoundTripsAs (H.mac provider.now) key (take len buf.new) (message_view message.now))) }
 {
     // the values are in the ranges of their types, so they parse unchanged
     id_fits(message.trans_id);
@@ -133,12 +133,12 @@ impl<'a> StunMessage<'a> {
         buf: &mut [u8],
         provider: &H,
     ) -> Result<usize, StunError>
-        ensures written { WritesOr result buf.old buf.new (refusal (option_copied password.entry) (length buf.old)
+        ensures written { WritesOr result buf.old buf.new (rejection (option_copied password.entry) (length buf.old)
             (message_view self.entry)) (written (H.mac provider.now) (option_copied password.entry) (message_view self.entry)) }
-        ensures read_again { IfOk result (λ len. IfSome (option_copied password.entry)
-            (λ key. ReadsAgain (H.mac provider.now) key (take len buf.new) (message_view self.entry))) }
+        ensures round_trip { IfOk result (λ len. IfSome (option_copied password.entry)
+            (λ key. RoundTripsAs (H.mac provider.now) key (take len buf.new) (message_view self.entry))) }
     {
-        if let Some(error) = value_refusal(&self) {
+        if let Some(error) = value_rejection(&self) {
             return Err(error);
         }
         match self.attrs.error_code {

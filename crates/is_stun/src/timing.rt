@@ -2,7 +2,7 @@
 //! 8489, section 6.2.1).
 
 ghost use Rattle.std.specs.Prelude.{◌≡◌, ◌*◌, ◌^◌, ◌/◌, ◌-◌, ◌<◌, ◌≤◌, ℕ, min};
-ghost use Rattle.is_proto.specs.Moments.{MILLISECOND, SECOND};
+ghost use Rattle.is_proto.specs.Times.{MILLISECOND, SECOND};
 ghost use Rattle.is_stun.specs.Timing.{resend_delay, last_resend_delay, timeout_of};
 
 use is_proto::Duration;

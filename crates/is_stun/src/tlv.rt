@@ -56,9 +56,9 @@ impl<'a> Iterator for Tlvs<'a> {
         let code = u16::from_be_bytes([*c0, *c1]);
         let len = u16::from_be_bytes([*l0, *l1]) as usize;
         let value = &rest[..len.min(rest.len())];
-        let behind = ((len + 3) / 4 * 4).min(rest.len());
-        self.place = place + 4 + behind;
-        self.rest = &rest[behind..];
+        let following = ((len + 3) / 4 * 4).min(rest.len());
+        self.place = place + 4 + following;
+        self.rest = &rest[following..];
         Some(Tlv {
             code,
             place,

@@ -5,7 +5,7 @@ ghost use Rattle.std.specs.Option.{option_copied, option_map};
 ghost use Rattle.std.specs.Str.{IsUtf8};
 ghost use Rattle.is_stun.specs.ErrorCodeView.{error_view};
 ghost use Rattle.is_stun.specs.MessageView.{attributes_view};
-ghost use Rattle.is_stun.specs.Laws.{IsId, IsChannelNumber, IsPlainAddress, HasReadableValues, plain_address, plain_attributes};
+ghost use Rattle.is_stun.specs.Theorems.{IsId, IsChannelNumber, IsPlainAddress, HasReadableValues, plain_address, plain_attributes};
 
 use crate::attributes::Attributes;
 use crate::trans_id::TransId;

@@ -5,7 +5,7 @@ ghost use Rattle.std.specs.Option.{option_copied};
 ghost use Rattle.std.specs.Int.{w16, w32, to_be_bytes};
 ghost use Rattle.is_stun.specs.Tlv.{padded_len, attribute_len};
 ghost use Rattle.is_stun.specs.Writing.{Puts, attribute, row_text, rows_text, IsLenWithin, integrity_len, body_len, integrity_text};
-ghost use Rattle.is_stun.specs.Writing.{fingerprint_text, rows_refusal, written_rows, WritesOr, HasMacOf, HasMacOfRows};
+ghost use Rattle.is_stun.specs.Writing.{fingerprint_text, rows_rejection, written_rows, WritesOr, HasMacOf, HasMacOfRows};
 ghost use Rattle.is_stun.specs.Header.{header};
 ghost use Rattle.is_stun.specs.RowView.{row_view};
 
@@ -86,7 +86,7 @@ pub(crate) struct Row<'a> {
 
 /// Returns the length of a row, if it fits the room.
 #[inline(always)]
-#[tactic(auto, using(crate::proofs::RowLemmas::row_length))]
+#[tactic(auto, using(crate::proofs::WrittenMessages::ConsecutiveRows::row_length))]
 fn row_len(row: &Row<'_>, room: usize) -> Option<usize>
     requires { room < 2 ^ 16 }
     ensures { IsLenWithin result room (row_text (row_view row.now)) }
@@ -114,7 +114,7 @@ fn rows_len(rows: &[Row<'_>], room: usize) -> Option<usize>
 }
 
 #[inline(always)]
-#[tactic(auto, using(crate::proofs::RowLemmas::row_length))]
+#[tactic(auto, using(crate::proofs::WrittenMessages::ConsecutiveRows::row_length))]
 fn put_row(buf: &mut [u8], at: usize, row: &Row<'_>) -> usize
     requires room { at + length (row_text (row_view row.now)) ≤ length buf.old }
     requires short { length (row_text (row_view row.now)) < 2 ^ 16 }
@@ -192,8 +192,8 @@ fn body_len_within(
     room: usize,
 ) -> Result<usize, StunError>
     ensures ok { IfOk result (λ n. (n ≡ body_len (option_copied password.entry) (map row_view rows.now)) × (n < 2 ^ 16) × (20 + n ≤ room)) }
-    ensures taken { OnOk result (rows_refusal (option_copied password.entry) room (map row_view rows.now) ≡ None) }
-    ensures refused { IfErr result (λ e. rows_refusal (option_copied password.entry) room (map row_view rows.now) ≡ Some e) }
+    ensures taken { OnOk result (rows_rejection (option_copied password.entry) room (map row_view rows.now) ≡ None) }
+    ensures rejected { IfErr result (λ e. rows_rejection (option_copied password.entry) room (map row_view rows.now) ≡ Some e) }
 {
     let integrity = integrity_len(password);
     let Some(len) = rows_len(rows, 65535 - 8 - integrity) else {
@@ -234,7 +234,7 @@ pub(crate) fn write_draft<H: Sha1HmacProvider>(
     buf: &mut [u8],
     provider: &H,
 ) -> Result<usize, StunError>
-    ensures written { WritesOr result buf.old buf.new (rows_refusal (option_copied password.entry) (length buf.old)
+    ensures written { WritesOr result buf.old buf.new (rows_rejection (option_copied password.entry) (length buf.old)
         (map row_view draft.now.rows.now)) (written_rows (H.mac provider.now) (option_copied password.entry) draft.now.typ draft.now.id.now
         (map row_view draft.now.rows.now)) }
     ensures mac { OnOk result (HasMacOfRows (H.mac provider.now) (option_copied password.entry) draft.now.typ draft.now.id.now

@@ -45,9 +45,10 @@ class Peer:
         self.connection.on("datachannel", self._listen)
 
     def _listen(self, channel: Any) -> None:
-        @channel.on("message")
-        def message(data: Any) -> None:
+        def answer(data: Any) -> None:
             channel.send(f"the agent's side received: {data}" if isinstance(data, str) else data)
+
+        channel.on("message", answer)
 
     async def answer(self, sdp: str) -> str:
         """Takes the page's offer, and returns the answer with all candidates."""
@@ -117,7 +118,7 @@ class Demo:
 
 
 async def serve(port: int) -> None:
-    """Serves until the task is cancelled."""
+    """Serves until the task is canceled."""
     runner = web.AppRunner(Demo().app())
     await runner.setup()
     site = web.TCPSite(runner, "127.0.0.1", port)

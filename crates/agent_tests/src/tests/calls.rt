@@ -1,82 +1,170 @@
-//! Pair numbers: each is used at most once, and they run out.
+//! The calls of an agent, and their outcomes.
 
+use super::driver::Player;
+use super::making::{creds, generator, greatest, host, later, long, numbered, parsed};
+use super::step::{At, Call, Outcome, Whose};
+use super::zeros::Zeros;
 use super::*;
 
-/// Which numbers pairs get.
-struct Numbers;
-
-impl Subject for Numbers {
-    fn play(&self, player: &mut Player) -> Told {
-        numbers_end(player)?;
-        without_a_number_no_candidate_is_stored(player)?;
-        the_last_number_forms_one_pair(player)?;
-        without_a_number_no_request_is_served(player)
+/// What became of a call.
+fn outcome_of(answer: Result<(), IceError>) -> Outcome {
+    match answer {
+        Ok(()) => Outcome::Done,
+        Err(error) => outcome(&error),
     }
 }
 
-#[test]
-fn numbers_of_pairs_end(rt: HostRuntime) -> Result<(), Fail> {
-    tell(rt.alloc(), &Numbers)
+/// The outcome of a call that fails so.
+fn outcome(error: &IceError) -> Outcome {
+    match error {
+        IceError::PairIdsExhausted => Outcome::PairIdsExhausted,
+        IceError::MtuTooSmall => Outcome::MtuTooSmall,
+        IceError::CredentialsTooLong => Outcome::CredentialsTooLong,
+        IceError::PriorityTooHigh => Outcome::PriorityTooHigh,
+        _ => Outcome::Other,
+    }
 }
 
-/// No number is left.
-const NONE_LEFT: u64 = 18446744073709551615;
-
-/// The last number.
-const LAST: u64 = 18446744073709551614;
-
-fn recreates(player: &mut Player) -> bool {
-    player.agent.recreate_candidate_pairs().is_ok()
+/// Done if it is so.
+fn done_if(holds: bool) -> Outcome {
+    if holds {
+        Outcome::Done
+    } else {
+        Outcome::Nothing
+    }
 }
 
-/// Recreating the pairs fails, since no numbers are left.
-fn fails_to_recreate(player: &mut Player) -> bool {
-    matches!(
-        player.agent.recreate_candidate_pairs(),
-        Err(IceError::PairIdsExhausted)
-    )
+impl Player {
+    /// Makes the call.
+    pub(super) fn calls(&mut self, call: Call) -> Outcome {
+        let alloc = self.alloc;
+        match call {
+            Call::Creds(whose, ufrag, pass) => {
+                set_creds(&mut self.agent, whose, creds(alloc, ufrag, pass).ok())
+            }
+            Call::Long(whose, len) => set_creds(&mut self.agent, whose, long(alloc, len)),
+            Call::LongAgent(len) => make_agent(alloc, len),
+            Call::Host(at) => add_local(&mut self.agent, host(alloc, at)),
+            Call::HostOf(at, prio) => add_with_prio(&mut self.agent, host(alloc, at), prio),
+            Call::Own(line) => add_local(&mut self.agent, parsed(alloc, line)),
+            Call::OwnGreatest => add_local(&mut self.agent, greatest(alloc)),
+            Call::Peer(line) => add_remote(&mut self.agent, parsed(alloc, line)),
+            Call::Peers(count) => add_remotes(&mut self.agent, alloc, count),
+            Call::Invalidate(line) => invalidate(&mut self.agent, parsed(alloc, line)),
+            Call::Recreate => outcome_of(self.agent.recreate_candidate_pairs()),
+            Call::SetMtu(mtu, mtu_warn) => outcome_of(self.agent.set_mtu(mtu..=mtu_warn)),
+            _ => self.passes(call),
+        }
+    }
+
+    /// Makes a call of `handle_timeout`.
+    fn passes(&mut self, call: Call) -> Outcome {
+        match call {
+            Call::Timeout(ms) => self.passes_to(ms),
+            Call::Check(ms) => done_if(self.checks(ms)),
+            Call::CheckTo(ms, to, nominates) => done_if(self.checks_to(ms, to, nominates)),
+            Call::CheckPublished(ms) => done_if(self.checks_under_published_id(ms)),
+            Call::CheckZeros(ms, to) => done_if(self.checks_under_zeros(ms, to)),
+            _ => Outcome::Other,
+        }
+    }
+
+    pub(super) fn passes_to(&mut self, ms: u64) -> Outcome {
+        outcome_of(self.agent.handle_timeout(later(ms), &mut self.rng))
+    }
+
+    /// Calls `handle_timeout`, which sends a packet.
+    pub(super) fn checks(&mut self, ms: u64) -> bool {
+        self.passes_to(ms) == Outcome::Done && self.sends()
+    }
+
+    /// The same, whose packet goes to this address, with USE-CANDIDATE or without.
+    fn checks_to(&mut self, ms: u64, to: At, nominates: bool) -> bool {
+        self.checks(ms) && self.has_sent_from(At(1, 1000), to) && self.has_nominated(nominates)
+    }
+
+    /// The same, with the first random words of the published example.
+    fn checks_under_published_id(&mut self, ms: u64) -> bool {
+        let passed = self.agent.handle_timeout(later(ms), &mut generator());
+        outcome_of(passed) == Outcome::Done && self.sends()
+    }
+
+    /// The same, to this address, with random words of zeros.
+    fn checks_under_zeros(&mut self, ms: u64, to: At) -> bool {
+        let passed = self.agent.handle_timeout(later(ms), &mut Zeros);
+        outcome_of(passed) == Outcome::Done
+            && self.sends()
+            && self.has_sent_from(At(1, 1000), to)
+            && self.has_id(TransId([0; 12]))
+    }
 }
 
-fn numbers_end(player: &mut Player) -> Told {
-    Story("numbers_end").holds(&[
-        player.set_up_pair(),
-        same(player.number_with(PEER), Some(0), player),
-        recreates(player) && player.tells(b"c"),
-        // no number is used again
-        same(player.number_with(PEER), Some(1), player),
-        player.skips_to(LAST) && recreates(player) && fails_to_recreate(player),
-        same(player.number_with(PEER), Some(LAST), player) && player.emits_nothing(),
-    ])
+fn set_creds(agent: &mut Agent, whose: Whose, creds: Option<IceCreds>) -> Outcome {
+    let Some(creds) = creds else {
+        return Outcome::Other;
+    };
+    outcome_of(match whose {
+        Whose::Local => agent.set_local_credentials(creds),
+        Whose::Remote => agent.set_remote_credentials(creds),
+        Whose::Restarted => agent.ice_restart(creds, true),
+        Whose::Emptied => agent.ice_restart(creds, false),
+    })
 }
 
-fn without_a_number_no_candidate_is_stored(player: &mut Player) -> Told {
-    Story("without_a_number_no_candidate_is_stored").holds(&[
-        player.set_up_alone() && player.skips_to(NONE_LEFT),
-        !player.hears(PEER) && player.has_heard_of(&[]),
-        // no local candidate uses TCP: no pair is needed
-        player.hears("candidate:1 1 tcp 2130706175 10.0.0.2 2000 typ host"),
-        player.has_heard_of(&[at(2, 2000)]),
-    ])
+/// Makes an agent whose username fragment has so many letters.
+fn make_agent(alloc: Global, len: usize) -> Outcome {
+    let Some(creds) = long(alloc, len) else {
+        return Outcome::Other;
+    };
+    match Agent::new(alloc, creds, 1).err() {
+        None => Outcome::Done,
+        Some(error) => outcome(&error),
+    }
 }
 
-fn the_last_number_forms_one_pair(player: &mut Player) -> Told {
-    Story("the_last_number_forms_one_pair").holds(&[
-        player.set_up_alone() && player.skips_to(LAST),
-        // a smaller number changes nothing
-        player.skips_to(3)
-            && player.hears(PEER)
-            && same(player.number_with(PEER), Some(LAST), player),
-        !player.hears("candidate:1 1 udp 2130706175 10.0.0.3 3000 typ host"),
-        player.has_heard_of(&[at(2, 2000)]),
-    ])
+/// Adds the local candidate; whether it is stored.
+fn add_local(agent: &mut Agent, candidate: Option<Candidate>) -> Outcome {
+    let Some(candidate) = candidate else {
+        return Outcome::Other;
+    };
+    match agent.add_local_candidate(candidate) {
+        Ok(added) => done_if(added.is_some()),
+        Err(error) => outcome(&error),
+    }
 }
 
-fn without_a_number_no_request_is_served(player: &mut Player) -> Told {
-    Story("without_a_number_no_request_is_served").holds(&[
-        player.set_up_credentials() && player.takes_role(true) && player.skips_to(NONE_LEFT),
-        // neither the role nor the remote candidates change, and the source is not reported
-        !player.receive_request(0, at(1, 1000)) && player.emits_nothing(),
-        player.agent.controlling() && player.has_heard_of(&[]),
-        same(player.agent.stats().bind_request_recv, 0, player),
-    ])
+/// The same; it has this priority then.
+fn add_with_prio(agent: &mut Agent, candidate: Option<Candidate>, prio: u32) -> Outcome {
+    let Some(candidate) = candidate else {
+        return Outcome::Other;
+    };
+    match agent.add_local_candidate(candidate) {
+        Ok(Some(added)) => done_if(added.prio() == prio),
+        _ => Outcome::Nothing,
+    }
+}
+
+fn add_remote(agent: &mut Agent, candidate: Option<Candidate>) -> Outcome {
+    match candidate {
+        Some(candidate) => outcome_of(agent.add_remote_candidate(candidate)),
+        None => Outcome::Other,
+    }
+}
+
+/// Adds so many of the peer's candidates.
+fn add_remotes(agent: &mut Agent, alloc: Global, count: u8) -> Outcome {
+    for number in 1..=count {
+        let outcome = add_remote(agent, numbered(alloc, number));
+        if outcome != Outcome::Done {
+            return outcome;
+        }
+    }
+    Outcome::Done
+}
+
+fn invalidate(agent: &mut Agent, candidate: Option<Candidate>) -> Outcome {
+    match candidate {
+        Some(candidate) => done_if(agent.invalidate_candidate(&candidate)),
+        None => Outcome::Other,
+    }
 }

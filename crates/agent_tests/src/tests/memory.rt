@@ -1,5 +1,7 @@
 //! Allocation failures: run with each allocation failing in turn (`rt try --test --fail-alloc N`).
 
+use super::making::creds;
+use super::step::At;
 use super::*;
 use std::process::Abort;
 
@@ -9,18 +11,26 @@ fn made(alloc: Global) -> Result<Box<Agent>, IceError> {
     Ok(Box::new(alloc, agent)?)
 }
 
-fn tell_peer(agent: &mut Agent, alloc: Global) -> Result<(), IceError> {
+/// The same; if that fails, it is made once more.
+fn made_twice(alloc: Global) -> Option<Box<Agent>> {
+    match made(alloc) {
+        Ok(agent) => Some(agent),
+        Err(_) => made(alloc).ok(),
+    }
+}
+
+fn pass_creds(agent: &mut Agent, alloc: Global) -> Result<(), IceError> {
     agent.set_remote_credentials(creds(alloc, "SQAt", "x")?)
 }
 
 fn add_host(agent: &mut Agent, alloc: Global) -> Result<bool, IceError> {
-    let host = Candidate::host(alloc, at(1, 1000), Protocol::Udp)?;
+    let host = Candidate::host(alloc, At(1, 1000).socket(), Protocol::Udp)?;
     Ok(agent.add_local_candidate(host)?.is_some())
 }
 
 /// Passes the peer's credentials; a call that fails is made once more.
-fn tell_peer_with_retry(agent: &mut Agent, alloc: Global) -> bool {
-    tell_peer(agent, alloc).is_ok() || tell_peer(agent, alloc).is_ok()
+fn pass_creds_with_retry(agent: &mut Agent, alloc: Global) -> bool {
+    pass_creds(agent, alloc).is_ok() || pass_creds(agent, alloc).is_ok()
 }
 
 /// Adds a host candidate, likewise.
@@ -48,8 +58,8 @@ fn receive_request(agent: &mut Agent) -> bool {
             agent,
             StunPacket {
                 proto: Protocol::Udp,
-                source: at(2, 2000),
-                destination: at(1, 1000),
+                source: At(2, 2000).socket(),
+                destination: At(1, 1000).socket(),
                 message,
             },
         ),
@@ -66,7 +76,7 @@ fn replies(agent: &mut Agent) -> bool {
 
 /// Plays with the agent, which it borrows.
 fn play(rt: &impl Abort, agent: &mut Agent, alloc: Global) {
-    assert!(rt; tell_peer_with_retry(agent, alloc));
+    assert!(rt; pass_creds_with_retry(agent, alloc));
     assert!(rt; add_host_with_retry(agent, alloc));
     assert!(rt; receive_request(agent));
     assert!(rt; replies(agent));
@@ -75,11 +85,12 @@ fn play(rt: &impl Abort, agent: &mut Agent, alloc: Global) {
 }
 
 #[test]
-fn a_refused_call_can_be_made_again(rt: HostRuntime) -> Result<(), Fail> {
-    let mut agent = match made(rt.alloc()) {
-        Ok(agent) => agent,
-        Err(_) => made(rt.alloc())?,
-    };
-    play(&rt, &mut agent, rt.alloc());
-    Ok(())
+fn a_failed_call_can_be_made_again(rt: HostRuntime) -> Result<(), Fail> {
+    match made_twice(rt.alloc()) {
+        Some(mut agent) => {
+            play(&rt, &mut agent, rt.alloc());
+            Ok(())
+        }
+        None => Err(IceError::OutOfMemory.into()),
+    }
 }

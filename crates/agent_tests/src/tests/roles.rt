@@ -1,177 +1,250 @@
 //! Role conflicts: two agents at 10.0.0.1:1000 and 10.0.0.2:2000. The test delivers the packets between them.
 
+use super::driver::Player;
+use super::roles::Turn::*;
+use super::step::Call::*;
+use super::step::Emitted::*;
+use super::step::Held::*;
+use super::step::Packet::*;
+use super::step::Shown::*;
+use super::step::Start::*;
+use super::step::Step::*;
+use super::step::{At, Count, Message, Setting, Start, Step, Whose};
+use super::story::{Missed, report};
 use super::*;
 use is::pair::CheckState;
 
-/// The candidates of both, with low priority.
-const ONE: &str = "candidate:1 1 udp 100 10.0.0.1 1000 typ host";
+/// A step of two agents.
+#[derive(Clone, Copy)]
+enum Turn {
+    /// New agents with these tie-breakers claim one role, the controlling one or the other. Each sends a check at 0.
+    Claim(u64, u64, bool),
+    /// The first agent does this.
+    One(Step),
+    /// The second agent does this.
+    Two(Step),
+    /// The last packet of the second agent arrives at the first, which accepts it.
+    ToOne(u64),
+    /// The last packet of the first agent arrives at the second, which accepts it.
+    ToTwo(u64),
+    /// Which of them is controlling.
+    Roles(bool, bool),
+}
 
-const TWO: &str = "candidate:1 1 udp 100 10.0.0.2 2000 typ host";
+/// A story of two agents.
+#[derive(Clone, Copy)]
+struct Conflict(&'static str, &'static [Turn]);
 
-/// Who takes which role.
-struct Roles;
+#[test]
+fn roles_are_settled(rt: HostRuntime) -> Result<(), Fail> {
+    let (missed, difference) = played(rt.alloc())?;
+    report(rt.alloc(), missed, difference)
+}
 
-impl Subject for Roles {
-    fn play(&self, player: &mut Player) -> Told {
-        match other(player.alloc) {
-            Some(mut two) => {
-                let told = play_both(player, &mut two);
-                if player.difference.is_none() {
-                    player.difference = two.difference.take();
-                }
-                told
+/// Plays the stories with two agents. Returns the first step that does not hold, and a comparison that failed.
+fn played(alloc: Global) -> Result<(Option<Missed>, Option<String>), Fail> {
+    let mut one = Box::new(alloc, Player::new(alloc, "AAAA", "passA", 10)?)?;
+    let Some(mut two) = second(alloc) else {
+        return Err(IceError::OutOfMemory.into());
+    };
+    let missed = first_missed(&mut one, &mut two);
+    Ok((missed, first_difference(&mut one, &mut two)))
+}
+
+/// The first comparison of either that failed.
+fn first_difference(one: &mut Player, two: &mut Player) -> Option<String> {
+    match one.difference.take() {
+        Some(text) => Some(text),
+        None => two.difference.take(),
+    }
+}
+
+/// A second agent.
+fn second(alloc: Global) -> Option<Box<Player>> {
+    Box::new(alloc, Player::new(alloc, "BBBB", "passB", 5).ok()?).ok()
+}
+
+/// The first step that does not hold.
+fn first_missed(one: &mut Player, two: &mut Player) -> Option<Missed> {
+    for story in &CONFLICTS {
+        let mut step: usize = 0;
+        for turn in story.1 {
+            step = step.saturating_add(1);
+            if !makes(one, two, turn) {
+                return Some(Missed {
+                    story: story.0,
+                    step,
+                });
             }
-            None => Story("another agent is made").holds(&[false]),
+        }
+    }
+    None
+}
+
+/// Whether the step holds.
+fn makes(one: &mut Player, two: &mut Player, turn: &Turn) -> bool {
+    match *turn {
+        Claim(first, second, controlling) => {
+            claims(one, New("AAAA", "passA", first), controlling, &FIRST_CLAIM)
+                && claims(
+                    two,
+                    New("BBBB", "passB", second),
+                    controlling,
+                    &SECOND_CLAIM,
+                )
+        }
+        One(step) => one.makes(&step),
+        Two(step) => two.makes(&step),
+        ToOne(ms) => one.gets(ms, two),
+        ToTwo(ms) => two.gets(ms, one),
+        Roles(first, second) => {
+            one.makes(&Shows(Controlling(first))) && two.makes(&Shows(Controlling(second)))
         }
     }
 }
 
-#[test]
-fn roles_are_settled(rt: HostRuntime) -> Result<(), Fail> {
-    tell(rt.alloc(), &Roles)
-}
-
-/// A second agent.
-fn other(alloc: Global) -> Option<Box<Player>> {
-    Box::new(alloc, Player::new(alloc, "BBBB", "passB", 5).ok()?).ok()
-}
-
-fn play_both(one: &mut Player, two: &mut Player) -> Told {
-    the_lesser_tie_breaker_yields(one, two)?;
-    a_487_switches_the_role_of_its_check_once(one, two)?;
-    equal_tie_breakers_both_switch(one, two)?;
-    a_switch_computes_priorities_anew(one, two)?;
-    a_487_off_its_path_does_nothing(two)
-}
-
-/// Sets up the agent at 10.0.0.1:1000, in that role, which has sent a check at 0.
-fn set_up_first(player: &mut Player, tie_breaker: u64, controlling: bool) -> bool {
-    player.begins("AAAA", "passA", tie_breaker)
-        && player.takes_role(controlling)
-        && player.knows("BBBB", "passB")
-        && player.host(at(1, 1000))
-        && player.hears(TWO)
-        && player.checks(0)
-        && player.tells(b"Rc")
-}
-
-/// Sets up the agent at 10.0.0.2:2000, likewise.
-fn set_up_second(player: &mut Player, tie_breaker: u64, controlling: bool) -> bool {
-    player.begins("BBBB", "passB", tie_breaker)
-        && player.takes_role(controlling)
-        && player.knows("AAAA", "passA")
-        && player.host(at(2, 2000))
-        && player.hears(ONE)
-        && player.checks(0)
-        && player.tells(b"Rc")
-}
-
-/// Sets up agents with these tie-breakers that claim one role, each with a check in flight.
-fn claim(one: &mut Player, two: &mut Player, ties: (u64, u64), controlling: bool) -> bool {
-    set_up_first(one, ties.0, controlling) && set_up_second(two, ties.1, controlling)
-}
-
-/// Each receives the other's check, and responds.
-fn meet(one: &mut Player, two: &mut Player) -> bool {
-    one.gets(10, two) && two.gets(10, one) && one.sends() && two.sends()
-}
-
-/// The first receives the second's check, and sends a 487 on the reverse path.
-fn answer_by_487(one: &mut Player, two: &Player) -> bool {
-    one.gets(10, two)
-        && one.sends()
-        && one.has_sent(Class::Failure, 76)
-        && one.has_sent_from(at(1, 1000), at(2, 2000))
-        && one.has_signed("passA")
-}
-
-/// Whether each is controlling.
-fn roles_of(one: &Player, two: &Player) -> (bool, bool) {
-    (one.agent.controlling(), two.agent.controlling())
-}
-
-/// The agent with the greater tie-breaker keeps its role, whichever it is, and the other one switches.
-fn lesser_yields(one: &mut Player, two: &mut Player, controlling: bool) -> bool {
-    meet(one, two)
-        && one.has_sent(Class::Failure, 76)
-        && two.has_sent(Class::Success, 64)
-        && same(roles_of(one, two), (controlling, !controlling), one)
-        // the check was sent in the earlier role: the 487 has no effect now, even when repeated
-        && two.gets(20, one)
-        && two.gets(30, one)
-        && same(roles_of(one, two), (controlling, !controlling), one)
-}
-
-fn the_lesser_tie_breaker_yields(one: &mut Player, two: &mut Player) -> Told {
-    Story("the_lesser_tie_breaker_yields").holds(&[
-        claim(one, two, (10, 5), true),
-        lesser_yields(one, two, true),
-        claim(one, two, (10, 5), false),
-        lesser_yields(one, two, false),
-    ])
-}
-
-/// The second switches when the 487 arrives. The repeated 487 has no effect.
-fn switches_once(one: &mut Player, two: &mut Player, controlling: bool) -> bool {
-    answer_by_487(one, two)
-        && same(roles_of(one, two), (controlling, controlling), one)
-        && two.gets(20, one)
-        && same(roles_of(one, two), (controlling, !controlling), one)
-        && two.gets(30, one)
-        && same(roles_of(one, two), (controlling, !controlling), one)
-}
-
-fn a_487_switches_the_role_of_its_check_once(one: &mut Player, two: &mut Player) -> Told {
-    Story("a_487_switches_the_role_of_its_check_once").holds(&[
-        claim(one, two, (10, 5), true),
-        switches_once(one, two, true),
-        claim(one, two, (10, 5), false),
-        switches_once(one, two, false),
-    ])
-}
-
-fn equal_tie_breakers_both_switch(one: &mut Player, two: &mut Player) -> Told {
-    Story("equal_tie_breakers_both_switch").holds(&[
-        claim(one, two, (7, 7), true),
-        meet(one, two) && same(roles_of(one, two), (true, true), one),
-        one.has_sent(Class::Failure, 76) && two.has_sent(Class::Failure, 76),
-        one.gets(20, two) && two.gets(20, one),
-        same(roles_of(one, two), (false, false), one),
-    ])
-}
-
-/// The second's pair after a 487: its check is unanswered, and its priority is that of the current role.
-fn is_unanswered(player: &mut Player, prio: u64) -> bool {
-    same(player.prio_with(ONE), Some(prio), player)
-        && same(player.state_with(ONE), Some(CheckState::InProgress), player)
-}
-
-fn a_switch_computes_priorities_anew(one: &mut Player, two: &mut Player) -> Told {
-    Story("a_switch_computes_priorities_anew").holds(&[
-        claim(one, two, (10, 5), true),
-        answer_by_487(one, two) && is_unanswered(two, 433758141951),
-        two.gets(20, one) && is_unanswered(two, 433758141950),
-        // no success response is counted, and the next check is due as before
-        same(two.agent.stats().bind_success_recv, 0, two),
-        two.tells(b"D") && two.wakes_at(250),
-    ])
-}
-
-/// The next incoming bytes are a 487 to the agent's check.
-fn expects_487(player: &mut Player) -> bool {
-    match player.sent_id() {
-        Some(id) => player.expects(StunMessage::binding_role_conflict_reply(id), "passA"),
-        None => false,
+/// A new agent takes the role, and then these steps.
+fn claims(player: &mut Player, start: Start, controlling: bool, steps: &[Step]) -> bool {
+    if !player.makes(&Begin(start)) || !player.makes(&Set(Setting::Controlling(controlling))) {
+        return false;
     }
+    for step in steps {
+        if !player.makes(step) {
+            return false;
+        }
+    }
+    true
 }
 
-fn a_487_off_its_path_does_nothing(player: &mut Player) -> Told {
-    Story("a_487_off_its_path_does_nothing").holds(&[
-        set_up_second(player, 5, true),
-        expects_487(player) && player.accepts(),
-        !player.accepts_from(at(3, 1000), at(2, 2000)),
-        !player.takes(20, at(3, 1000), at(2, 2000)) && player.emits_nothing(),
-        player.agent.controlling() && player.takes(20, at(1, 1000), at(2, 2000)),
-        !player.agent.controlling(),
-    ])
-}
+/// The candidates of both, with low priority.
+const FIRST: &str = "candidate:1 1 udp 100 10.0.0.1 1000 typ host";
+
+const SECOND: &str = "candidate:1 1 udp 100 10.0.0.2 2000 typ host";
+
+const FIRST_CLAIM: [Step; 5] = [
+    Does(Creds(Whose::Remote, "BBBB", "passB")),
+    Does(Host(At(1, 1000))),
+    Does(Peer(SECOND)),
+    Does(Check(0)),
+    Emits(Events("Rc")),
+];
+
+const SECOND_CLAIM: [Step; 5] = [
+    Does(Creds(Whose::Remote, "AAAA", "passA")),
+    Does(Host(At(2, 2000))),
+    Does(Peer(FIRST)),
+    Does(Check(0)),
+    Emits(Events("Rc")),
+];
+
+const CONFLICTS: [Conflict; 5] = [
+    Conflict(
+        "the_lesser_tie_breaker_switches",
+        &[
+            Claim(10, 5, true),
+            ToOne(10),
+            ToTwo(10),
+            One(Emits(Sends)),
+            Two(Emits(Sends)),
+            One(Emits(Sent(Class::Failure, 76))),
+            Two(Emits(Sent(Class::Success, 64))),
+            Roles(true, false),
+            // the check was sent in the earlier role: the 487 has no effect now, even when repeated
+            ToTwo(20),
+            ToTwo(30),
+            Roles(true, false),
+            Claim(10, 5, false),
+            ToOne(10),
+            ToTwo(10),
+            One(Emits(Sends)),
+            Two(Emits(Sends)),
+            One(Emits(Sent(Class::Failure, 76))),
+            Two(Emits(Sent(Class::Success, 64))),
+            Roles(false, true),
+            // the check was sent in the earlier role: the 487 has no effect now, even when repeated
+            ToTwo(20),
+            ToTwo(30),
+            Roles(false, true),
+        ],
+    ),
+    Conflict(
+        "a_487_switches_the_role_of_its_check_once",
+        &[
+            Claim(10, 5, true),
+            ToOne(10),
+            One(Emits(Sends)),
+            One(Emits(Sent(Class::Failure, 76))),
+            One(Emits(SentFrom(At(1, 1000), At(2, 2000)))),
+            One(Emits(Signed("passA"))),
+            Roles(true, true),
+            ToTwo(20),
+            Roles(true, false),
+            // the repeated 487 has no effect
+            ToTwo(30),
+            Roles(true, false),
+            Claim(10, 5, false),
+            ToOne(10),
+            One(Emits(Sends)),
+            One(Emits(Sent(Class::Failure, 76))),
+            One(Emits(SentFrom(At(1, 1000), At(2, 2000)))),
+            One(Emits(Signed("passA"))),
+            Roles(false, false),
+            ToTwo(20),
+            Roles(false, true),
+            // the repeated 487 has no effect
+            ToTwo(30),
+            Roles(false, true),
+        ],
+    ),
+    Conflict(
+        "equal_tie_breakers_both_switch",
+        &[
+            Claim(7, 7, true),
+            ToOne(10),
+            ToTwo(10),
+            One(Emits(Sends)),
+            Two(Emits(Sends)),
+            Roles(true, true),
+            One(Emits(Sent(Class::Failure, 76))),
+            Two(Emits(Sent(Class::Failure, 76))),
+            ToOne(20),
+            ToTwo(20),
+            Roles(false, false),
+        ],
+    ),
+    Conflict(
+        "a_switch_computes_priorities_again",
+        &[
+            Claim(10, 5, true),
+            ToOne(10),
+            One(Emits(Sends)),
+            One(Emits(Sent(Class::Failure, 76))),
+            One(Emits(SentFrom(At(1, 1000), At(2, 2000)))),
+            One(Emits(Signed("passA"))),
+            // the second's check is unanswered, and its pair's priority is that of the current role
+            Two(Holds(Prio(FIRST, 433758141951))),
+            Two(Holds(PairState(FIRST, CheckState::InProgress))),
+            ToTwo(20),
+            Two(Holds(Prio(FIRST, 433758141950))),
+            Two(Holds(PairState(FIRST, CheckState::InProgress))),
+            // no success response is counted, and the next check is due as before
+            Two(Counts(Count::Responses, 0)),
+            Two(Emits(Events("D"))),
+            Two(Shows(NextAt(250))),
+        ],
+    ),
+    Conflict(
+        "a_487_off_its_path_does_nothing",
+        &[
+            Claim(10, 5, true),
+            Two(Write(Message::Conflict, "passA")),
+            Two(Shows(Accepts(true))),
+            Two(Shows(AcceptsFrom(At(3, 1000), At(2, 2000), false))),
+            Two(Drops(Between(20, At(3, 1000), At(2, 2000)))),
+            Two(Emits(Nothing)),
+            Two(Shows(Controlling(true))),
+            Two(Takes(Between(20, At(1, 1000), At(2, 2000)))),
+            Two(Shows(Controlling(false))),
+        ],
+    ),
+];

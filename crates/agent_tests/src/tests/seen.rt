@@ -1,216 +1,99 @@
-//! What a story observes of an agent: its packets, its events as letters, its pairs and its candidates. As in
-//! `driver`, no function has a contract.
+//! What a step sees of an agent: its pairs, its candidates, and what its getters return.
 
+use super::driver::Player;
+use super::making::{later, packet, parsed};
+use super::step::{At, Count, Held, Shown};
+use super::story::same;
 use super::*;
-use is::Duration;
 use is::pair::CheckState;
+use is::{CandidateKind, Duration, IceAgentStats};
 
-/// What can be observed of a pair.
-#[derive(Clone, Copy, Debug, PartialEq, Eq)]
-pub(super) struct Seen {
-    pub(super) number: u64,
-    pub(super) prio: u64,
-    pub(super) nominated: bool,
-    pub(super) state: CheckState,
-    pub(super) local: usize,
-    pub(super) remote: usize,
+/// What can be seen of a pair.
+#[derive(Clone, Copy)]
+struct SeenPair {
+    number: u64,
+    prio: u64,
+    nominated: bool,
+    state: CheckState,
+    places: (usize, usize),
 }
 
-// ---- what it sends
+/// The pair whose remote candidate is equal to this one.
+fn pair_with(agent: &Agent, remote: Option<Candidate>) -> Option<SeenPair> {
+    let pair = agent.find_pair_for_equivalent_remote_candidate(&remote?)?;
+    Some(SeenPair {
+        number: pair.id().0,
+        prio: pair.prio(),
+        nominated: pair.is_nominated(),
+        state: pair.state(),
+        places: (pair.local_idx(), pair.remote_idx()),
+    })
+}
 
-impl Player {
-    /// It sends a packet, which is stored.
-    pub(super) fn sends(&mut self) -> bool {
-        self.sent = self.agent.poll_transmit();
-        self.sent.is_some()
-    }
-
-    /// Polls for a packet, and there is none.
-    pub(super) fn sends_nothing(&mut self) -> bool {
-        self.agent.poll_transmit().is_none()
-    }
-
-    /// The id of the packet that it sent last.
-    pub(super) fn sent_id(&self) -> Option<TransId> {
-        let sent = self.sent.as_ref()?;
-        match StunMessage::parse(&sent.contents) {
-            Ok(message) => Some(message.trans_id()),
-            Err(_) => None,
-        }
-    }
-
-    /// The packet that it sent last is of this class and length.
-    pub(super) fn has_sent(&mut self, class: Class, len: usize) -> bool {
-        let Some(sent) = &self.sent else {
-            return false;
-        };
-        let came = match StunMessage::parse(&sent.contents) {
-            Ok(message) => (message.class(), sent.contents.len()),
-            Err(_) => return false,
-        };
-        same(came, (class, len), self)
-    }
-
-    /// The packet that it sent last is a check of this length with the PRIORITY of a peer-reflexive candidate.
-    pub(super) fn has_checked(&self, len: usize, nominates: bool) -> bool {
-        let Some(sent) = &self.sent else {
-            return false;
-        };
-        match StunMessage::parse(&sent.contents) {
-            Ok(message) => {
-                sent.contents.len() == len
-                    && message.prio() == Some(1862270719)
-                    && message.use_candidate() == nominates
-            }
-            Err(_) => false,
-        }
-    }
-
-    /// The packet that it sent last claims the controlling role with this tie-breaker, and has this USERNAME.
-    pub(super) fn has_claimed(&self, tie_breaker: u64, username: &str) -> bool {
-        let Some(sent) = &self.sent else {
-            return false;
-        };
-        match StunMessage::parse(&sent.contents) {
-            Ok(message) => {
-                message.ice_controlling() == Some(tie_breaker)
-                    && message.ice_controlled().is_none()
-                    && message.username() == Some(username)
-            }
-            Err(_) => false,
-        }
-    }
-
-    /// The packet that it sent last is the response to the request of 100 bytes, signed with the password.
-    pub(super) fn has_replied(&self, pass: &str) -> bool {
-        let Some(sent) = &self.sent else {
-            return false;
-        };
-        sent.contents.len() == 64 && sent.contents.starts_with(&REPLY) && self.has_signed(pass)
-    }
-
-    /// The packet that it sent last is signed with the password.
-    pub(super) fn has_signed(&self, pass: &str) -> bool {
-        let Some(sent) = &self.sent else {
-            return false;
-        };
-        match StunMessage::parse(&sent.contents) {
-            Ok(message) => message.verify(pass.as_bytes(), &DefaultSha1HmacProvider),
-            Err(_) => false,
-        }
-    }
-
-    /// The packet that it sent last has this source and this destination.
-    pub(super) fn has_sent_from(&self, source: SocketAddr, destination: SocketAddr) -> bool {
-        match &self.sent {
-            Some(sent) => sent.source == source && sent.destination == destination,
-            None => false,
-        }
+/// What the pair is.
+fn pair_holds(seen: SeenPair, held: Held, alloc: Global, difference: &mut Option<String>) -> bool {
+    match held {
+        Held::Number(_, number) => same(seen.number, number, alloc, difference),
+        Held::Prio(_, prio) => same(seen.prio, prio, alloc, difference),
+        Held::PairState(_, state) => same(seen.state, state, alloc, difference),
+        Held::Places(_, local, remote) => same(seen.places, (local, remote), alloc, difference),
+        Held::Nominated(_) => seen.nominated,
+        Held::HasPair(_, expected) => expected,
+        _ => false,
     }
 }
 
-// ---- what is observed of it
+/// The line of the fact, if it is one of a pair.
+fn line_of(held: Held) -> Option<&'static str> {
+    match held {
+        Held::HasPair(line, _)
+        | Held::Number(line, _)
+        | Held::Prio(line, _)
+        | Held::PairState(line, _)
+        | Held::Places(line, _, _)
+        | Held::Nominated(line) => Some(line),
+        _ => None,
+    }
+}
 
 impl Player {
-    /// The letter of its next event.
-    fn next_letter(&mut self) -> Option<char> {
-        let event = self.agent.poll_event()?;
-        Some(char::from(letter(&event)))
-    }
-
-    /// It emits these events, and no others.
-    pub(super) fn tells(&mut self, letters: &[u8]) -> bool {
-        for wanted in letters {
-            if !same(self.next_letter(), Some(char::from(*wanted)), self) {
-                return false;
-            }
-        }
-        same(self.next_letter(), None, self)
-    }
-
-    /// Polls for a packet and an event, and there is neither.
-    pub(super) fn emits_nothing(&mut self) -> bool {
-        self.agent.poll_transmit().is_none() && self.agent.poll_event().is_none()
-    }
-
-    pub(super) fn wakes_at(&mut self, ms: u64) -> bool {
-        same(self.agent.poll_timeout(), Some(later(ms)), self)
-    }
-
-    /// The figures of the selected pair: round-trip time of the last response and the total, in milliseconds, and the
-    /// number of responses.
-    pub(super) fn has_figures(&mut self, last: u64, total: u64, count: u64) -> bool {
-        let (rtt, total_rtt) = (Duration::from_millis(last), Duration::from_millis(total));
-        same(self.agent.nominated_pair_rtt(), Some(rtt), self)
-            && same(self.agent.nominated_pair_total_rtt(), Some(total_rtt), self)
-            && same(
-                self.agent.nominated_pair_responses_received(),
-                Some(count),
-                self,
-            )
-    }
-
-    pub(super) fn has_no_figures(&self) -> bool {
-        self.agent.nominated_pair_rtt().is_none()
-            && self.agent.nominated_pair_total_rtt().is_none()
-            && self.agent.nominated_pair_responses_received().is_none()
-    }
-
-    /// The pair whose remote candidate is the one of the line.
-    pub(super) fn pair_with(&self, line: &str) -> Option<Seen> {
-        let Ok(candidate) = Candidate::from_sdp_string(self.alloc, line) else {
-            return None;
+    /// It is so of its pairs or candidates.
+    pub(super) fn holds(&mut self, held: Held) -> bool {
+        let Some(line) = line_of(held) else {
+            return self.lists(held);
         };
-        let pair = self
-            .agent
-            .find_pair_for_equivalent_remote_candidate(&candidate)?;
-        Some(Seen {
-            number: pair.id().0,
-            prio: pair.prio(),
-            nominated: pair.is_nominated(),
-            state: pair.state(),
-            local: pair.local_idx(),
-            remote: pair.remote_idx(),
-        })
+        match pair_with(&self.agent, parsed(self.alloc, line)) {
+            Some(seen) => pair_holds(seen, held, self.alloc, &mut self.difference),
+            None => matches!(held, Held::HasPair(_, false)),
+        }
     }
 
-    /// The number of that pair.
-    pub(super) fn number_with(&self, line: &str) -> Option<u64> {
-        Some(self.pair_with(line)?.number)
-    }
-
-    /// The priority of that pair.
-    pub(super) fn prio_with(&self, line: &str) -> Option<u64> {
-        Some(self.pair_with(line)?.prio)
-    }
-
-    /// The check state of that pair.
-    pub(super) fn state_with(&self, line: &str) -> Option<CheckState> {
-        Some(self.pair_with(line)?.state)
-    }
-
-    /// The indices of that pair's candidates, the local one first.
-    pub(super) fn places_with(&self, line: &str) -> Option<(usize, usize)> {
-        let seen = self.pair_with(line)?;
-        Some((seen.local, seen.remote))
-    }
-
-    /// There is such a pair, and it is nominated.
-    pub(super) fn nominates(&self, line: &str) -> bool {
-        match self.pair_with(line) {
-            Some(seen) => seen.nominated,
-            None => false,
+    /// It is so of its candidates.
+    fn lists(&mut self, held: Held) -> bool {
+        match held {
+            Held::Locals(places) => self.has_locals(places),
+            Held::Remotes(places) => self.has_remotes(places),
+            Held::FirstNamed(ufrag) => is_first(&self.agent, ufrag, None),
+            Held::FirstIs(ufrag, prio) => is_first(&self.agent, ufrag, Some(prio)),
+            Held::LastReflexive(base, prio) => is_last_reflexive(&self.agent, base, prio),
+            Held::RemotesUnnamed => are_unnamed(&self.agent),
+            _ => false,
         }
     }
 
     /// The local candidates are at these addresses, in this order.
-    pub(super) fn is_at(&mut self, addresses: &[SocketAddr]) -> bool {
+    fn has_locals(&mut self, places: &[At]) -> bool {
         let mut left = self.agent.local_candidates();
-        for address in addresses {
+        for place in places {
             let Some(candidate) = left.next() else {
                 return false;
             };
-            if !same_in(candidate.addr(), *address, self.alloc, &mut self.difference) {
+            if !same(
+                candidate.addr(),
+                place.socket(),
+                self.alloc,
+                &mut self.difference,
+            ) {
                 return false;
             }
         }
@@ -218,13 +101,18 @@ impl Player {
     }
 
     /// The remote candidates are at these addresses, in this order.
-    pub(super) fn has_heard_of(&mut self, addresses: &[SocketAddr]) -> bool {
+    fn has_remotes(&mut self, places: &[At]) -> bool {
         let mut left = self.agent.remote_candidates();
-        for address in addresses {
+        for place in places {
             let Some(candidate) = left.next() else {
                 return false;
             };
-            if !same_in(candidate.addr(), *address, self.alloc, &mut self.difference) {
+            if !same(
+                candidate.addr(),
+                place.socket(),
+                self.alloc,
+                &mut self.difference,
+            ) {
                 return false;
             }
         }
@@ -232,16 +120,145 @@ impl Player {
     }
 }
 
-/// A letter for each event.
-fn letter(event: &IceAgentEvent) -> u8 {
-    match event {
-        IceAgentEvent::IceRestart(_) => b'R',
-        IceAgentEvent::IceConnectionStateChange(IceConnectionState::New) => b'?',
-        IceAgentEvent::IceConnectionStateChange(IceConnectionState::Checking) => b'c',
-        IceAgentEvent::IceConnectionStateChange(IceConnectionState::Connected) => b'k',
-        IceAgentEvent::IceConnectionStateChange(IceConnectionState::Completed) => b'C',
-        IceAgentEvent::IceConnectionStateChange(IceConnectionState::Disconnected) => b'x',
-        IceAgentEvent::DiscoveredRecv { .. } => b'D',
-        IceAgentEvent::NominatedSend { .. } => b'N',
+/// The first local candidate has this username fragment, and this priority if one is given.
+fn is_first(agent: &Agent, ufrag: &str, prio: Option<u32>) -> bool {
+    match agent.local_candidates().next() {
+        Some(candidate) => {
+            candidate.ufrag() == Some(ufrag) && candidate.prio() == prio.unwrap_or(candidate.prio())
+        }
+        None => false,
+    }
+}
+
+/// The last local candidate is a peer-reflexive one with this base and priority.
+fn is_last_reflexive(agent: &Agent, base: At, prio: u32) -> bool {
+    let mut found = false;
+    for candidate in agent.local_candidates() {
+        found = candidate.kind() == CandidateKind::PeerReflexive
+            && candidate.local() == base.socket()
+            && candidate.prio() == prio;
+    }
+    found
+}
+
+/// No remote candidate has a username fragment.
+fn are_unnamed(agent: &Agent) -> bool {
+    for candidate in agent.remote_candidates() {
+        if candidate.ufrag().is_some() {
+            return false;
+        }
+    }
+    true
+}
+
+// ---- getters
+
+impl Player {
+    /// Its getters return this.
+    pub(super) fn shows(&mut self, shown: Shown) -> bool {
+        let agent = &self.agent;
+        match shown {
+            Shown::Controlling(controlling) => agent.controlling() == controlling,
+            Shown::Lite(lite) => agent.ice_lite() == lite,
+            Shown::Renomination(renominates) => agent.renomination() == renominates,
+            Shown::Connected => agent.state().is_connected(),
+            Shown::Disconnected => agent.state().is_disconnected(),
+            Shown::Viable(at, viable) => agent.has_viable_remote_candidate(at.socket()) == viable,
+            Shown::Mtu(mtu, mtu_warn) => agent.mtu() == mtu && agent.mtu_warn() == mtu_warn,
+            Shown::LocalName(ufrag) => agent.local_credentials().ufrag.as_str() == ufrag,
+            Shown::LocalNameLength(len) => agent.local_credentials().ufrag.as_str().len() == len,
+            Shown::NoRemoteName => agent.remote_credentials().is_none(),
+            Shown::Accepts(expected) => accepts(agent, &self.coming) == expected,
+            Shown::AcceptsFrom(from, to, expected) => {
+                accepts_packet(agent, packet(&self.coming, Protocol::Udp, from, to)) == expected
+            }
+            Shown::NoBareFailure => {
+                StunMessage::parse(&BARE_FAILURE).is_ok() && !accepts(agent, &BARE_FAILURE)
+            }
+            Shown::Unused(unused) => (agent.stats() == IceAgentStats::default()) == unused,
+            _ => self.compares_shown(shown),
+        }
+    }
+
+    /// The same; the value that is not the expected one is stored.
+    fn compares_shown(&mut self, shown: Shown) -> bool {
+        match shown {
+            Shown::State(state) => {
+                let actual = self.agent.state();
+                self.compares(actual, state)
+            }
+            Shown::IceTimeout(ms) => {
+                let actual = self.agent.ice_timeout();
+                self.compares(actual, millis(ms))
+            }
+            Shown::NextAt(ms) => {
+                let next = self.agent.poll_timeout();
+                self.compares(next, Some(later(ms)))
+            }
+            Shown::NoNext => self.agent.poll_timeout().is_none(),
+            Shown::Figures(last, total, count) => {
+                self.has_figures(Some(millis(last)), Some(millis(total)), Some(count))
+            }
+            Shown::NoResponse => self.has_figures(None, Some(Duration(0)), Some(0)),
+            Shown::NoFigures => self.has_figures(None, None, None),
+            _ => false,
+        }
+    }
+
+    /// The figures of the selected pair: round-trip time of the last response and the total, and the number of responses.
+    fn has_figures(
+        &mut self,
+        last: Option<Duration>,
+        total: Option<Duration>,
+        count: Option<u64>,
+    ) -> bool {
+        let figures = figures_of(&self.agent);
+        self.compares(figures, (last, total, count))
+    }
+
+    /// The counter has this value.
+    pub(super) fn counts(&mut self, count: Count, number: u64) -> bool {
+        let stats = self.agent.stats();
+        let actual = match count {
+            Count::Checks => stats.bind_request_sent,
+            Count::Responses => stats.bind_success_recv,
+            Count::Requests => stats.bind_request_recv,
+            Count::Discovered => stats.discovered_recv_count,
+            Count::Nominations => stats.nomination_send_count,
+        };
+        self.compares(actual, number)
+    }
+}
+
+fn millis(ms: u64) -> Duration {
+    Duration::from_millis(ms)
+}
+
+fn figures_of(agent: &Agent) -> (Option<Duration>, Option<Duration>, Option<u64>) {
+    (
+        agent.nominated_pair_rtt(),
+        agent.nominated_pair_total_rtt(),
+        agent.nominated_pair_responses_received(),
+    )
+}
+
+/// An error response with the id of twelve zeros and no attributes, so without MESSAGE-INTEGRITY.
+const BARE_FAILURE: [u8; 20] = [
+    0x01, 0x11, 0x00, 0x00, 0x21, 0x12, 0xa4, 0x42, 0, 0, 0, 0, 0, 0, 0, 0, 0, 0, 0, 0,
+];
+
+/// Whether it would accept the bytes, without regard to addresses.
+fn accepts(agent: &Agent, bytes: &[u8]) -> bool {
+    match StunMessage::parse(bytes) {
+        Ok(message) => agent.accepts_message(&message),
+        Err(_) => false,
+    }
+}
+
+/// Whether it would accept the packet.
+fn accepts_packet(agent: &Agent, packet: Option<StunPacket<'_>>) -> bool {
+    match packet {
+        Some(packet) => agent.accepts_packet(&packet),
+        None => false,
     }
 }

@@ -1,128 +1,85 @@
 //! Settings and their defaults.
 
+use super::step::Call::*;
+use super::step::Emitted::*;
+use super::step::Shown::*;
+use super::step::Start::*;
+use super::step::Step::*;
+use super::step::{Outcome, Setting};
+use super::story::{Story, play};
 use super::*;
-use is::Duration;
-
-/// Which settings there are, and what each does.
-struct Settings;
-
-impl Subject for Settings {
-    fn play(&self, player: &mut Player) -> Told {
-        a_packet_may_be_as_long_as_the_longest_check(player)?;
-        what_is_not_set_has_a_default(player)?;
-        a_check_claims_the_role_by_the_tie_breaker(player)?;
-        connected_and_completed_are_connected()?;
-        how_long_a_pair_is_checked_follows_the_delays(player)
-    }
-}
 
 #[test]
 fn settings_are_kept(rt: HostRuntime) -> Result<(), Fail> {
-    tell(rt.alloc(), &Settings)
-}
-
-/// MTUs that are too small fail.
-fn refuses_lengths(agent: &mut Agent) -> bool {
-    matches!(agent.set_mtu(587..=9000), Err(IceError::MtuTooSmall))
-}
-
-/// The limits of a packet's length: the maximum, and the one for warnings.
-fn has_lengths(agent: &Agent, mtu: usize, mtu_warn: usize) -> bool {
-    agent.mtu() == mtu && agent.mtu_warn() == mtu_warn
-}
-
-fn a_packet_may_be_as_long_as_the_longest_check(player: &mut Player) -> Told {
-    Story("a_packet_may_be_as_long_as_the_longest_check").holds(&[
-        player.set_up_alone(),
-        has_lengths(&player.agent, 1150, 1280),
-        refuses_lengths(&mut player.agent),
-        has_lengths(&player.agent, 1150, 1280),
-        player.agent.set_mtu(588..=600).is_ok(),
-        has_lengths(&player.agent, 588, 600),
-    ])
-}
-
-/// Sets up an agent that computes its MACs with a given provider.
-fn set_up_provider(player: &mut Player) -> bool {
-    let Ok(creds) = creds(player.alloc, "aaaa", "p") else {
-        return false;
-    };
-    match IceAgent::with_hmac(player.alloc, creds, DefaultSha1HmacProvider, 1) {
-        Ok(agent) => {
-            player.agent = agent;
-            true
-        }
-        Err(_) => false,
-    }
-}
-
-fn what_is_not_set_has_a_default(player: &mut Player) -> Told {
-    Story("what_is_not_set_has_a_default").holds(&[
-        set_up_provider(player),
-        !player.agent.controlling() && !player.agent.ice_lite(),
-        same(player.agent.state(), IceConnectionState::New, player),
-        same(
-            player.agent.ice_timeout(),
-            Duration::from_millis(21500),
-            player,
-        ),
-        player.agent.remote_credentials().is_none(),
-        player.agent.local_credentials().ufrag.as_str() == "aaaa",
-    ])
+    play(rt.alloc(), &STORIES)
 }
 
 /// A tie-breaker that the agent sends in the controlling role.
-const TIE_BREAKER: u64 = 0x0102_0304_0506_0708;
+const TIE: u64 = 0x0102_0304_0506_0708;
 
-/// Sets another tie-breaker.
-fn breaks_ties_by(player: &mut Player, tie_breaker: u64) -> bool {
-    player.agent.set_control_tie_breaker(tie_breaker);
-    true
-}
+const STORIES: [Story; 4] = [
+    Story(
+        "a_packet_may_be_as_long_as_the_longest_check",
+        &[
+            Begin(Unpaired),
+            Shows(Mtu(1150, 1280)),
+            Errs(SetMtu(587, 9000), Outcome::MtuTooSmall),
+            Shows(Mtu(1150, 1280)),
+            Does(SetMtu(588, 600)),
+            Shows(Mtu(588, 600)),
+        ],
+    ),
+    Story(
+        "what_is_not_set_has_a_default",
+        &[
+            Begin(Provided),
+            Shows(Controlling(false)),
+            Shows(Lite(false)),
+            Shows(State(IceConnectionState::New)),
+            Shows(IceTimeout(21500)),
+            Shows(NoRemoteName),
+            Shows(LocalName("aaaa")),
+        ],
+    ),
+    Story(
+        "a_check_claims_the_role_by_the_tie_breaker",
+        &[
+            Begin(Paired),
+            Set(Setting::TieBreaker(TIE)),
+            Does(Check(0)),
+            Emits(Claimed(TIE, "farr:near")),
+        ],
+    ),
+    Story(
+        "how_long_a_pair_is_checked_follows_the_delays",
+        &[
+            Begin(Unpaired),
+            // 500 ms, and 500 ms after the last check
+            Set(Setting::TwoChecks),
+            Shows(IceTimeout(1000)),
+            Set(Setting::MaxRto(400)),
+            Shows(IceTimeout(800)),
+            Set(Setting::InitialRto(100)),
+            Shows(IceTimeout(400)),
+        ],
+    ),
+];
 
-fn a_check_claims_the_role_by_the_tie_breaker(player: &mut Player) -> Told {
-    Story("a_check_claims_the_role_by_the_tie_breaker").holds(&[
-        player.set_up_pair() && breaks_ties_by(player, TIE_BREAKER),
-        player.checks(0) && player.has_claimed(TIE_BREAKER, "farr:near"),
-    ])
-}
+// ---- states
 
-/// Whether the state counts as connected, and as disconnected.
-fn is_of(state: IceConnectionState, connected: bool, disconnected: bool) -> bool {
-    state.is_connected() == connected && state.is_disconnected() == disconnected
-}
+/// Each state, and whether it counts as connected and as disconnected.
+const STATES: [(IceConnectionState, bool, bool); 5] = [
+    (IceConnectionState::New, false, false),
+    (IceConnectionState::Checking, false, false),
+    (IceConnectionState::Connected, true, false),
+    (IceConnectionState::Completed, true, false),
+    (IceConnectionState::Disconnected, false, true),
+];
 
-fn connected_and_completed_are_connected() -> Told {
-    Story("connected_and_completed_are_connected").holds(&[
-        is_of(IceConnectionState::New, false, false),
-        is_of(IceConnectionState::Checking, false, false),
-        is_of(IceConnectionState::Connected, true, false),
-        is_of(IceConnectionState::Completed, true, false),
-        is_of(IceConnectionState::Disconnected, false, true),
-    ])
-}
-
-/// A pair without responses is removed after so many milliseconds.
-fn gives_up_behind(player: &mut Player, ms: u64) -> bool {
-    same(
-        player.agent.ice_timeout(),
-        Duration::from_millis(ms),
-        player,
-    )
-}
-
-/// Limits the checks of a pair to two.
-fn checks_twice(player: &mut Player) -> bool {
-    player.agent.set_max_stun_retransmits(2);
-    true
-}
-
-fn how_long_a_pair_is_checked_follows_the_delays(player: &mut Player) -> Told {
-    Story("how_long_a_pair_is_checked_follows_the_delays").holds(&[
-        player.set_up_alone(),
-        // 500 ms, and 500 ms after the last check
-        checks_twice(player) && gives_up_behind(player, 1000),
-        player.waits_at_most(400) && gives_up_behind(player, 800),
-        player.waits_at_first(100) && gives_up_behind(player, 400),
-    ])
+#[test]
+fn connected_and_completed_are_connected(rt: HostRuntime) {
+    for (state, connected, disconnected) in &STATES {
+        assert!(rt; state.is_connected() == *connected, "{state:?}");
+        assert!(rt; state.is_disconnected() == *disconnected, "{state:?}");
+    }
 }

@@ -55,8 +55,8 @@ fn a_line_is_written_as_json(rt: HostRuntime) {
     let alloc = rt.alloc();
     let mut text = [0; 200];
     let mut length = 0;
-    let told = is_ice_line_to_json(alloc, LINE, &mut text, &mut length);
-    assert!(rt; told == codes::OK);
+    let reported = is_ice_line_to_json(alloc, LINE, &mut text, &mut length);
+    assert!(rt; reported == codes::OK);
     assert!(rt; text[..length] == INFO[..]);
     let short = is_ice_line_to_json(alloc, LINE, &mut text[..length - 1], &mut length);
     assert!(rt; short == codes::BUFFER_TOO_SHORT);
@@ -71,19 +71,19 @@ fn json_is_read_as_a_line(rt: HostRuntime) {
     let alloc = rt.alloc();
     let mut text = [0; 100];
     let mut length = 0;
-    let told = is_ice_line_from_json(alloc, INFO, &mut text, &mut length);
-    assert!(rt; told == codes::OK);
+    let reported = is_ice_line_from_json(alloc, INFO, &mut text, &mut length);
+    assert!(rt; reported == codes::OK);
     assert!(rt; text[..length] == LINE[..]);
     // An RTCIceCandidateInit has the fragment in a member of its own.
     let init =
         b"{\"candidate\":\"candidate:4234997325 1 udp 2043278322 192.0.2.172 44323 typ host\",\"sdpMid\":\"0\",\"sdpMLineIndex\":0,\"usernameFragment\":\"EsAw\"}";
-    let told = is_ice_line_from_json(alloc, init, &mut text, &mut length);
-    assert!(rt; told == codes::OK);
+    let reported = is_ice_line_from_json(alloc, init, &mut text, &mut length);
+    assert!(rt; reported == codes::OK);
     assert!(rt; text[..length] == NAMED[..]);
 }
 
 #[test]
-fn json_of_no_candidate_tells_its_fault(rt: HostRuntime) {
+fn json_of_no_candidate_returns_its_fault(rt: HostRuntime) {
     let alloc = rt.alloc();
     let mut text = [0; 60];
     let mut length = 0;
@@ -91,11 +91,11 @@ fn json_of_no_candidate_tells_its_fault(rt: HostRuntime) {
     let ended = b"{\"candidate\":\"\",\"sdpMid\":\"0\",\"sdpMLineIndex\":0}";
     let read = is_ice_line_from_json(alloc, ended, &mut text, &mut length);
     assert!(rt; read == codes::BAD_CANDIDATE);
-    let told = is_ice_json_refusal(alloc, b"{}", &mut text, &mut length);
-    assert!(rt; told == codes::OK);
+    let reported = is_ice_json_refusal(alloc, b"{}", &mut text, &mut length);
+    assert!(rt; reported == codes::OK);
     assert!(rt; text[..length] == b"candidate info lacks candidate"[..]);
-    let told = is_ice_json_refusal(alloc, b"candidate:1", &mut text, &mut length);
-    assert!(rt; told == codes::OK);
+    let reported = is_ice_json_refusal(alloc, b"candidate:1", &mut text, &mut length);
+    assert!(rt; reported == codes::OK);
     assert!(rt; text[..length] == b"candidate info is not JSON"[..]);
     let unread = is_ice_json_refusal(alloc, b"\xff", &mut text, &mut length);
     assert!(rt; unread == codes::NOT_UTF8);
@@ -126,8 +126,8 @@ fn a_gathered_candidate_has_a_line(rt: HostRuntime) {
     let alloc = rt.alloc();
     let mut text = [0; 120];
     let mut length = 0;
-    let told = is_ice_candidate_line(alloc, &over_tcp(2), &mut text, &mut length);
-    assert!(rt; told == codes::OK);
+    let reported = is_ice_candidate_line(alloc, &over_tcp(2), &mut text, &mut length);
+    assert!(rt; reported == codes::OK);
     // RFC 8445, section 5.1.2.1, with the type preference 90 of a host over TCP: 90 * 2^24 + 65534 * 2^8 + 255.
     assert!(rt; text[..length].ends_with(b" 1 tcp 1526726399 10.0.0.1 9 typ host tcptype passive"));
     let mut over_udp = over_tcp(2);
@@ -161,27 +161,27 @@ fn an_agent_lists_the_tcp_type(rt: HostRuntime) {
         let added = is_ice_add_local(alloc, &mut slot, &candidate, &mut index);
         assert!(rt; added == codes::OK);
     }
-    let told = is_ice_local_candidate(alloc, &mut slot, 0, &mut text, &mut length);
-    assert!(rt; told == codes::OK);
+    let reported = is_ice_local_candidate(alloc, &mut slot, 0, &mut text, &mut length);
+    assert!(rt; reported == codes::OK);
     assert!(rt; text[..length].ends_with(b" tcptype active ufrag AAAA"));
-    let told = is_ice_local_candidate(alloc, &mut slot, 1, &mut text, &mut length);
-    assert!(rt; told == codes::OK);
+    let reported = is_ice_local_candidate(alloc, &mut slot, 1, &mut text, &mut length);
+    assert!(rt; reported == codes::OK);
     assert!(rt; text[..length].ends_with(b" tcptype so ufrag AAAA"));
     is_ice_agent_free(alloc, &mut slot);
 }
 
 #[test]
-fn the_default_preference_is_told(rt: HostRuntime) {
+fn the_default_preference_is_reported(rt: HostRuntime) {
     let alloc = rt.alloc();
     let mut preference = 9;
-    let told = is_ice_candidate_preference(alloc, &host(address(1, 1)), 2, &mut preference);
-    assert!(rt; told == codes::OK);
+    let reported = is_ice_candidate_preference(alloc, &host(address(1, 1)), 2, &mut preference);
+    assert!(rt; reported == codes::OK);
     assert!(rt; preference == 65535 - 1 - 2 * 2);
     let unread = is_ice_line_preference(alloc, b"candidate:1 x", 0, &mut preference);
     assert!(rt; unread == codes::BAD_CANDIDATE);
     assert!(rt; preference == 65530);
-    let told = is_ice_line_preference(alloc, LINE, 0, &mut preference);
-    assert!(rt; told == codes::OK);
+    let reported = is_ice_line_preference(alloc, LINE, 0, &mut preference);
+    assert!(rt; reported == codes::OK);
     assert!(rt; preference == 65534);
     let mut other = host(address(1, 1));
     other.kind = 3;

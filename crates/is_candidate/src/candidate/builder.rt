@@ -3,7 +3,7 @@ ghost use Rattle.std.specs.Prelude.{◌≡◌, ◌++◌, codes, Some, None};
 ghost use Rattle.std.specs.Net.Text.{ip_text};
 ghost use Rattle.is_candidate.specs.declared.candidate.builder.Route.TheVariants.{Host, ServerReflexive, Relayed};
 ghost use Rattle.is_candidate.specs.Building.{protocol_of, route_of, tcptype_of, mixed_text, route_fault, built_candidate};
-ghost use Rattle.is_candidate.specs.Refusals.{RefusesWith, Makes};
+ghost use Rattle.is_candidate.specs.Rejections.{RejectsWith, Makes};
 
 use super::Candidate;
 use super::address::{is_valid_ip, same_version};
@@ -217,7 +217,7 @@ impl<P> CandidateBuilder<HasProtocol<P>, HasRoute> {
 
 /// Returns the error for an address, or `OutOfMemory` if there is no memory for its message.
 fn invalid_ip(alloc: Global, ip: IpAddr) -> IceError
-    ensures { RefusesWith (codes "Invalid IP: " ++ ip_text ip) result }
+    ensures { RejectsWith (codes "Invalid IP: " ++ ip_text ip) result }
 {
     match format!(in alloc; "Invalid IP: {ip}") {
         Ok(message) => IceError::BadCandidate(message),
@@ -227,7 +227,7 @@ fn invalid_ip(alloc: Global, ip: IpAddr) -> IceError
 
 /// Returns the error for two IP versions, or `OutOfMemory` if there is no memory for its message.
 fn mixed_versions(alloc: Global, addr: IpAddr, base: IpAddr) -> IceError
-    ensures { RefusesWith (mixed_text addr base) result }
+    ensures { RejectsWith (mixed_text addr base) result }
 {
     let mixed = Mixed { addr, base };
     match format!(in alloc; "{mixed}") {

@@ -8,7 +8,7 @@ use super::Candidate;
 use super::address::{same_address, same_protocol, same_version};
 use super::internals::{base, given_foundation};
 use super::kind::{CandidateKind, same_kind};
-use is_proto::laws::equal_values_hash_alike;
+use is_proto::theorems::equal_values_hash_alike;
 use std::net::SocketAddr;
 
 /// The foundation of a remote candidate that was discovered from a request, until it is signaled.

@@ -5,7 +5,7 @@ ghost use Rattle.serde_json.specs.Data.{Data, string, unsigned};
 ghost use Rattle.serde_json.specs.Read.{max_depth, number_of, read};
 ghost use Rattle.serde_json.specs.Written.{has_float};
 ghost use Rattle.is_candidate.specs.Infos.{given_ufrag};
-ghost use Rattle.is_candidate.specs.Flat.{BeginsWith, IsPlain, Tells};
+ghost use Rattle.is_candidate.specs.Flat.{BeginsWith, IsPlain, HasLineAndUfrag};
 
 use fast_float::Numeral;
 use json::{Invalid, Reader, Scratch, Token};
@@ -32,7 +32,7 @@ pub(crate) fn read_flat<'a>(
     text: &'a str,
     scratch: &'a mut Scratch,
 ) -> Result<Option<FlatInfo<'a>>, AllocError>
-    ensures { IfOk result (λ flat. IfSome flat (λ info. (d : Data) × (read text.now ≡ Some d) × Tells d info)) }
+    ensures { IfOk result (λ flat. IfSome flat (λ info. (d : Data) × (read text.now ≡ Some d) × HasLineAndUfrag d info)) }
 {
     let mut reader = Reader::new(text, scratch)?;
     match read_object(&mut reader) {
@@ -43,7 +43,7 @@ pub(crate) fn read_flat<'a>(
 
 /// Reads the next object.
 fn read_object<'a>(reader: &mut Reader<'a>) -> Result<FlatInfo<'a>, Invalid>
-    ensures { IfOk result (λ info. (d : Data) × BeginsWith max_depth reader.old d reader.new × Tells d info) }
+    ensures { IfOk result (λ info. (d : Data) × BeginsWith max_depth reader.old d reader.new × HasLineAndUfrag d info) }
 {
     let Some(Token::BeginObject) = reader.next() else {
         return Err(Invalid);

@@ -78,7 +78,7 @@ struct Computed<'a>(&'a Candidate);
 impl fmt::Display for Computed<'_> {
     ghost output = { λ t. Some (computed_foundation t.0.now) };
 
-    #[tactic(auto, unfolding(crate::specs::Foundations::computed_foundation), using(crate::proofs::Padding::padded_eight))]
+    #[tactic(auto, unfolding(crate::specs::Foundations::computed_foundation), using(crate::proofs::AttributeTexts::PaddedHexadecimals::padded_eight))]
     fn fmt<W: fmt::Write>(&self, f: &mut fmt::Formatter<W>) -> fmt::Result {
         let reversed = self.0.prio().swap_bytes();
         let hash = common_hash(self.0);

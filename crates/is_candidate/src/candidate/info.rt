@@ -4,7 +4,7 @@ ghost use Rattle.std.specs.Option.{option_copied};
 ghost use Rattle.serde_json.specs.View.{view};
 ghost use Rattle.is_proto.specs.declared.error.IceError.TheVariants.{OutOfMemory};
 ghost use Rattle.is_candidate.specs.Infos.{info_of, text_or_null, line_in, ufrag_in, ReadsInfo};
-ghost use Rattle.is_candidate.specs.Refusals.{RefusesWith};
+ghost use Rattle.is_candidate.specs.Rejections.{RejectsWith};
 
 use super::Candidate;
 use super::fraction::holds_fraction;
@@ -17,7 +17,7 @@ impl Candidate {
     /// null, `sdpMLineIndex` 0, and `usernameFragment` with the username fragment or null.
     pub fn to_json(&self, alloc: Global) -> Result<Value, IceError>
         ensures info { IfOk result (λ value. view value ≡ info_of self.now) }
-        ensures refusal { IsOkUnless result OutOfMemory }
+        ensures rejection { IsOkUnless result OutOfMemory }
     {
         let line = self.to_sdp_string(alloc)?;
         let ufrag = self.ufrag_value(alloc)?;
@@ -50,11 +50,11 @@ impl Candidate {
     {
         let line = match line_in(value) {
             Ok(line) => line,
-            Err(fault) => return Err(refusal(alloc, fault)),
+            Err(fault) => return Err(rejection(alloc, fault)),
         };
         let mut candidate = match Candidate::from_sdp_string(alloc, line) {
             Ok(candidate) => candidate,
-            Err(refusal) => return Err(refusal),
+            Err(rejection) => return Err(rejection),
         };
         match ufrag_in(value) {
             Ok(Some(ufrag)) => {
@@ -62,7 +62,7 @@ impl Candidate {
                 Ok(candidate)
             }
             Ok(None) => Ok(candidate),
-            Err(fault) => Err(refusal(alloc, fault)),
+            Err(fault) => Err(rejection(alloc, fault)),
         }
     }
 }
@@ -104,8 +104,8 @@ fn ufrag_in(value: &Value) -> Result<Option<&str>, &'static str>
 }
 
 /// Returns the error with this message, or `OutOfMemory` if there is no memory for it.
-pub(super) fn refusal(alloc: Global, message: &str) -> IceError
-    ensures { RefusesWith message.now result }
+pub(super) fn rejection(alloc: Global, message: &str) -> IceError
+    ensures { RejectsWith message.now result }
 {
     match String::from_str(alloc, message) {
         Ok(message) => IceError::BadCandidate(message),

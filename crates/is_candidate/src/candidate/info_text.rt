@@ -8,7 +8,7 @@ ghost use Rattle.is_candidate.specs.InfoTexts.{info_tokens, fragment_token};
 
 use super::Candidate;
 use super::flat::read_flat;
-use super::info::refusal;
+use super::info::rejection;
 use is_proto::IceError;
 use json::{Scratch, Writer};
 use serde_json::Value;
@@ -20,10 +20,10 @@ const TEXT_ROOM: usize = 256;
 impl Candidate {
     /// Returns the text of the object that `to_json` returns: without spaces, the members in the order of their names. It
     /// doesn't build the object.
-    #[tactic(auto, using(crate::proofs::PrintedInfos::printed_info))]
+    #[tactic(auto, using(crate::proofs::CandidateJson::PrintedJson::printed_info))]
     pub fn to_json_string(&self, alloc: Global) -> Result<String, IceError>
         ensures text { IfOk result (λ text. string_bytes text ≡ compact_text (info_of self.now)) }
-        ensures refusal { IsOkUnless result OutOfMemory }
+        ensures rejection { IsOkUnless result OutOfMemory }
     {
         let line = self.to_sdp_string(alloc)?;
         let mut out = Writer::new(Vec::with_capacity(alloc, TEXT_ROOM)?);
@@ -52,7 +52,7 @@ impl Candidate {
         };
         let mut candidate = match Candidate::from_sdp_string(alloc, info.line) {
             Ok(candidate) => candidate,
-            Err(refusal) => return Err(refusal),
+            Err(rejection) => return Err(rejection),
         };
         if let Some(ufrag) = info.ufrag {
             candidate.set_ufrag(alloc, ufrag)?;
@@ -99,7 +99,7 @@ fn read_value(alloc: Global, text: &str) -> Result<Candidate, IceError>
             if error.is_memory() {
                 return Err(IceError::OutOfMemory);
             }
-            Err(refusal(alloc, "candidate info is not JSON"))
+            Err(rejection(alloc, "candidate info is not JSON"))
         }
     }
 }

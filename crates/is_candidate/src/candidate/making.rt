@@ -5,7 +5,7 @@ ghost use Rattle.std.specs.Net.Text.{ip_text};
 ghost use Rattle.is_candidate.specs.Kinds.{is_direct};
 ghost use Rattle.is_candidate.specs.Making.{ip_fault, reflexive_fault, gathered, host_candidate, server_reflexive_candidate};
 ghost use Rattle.is_candidate.specs.Making.{relayed_candidate, signalled_candidate, peer_reflexive_candidate};
-ghost use Rattle.is_candidate.specs.Refusals.{RefusesWith, Makes};
+ghost use Rattle.is_candidate.specs.Rejections.{RejectsWith, Makes};
 
 use super::Candidate;
 use super::address::{is_valid_ip, same_version, unspecified_like};
@@ -213,7 +213,7 @@ fn gathered(
 
 /// Returns the error for an address, or `OutOfMemory` if there is no memory for its message.
 fn invalid_ip(alloc: Global, ip: IpAddr) -> IceError
-    ensures { RefusesWith (codes "invalid ip " ++ ip_text ip) result }
+    ensures { RejectsWith (codes "invalid ip " ++ ip_text ip) result }
 {
     match format!(in alloc; "invalid ip {ip}") {
         Ok(message) => IceError::BadCandidate(message),
@@ -223,7 +223,7 @@ fn invalid_ip(alloc: Global, ip: IpAddr) -> IceError
 
 /// Returns the error for two IP versions, or `OutOfMemory` if there is no memory for its message.
 fn mixed_versions(alloc: Global) -> IceError
-    ensures { RefusesWith (codes "addr and base are different IP versions") result }
+    ensures { RejectsWith (codes "addr and base are different IP versions") result }
 {
     match String::from_str(alloc, "addr and base are different IP versions") {
         Ok(message) => IceError::BadCandidate(message),

@@ -1,6 +1,6 @@
 //! Printed candidate attributes parse again.
 ghost use Rattle.std.specs.Prelude.{IfSome};
-ghost use Rattle.is_candidate.specs.RoundTrips.{HasPlainTexts, LineReadsAgain, PartsFit};
+ghost use Rattle.is_candidate.specs.RoundTrips.{HasPlainTexts, LineRoundTrips, PartsFit};
 
 use super::Candidate;
 use std::net::{IpAddr, SocketAddr};
@@ -9,8 +9,8 @@ use std::net::{IpAddr, SocketAddr};
 /// white space: it parses as the candidate that the line describes, and that candidate prints the same line. A line
 /// says nothing about the base, flow information and scope. The body reads the parts whose types keep them in range,
 /// and does nothing else.
-pub fn printed_line_reads_again(candidate: &Candidate)
-    ensures { HasPlainTexts candidate.now → LineReadsAgain candidate.now }
+pub fn printed_line_round_trips(candidate: &Candidate)
+    ensures { HasPlainTexts candidate.now → LineRoundTrips candidate.now }
 {
     let _component = candidate.component;
     let _priority = candidate.prio();

@@ -18,7 +18,7 @@ impl Candidate {
     /// and kind, then `raddr` with `rport`, `tcptype` and `ufrag`, each if it is known.
     pub fn to_sdp_string(&self, alloc: Global) -> Result<String, IceError>
         ensures text { IfOk result (λ line. string_bytes line ≡ sdp_text self.now) }
-        ensures refusal { IsOkUnless result OutOfMemory }
+        ensures rejection { IsOkUnless result OutOfMemory }
     {
         let mut line = String::with_capacity(alloc, LINE_ROOM)?;
         write!(line, "{self}")?;

@@ -29,18 +29,18 @@ pub(crate) fn read_words<'a>(words: &[&'a str]) -> Result<Line<'a>, Fault<'a>>
         Ok(head) => head,
         Err(fault) => return Err(fault),
     };
-    let place = match read_place(behind(words, 4)) {
+    let place = match read_place(following(words, 4)) {
         Ok(place) => place,
         Err(fault) => return Err(fault),
     };
-    match read_keys(behind(words, 8)) {
+    match read_keys(following(words, 8)) {
         Ok(keys) => Ok(Line { head, place, keys }),
         Err(fault) => Err(fault),
     }
 }
 
 /// Returns the words after the first `count`.
-fn behind<'w, 'a>(words: &'w [&'a str], count: usize) -> &'w [&'a str]
+fn following<'w, 'a>(words: &'w [&'a str], count: usize) -> &'w [&'a str]
     ensures { texts result.now ≡ drop count (texts words.now) }
 {
     &words[count.min(words.len())..]

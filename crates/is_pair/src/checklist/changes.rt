@@ -1,10 +1,10 @@
 //! Changes of pairs that stay in the checklist.
 
 ghost use Rattle.std.specs.Prelude.{◌≡◌, ◌<◌, ℕ, true, map};
-ghost use Rattle.is_pair.specs.Bag.{are_below, change_pair, with_priority, KeepsKeys};
+ghost use Rattle.is_pair.specs.Multiset.{are_below, change_pair, with_priority, KeepsKeys};
 ghost use Rattle.is_pair.specs.Pairs.{heard, undue};
 ghost use Rattle.is_pair.specs.Due.{asked};
-ghost use Rattle.is_pair.specs.Checklists.{bag_of, HasRoom, HasCheckRoom};
+ghost use Rattle.is_pair.specs.Checklists.{multiset_of, HasRoom, HasCheckRoom};
 
 use super::{Checklist, PairChange, PairPriority, mapped, ranks};
 use crate::pair::CandidatePair;
@@ -57,7 +57,7 @@ impl PairChange for Asked<'_> {
     ghost makes = { λ t p. asked t.now.0 t.timing.now p };
 
     fn change(&self, pair: &mut CandidatePair) {
-        pair.fix_due_moment(self.now, self.timing);
+        pair.fix_due_time(self.now, self.timing);
     }
 }
 
@@ -65,10 +65,10 @@ impl Checklist {
     /// Changes the pair with the number, if there is one.
     pub fn change<C: PairChange>(&mut self, number: u64, change: &C)
         requires keys { KeepsKeys (C.makes change.now) }
-        ensures changed { bag_of self.new ≡ change_pair number (C.makes change.now) (bag_of self.old) }
+        ensures changed { multiset_of self.new ≡ change_pair number (C.makes change.now) (multiset_of self.old) }
         ensures room { (n : ℕ) → HasRoom n self.old → HasRoom n self.new }
         ensures check_room { HasCheckRoom self.old → HasCheckRoom self.new }
-        ensures below { (n : ℕ) → are_below n (bag_of self.old) ≡ true → are_below n (bag_of self.new) ≡ true }
+        ensures below { (n : ℕ) → are_below n (multiset_of self.old) ≡ true → are_below n (multiset_of self.new) ≡ true }
     {
         mapped::change(&mut self.pairs, number, change);
     }
@@ -76,30 +76,30 @@ impl Checklist {
     /// Changes all pairs.
     pub fn change_all<C: PairChange>(&mut self, change: &C)
         requires keys { KeepsKeys (C.makes change.now) }
-        ensures changed { bag_of self.new ≡ map (C.makes change.now) (bag_of self.old) }
+        ensures changed { multiset_of self.new ≡ map (C.makes change.now) (multiset_of self.old) }
         ensures room { (n : ℕ) → HasRoom n self.old → HasRoom n self.new }
         ensures check_room { HasCheckRoom self.old → HasCheckRoom self.new }
-        ensures below { (n : ℕ) → are_below n (bag_of self.old) ≡ true → are_below n (bag_of self.new) ≡ true }
+        ensures below { (n : ℕ) → are_below n (multiset_of self.old) ≡ true → are_below n (multiset_of self.new) ≡ true }
     {
         mapped::change_all(&mut self.pairs, change);
     }
 
     /// Computes the due times of the next checks of all pairs, and fixes them.
     pub fn fix_due_times(&mut self, now: Instant, timing: &StunTiming)
-        ensures asked { bag_of self.new ≡ map (asked now.0 timing.now) (bag_of self.old) }
+        ensures asked { multiset_of self.new ≡ map (asked now.0 timing.now) (multiset_of self.old) }
         ensures room { (n : ℕ) → HasRoom n self.old → HasRoom n self.new }
         ensures check_room { HasCheckRoom self.old → HasCheckRoom self.new }
-        ensures below { (n : ℕ) → are_below n (bag_of self.old) ≡ true → are_below n (bag_of self.new) ≡ true }
+        ensures below { (n : ℕ) → are_below n (multiset_of self.old) ≡ true → are_below n (multiset_of self.new) ≡ true }
     {
         self.change_all(&Asked { now, timing });
     }
 
     /// Forgets the fixed due times of all pairs, so that they are computed again, as when the timing changes.
     pub fn reset_next_binding_attempts(&mut self)
-        ensures reset { bag_of self.new ≡ map undue (bag_of self.old) }
+        ensures reset { multiset_of self.new ≡ map undue (multiset_of self.old) }
         ensures room { (n : ℕ) → HasRoom n self.old → HasRoom n self.new }
         ensures check_room { HasCheckRoom self.old → HasCheckRoom self.new }
-        ensures below { (n : ℕ) → are_below n (bag_of self.old) ≡ true → are_below n (bag_of self.new) ≡ true }
+        ensures below { (n : ℕ) → are_below n (multiset_of self.old) ≡ true → are_below n (multiset_of self.new) ≡ true }
     {
         self.change_all(&Undue);
     }
@@ -107,22 +107,22 @@ impl Checklist {
     /// On each pair that has received no check from the peer, counts one as received now. An ICE-lite agent does this,
     /// because it removes the pairs on which the peer's checks stop.
     pub fn hear_all(&mut self, now: Instant)
-        ensures heard { bag_of self.new ≡ map (heard now.0) (bag_of self.old) }
+        ensures heard { multiset_of self.new ≡ map (heard now.0) (multiset_of self.old) }
         ensures room { (n : ℕ) → HasRoom n self.old → HasRoom n self.new }
         ensures check_room { HasCheckRoom self.old → HasCheckRoom self.new }
-        ensures below { (n : ℕ) → are_below n (bag_of self.old) ≡ true → are_below n (bag_of self.new) ≡ true }
+        ensures below { (n : ℕ) → are_below n (multiset_of self.old) ≡ true → are_below n (multiset_of self.new) ≡ true }
     {
         self.change_all(&Heard { now });
     }
 
     /// Sets the priorities of all pairs by a rule, as when the agents switch their roles.
     pub fn set_priorities<R: PairPriority>(&mut self, rule: &R)
-        ensures set { bag_of self.new ≡ map (with_priority (R.gives rule.now)) (bag_of self.old) }
+        ensures set { multiset_of self.new ≡ map (with_priority (R.gives rule.now)) (multiset_of self.old) }
         ensures room { (n : ℕ) → HasRoom n self.old → HasRoom n self.new }
         ensures check_room { HasCheckRoom self.old → HasCheckRoom self.new }
-        ensures below { (n : ℕ) → are_below n (bag_of self.old) ≡ true → are_below n (bag_of self.new) ≡ true }
+        ensures below { (n : ℕ) → are_below n (multiset_of self.old) ≡ true → are_below n (multiset_of self.new) ≡ true }
     {
         mapped::set_priorities(&mut self.pairs, rule);
-        ranks::order_anew(&mut self.ranks, &self.pairs);
+        ranks::rebuild_order(&mut self.ranks, &self.pairs);
     }
 }

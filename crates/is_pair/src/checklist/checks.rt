@@ -4,9 +4,9 @@ ghost use Rattle.std.specs.Prelude.{◌≡◌, ◌<◌, ℕ, true, IfSome, OnOk}
 ghost use Rattle.std.specs.List.{list_any};
 ghost use Rattle.std.specs.Option.{option_copied};
 ghost use Rattle.rand_core.specs.Stream.{fill_bytes};
-ghost use Rattle.is_pair.specs.Bag.{are_below, change_pair, has_number, is_awaiting, keeps, IsAwaiting, RecordsAnswer};
+ghost use Rattle.is_pair.specs.Multiset.{are_below, change_pair, has_number, is_awaiting, keeps, IsAwaiting, RecordsAnswer};
 ghost use Rattle.is_pair.specs.Pairs.{checked};
-ghost use Rattle.is_pair.specs.Checklists.{bag_of, HasRoom, HasCheckRoom};
+ghost use Rattle.is_pair.specs.Checklists.{multiset_of, HasRoom, HasCheckRoom};
 
 use super::{Checklist, PairTest, index, mapped};
 use crate::pair::CandidatePair;
@@ -20,7 +20,7 @@ impl Checklist {
     ///
     /// If the allocation fails, the pairs are unchanged.
     pub fn reserve_check(&mut self) -> Result<(), AllocError>
-        ensures bag { bag_of self.new ≡ bag_of self.old }
+        ensures multiset { multiset_of self.new ≡ multiset_of self.old }
         ensures reserved { OnOk result (HasCheckRoom self.new) }
         ensures room { (n : ℕ) → HasRoom n self.old → HasRoom n self.new }
     {
@@ -40,11 +40,11 @@ impl Checklist {
     ) -> TransId
         requires retransmits { 0 < timing_config.now.max_retransmits }
         requires room { HasCheckRoom self.old }
-        requires has { has_number number (bag_of self.old) ≡ true }
-        ensures sent { bag_of self.new ≡ change_pair number (checked now.0 timing_config.now controlling result.0) (bag_of self.old) }
+        requires has { has_number number (multiset_of self.old) ≡ true }
+        ensures sent { multiset_of self.new ≡ change_pair number (checked now.0 timing_config.now controlling result.0) (multiset_of self.old) }
         ensures drawn { (result.0, R.stream rng.new) ≡ fill_bytes 12 (R.stream rng.old) }
         ensures room { (n : ℕ) → HasRoom n self.old → HasRoom n self.new }
-        ensures below { (n : ℕ) → are_below n (bag_of self.old) ≡ true → are_below n (bag_of self.new) ≡ true }
+        ensures below { (n : ℕ) → are_below n (multiset_of self.old) ≡ true → are_below n (multiset_of self.new) ≡ true }
     {
         match self.pairs.get_mut(&number) {
             Some(pair) => {
@@ -65,8 +65,8 @@ impl Checklist {
 
     /// Returns a pair that has a pending transaction with the ID and passes the test.
     pub fn awaiting<T: PairTest>(&self, trans_id: TransId, test: &T) -> Option<&CandidatePair>
-        ensures awaiting { IsAwaiting trans_id.0 (T.passes test.now) (bag_of self.now) (option_copied result) }
-        ensures kept { IfSome (option_copied result) (λ p. keeps trans_id.0 p.number (bag_of self.now) ≡ true) }
+        ensures awaiting { IsAwaiting trans_id.0 (T.passes test.now) (multiset_of self.now) (option_copied result) }
+        ensures kept { IfSome (option_copied result) (λ p. keeps trans_id.0 p.number (multiset_of self.now) ≡ true) }
     {
         match index::awaiting(&self.index, &self.pairs, trans_id, test) {
             Some(kept) => self.pairs.get(&kept.number),
@@ -76,18 +76,18 @@ impl Checklist {
 
     /// Whether a pair has a pending transaction with the ID and passes the test.
     pub fn has_awaiting<T: PairTest>(&self, trans_id: TransId, test: &T) -> bool
-        ensures { result ≡ list_any (is_awaiting trans_id.0 (T.passes test.now)) (bag_of self.now) }
+        ensures { result ≡ list_any (is_awaiting trans_id.0 (T.passes test.now)) (multiset_of self.now) }
     {
         self.awaiting(trans_id, test).is_some()
     }
 
     /// Records the response on the pair with the number, which has a pending transaction with the ID.
     pub fn record_binding_response(&mut self, number: u64, now: Instant, trans_id: TransId)
-        requires kept { keeps trans_id.0 number (bag_of self.old) ≡ true }
-        ensures answered { RecordsAnswer number now.0 trans_id.0 (bag_of self.old) (bag_of self.new) }
+        requires kept { keeps trans_id.0 number (multiset_of self.old) ≡ true }
+        ensures answered { RecordsAnswer number now.0 trans_id.0 (multiset_of self.old) (multiset_of self.new) }
         ensures room { (n : ℕ) → HasRoom n self.old → HasRoom n self.new }
         ensures check_room { HasCheckRoom self.old → HasCheckRoom self.new }
-        ensures below { (n : ℕ) → are_below n (bag_of self.old) ≡ true → are_below n (bag_of self.new) ≡ true }
+        ensures below { (n : ℕ) → are_below n (multiset_of self.old) ≡ true → are_below n (multiset_of self.new) ≡ true }
     {
         match self.pairs.get_mut(&number) {
             Some(pair) => pair.record_binding_response(now, trans_id, 0),

@@ -2,8 +2,8 @@
 
 ghost use Rattle.std.specs.Prelude.{◌≡◌, ℕ, true};
 ghost use Rattle.std.specs.Option.{option_copied};
-ghost use Rattle.is_pair.specs.Bag.{are_below, Evicts, IsLowest};
-ghost use Rattle.is_pair.specs.Checklists.{bag_of, HasRoom, HasCheckRoom};
+ghost use Rattle.is_pair.specs.Multiset.{are_below, Evicts, IsLowest};
+ghost use Rattle.is_pair.specs.Checklists.{multiset_of, HasRoom, HasCheckRoom};
 
 use super::Checklist;
 use crate::pair::CandidatePair;
@@ -11,7 +11,7 @@ use crate::pair::CandidatePair;
 impl Checklist {
     /// Returns a pair of lowest priority, if there is one.
     pub fn least(&self) -> Option<&CandidatePair>
-        ensures { IsLowest (bag_of self.now) (option_copied result) }
+        ensures { IsLowest (multiset_of self.now) (option_copied result) }
     {
         match self.ranks.first() {
             Some(rank) => self.pairs.get(&rank.number),
@@ -21,10 +21,10 @@ impl Checklist {
 
     /// Removes pairs of lowest priority until there are no more than the limit.
     pub fn evict(&mut self, limit: usize)
-        ensures evicted { Evicts limit (bag_of self.old) (bag_of self.new) }
+        ensures evicted { Evicts limit (multiset_of self.old) (multiset_of self.new) }
         ensures room { (n : ℕ) → HasRoom n self.old → HasRoom n self.new }
         ensures check_room { HasCheckRoom self.old → HasCheckRoom self.new }
-        ensures below { (n : ℕ) → are_below n (bag_of self.old) ≡ true → are_below n (bag_of self.new) ≡ true }
+        ensures below { (n : ℕ) → are_below n (multiset_of self.old) ≡ true → are_below n (multiset_of self.new) ≡ true }
     {
         while self.len() > limit {
             match self.least() {

@@ -4,7 +4,7 @@ ghost use Rattle.std.specs.Prelude.{◌≡◌, ◌<◌, ◌≤◌, ◌==◌, tru
 ghost use Rattle.std.specs.Prelude.{length, remove, vec_len, vec_capacity};
 ghost use Rattle.std.specs.List.{list_any};
 ghost use Rattle.std.specs.List.Sorted.{IsPartitionPoint};
-ghost use Rattle.is_pair.specs.Bag.{has_number, rises};
+ghost use Rattle.is_pair.specs.Multiset.{has_number, rises};
 ghost use Rattle.is_pair.specs.Entries.{is_before, ids_rise, names_passing, pairs_of, are_keyed, is_named, is_current, named_after};
 ghost use Rattle.is_pair.specs.Cutting.{LeavesCurrent};
 ghost use Rattle.is_pair.specs.declared.checklist.entries.Kept.{Kept};
@@ -40,7 +40,7 @@ fn count_before(index: &[Kept], id: TransId) -> usize
     index.partition_point(|kept| is_before(*kept, id))
 }
 
-fn is_behind(kept: Kept, id: TransId) -> bool
+fn is_after(kept: Kept, id: TransId) -> bool
     ensures { result ≡ is_before id.0 kept.id.0 }
 {
     id.cmp(&kept.id).is_lt()
@@ -52,7 +52,7 @@ fn count_through(index: &[Kept], id: TransId) -> usize
     ensures within { result ≤ length index.now }
     ensures point { IsPartitionPoint (λ k. not (is_before id.0 k.id.0) ≡ true) (λ k. not (is_before id.0 k.id.0) ≡ false) index.now result }
 {
-    index.partition_point(|kept| !is_behind(*kept, id))
+    index.partition_point(|kept| !is_after(*kept, id))
 }
 
 /// Removes the entries of IDs that the pair no longer stores.
@@ -134,9 +134,9 @@ pub(crate) fn awaiting<T: PairTest>(
     requires numbers { rises (pairs_of pairs.now.entries) ≡ true }
     ensures { result ≡ find (names_passing id.0 (T.passes test.now) (pairs_of pairs.now.entries)) index.now }
 {
-    let behind = &index[count_before(index, id)..];
-    let many = count_through(behind, id);
-    first_awaiting(&behind[..many], pairs, id, test)
+    let following = &index[count_before(index, id)..];
+    let many = count_through(following, id);
+    first_awaiting(&following[..many], pairs, id, test)
 }
 
 fn names_passing<T: PairTest>(

@@ -5,10 +5,10 @@ ghost use Rattle.std.specs.HashMap.{spare};
 ghost use Rattle.std.specs.List.{list_any};
 ghost use Rattle.std.specs.Option.{option_copied};
 ghost use Rattle.std.specs.VecDeque.{deque_capacity};
-ghost use Rattle.is_proto.specs.Moments.{MAX};
+ghost use Rattle.is_proto.specs.Times.{MAX};
 ghost use Rattle.is_pair.specs.Pairs.{PairRecord};
-ghost use Rattle.is_pair.specs.Due.{due_moment, GoesBefore, IsEarliest};
-ghost use Rattle.is_pair.specs.Bag.{is_numbered, are_below, passes_at, rises, change_pair, with_priority, without, keep_fewer, KeepsKeys};
+ghost use Rattle.is_pair.specs.Due.{due_time_of, GoesBefore, IsEarliest};
+ghost use Rattle.is_pair.specs.Multiset.{is_numbered, are_below, passes_at, rises, change_pair, with_priority, without, keep_fewer, KeepsKeys};
 ghost use Rattle.is_pair.specs.Entries.{pairs_of, are_keyed};
 
 use super::pair_change::PairChange;
@@ -149,11 +149,11 @@ pub(crate) fn earliest_due(
     now: Instant,
     timing: &StunTiming,
 ) -> Instant
-    ensures { result.0 ≡ fold min MAX (map (due_moment now.0 timing.now) (pairs_of pairs.now.entries)) }
+    ensures { result.0 ≡ fold min MAX (map (due_time_of now.0 timing.now) (pairs_of pairs.now.entries)) }
 {
     let mut due = Instant(u64::MAX);
     for pair in pairs.values() {
-        due = due.min(pair.due_moment(now, timing));
+        due = due.min(pair.due_time_of(now, timing));
     }
     due
 }
@@ -161,10 +161,10 @@ pub(crate) fn earliest_due(
 /// Whether a pair is due earlier, or at the same time with no smaller priority.
 fn goes_before(p: &CandidatePair, q: &CandidatePair, now: Instant, timing: &StunTiming) -> bool
     ensures before { result ≡ true → GoesBefore now.0 timing.now p.now q.now }
-    ensures behind { result ≡ false → GoesBefore now.0 timing.now q.now p.now }
+    ensures following { result ≡ false → GoesBefore now.0 timing.now q.now p.now }
 {
-    let ours = p.due_moment(now, timing).0;
-    let theirs = q.due_moment(now, timing).0;
+    let ours = p.due_time_of(now, timing).0;
+    let theirs = q.due_time_of(now, timing).0;
     ours < theirs || (ours == theirs && p.prio() >= q.prio())
 }
 

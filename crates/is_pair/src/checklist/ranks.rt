@@ -2,7 +2,7 @@
 
 ghost use Rattle.std.specs.Prelude.{◌≡◌, ◌<◌, ◌≤◌, ◌==◌, ◌+◌, not, true, Bool, ◌||◌, filter, find, map, reverse, vec_len, vec_capacity};
 ghost use Rattle.std.specs.List.{list_any};
-ghost use Rattle.is_pair.specs.Bag.{has_number, rises};
+ghost use Rattle.is_pair.specs.Multiset.{has_number, rises};
 ghost use Rattle.is_pair.specs.Entries.{pairs_of, are_keyed, are_ordered, has_passing, rank_now};
 ghost use Rattle.is_pair.specs.declared.checklist.entries.Rank.{Rank};
 
@@ -93,7 +93,7 @@ fn rank_now(rank: Rank, pairs: &IndexMap<u64, CandidatePair>) -> Rank
 }
 
 /// Sorts all by the current priorities of their pairs.
-pub(crate) fn order_anew(ranks: &mut Vec<Rank>, pairs: &IndexMap<u64, CandidatePair>)
+pub(crate) fn rebuild_order(ranks: &mut Vec<Rank>, pairs: &IndexMap<u64, CandidatePair>)
     ensures any { (test : Rank → Bool) → list_any test ranks.new.items ≡ list_any test (map (rank_now pairs.now.entries) ranks.old.items) }
     ensures ordered { are_ordered ranks.new.items ≡ true }
     ensures len { vec_len ranks.new ≡ vec_len ranks.old }

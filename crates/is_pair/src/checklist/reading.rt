@@ -4,10 +4,10 @@ ghost use Rattle.std.specs.Prelude.{◌≡◌, ◌<◌, true, IfSome, find, fold
 ghost use Rattle.std.specs.List.{list_any};
 ghost use Rattle.std.specs.Map.Iter.{ShowsInOrder, deref};
 ghost use Rattle.std.specs.Option.{option_copied};
-ghost use Rattle.is_proto.specs.Moments.{MAX};
-ghost use Rattle.is_pair.specs.Bag.{has_number, passes_at, IsGreatest};
-ghost use Rattle.is_pair.specs.Due.{due_moment, IsNextDue};
-ghost use Rattle.is_pair.specs.Checklists.{bag_of};
+ghost use Rattle.is_proto.specs.Times.{MAX};
+ghost use Rattle.is_pair.specs.Multiset.{has_number, passes_at, IsGreatest};
+ghost use Rattle.is_pair.specs.Due.{due_time_of, IsNextDue};
+ghost use Rattle.is_pair.specs.Checklists.{multiset_of};
 
 use super::{Checklist, PairTest, mapped, ranks};
 use crate::pair::CandidatePair;
@@ -18,7 +18,7 @@ use is_stun::stun::StunTiming;
 impl Checklist {
     /// Returns the pairs, in the order of their numbers.
     pub fn iter(&self) -> Values<'_, u64, CandidatePair>
-        ensures rest { result ≡ bag_of self.now }
+        ensures rest { result ≡ multiset_of self.now }
         ensures runs { ShowsInOrder (deref {X = CandidatePair}) }
     {
         self.pairs.values()
@@ -26,28 +26,28 @@ impl Checklist {
 
     /// Whether any pair passes the test.
     pub fn any<T: PairTest>(&self, test: &T) -> bool
-        ensures { result ≡ list_any (T.passes test.now) (bag_of self.now) }
+        ensures { result ≡ list_any (T.passes test.now) (multiset_of self.now) }
     {
         mapped::any(&self.pairs, test)
     }
 
     /// Whether there is a pair with the number, and it passes the test.
     pub fn passes<T: PairTest>(&self, number: u64, test: &T) -> bool
-        ensures { result ≡ list_any (passes_at number (T.passes test.now)) (bag_of self.now) }
+        ensures { result ≡ list_any (passes_at number (T.passes test.now)) (multiset_of self.now) }
     {
         mapped::passes(&self.pairs, number, test)
     }
 
     /// Returns the pair with the smallest number among those that pass the test.
     pub fn first<T: PairTest>(&self, test: &T) -> Option<&CandidatePair>
-        ensures { option_copied result ≡ find (T.passes test.now) (bag_of self.now) }
+        ensures { option_copied result ≡ find (T.passes test.now) (multiset_of self.now) }
     {
         mapped::first(&self.pairs, test)
     }
 
     /// Returns a pair of greatest priority among those that pass the test.
     pub fn greatest<T: PairTest>(&self, test: &T) -> Option<&CandidatePair>
-        ensures { IsGreatest (T.passes test.now) (bag_of self.now) (option_copied result) }
+        ensures { IsGreatest (T.passes test.now) (multiset_of self.now) (option_copied result) }
     {
         // first search all pairs: if none passes, this is faster, because it looks no pair up
         if !self.any(test) {
@@ -62,11 +62,11 @@ impl Checklist {
     /// Returns the pair to check now, if one is due: the one with the earliest due time, and among several of those one
     /// of greatest priority (RFC 8445, section 6.1.4.2).
     pub fn next_due(&self, now: Instant, timing: &StunTiming) -> Option<&CandidatePair>
-        ensures next { IsNextDue now.0 timing.now (bag_of self.now) (option_copied result) }
-        ensures has { IfSome (option_copied result) (λ p. has_number p.number (bag_of self.now) ≡ true) }
+        ensures next { IsNextDue now.0 timing.now (multiset_of self.now) (option_copied result) }
+        ensures has { IfSome (option_copied result) (λ p. has_number p.number (multiset_of self.now) ≡ true) }
     {
         let first = mapped::earliest(&self.pairs, now, timing)?;
-        if first.due_moment(now, timing) <= now {
+        if first.due_time_of(now, timing) <= now {
             Some(first)
         } else {
             None
@@ -75,7 +75,7 @@ impl Checklist {
 
     /// Returns the earliest time at which a pair is due for its next check, or the last `Instant` if there is no pair.
     pub fn earliest_due(&self, now: Instant, timing: &StunTiming) -> Instant
-        ensures { result.0 ≡ fold min MAX (map (due_moment now.0 timing.now) (bag_of self.now)) }
+        ensures { result.0 ≡ fold min MAX (map (due_time_of now.0 timing.now) (multiset_of self.now)) }
     {
         mapped::earliest_due(&self.pairs, now, timing)
     }

@@ -32,7 +32,7 @@ impl CandidatePair {
         requires { 0 < timing_config.now.max_retransmits }
         ensures sent { IfOk result (λ id. self.new ≡ checked now.0 timing_config.now controlling id.0 self.old) }
         ensures drawn { IfOk result (λ id. (id.0, R.stream rng.new) ≡ fill_bytes 12 (R.stream rng.old)) }
-        ensures refusal { IfErr result (λ e. e ≡ IceError.OutOfMemory) }
+        ensures rejection { IfErr result (λ e. e ≡ IceError.OutOfMemory) }
         ensures unchanged { IfErr result (λ _. self.new ≡ self.old) }
         ensures undrawn { IfErr result (λ _. R.stream rng.new ≡ R.stream rng.old) }
     {

@@ -1,9 +1,9 @@
 //! When a pair is due for its next check, and when it fails.
 
 ghost use Rattle.std.specs.Prelude.{◌≡◌, ◌<◌, is_some, min};
-ghost use Rattle.is_proto.specs.Moments.{later};
+ghost use Rattle.is_proto.specs.Times.{later};
 ghost use Rattle.is_pair.specs.Pairs.{undue};
-ghost use Rattle.is_pair.specs.Due.{asked, delaying_count, due_moment, is_heard, is_in_time, is_possible, long_before, next_moment, wanted_moment};
+ghost use Rattle.is_pair.specs.Due.{asked, delaying_count, due_time_of, is_heard, is_in_time, is_possible, long_before, next_due_time, computed_due_time};
 
 use super::attempt::BindingAttempt;
 use super::requests::is_recent;
@@ -26,41 +26,41 @@ impl CandidatePair {
     /// response. The due time is at most `max_rto` from now.
     pub fn next_binding_attempt(&mut self, now: Instant, timing_config: &StunTiming) -> Instant
         requires { 0 < timing_config.now.max_retransmits }
-        ensures moment { result.0 ≡ due_moment now.0 timing_config.now self.old }
+        ensures time { result.0 ≡ due_time_of now.0 timing_config.now self.old }
         ensures fixed { self.new ≡ asked now.0 timing_config.now self.old }
     {
-        self.fix_due_moment(now, timing_config)
+        self.fix_due_time(now, timing_config)
     }
 
     /// Does the same, for any timing.
-    pub(crate) fn fix_due_moment(&mut self, now: Instant, timing_config: &StunTiming) -> Instant
-        ensures moment { result.0 ≡ due_moment now.0 timing_config.now self.old }
+    pub(crate) fn fix_due_time(&mut self, now: Instant, timing_config: &StunTiming) -> Instant
+        ensures time { result.0 ≡ due_time_of now.0 timing_config.now self.old }
         ensures fixed { self.new ≡ asked now.0 timing_config.now self.old }
     {
-        let due = self.due_moment(now, timing_config);
+        let due = self.due_time_of(now, timing_config);
         self.cached_next_attempt_time = Some(due);
         due
     }
 
-    /// Returns the due time that `fix_due_moment` would return, and fix, now.
+    /// Returns the due time that `fix_due_time` would return, and fix, now.
     #[inline(always)]
-    pub(crate) fn due_moment(&self, now: Instant, timing_config: &StunTiming) -> Instant
-        ensures { result.0 ≡ due_moment now.0 timing_config.now self.now }
+    pub(crate) fn due_time_of(&self, now: Instant, timing_config: &StunTiming) -> Instant
+        ensures { result.0 ≡ due_time_of now.0 timing_config.now self.now }
     {
         match self.cached_next_attempt_time {
             Some(fixed) => fixed,
-            None => self.unfixed_moment(now, timing_config),
+            None => self.unfixed_due_time(now, timing_config),
         }
     }
 
-    /// Returns the due time that `fix_due_moment` would fix now, if none is fixed yet.
+    /// Returns the due time that `fix_due_time` would fix now, if none is fixed yet.
     #[inline(never)]
-    fn unfixed_moment(&self, now: Instant, timing_config: &StunTiming) -> Instant
-        ensures { result.0 ≡ min (wanted_moment self.now.nomination now.0 timing_config.now self.now.checks) (later now.0 timing_config.now.max_rto.0) }
+    fn unfixed_due_time(&self, now: Instant, timing_config: &StunTiming) -> Instant
+        ensures { result.0 ≡ min (computed_due_time self.now.nomination now.0 timing_config.now self.now.checks) (later now.0 timing_config.now.max_rto.0) }
     {
         let next = match self.nomination_state {
             NominationState::Nominated => long_before(now),
-            _ => next_moment(&self.binding_attempts, now, timing_config),
+            _ => next_due_time(&self.binding_attempts, now, timing_config),
         };
         next.min(now + timing_config.max_rto())
     }
@@ -96,8 +96,8 @@ fn long_before(now: Instant) -> Instant
 }
 
 /// Returns the time one RTO after the last check, or now if there was none.
-fn next_moment(attempts: &VecDeque<BindingAttempt>, now: Instant, timing: &StunTiming) -> Instant
-    ensures { result.0 ≡ next_moment now.0 timing.now attempts.now.items }
+fn next_due_time(attempts: &VecDeque<BindingAttempt>, now: Instant, timing: &StunTiming) -> Instant
+    ensures { result.0 ≡ next_due_time now.0 timing.now attempts.now.items }
 {
     match attempts::last(attempts) {
         Some(last) => {
@@ -132,10 +132,10 @@ fn is_in_time(attempts: &VecDeque<BindingAttempt>, now: Instant, timing: &StunTi
 // ---- for the agent, but not for its users
 
 /// Returns the due time of the next check that a call of `next_binding_attempt` would return, and fix, now.
-pub fn due_moment(pair: &CandidatePair, now: Instant, timing: &StunTiming) -> Instant
-    ensures { result.0 ≡ due_moment now.0 timing.now pair.now }
+pub fn due_time_of(pair: &CandidatePair, now: Instant, timing: &StunTiming) -> Instant
+    ensures { result.0 ≡ due_time_of now.0 timing.now pair.now }
 {
-    pair.due_moment(now, timing)
+    pair.due_time_of(now, timing)
 }
 
 /// Whether the due time of the next check is fixed.

@@ -2,6 +2,6 @@
 
 mod errors;
 mod macs;
-mod moments;
 mod sockets;
+mod times;
 mod words;

@@ -3,6 +3,6 @@
 mod faults;
 mod fingerprints;
 mod published;
-mod refusals;
+mod rejections;
 mod timing;
 mod written;

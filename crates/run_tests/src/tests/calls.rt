@@ -1,20 +1,34 @@
 //! Each call has its log entry, in order.
 
-use super::*;
-use is::{Duration, IceError, LocalPreference, run};
+use is::{
+    AgentCall, Answer, Call, Candidate, DefaultSha1HmacProvider, Duration, IceAgent, IceCreds,
+    IceError, LocalPreference, Protocol, RunLog, Text, run,
+};
+use rand_core::SeedableRng;
+use rand_pcg::Pcg32;
+use std::alloc::{AllocError, Global};
+use std::net::{Ipv4Addr, SocketAddr, SocketAddrV4};
+use std::test::Fail;
 
-/// The log entries of calls.
-struct Calls;
-
-impl Subject for Calls {
-    fn play(&self, stage: &mut Stage) -> Told {
-        each_setting_has_its_entry(stage)
-    }
+fn at(host: u8, port: u16) -> SocketAddr {
+    SocketAddr::V4(SocketAddrV4::new(Ipv4Addr::new(10, 0, 0, host), port))
 }
 
-#[test]
-fn stories(rt: HostRuntime) -> Result<(), Fail> {
-    tell(rt.alloc(), &Calls)
+fn creds(alloc: Global, ufrag: &str, pass: &str) -> Result<IceCreds, AllocError> {
+    Ok(IceCreds {
+        ufrag: Text::from_str(alloc, ufrag)?,
+        pass: Text::from_str(alloc, pass)?,
+    })
+}
+
+/// The log of the calls on a new agent.
+fn run_on_new(alloc: Global, calls: Vec<Call>) -> Result<RunLog, Fail> {
+    let mut agent: IceAgent<DefaultSha1HmacProvider> = IceAgent::new(
+        alloc,
+        creds(alloc, "near", "nearpass")?,
+        10,
+    )?;
+    Ok(run(&mut agent, calls, &mut Pcg32::seed_from_u64(1)))
 }
 
 /// There is one log entry for each call, in order.
@@ -83,18 +97,12 @@ fn have_answers(log: &RunLog, answers: &[Answer]) -> bool {
     true
 }
 
-fn each_setting_has_its_entry(stage: &mut Stage) -> Told {
-    let calls = settings(stage.alloc);
-    Story("each_setting_has_its_entry").holds(&[
-        stage.makes(calls),
-        are_in_number(&stage.log, SETTINGS_ANSWERS.len()),
-        have_answers(&stage.log, &SETTINGS_ANSWERS),
-    ])
-}
-
-fn run_on_fresh(alloc: Global, calls: Vec<Call>) -> Result<RunLog, Fail> {
-    let mut agent = Agent::new(alloc, creds(alloc, Side::A)?, TIE_BREAKER)?;
-    Ok(run(&mut agent, calls, &mut Pcg32::seed_from_u64(SEED)))
+#[test]
+fn each_setting_has_its_entry(rt: HostRuntime) -> Result<(), Fail> {
+    let log = run_on_new(rt.alloc(), settings(rt.alloc()).ok_or("no memory")?)?;
+    assert!(rt; are_in_number(&log, SETTINGS_ANSWERS.len()));
+    assert!(rt; have_answers(&log, &SETTINGS_ANSWERS));
+    Ok(())
 }
 
 /// 65535, less one for each earlier candidate of the kind.
@@ -111,33 +119,31 @@ impl LocalPreference for Falling {
     }
 }
 
-/// Sets random local credentials.
-fn rename(alloc: Global) -> Option<Call> {
-    let creds = IceCreds::new(alloc, &mut Pcg32::seed_from_u64(SEED)).ok()?;
-    Some(AgentCall::SetLocalCredentials(creds))
-}
-
-fn invalidate(alloc: Global) -> Option<Call> {
-    let candidate = Candidate::host(alloc, at(1, 1000), Protocol::Udp).ok()?;
-    Some(AgentCall::InvalidateCandidate(candidate))
+fn host(alloc: Global, address: SocketAddr) -> Result<Candidate, IceError> {
+    Candidate::host(alloc, address, Protocol::Udp)
 }
 
 /// The calls for candidates, preference and credentials. The restart keeps the host candidate, which is invalidated
 /// after it.
-fn calls_with_memory(alloc: Global, preference: Box<dyn LocalPreference>) -> Option<Vec<Call>> {
-    let steps = [
-        Step::Remote,
-        Step::Host(at(1, 1000)),
-        Step::Host(at(1, 1000)),
-        Step::Peer(at(2, 2000)),
-        Step::Recreate,
-        Step::Restart,
+fn calls_with_memory(
+    alloc: Global,
+    preference: Box<dyn LocalPreference>,
+) -> Result<Vec<Call>, IceError> {
+    let calls = [
+        AgentCall::SetRemoteCredentials(creds(alloc, "farr", "farpass")?),
+        AgentCall::AddLocalCandidate(host(alloc, at(1, 1000))?),
+        AgentCall::AddLocalCandidate(host(alloc, at(1, 1000))?),
+        AgentCall::AddRemoteCandidate(host(alloc, at(2, 2000))?),
+        AgentCall::RecreateCandidatePairs,
+        AgentCall::RestartIce {
+            creds: creds(alloc, "near", "nearpass")?,
+            keep: true,
+        },
+        AgentCall::InvalidateCandidate(host(alloc, at(1, 1000))?),
+        AgentCall::SetLocalPreference(preference),
+        AgentCall::SetLocalCredentials(IceCreds::new(alloc, &mut Pcg32::seed_from_u64(1))?),
     ];
-    let mut all = calls_of(alloc, &[&steps])?;
-    all.push(invalidate(alloc)?).ok()?;
-    all.push(AgentCall::SetLocalPreference(preference)).ok()?;
-    all.push(rename(alloc)?).ok()?;
-    Some(all)
+    Ok(Vec::from_array(alloc, calls)?)
 }
 
 /// The host is not added a second time: its priority would be lower, since it would be the second of its kind.
@@ -156,8 +162,7 @@ const CANDIDATE_ANSWERS: [Answer; 9] = [
 #[test]
 fn each_call_with_memory_has_its_entry(rt: HostRuntime) -> Result<(), Fail> {
     let preference = Box::new(rt.alloc(), Falling)?;
-    let calls = calls_with_memory(rt.alloc(), preference).ok_or("no memory")?;
-    let log = run_on_fresh(rt.alloc(), calls)?;
+    let log = run_on_new(rt.alloc(), calls_with_memory(rt.alloc(), preference)?)?;
     assert!(rt; are_in_number(&log, CANDIDATE_ANSWERS.len()));
     assert!(rt; have_answers(&log, &CANDIDATE_ANSWERS));
     Ok(())

@@ -1,15 +1,11 @@
-//! Scripts: the exit status of each, and what it writes.
+//! Scripts that end early, or whose reader or writer fails. `ice_stories` plays the others.
 
 use ice_script::play;
-use std::alloc::{AllocError, Global};
+use std::alloc::Global;
 use std::io;
 use std::io::{Read, Write};
 use std::process::Abort;
 use std::test::Fail;
-
-mod logs;
-mod roles;
-mod sessions;
 
 /// The agent that the published request is for: its ufrag, its password, its host candidate and the other agent's
 /// ufrag.
@@ -17,29 +13,6 @@ const AGENT: &str = r#"{"call":"agent","ufrag":"p9KA","pass":"xJcE9AQAR7kczUDVOX
 {"call":"remote","ufrag":"SQAt","pass":"x"}
 {"call":"host","addr":"10.0.0.1:1000","proto":"udp"}
 "#;
-
-const AGENT_MADE: &str =
-    "A agent ok\nA wake none\nA remote ok\nA wake none\nA host added\nA wake none\n";
-
-/// A Binding request to p9KA from SQAt with USE-CANDIDATE, in the parts that a test changes.
-const HEADER: &str = "000100502112a442";
-
-const ID_AND_TYPE: &str = "6a756331357578556e67476300060009";
-
-const USERNAME: &str = "70394b413a53514174";
-
-const ATTRIBUTES: &str =
-    "000000c05700040001000a802a00086eeec6e97d18395c00250000002400046e7f1eff00080014";
-
-const INTEGRITY: &str = "5d0425a0207ab1e054102299aaf9839ca076c6d5";
-
-const FINGERPRINT: &str = "80280004360e219f";
-
-/// Its response, as HMAC-SHA1 and CRC-32 of another library make it.
-const SERVED: &str = "A packet true\n\
-A send 0 udp 10.0.0.1:1000 10.0.0.2:2000 0101002c2112a4426a756331357578556e67476300200008000126c22b12a440000800144465f0405413b525dd2d5730e3e8c803daecef75802800044a6e4696\n\
-A event discovered udp 10.0.0.2:2000\n\
-A wake none\n";
 
 /// The exit status of a script, and what it wrote.
 #[derive(Drop)]
@@ -81,41 +54,6 @@ fn ends(rt: &impl Abort, alloc: Global, script: &str, status: u8, output: &str, 
 /// Plays the script, all of whose lines are valid, and expects this output.
 fn prints(rt: &impl Abort, alloc: Global, script: &str, output: &str) {
     ends(rt, alloc, script, 0, output, "");
-}
-
-/// The line of a packet from 10.0.0.2:2000 whose bytes are those of the request, except for these parts.
-fn packet_line(
-    alloc: Global,
-    header: &str,
-    username: &str,
-    integrity: &str,
-) -> Result<String, AllocError> {
-    let front =
-        r#"{"call":"packet","now":0,"proto":"udp","from":"10.0.0.2:2000","to":"10.0.0.1:1000","hex":""#;
-    let back = "\"}\n";
-    format!(in alloc;
-        "{front}{header}{ID_AND_TYPE}{username}{ATTRIBUTES}{integrity}{FINGERPRINT}{back}"
-    )
-}
-
-#[test]
-fn packets_that_are_not_accepted_change_nothing(rt: HostRuntime) -> Result<(), Fail> {
-    let alloc = rt.alloc();
-    let other_magic = packet_line(alloc, "000100502112a443", USERNAME, INTEGRITY)?;
-    let other_user = packet_line(alloc, HEADER, "70394b423a53514174", INTEGRITY)?;
-    let other_mac = packet_line(
-        alloc,
-        HEADER,
-        USERNAME,
-        "5d0425a0207ab1e054102299aaf9839ca076c6d4",
-    )?;
-    let request = packet_line(alloc, HEADER, USERNAME, INTEGRITY)?;
-    let script = format!(in alloc; "{AGENT}{other_magic}{other_user}{other_mac}{request}")?;
-    let refused =
-        "A packet unparsed Magic\nA wake none\nA packet false\nA wake none\nA packet false\nA wake none\n";
-    let expected = format!(in alloc; "{AGENT_MADE}{refused}{SERVED}")?;
-    prints(&rt, rt.alloc(), script.as_str(), expected.as_str());
-    Ok(())
 }
 
 #[test]
@@ -168,66 +106,16 @@ fn each_fault_of_a_line_ends_the_script(rt: HostRuntime) -> Result<(), Fail> {
     ];
     for (line, fault) in table {
         let script = format!(in rt.alloc(); "{agent}\n\n{line}\n{agent}\n")?;
-        let told = format!(in rt.alloc(); "line 3: {fault}\n")?;
+        let reported = format!(in rt.alloc(); "line 3: {fault}\n")?;
         ends(
             &rt,
             rt.alloc(),
             script.as_str(),
             1,
             "A agent ok\nA wake none\n",
-            told.as_str(),
+            reported.as_str(),
         );
     }
-    Ok(())
-}
-
-#[test]
-fn no_retransmits_are_refused(rt: HostRuntime) {
-    let script = "{\"call\":\"agent\",\"ufrag\":\"AAAA\",\"pass\":\"PPPP\",\"tie\":1}\n\
-        {\"call\":\"retransmits\",\"number\":0}\n";
-    ends(
-        &rt,
-        rt.alloc(),
-        script,
-        1,
-        "A agent ok\nA wake none\n",
-        "line 2: bad number\n",
-    );
-}
-
-#[test]
-fn an_agent_gets_no_packet_of_its_own(rt: HostRuntime) -> Result<(), Fail> {
-    let alloc = rt.alloc();
-    let own = "{\"call\":\"deliver\",\"packet\":0,\"now\":\"x\"}";
-    let request = packet_line(alloc, HEADER, USERNAME, INTEGRITY)?;
-    let script = format!(in alloc; "{AGENT}{request}{own}\n")?;
-    let expected = format!(in alloc; "{AGENT_MADE}{SERVED}")?;
-    ends(
-        &rt,
-        rt.alloc(),
-        script.as_str(),
-        1,
-        expected.as_str(),
-        "line 5: bad packet\n",
-    );
-    Ok(())
-}
-
-#[test]
-fn refused_candidates_change_nothing(rt: HostRuntime) -> Result<(), Fail> {
-    let lines = "{\"call\":\"candidate\",\"text\":\"candidate:1\"}\n\
-    {\"call\":\"srflx\",\"addr\":\"10.0.0.1:1\",\"base\":\"[::1]:1\",\"proto\":\"udp\"}\n\
-    {\"call\":\"relay\",\"addr\":\"0.0.0.0:1\",\"base\":\"10.0.0.1:1\",\"proto\":\"tls\"}\n\
-    {\"call\":\"invalidate\",\"text\":\"candidate:1 1 udp 1 10.0.0.9 1 typ host\"}\n";
-    let script = format!(in rt.alloc(); "{AGENT}{lines}")?;
-    let expected = format!(in rt.alloc();
-        "{AGENT_MADE}{}{}{}{}",
-        "A candidate refused BadCandidate\nA wake none\n",
-        "A srflx refused BadCandidate\nA wake none\n",
-        "A relay refused BadCandidate\nA wake none\n",
-        "A invalidate false\nA wake none\n"
-    )?;
-    prints(&rt, rt.alloc(), script.as_str(), expected.as_str());
     Ok(())
 }
 

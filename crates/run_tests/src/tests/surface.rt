@@ -1,18 +1,20 @@
 //! The public types of `is` and the traits of each. If one of them is removed, this does not compile.
 
-use super::*;
 use is::candidate::{HasProtocol, HasRoute, NoProtocol, NoRoute, Tcp, Udp};
 use is::pair::{BindingAttempt, CandidatePair, CheckState, NominationState, PairId};
 use is::stun::{
-    Attributes, Builder, HasClass, HasMethod, Method, NoMethod, StunMessageBuilder, StunPacket,
-    StunTiming,
+    Attributes, Builder, Class, HasClass, HasMethod, Method, NoMethod, StunMessage,
+    StunMessageBuilder, StunPacket, StunTiming, TransId,
 };
 use is::{
-    AgentSpec, CandidateBuilder, CandidateKind, Duration, Entry, FnPreference, IceAgentEvent,
-    IceAgentStats, IceConnectionState, IceError, InFlight, LocalCandidates, LocalPreference,
-    ParseFault, PreferenceFunction, RemoteCandidates, Sha1HmacProvider, SocketText, StunError,
-    TcpType, Trace, Transmit, TwoAgents, TwoAgentsEvent, World, WorldEntry, WorldEvent, WorldLog,
+    AgentCall, AgentSpec, Answer, Call, Candidate, CandidateBuilder, CandidateKind,
+    DefaultSha1HmacProvider, Duration, Entry, FnPreference, IceAgent, IceAgentEvent, IceAgentStats,
+    IceConnectionState, IceCreds, IceError, InFlight, Instant, Issued, LocalCandidates,
+    LocalPreference, ParseFault, Path, PreferenceFunction, Protocol, RemoteCandidates, RunLog,
+    Sha1HmacProvider, Side, SocketText, StunError, TcpType, Text, Trace, Transmit, TwoAgents,
+    TwoAgentsEvent, World, WorldEntry, WorldEvent, WorldLog,
 };
+use std::alloc::AllocError;
 use std::error::Error;
 use std::fmt::{Debug, Display};
 use std::hash::Hash;
@@ -30,7 +32,7 @@ type Holders = (
     TwoAgents<DefaultSha1HmacProvider, Boxed>,
 );
 
-fn is_told<T: Debug>() {}
+fn is_reported<T: Debug>() {}
 
 fn is_cloned<T: Clone>() {}
 
@@ -56,7 +58,7 @@ fn is_preference<P: LocalPreference>() {}
 
 fn is_provider<H: Sha1HmacProvider>() {}
 
-fn lends<'a, I: Iterator<Item = &'a Candidate> + Clone>() {}
+fn borrows<'a, I: Iterator<Item = &'a Candidate> + Clone>() {}
 
 /// A caller's function is a preference.
 fn of_function<F: PreferenceFunction>() {
@@ -98,7 +100,7 @@ fn messages() {
     is_copied::<HasClass>();
     is_copied::<Builder<'static, HasMethod>>();
     is_copied::<StunMessageBuilder<'static, HasClass>>();
-    is_told::<StunTiming>();
+    is_reported::<StunTiming>();
 }
 
 fn candidates() {
@@ -115,8 +117,8 @@ fn candidates() {
     is_copied::<CandidateBuilder<NoProtocol, NoRoute>>();
     is_copied::<CandidateBuilder<HasProtocol<Tcp>, HasRoute>>();
     is_preference::<Boxed>();
-    lends::<LocalCandidates<'static>>();
-    lends::<RemoteCandidates<'static>>();
+    borrows::<LocalCandidates<'static>>();
+    borrows::<RemoteCandidates<'static>>();
 }
 
 fn pairs() {
@@ -124,7 +126,7 @@ fn pairs() {
     is_plain::<CheckState>();
     is_plain::<NominationState>();
     is_copied::<BindingAttempt>();
-    is_told::<CandidatePair>();
+    is_reported::<CandidatePair>();
 }
 
 fn agents() {
@@ -146,7 +148,7 @@ fn runs() {
 fn worlds() {
     is_plain::<Side>();
     is_plain::<Trace>();
-    is_told::<InFlight>();
+    is_reported::<InFlight>();
     is_compared::<WorldEntry>();
     is_compared::<WorldLog>();
 }

@@ -1,29 +1,29 @@
-use Rattle.is.proofs.Logs.{run_of, entries_stand}
-use Rattle.is.proofs.AcceptedLemmas.{packets_are_settled}
-use Rattle.is.proofs.QueuesLemmas.{others_issue_none, queues_are_kept}
-use Rattle.is.proofs.Flooded.{queues_stay_short, discoveries_are_few}
+use Rattle.is.proofs.AgentLogs.GrowingLog.{run_of, entries_persist}
+use Rattle.is.proofs.AgentLogs.UnacceptedBytes.{packets_are_settled}
+use Rattle.is.proofs.AgentLogs.PollingOrder.{others_issue_none, queues_are_kept}
+use Rattle.is.proofs.AgentLogs.StoredAndQueued.{queues_stay_short, discoveries_are_few}
 use Rattle.is.proofs.runs.run.Goals as goal
 
 pub returns-clause-entries : goal.returns-clause-entries
-returns-clause-entries g c = entries_stand _ _ c.entries_are_points.ensures _ _ _ _ _ (run_of _ _ _ _ _ _ c.args.calls.items c.run_calls.result c.run_calls.ensures)
+returns-clause-entries g c = entries_persist _ _ c.entries_are_points.ensures _ _ _ _ _ (run_of _ _ _ _ _ _ c.args.calls.items c.run_calls.result c.run_calls.ensures)
 
 pub returns-clause-unaccepted : goal.returns-clause-unaccepted
 returns-clause-unaccepted g c = packets_are_settled _ _ _ _ _
 
 pub returns-clause-answered : goal.returns-clause-answered
-returns-clause-answered g c = c.announced_are_answered.ensures _ _ _
+returns-clause-answered g c = c.selected_are_answered.ensures _ _ _
 
-pub returns-clause-asked_for : goal.returns-clause-asked_for
-returns-clause-asked_for g c = c.announced_are_asked_for.ensures _ _ _
+pub returns-clause-peer_nominated : goal.returns-clause-peer_nominated
+returns-clause-peer_nominated g c = c.selected_are_nominated_by_peer.ensures _ _ _
 
 pub returns-clause-nomination : goal.returns-clause-nomination
 returns-clause-nomination g c = c.points_are_top.ensures _ _ _
 
 pub returns-clause-successes : goal.returns-clause-successes
-returns-clause-successes g c = c.answers_announce.ensures _ _ _
+returns-clause-successes g c = c.answers_select.ensures _ _ _
 
 pub returns-clause-nominations : goal.returns-clause-nominations
-returns-clause-nominations g c = c.moments_announce.ensures _ _ _
+returns-clause-nominations g c = c.timeouts_select.ensures _ _ _
 
 pub returns-clause-parts : goal.returns-clause-parts
 returns-clause-parts g c = c.parts_are_runs.ensures _ _ _ _ _ (run_of _ _ _ _ _ _ c.args.calls.items c.run_calls.result c.run_calls.ensures)
@@ -32,10 +32,10 @@ pub returns-clause-of_use : goal.returns-clause-of_use
 returns-clause-of_use g c = c.turns_are_of_use.ensures _ _ _
 
 pub returns-clause-rounds : goal.returns-clause-rounds
-returns-clause-rounds g c = c.open_rounds_announce.ensures _ _ _
+returns-clause-rounds g c = c.open_rounds_select.ensures _ _ _
 
 pub returns-clause-due_rounds : goal.returns-clause-due_rounds
-returns-clause-due_rounds g c = c.due_rounds_announce.ensures _ _ _
+returns-clause-due_rounds g c = c.due_rounds_select.ensures _ _ _
 
 pub returns-clause-takers : goal.returns-clause-takers
 returns-clause-takers g c = c.takers_are_valid.ensures _ _ _

@@ -1,6 +1,6 @@
 use Rattle.std.proofs.Common.{◌<◌, [], length, arith}
 use Rattle.is_agent.specs.View.{record_of}
-use Rattle.is.proofs.Logs.{logged-push, length-logged, fewer, still_left, still_one_each}
+use Rattle.is.proofs.AgentLogs.GrowingLog.{logged-push, length-logged, fewer, still_left, still_one_each}
 use Rattle.is.proofs.runs.run_calls.Goals as goal
 
 -- there is capacity for the entry of each call that is left

@@ -2,7 +2,7 @@ use Rattle.std.proofs.Common.{◌≡◌, ◌≤◌, ◌++◌, [], length}
 use Rattle.std.specs.Prelude.{vec_capacity}
 use Rattle.std.specs.Vec.Iter.{into_iter_items}
 use Rattle.is_agent.specs.View.{record_of}
-use Rattle.is_rules.specs.Runs.{Run}
+use Rattle.is_theorems.specs.Runs.{Run}
 use Rattle.is.specs.Log.{logged}
 use Rattle.is.proofs.runs.run_calls.Given as goal
 

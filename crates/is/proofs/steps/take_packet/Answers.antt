@@ -14,7 +14,7 @@ returns-in-Ok-clause-did g c =
         c.handle_packet.result,
         emitted_of c.handle_packet.new.self,
         c.telling.ensures.emitted
-            ∙ ap (λ (a : agent.Answer). let e : agent.Entry = record { answer = a; emitted = emitted_of c.handle_packet.new.self } in e) c.flag_or_refused-answer.ensures,
+            ∙ ap (λ (a : agent.Answer). let e : agent.Entry = record { answer = a; emitted = emitted_of c.handle_packet.new.self } in e) c.flag_or_rejected-answer.ensures,
         c.handle_packet.ensures,
       ),
     )

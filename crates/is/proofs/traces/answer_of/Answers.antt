@@ -1,5 +1,5 @@
 use Rattle.std.proofs.Common.{◌≡◌, None, rules}
-use Rattle.is.proofs.MarkLemmas.{no_delivery, no_reply, no_answer, first_answer}
+use Rattle.is.proofs.RolesAndChains.FirstMarkedEntries.{no_delivery, no_reply, no_answer, first_answer}
 use Rattle.is.proofs.traces.answer_of.Goals as goal
 
 pub returns-in_err-delivered : goal.returns-in_err-delivered

@@ -1,4 +1,4 @@
-use Rattle.is.proofs.MarkLemmas.{first_of_all}
+use Rattle.is.proofs.RolesAndChains.FirstMarkedEntries.{first_of_all}
 use Rattle.is.proofs.traces.first_trace.Goals as goal
 
 pub returns-in-Some : goal.returns-in-Some

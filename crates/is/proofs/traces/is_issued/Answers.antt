@@ -1,4 +1,4 @@
-use Rattle.is.proofs.MarkLemmas.{issued_iff}
+use Rattle.is.proofs.RolesAndChains.FirstMarkedEntries.{issued_iff}
 use Rattle.is.proofs.traces.is_issued.Goals as goal
 
 pub returns-in-Some : goal.returns-in-Some

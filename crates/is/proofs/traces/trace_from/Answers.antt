@@ -1,5 +1,5 @@
 use Rattle.std.proofs.Common.{◌≡◌, None, rules}
-use Rattle.is.proofs.MarkLemmas.{no_check, trace_by}
+use Rattle.is.proofs.RolesAndChains.FirstMarkedEntries.{no_check, trace_by}
 use Rattle.is.proofs.traces.trace_from.Goals as goal
 
 pub returns-in_err-id : goal.returns-in_err-id

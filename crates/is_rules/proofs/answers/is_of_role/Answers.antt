@@ -1,6 +1,6 @@
 use Rattle.std.proofs.Common.{◌≡◌, Some, find, rules, ◌∙◌}
 use Rattle.is_pair.specs.Checks.{has_id}
-use Rattle.is_rules.proofs.AnswerLemmas.{check-found, same-beq}
+use Rattle.is_rules.proofs.FunctionProofs.FoundChecks.{check-found, same-beq}
 use Rattle.is_rules.proofs.answers.is_of_role.Goals as goal
 
 pub returns-in-Some : goal.returns-in-Some

@@ -1,6 +1,6 @@
 use Rattle.std.proofs.Common.{rules, length-append}
 use Rattle.std.proofs.lemmas.List.Elements.{filter-append}
-use Rattle.is_rules.proofs.RangeLemmas.{places-more}
+use Rattle.is_rules.proofs.FunctionProofs.IndexRanges.{places-more}
 use Rattle.is_rules.proofs.forming.count_partners.Goals as goal
 
 pub loop-place-preserved : goal.loop-place-preserved

@@ -1,5 +1,5 @@
-use Rattle.is_rules.proofs.CutLemmas.{goes}
-use Rattle.is_rules.proofs.Rising.{rising-each}
+use Rattle.is_rules.proofs.FunctionProofs.EvictedPairs.{goes}
+use Rattle.is_rules.proofs.PairLists.RisingNumbers.{rising-each}
 use Rattle.is_rules.proofs.forming.eviction_cuts.Goals as goal
 
 pub returns : goal.returns

@@ -4,7 +4,7 @@ use Rattle.std.proofs.lemmas.Grind.{flat_map-append}
 use Rattle.std.proofs.lemmas.List.Elements.{filter-append}
 use Rattle.is_candidate.specs.Candidates.{CandidateRecord}
 use Rattle.is_rules.specs.Forming.{is_alive_at, live_row}
-use Rattle.is_rules.proofs.RangeLemmas.{places-from}
+use Rattle.is_rules.proofs.FunctionProofs.IndexRanges.{places-from}
 use Rattle.is_rules.proofs.forming.has_numbers_for_all.Goals as goal
 
 many : List CandidateRecord → List CandidateRecord → List ℕ → ℕ

@@ -1,6 +1,6 @@
 use Rattle.std.proofs.Common.{◌≡◌, ◌+◌, ◌-◌, length, filter}
 use Rattle.std.specs.List.{flat_map, range_with_len}
-use Rattle.is_proto.specs.Moments.{MAX}
+use Rattle.is_proto.specs.Times.{MAX}
 use Rattle.is_rules.specs.Forming.{is_alive_at, live_row, live_combinations}
 use Rattle.is_rules.proofs.forming.has_numbers_for_all.Given as goal
 

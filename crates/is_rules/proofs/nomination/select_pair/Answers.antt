@@ -1,12 +1,26 @@
-use Rattle.is_pair.specs.Checklists.{bag_of}
-use Rattle.is_rules.specs.Nominating.{selection}
-use Rattle.is_rules.proofs.Choosing.{chosen-able}
-use Rattle.is_rules.proofs.DueLemmas.{falls-named}
+use Rattle.is_pair.specs.Checklists.{multiset_of}
+use Rattle.is_rules.specs.Kept.{is_placed}
+use Rattle.is_rules.specs.Nominating.{nominated_by_self, selection}
+use Rattle.is_rules.proofs.PairLists.ChosenPair.{chosen-able}
+use Rattle.is_rules.proofs.FunctionProofs.DuePairsAfterNomination.{falls-named}
+use Rattle.is_rules.proofs.PairLists.PairsInLists.{all-has, placed-changed, self-places}
 use Rattle.is_rules.proofs.nomination.select_pair.Goals as goal
+
+pub path_in-path-requires : goal.path_in-path-requires
+path_in-path-requires c =
+    let s = c.args.sides in
+    let able = chosen-able s.controlling c.args.followed (selection (multiset_of c.args.pairs.now) c.args.selected.now) c.in-Some.top.now c.in-Some.ensures in
+    all-has (is_placed s.local.now s.remote.now) (multiset_of c.args.pairs.now) c.in-Some.top.now c.requires able.0
+
+pub returns-else-remains-clause-placed : goal.returns-else-remains-clause-placed
+returns-else-remains-clause-placed c =
+    let s = c.args.sides in
+    rw (c.nominate_pair.ensures.nominated)
+    (placed-changed s.local.now s.remote.now c.id-number.result.0 (nominated_by_self s.controlling s.lite) (multiset_of c.args.pairs.now) (self-places s.controlling s.lite) c.requires)
 
 pub returns-else-remains-clause-due : goal.returns-else-remains-clause-due
 returns-else-remains-clause-due c = λ now t falls.
     let s = c.args.sides in
-    let able = chosen-able s.controlling c.args.followed (selection (bag_of c.args.pairs.now) c.args.selected.now) c.in-Some.top.now c.in-Some.ensures in
-    falls-named s.controlling s.lite now t (bag_of c.args.pairs.now) c.in-Some.top.now c.numbers_rise.ensures able.0 able.1
+    let able = chosen-able s.controlling c.args.followed (selection (multiset_of c.args.pairs.now) c.args.selected.now) c.in-Some.top.now c.in-Some.ensures in
+    falls-named s.controlling s.lite now t (multiset_of c.args.pairs.now) c.in-Some.top.now c.numbers_rise.ensures able.0 able.1
     (rw (c.nominate_pair.ensures.nominated, c.id-number.ensures) at falls)

@@ -1,13 +1,13 @@
 use Rattle.std.proofs.Common.{sym}
-use Rattle.is_pair.specs.Bag.{is_between}
-use Rattle.is_pair.specs.Checklists.{bag_of}
-use Rattle.is_rules.proofs.PairLemmas.{find-Some, find-None}
+use Rattle.is_pair.specs.Multiset.{is_between}
+use Rattle.is_pair.specs.Checklists.{multiset_of}
+use Rattle.is_rules.proofs.FunctionProofs.FoundElements.{find-Some, find-None}
 use Rattle.is_rules.proofs.pairs.pair_between.Goals as goal
 
 pub returns-in-Some : goal.returns-in-Some
 returns-in-Some c =
-    let found = find-Some (is_between c.args.l c.args.r) (bag_of c.args.pairs.now) c.in-Some.pair.now (sym c.in-Some.ensures) in
+    let found = find-Some (is_between c.args.l c.args.r) (multiset_of c.args.pairs.now) c.in-Some.pair.now (sym c.in-Some.ensures) in
     (c.in-Some.pair.now, found.0, found.1, sym c.id.ensures)
 
 pub returns-in-None : goal.returns-in-None
-returns-in-None c = find-None (is_between c.args.l c.args.r) (bag_of c.args.pairs.now) (sym c.in-None.ensures)
+returns-in-None c = find-None (is_between c.args.l c.args.r) (multiset_of c.args.pairs.now) (sym c.in-None.ensures)

@@ -3,7 +3,7 @@ use Rattle.is_candidate.specs.Candidates.{candidate_at}
 use Rattle.is_candidate.specs.Priorities.{candidate_priority}
 use Rattle.is_rules.specs.RequestView.{request_view}
 use Rattle.is_rules.specs.Places.{is_live, is_sender, IsGreatestBelow}
-use Rattle.is_rules.proofs.PlaceLemmas.{passed_over, overtaken, kept}
+use Rattle.is_rules.proofs.FunctionProofs.BestIndex.{passed_over, overtaken, kept}
 use Rattle.is_rules.proofs.places.better_sender.Goals as goal
 
 pub returns-then-not-is_live_sender : goal.returns-then-not-is_live_sender

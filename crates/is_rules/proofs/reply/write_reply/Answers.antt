@@ -1,8 +1,8 @@
 use Rattle.std.proofs.Common.{arith, subst, Some}
 use Rattle.is_stun.specs.Message.{Message}
-use Rattle.is_stun.specs.Laws.{IsPut, LONGEST_REPLY, plain}
+use Rattle.is_stun.specs.Theorems.{IsPut, LONGEST_REPLY, plain}
 use Rattle.is_stun.specs.Writing.{written}
-use Rattle.is_rules.proofs.ReplyLemmas.{plain-reply}
+use Rattle.is_rules.proofs.PollsAndResponses.AddressesInResponses.{plain-reply}
 use Rattle.is_rules.proofs.reply.write_reply.Goals as goal
 
 pub write_signed-requires-clause-fits : goal.write_signed-requires-clause-fits

@@ -1,4 +1,4 @@
-use Rattle.is_stun.proofs.AddressLemmas.{ipv4_socket-is}
+use Rattle.is_stun.proofs.BitsOfNumbers.AddressBits.{ipv4_socket-is}
 use Rattle.is_stun.proofs.address.ipv4_socket.Goals as goal
 
 pub returns : goal.returns

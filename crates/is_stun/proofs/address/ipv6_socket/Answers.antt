@@ -1,4 +1,4 @@
-use Rattle.is_stun.proofs.AddressLemmas.{ipv6_socket-is}
+use Rattle.is_stun.proofs.BitsOfNumbers.AddressBits.{ipv6_socket-is}
 use Rattle.is_stun.proofs.address.ipv6_socket.Goals as goal
 
 pub returns : goal.returns

@@ -1,4 +1,4 @@
-use Rattle.is_stun.proofs.TextLemmas.{colon_boundary}
+use Rattle.is_stun.proofs.MessageReading.TextValues.{colon_boundary}
 use Rattle.is_stun.proofs.attributes.split_at_colon.Goals as goal
 
 pub range-requires-clause-end_boundary : goal.range-requires-clause-end_boundary

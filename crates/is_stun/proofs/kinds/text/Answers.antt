@@ -1,5 +1,5 @@
 use Rattle.std.proofs.Common.{arith}
-use Rattle.is_stun.proofs.TextLemmas.{text_of, text_of_other}
+use Rattle.is_stun.proofs.MessageReading.TextValues.{text_of, text_of_other}
 use Rattle.is_stun.proofs.kinds.text.Goals as goal
 
 pub returns-in-Ok : goal.returns-in-Ok

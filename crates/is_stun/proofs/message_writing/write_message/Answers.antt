@@ -2,8 +2,8 @@ use Rattle.std.proofs.Common.{refl, sym, ◌+◌, map}
 use Rattle.std.specs.Option.{option_copied}
 use Rattle.is_stun.specs.RowView.{row_view}
 use Rattle.is_stun.specs.MessageView.{message_view}
-use Rattle.is_stun.proofs.WrittenLemmas.{writes_message}
-use Rattle.is_stun.proofs.MessageTrip.{bytes_read_again}
+use Rattle.is_stun.proofs.WrittenMessages.MessagesByParts.{writes_message}
+use Rattle.is_stun.proofs.RoundTrips.SignedMessages.{bytes_round_trip}
 use Rattle.is_stun.proofs.message_writing.write_message.Goals as goal
 
 pub returns-clause-written : goal.returns-clause-written
@@ -14,11 +14,11 @@ returns-clause-written g c =
     (rw (c.rows_of-rows.ensures, v.controlled, v.controlling, v.priority, v.mapped, v.relayed, v.peer, v.channel, v.lifetime, c.requires.error, v.cost) refl)
     (rw (c.to_u16.ensures, c.to_u16-2.ensures) refl) c.write_draft.ensures.written
 
-pub returns-clause-read_again : goal.returns-clause-read_again
-returns-clause-read_again g c =
+pub returns-clause-round_trip : goal.returns-clause-round_trip
+returns-clause-round_trip g c =
     let v = c.of-values.ensures in
     let mac = g.H.Sha1HmacProvider.mac c.args.provider.now in
-    bytes_read_again c.write_draft.result c.args.buf.now c.write_draft.new.buf mac (option_copied c.args.password) (message_view c.args.message.now)
+    bytes_round_trip c.write_draft.result c.args.buf.now c.write_draft.new.buf mac (option_copied c.args.password) (message_view c.args.message.now)
     (c.to_u16.result + c.to_u16-2.result) (map row_view c.rows_of-rows.result) (sym c.requires.writable)
     (rw (c.rows_of-rows.ensures, v.controlled, v.controlling, v.priority, v.mapped, v.relayed, v.peer, v.channel, v.lifetime, c.requires.error, v.cost) refl)
     (rw (c.to_u16.ensures, c.to_u16-2.ensures) refl) c.write_draft.ensures.written c.write_draft.ensures.mac c.id_fits.ensures c.values_fit.ensures

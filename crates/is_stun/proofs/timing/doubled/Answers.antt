@@ -1,6 +1,6 @@
 use Rattle.std.proofs.Common.{◌≡◌, ◌*◌, ◌%◌, ◌^◌, rules, arith}
 use Rattle.std.proofs.lemmas.Nat.{shl_whole}
-use Rattle.is_stun.proofs.TimingLemmas.{min-doubled}
+use Rattle.is_stun.proofs.BitsOfNumbers.RetransmissionDelays.{min-doubled}
 use Rattle.is_stun.proofs.timing.doubled.Goals as goal
 
 pub returns : goal.returns

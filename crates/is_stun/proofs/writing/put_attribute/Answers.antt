@@ -1,7 +1,7 @@
 use Rattle.std.proofs.Common.{arith}
-use Rattle.is_stun.proofs.RowLemmas.{attribute_length}
+use Rattle.is_stun.proofs.WrittenMessages.ConsecutiveRows.{attribute_length}
 use Rattle.is_stun.specs.Writing.{attribute}
-use Rattle.is_stun.proofs.PutLemmas.{Puts-then}
+use Rattle.is_stun.proofs.WrittenMessages.ConsecutiveTexts.{Puts-then}
 use Rattle.is_stun.proofs.writing.put_attribute.Goals as goal
 
 pub returns-clause-text : goal.returns-clause-text

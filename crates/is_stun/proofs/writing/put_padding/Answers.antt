@@ -1,7 +1,7 @@
 use Rattle.std.proofs.Common.{◌≡◌, ◌-◌, ℕ, arith, sym}
 use Rattle.std.proofs.lemmas.List.{take-replicate}
 use Rattle.is_stun.specs.Tlv.{padded_len}
-use Rattle.is_stun.proofs.PutLemmas.{Puts-nothing}
+use Rattle.is_stun.proofs.WrittenMessages.ConsecutiveTexts.{Puts-nothing}
 use Rattle.is_stun.proofs.writing.put_padding.Goals as goal
 
 pub returns-then-len-eq0 : goal.returns-then-len-eq0

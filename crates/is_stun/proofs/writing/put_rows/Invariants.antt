@@ -1,5 +1,5 @@
 use Rattle.is_stun.specs.Writing.{Puts}
-use Rattle.is_stun.proofs.RowLemmas.{text_to}
+use Rattle.is_stun.proofs.WrittenMessages.ConsecutiveRows.{text_to}
 use Rattle.is_stun.proofs.writing.put_rows.Given as goal
 
 abbrev pub invariant-loop-row : goal.invariant-loop-row

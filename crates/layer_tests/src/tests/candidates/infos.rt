@@ -42,7 +42,7 @@ fn a_host_is_written_with_its_ufrag(rt: HostRuntime) -> Result<(), Fail> {
 }
 
 #[test]
-fn what_is_written_of_a_host_reads_again(rt: HostRuntime) -> Result<(), Fail> {
+fn what_is_written_of_a_host_round_trips(rt: HostRuntime) -> Result<(), Fail> {
     let Some(host) = read(rt.alloc(), INFO) else {
         return Err(Fail::from("what was written does not read"));
     };
@@ -89,7 +89,7 @@ fn says(read: Result<Candidate, IceError>, message: &str) -> bool {
 }
 
 /// Whether reading the text's value and reading the text itself both fail with this message.
-fn is_refused(alloc: Global, text: &str, message: &str) -> bool {
+fn is_rejected(alloc: Global, text: &str, message: &str) -> bool {
     let Ok(value) = Value::from_str(alloc, text) else {
         return false;
     };
@@ -101,7 +101,7 @@ fn is_refused(alloc: Global, text: &str, message: &str) -> bool {
 }
 
 #[test]
-fn the_first_fault_of_a_value_is_told(rt: HostRuntime) {
+fn the_first_fault_of_a_value_is_reported(rt: HostRuntime) {
     let rows = [
         ("[]", "candidate info is not an object"),
         ("{\"candidate\": 1.5}", "candidate info holds a fraction"),
@@ -129,7 +129,7 @@ fn the_first_fault_of_a_value_is_told(rt: HostRuntime) {
         ),
     ];
     for (text, message) in rows.iter() {
-        assert!(rt; is_refused(rt.alloc(), text, message));
+        assert!(rt; is_rejected(rt.alloc(), text, message));
     }
 }
 
@@ -157,7 +157,7 @@ fn order_spaces_escapes_and_other_members_change_nothing(rt: HostRuntime) -> Res
 }
 
 #[test]
-fn a_text_that_is_not_json_is_told_so(rt: HostRuntime) {
+fn a_text_that_is_not_json_is_reported(rt: HostRuntime) {
     let rows = [
         "",
         "{",

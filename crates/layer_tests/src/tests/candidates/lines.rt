@@ -20,7 +20,7 @@ fn prints(alloc: Global, line: &str, text: &str) -> bool {
 }
 
 /// Whether parsing fails with a message that is the line itself, a colon, and this fault.
-fn is_refused(alloc: Global, line: &str, fault: &str) -> bool {
+fn is_rejected(alloc: Global, line: &str, fault: &str) -> bool {
     let Err(IceError::BadCandidate(message)) = parse_candidate(alloc, line) else {
         return false;
     };
@@ -100,7 +100,7 @@ fn lines_of_any_number_of_keys_read_to_their_last_word(rt: HostRuntime) -> Resul
         let whole = format!(in rt.alloc(); "{line} ufrag z")?;
         assert!(rt; prints(rt.alloc(), whole.as_str(), text));
         let cut = format!(in rt.alloc(); "{line} ufrag")?;
-        assert!(rt; is_refused(rt.alloc(), cut.as_str(), "missing ufrag value"));
+        assert!(rt; is_rejected(rt.alloc(), cut.as_str(), "missing ufrag value"));
         line.push_str(" generation 0")?;
     }
     Ok(())
@@ -113,7 +113,7 @@ fn unicode_white_space_splits_words(rt: HostRuntime) {
     assert!(rt; prints(rt.alloc(), line, text));
     // U+001C is no white space, so the foundation is `1\u{1c}1` and the component `udp`
     let line = "candidate:1\u{1c}1 udp 1 10.0.0.1 1 typ host";
-    assert!(rt; is_refused(rt.alloc(), line, "bad component-id"));
+    assert!(rt; is_rejected(rt.alloc(), line, "bad component-id"));
 }
 
 #[test]
@@ -171,6 +171,6 @@ fn each_fault_has_its_message(rt: HostRuntime) {
         ),
     ];
     for (line, fault) in rows.iter() {
-        assert!(rt; is_refused(rt.alloc(), line, fault));
+        assert!(rt; is_rejected(rt.alloc(), line, fault));
     }
 }

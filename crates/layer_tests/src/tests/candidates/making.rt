@@ -12,7 +12,7 @@ use std::net::SocketAddr;
 use std::test::Fail;
 
 /// Whether making the candidate failed with this message.
-fn is_refused(made: Result<Candidate, IceError>, message: &str) -> bool {
+fn is_rejected(made: Result<Candidate, IceError>, message: &str) -> bool {
     match made {
         Err(IceError::BadCandidate(said)) => said.as_str() == message,
         _ => false,
@@ -31,9 +31,9 @@ fn a_host_has_the_recommended_priority(rt: HostRuntime) -> Result<(), Fail> {
 }
 
 #[test]
-fn a_host_on_every_interface_is_refused(rt: HostRuntime) -> Result<(), Fail> {
+fn a_host_on_every_interface_is_rejected(rt: HostRuntime) -> Result<(), Fail> {
     let made = Candidate::host(rt.alloc(), "0.0.0.0:9876".parse()?, Protocol::Udp);
-    assert!(rt; is_refused(made, "invalid ip 0.0.0.0"));
+    assert!(rt; is_rejected(made, "invalid ip 0.0.0.0"));
     Ok(())
 }
 
@@ -130,9 +130,9 @@ fn a_relayed_candidate_over_ssl_tcp_has_the_least_priority(rt: HostRuntime) -> R
 fn a_reflexive_candidate_keeps_one_ip_version(rt: HostRuntime) -> Result<(), Fail> {
     let (v4, v6) = ("10.0.0.1:1000".parse()?, "[::1]:1000".parse()?);
     let made = Candidate::server_reflexive(rt.alloc(), v4, v6, Protocol::Udp);
-    assert!(rt; is_refused(made, "addr and base are different IP versions"));
+    assert!(rt; is_rejected(made, "addr and base are different IP versions"));
     let built = Candidate::builder().tls().server_reflexive(v4, v6);
     let message = "address IP version mismatch: addr=10.0.0.1 base=::1";
-    assert!(rt; is_refused(built.build(rt.alloc()), message));
+    assert!(rt; is_rejected(built.build(rt.alloc()), message));
     Ok(())
 }

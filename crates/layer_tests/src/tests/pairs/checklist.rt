@@ -1,8 +1,8 @@
 //! The checklist: index and order follow the pairs.
 
 ghost use Rattle.std.specs.Prelude.{◌≡◌, ◌<◌, true};
-ghost use Rattle.is_pair.specs.Bag.{are_below};
-ghost use Rattle.is_pair.specs.Checklists.{bag_of};
+ghost use Rattle.is_pair.specs.Multiset.{are_below};
+ghost use Rattle.is_pair.specs.Checklists.{multiset_of};
 
 use super::at;
 use is_candidate::CandidateKind;
@@ -32,7 +32,7 @@ impl PairTest for Any {
 struct Numbered(u64);
 
 impl PairTest for Numbered {
-    ghost use Rattle.is_pair.specs.Bag.{is_numbered};
+    ghost use Rattle.is_pair.specs.Multiset.{is_numbered};
 
     ghost passes = { λ t p. is_numbered t.0 p };
 
@@ -58,7 +58,7 @@ struct Paths {
     list: Checklist,
     next: u64,
     timing: StunTiming,
-    ghost below: { are_below next (bag_of list) ≡ true },
+    ghost below: { are_below next (multiset_of list) ≡ true },
     ghost is_checked: { 0 < timing.max_retransmits },
 }
 
@@ -180,7 +180,7 @@ fn the_order_follows_the_priorities(rt: HostRuntime) -> Result<(), Fail> {
 
 /// Run with each allocation failing in turn: a call that failed can be repeated.
 #[test]
-fn a_refused_growth_leaves_the_pairs(rt: HostRuntime) -> Result<(), Fail> {
+fn a_failed_allocation_leaves_the_pairs(rt: HostRuntime) -> Result<(), Fail> {
     let mut paths = Paths::new(rt.alloc(), 9);
     if paths.add(rt.alloc(), 50).is_err() {
         assert!(rt; paths.list.is_empty());

@@ -7,7 +7,7 @@ use is_stun::stun::StunTiming;
 use std::test::Fail;
 
 #[test]
-fn a_silent_path_is_given_up_after_the_timeout(rt: HostRuntime) -> Result<(), Fail> {
+fn a_silent_path_is_removed_after_the_timeout(rt: HostRuntime) -> Result<(), Fail> {
     let mut path = Path::new(rt.alloc());
     let mut now = at(0);
     for _ in 0..20 {
@@ -43,7 +43,7 @@ fn one_retransmit_is_waited_for_once(rt: HostRuntime) -> Result<(), Fail> {
 }
 
 #[test]
-fn a_moment_stands_once_it_was_asked_for(rt: HostRuntime) -> Result<(), Fail> {
+fn a_due_time_stays_once_it_was_queried(rt: HostRuntime) -> Result<(), Fail> {
     let mut path = Path::new(rt.alloc());
     assert!(rt; path.due(at(70000)) == at(70000));
     path.nominate()?;

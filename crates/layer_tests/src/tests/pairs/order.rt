@@ -17,7 +17,7 @@ fn priorities_are_those_of_the_formula(rt: HostRuntime) {
 }
 
 #[test]
-fn the_greater_priority_stands_first(rt: HostRuntime) {
+fn the_greater_priority_comes_first(rt: HostRuntime) {
     let great = pair_at(rt.alloc(), 1, 1, 9);
     let small = pair_at(rt.alloc(), 0, 0, 8);
     let other = pair_at(rt.alloc(), 0, 1, 8);

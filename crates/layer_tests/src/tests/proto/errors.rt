@@ -81,7 +81,7 @@ fn faults_of_bytes(rt: HostRuntime) -> Result<(), Fail> {
 }
 
 #[test]
-fn refusals_of_messages(rt: HostRuntime) -> Result<(), Fail> {
+fn errors_of_messages(rt: HostRuntime) -> Result<(), Fail> {
     let rows = [
         (
             StunError::Parse(ParseFault::Magic),
@@ -103,7 +103,7 @@ fn refusals_of_messages(rt: HostRuntime) -> Result<(), Fail> {
 }
 
 #[test]
-fn refusals_of_calls(rt: HostRuntime) -> Result<(), Fail> {
+fn errors_of_calls(rt: HostRuntime) -> Result<(), Fail> {
     let candidate = IceError::BadCandidate(String::from_str(rt.alloc(), "invalid ip 0.0.0.0")?);
     assert!(rt;
         candidate.to_string(rt.alloc())?.as_str() == "ICE bad candidate: invalid ip 0.0.0.0"

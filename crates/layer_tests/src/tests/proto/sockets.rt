@@ -25,7 +25,7 @@ fn v6(segments: [u16; 8], port: u16) -> Option<SocketText> {
 fn ipv4_is_read(rt: HostRuntime) {
     assert!(rt; SocketText::from_text("192.0.2.1:80") == v4(192, 0, 2, 1, 80));
     assert!(rt; SocketText::from_text("255.255.255.255:0") == v4(255, 255, 255, 255, 0));
-    let refused = [
+    let rejected = [
         "",
         "192.0.2.1",
         "192.0.2:80",
@@ -39,7 +39,7 @@ fn ipv4_is_read(rt: HostRuntime) {
         "192.0.2.1:80 ",
         "[192.0.2.1]:80",
     ];
-    for text in refused {
+    for text in rejected {
         assert!(rt; SocketText::from_text(text).is_none(), "{text}");
     }
 }
@@ -78,7 +78,7 @@ fn ipv6_is_read(rt: HostRuntime) {
     for (text, segments) in read {
         assert!(rt; SocketText::from_text(text) == v6(segments, 80), "{text}");
     }
-    let refused = [
+    let rejected = [
         "1::8:80",
         "[1::8]",
         "[1::8]80",
@@ -100,7 +100,7 @@ fn ipv6_is_read(rt: HostRuntime) {
         "[fe80::1%1]:80",
         "[fe80::1%eth0]:80",
     ];
-    for text in refused {
+    for text in rejected {
         assert!(rt; SocketText::from_text(text).is_none(), "{text}");
     }
 }

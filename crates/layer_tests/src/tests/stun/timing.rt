@@ -54,7 +54,7 @@ fn only_whole_milliseconds_count(rt: HostRuntime) {
 }
 
 #[test]
-fn one_retransmit_is_given_up_after_its_delay(rt: HostRuntime) {
+fn one_retransmit_is_removed_after_its_delay(rt: HostRuntime) {
     let timing = StunTiming {
         max_retransmits: 1,
         ..StunTiming::default()

@@ -26,7 +26,7 @@ fn signed_len(message: StunMessage<'_>, buf: &mut [u8]) -> Option<usize> {
 }
 
 /// The error that writing the message fails with, if any.
-fn refusal_of(message: StunMessage<'_>, buf: &mut [u8]) -> Option<StunError> {
+fn rejection_of(message: StunMessage<'_>, buf: &mut [u8]) -> Option<StunError> {
     message.to_bytes(None, buf, &DefaultSha1HmacProvider).err()
 }
 
@@ -92,15 +92,15 @@ fn checks(rt: HostRuntime) -> Result<(), Fail> {
 
 /// The longest USERNAME that can be written, in the longest check.
 #[test]
-fn user_names(rt: HostRuntime) {
-    let letters = [b'a'; 509];
+fn usernames(rt: HostRuntime) {
+    let in_flight_packets = [b'a'; 509];
     let mut buf = [0; 600];
-    let longest = str::from_utf8(&letters[..508]).unwrap_or("");
+    let longest = str::from_utf8(&in_flight_packets[..508]).unwrap_or("");
     let check = StunMessage::binding_request(longest, ID, true, 5, 9, true);
     assert!(rt; signed_len(check, &mut buf) == Some(588));
-    let longer = str::from_utf8(&letters).unwrap_or("");
+    let longer = str::from_utf8(&in_flight_packets).unwrap_or("");
     let check = StunMessage::binding_request(longer, ID, true, 5, 9, true);
-    assert!(rt; refusal_of(check, &mut buf) == Some(StunError::ValueTooLong));
+    assert!(rt; rejection_of(check, &mut buf) == Some(StunError::ValueTooLong));
 }
 
 #[test]
@@ -115,9 +115,9 @@ fn a_short_buffer_is_left(rt: HostRuntime) {
 }
 
 #[test]
-fn refusals_leave_the_buffer(rt: HostRuntime) {
-    let letters = [b'a'; 129];
-    let text = str::from_utf8(&letters).unwrap_or("");
+fn errors_leave_the_buffer(rt: HostRuntime) {
+    let in_flight_packets = [b'a'; 129];
+    let text = str::from_utf8(&in_flight_packets).unwrap_or("");
     let failure = Builder::new().binding().failure();
     let mut buf = [7; 63];
     for (message, error) in [
@@ -126,7 +126,7 @@ fn refusals_leave_the_buffer(rt: HostRuntime) {
         (failure.realm(text), StunError::ValueTooLong),
         (failure.data(&[0; 65535]), StunError::MessageTooLong),
     ] {
-        assert!(rt; refusal_of(message.build(ID), &mut buf) == Some(error));
+        assert!(rt; rejection_of(message.build(ID), &mut buf) == Some(error));
     }
     assert!(rt; buf.as_slice() == [7; 63].as_slice());
 }

@@ -1,23 +1,23 @@
-use Rattle.is.proofs.Flooded.{both_are_bounded, both_have_few_pairs, both_are_short, both_discover_few}
+use Rattle.is.proofs.AgentLogs.StoredAndQueued.{both_are_bounded, both_have_few_pairs, both_are_short, both_discover_few}
 use Rattle.is.proofs.world.TwoAgents.run.Goals as goal
 
 pub returns-clause-keeps : goal.returns-clause-keeps
 returns-clause-keeps g c = c.greater_keeps.ensures _ _ _ _ _ c.run_events.result c.run_events.ensures
 
-pub returns-clause-yields : goal.returns-clause-yields
-returns-clause-yields g c = c.lesser_yields_once.ensures _ _ _ _ _ c.run_events.result c.run_events.ensures
+pub returns-clause-switches_role : goal.returns-clause-switches_role
+returns-clause-switches_role g c = c.lesser_switches_once.ensures _ _ _ _ _ c.run_events.result c.run_events.ensures
 
 pub returns-clause-differ : goal.returns-clause-differ
 returns-clause-differ g c = c.roles_differ_once_met.ensures _ _ _
 
 pub returns-clause-traced : goal.returns-clause-traced
-returns-clause-traced g c = c.announced_are_traced.ensures _ _ _ _ _ c.run_events.result c.run_events.ensures
+returns-clause-traced g c = c.selected_are_traced.ensures _ _ _ _ _ c.run_events.result c.run_events.ensures
 
 pub returns-clause-rounds : goal.returns-clause-rounds
-returns-clause-rounds g c = c.delivered_rounds_announce.ensures _ _ _
+returns-clause-rounds g c = c.delivered_rounds_select.ensures _ _ _
 
-pub returns-clause-granted : goal.returns-clause-granted
-returns-clause-granted g c = c.granted_paths_announce.ensures _ _ _
+pub returns-clause-nomination_accepted : goal.returns-clause-nomination_accepted
+returns-clause-nomination_accepted g c = c.accepted_nominations_select.ensures _ _ _
 
 pub returns-clause-meet : goal.returns-clause-meet
 returns-clause-meet g c = c.roles_meet.ensures _ _ _

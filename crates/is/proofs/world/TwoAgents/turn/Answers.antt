@@ -4,7 +4,7 @@ use Rattle.is.specs.declared.world.Side.TheVariants.{A, B}
 use Rattle.is.specs.Views.{call_view, entry_view}
 use Rattle.is.specs.World.{world_of, outcome_of}
 use Rattle.is_rules.specs.Effects.{clears}
-use Rattle.is.proofs.Turned.{reversed, unmoving}
+use Rattle.is.proofs.TwoAgentEvents.StatesAfterMethods.{reversed, unmoving}
 use Rattle.is.proofs.world.TwoAgents.turn.Goals as goal
 
 pub returns-in-A-clause-did : goal.returns-in-A-clause-did

@@ -1,4 +1,7 @@
 use Rattle.std.proofs.Common.{rules}
+use Rattle.is_pair.specs.Checklists.{multiset_of}
+use Rattle.is_rules.proofs.PairLists.PairsInLists.{placed-changed}
+use Rattle.is_agent.proofs.AgentParts.PairsInLists.{checked-places}
 use Rattle.is_agent.proofs.agent.Agent.check.Goals as goal
 
 pub returns-clause-checked : goal.returns-clause-checked
@@ -6,3 +9,9 @@ returns-clause-checked g c peer p known numbered drafted =
     let put = c.send.ensures.put peer p known drafted in
     let sent = c.send.ensures.sent peer p known drafted in
     (c.new_attempt-id.result.0, c.new_attempt-id.ensures.drawn, put, search rules, search rules)
+
+pub invariant_of-self-clause-placed : goal.invariant_of-self-clause-placed
+invariant_of-self-clause-placed g c =
+    let self = c.args.self.now in
+    rw (c.new_attempt-id.ensures.sent)
+    (placed-changed self.local.items self.remote.items c.args.number _ (multiset_of self.pairs) (checked-places c.args.now.0 self.timing self.controlling c.new_attempt-id.result.0) self.placed)

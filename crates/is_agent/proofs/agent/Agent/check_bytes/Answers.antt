@@ -1,7 +1,7 @@
 use Rattle.std.proofs.Common.{◌≡◌, false, Some, length, string_bytes, arith}
 use Rattle.is_rules.specs.Fitting.{are_too_long, MTU_FLOOR}
 use Rattle.is_rules.specs.Checking.{username_between}
-use Rattle.is_agent.proofs.RequestLemmas.{username-short}
+use Rattle.is_agent.proofs.AgentParts.UsernameLength.{username-short}
 use Rattle.is_agent.proofs.agent.Agent.check_bytes.Goals as goal
 
 pub write_check-requires-clause-fits : goal.write_check-requires-clause-fits

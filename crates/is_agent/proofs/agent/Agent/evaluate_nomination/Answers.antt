@@ -1,26 +1,26 @@
 use Rattle.std.proofs.Common.{is_some, not, subst}
 use Rattle.std.specs.List.{list_any}
-use Rattle.is_pair.specs.Checklists.{bag_of}
+use Rattle.is_pair.specs.Checklists.{multiset_of}
 use Rattle.is_rules.specs.Due.{falls_due}
 use Rattle.is_agent.specs.View.{record_of}
 use Rattle.is_rules.specs.Forming.{sides_of}
 use Rattle.is_rules.specs.Nominating.{Names, selection}
-use Rattle.is_agent.proofs.DueLemmas.{and-third}
+use Rattle.is_agent.proofs.AgentParts.DuePairsAfterRemoval.{and-third}
 use Rattle.is_agent.proofs.agent.Agent.evaluate_nomination.Goals as goal
 
 pub returns-clause-nominates : goal.returns-clause-nominates
 returns-clause-nominates g c =
-    let self = c.args.self.now in let chosen = selection (bag_of c.select_pair-path.new.pairs) c.select_pair-path.new.selected in
-    let by_result : Names (sides_of (record_of self)) c.followed-followed.result (selection (bag_of self.pairs) self.selected_pair) c.select_pair-path.result chosen =
+    let self = c.args.self.now in let chosen = selection (multiset_of c.select_pair-path.new.pairs) c.select_pair-path.new.selected in
+    let by_result : Names (sides_of (record_of self)) c.followed-followed.result (selection (multiset_of self.pairs) self.selected_pair) c.select_pair-path.result chosen =
     rw (c.deref.ensures.value, c.deref-2.ensures.value) at c.select_pair-path.ensures.named in
-    let named = subst (λ f. Names (sides_of (record_of self)) f (selection (bag_of self.pairs) self.selected_pair) c.select_pair-path.result chosen) c.followed-followed.ensures by_result in
+    let named = subst (λ f. Names (sides_of (record_of self)) f (selection (multiset_of self.pairs) self.selected_pair) c.select_pair-path.result chosen) c.followed-followed.ensures by_result in
     (chosen, named, c.emit_nominated.ensures.emitted)
 
 pub returns-clause-checks : goal.returns-clause-checks
 returns-clause-checks g c = λ now room.
     let self = c.args.self.now in
     c.emit_nominated.ensures.checks now (λ falls.
-    let all = and-third (not self.lite) (is_some self.remote_creds) (list_any (falls_due self.controlling now self.timing) (bag_of self.pairs))
-    (list_any (falls_due self.controlling now self.timing) (bag_of c.select_pair-path.new.pairs)) (c.select_pair-path.ensures.due now self.timing) falls in
+    let all = and-third (not self.lite) (is_some self.remote_creds) (list_any (falls_due self.controlling now self.timing) (multiset_of self.pairs))
+    (list_any (falls_due self.controlling now self.timing) (multiset_of c.select_pair-path.new.pairs)) (c.select_pair-path.ensures.due now self.timing) falls in
     let old = room all in
     (old.0, c.select_pair-path.ensures.check_room old.1, old.2))

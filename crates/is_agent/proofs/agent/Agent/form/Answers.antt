@@ -1,5 +1,5 @@
 use Rattle.std.proofs.Common.{refl}
-use Rattle.is_pair.specs.Checklists.{bag_of}
+use Rattle.is_pair.specs.Checklists.{multiset_of}
 use Rattle.is_agent.specs.View.{record_of}
 use Rattle.is_rules.specs.Forming.{FormsEach, formed_as, sides_of, formed_of}
 use Rattle.is_agent.proofs.agent.Agent.form.Goals as goal
@@ -7,6 +7,6 @@ use Rattle.is_agent.proofs.agent.Agent.form.Goals as goal
 pub returns : goal.returns
 returns g c =
     let self = c.args.self.now in
-    let after = formed_as (bag_of c.form_each.new.pairs) c.form_each.new.next_number in
+    let after = formed_as (multiset_of c.form_each.new.pairs) c.form_each.new.next_number in
     let forms : FormsEach (sides_of (record_of self)) self.max_pairs c.args.all.now (formed_of (record_of self)) after = rw (c.deref.ensures.value, c.deref-2.ensures.value) at c.form_each.ensures.forms in
     (after, forms, refl)

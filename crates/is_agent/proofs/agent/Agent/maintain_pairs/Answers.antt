@@ -1,12 +1,12 @@
 use Rattle.is_rules.specs.Nominating.{Nominates}
-use Rattle.is_rules.specs.Timeouts.{at_moment}
+use Rattle.is_rules.specs.Timeouts.{at_timeout}
 use Rattle.is_agent.specs.View.{record_of}
 use Rattle.is_agent.proofs.agent.Agent.maintain_pairs.Goals as goal
 
 pub returns : goal.returns
 returns g c =
     let first = c.evaluate_nomination-first in
-    let nominates : Nominates (at_moment c.args.now.0 (record_of c.args.self.now)) first.result (record_of first.new.self) = search (first.ensures.nominates) in
-    let (second, given_up, paths) = c.give_up.ensures.given_up in
+    let nominates : Nominates (at_timeout c.args.now.0 (record_of c.args.self.now)) first.result (record_of first.new.self) = search (first.ensures.nominates) in
+    let (second, expired, paths) = c.remove_expired.ensures.expired in
     let (issued, checked, emitted) = c.may_check.ensures first.result second paths in
-    (first.result, second, issued, record_of first.new.self, record_of c.give_up.new.self, nominates, given_up, checked, emitted)
+    (first.result, second, issued, record_of first.new.self, record_of c.remove_expired.new.self, nominates, expired, checked, emitted)

@@ -1,10 +1,11 @@
 use Rattle.std.proofs.Common.{List, ◌≡◌, ap, is_some, not, rules, true}
 use Rattle.std.specs.List.{list_any}
 use Rattle.is_pair.specs.Pairs.{PairRecord}
-use Rattle.is_pair.specs.Checklists.{bag_of}
+use Rattle.is_pair.specs.Checklists.{multiset_of}
 use Rattle.is_rules.specs.Due.{falls_due}
 use Rattle.is_agent.specs.View.{record_of}
-use Rattle.is_agent.proofs.DueLemmas.{all-three, falls-asked, may-check}
+use Rattle.is_agent.proofs.AgentParts.DuePairsAfterRemoval.{all-three, falls-asked, may-check}
+use Rattle.is_agent.proofs.AgentParts.PairsInLists.{placed-asked, placed-heard}
 use Rattle.is_agent.proofs.agent.Agent.may_check.Goals as goal
 
 pub check_next-requires : goal.check_next-requires
@@ -14,15 +15,25 @@ check_next-requires g c =
     let known : is_some self.remote_creds ≡ true = search rules in
     record {
       room = λ due.
-          let falls = falls-asked self.controlling now self.timing (bag_of self.pairs) (rw (c.fix_due_times.ensures.asked) at due) in
-          let old = c.requires (all-three (not self.lite) (is_some self.remote_creds) (list_any (falls_due self.controlling now self.timing) (bag_of self.pairs)) full known falls) in
+          let falls = falls-asked self.controlling now self.timing (multiset_of self.pairs) (rw (c.fix_due_times.ensures.asked) at due) in
+          let old = c.requires (all-three (not self.lite) (is_some self.remote_creds) (list_any (falls_due self.controlling now self.timing) (multiset_of self.pairs)) full known falls) in
           (old.0, c.fix_due_times.ensures.check_room old.1, old.2);
     }
 
 pub returns-else-self : goal.returns-else-self
 returns-else-self g c first second emitted =
-    let (issued, checked, tells) = c.check_next.ensures c.in-Some.field-0 first second c.in-Some.is emitted in
+    let (issued, checked, reports) = c.check_next.ensures c.in-Some.field-0 first second c.in-Some.is emitted in
     let old = record_of c.args.self.now in
     let asked = ap (λ (ps : List PairRecord). record old { pairs = ps }) c.fix_due_times.ensures.asked in
     let may = may-check g.H.Sha1HmacProvider.mac c.args.now.0 c.args.self.now.remote_creds c.in-Some.field-0 old _ _ _ issued _ c.in-Some.is c.if-self.false asked checked in
-    (issued, may, tells)
+    (issued, may, reports)
+
+pub invariant_of-self-clause-placed : goal.invariant_of-self-clause-placed
+invariant_of-self-clause-placed g c =
+    let self = c.args.self.now in
+    rw (c.hear_all.ensures.heard) (placed-heard self.local.items self.remote.items c.args.now.0 (multiset_of self.pairs) self.placed)
+
+pub invariant_of-self-in-Some-clause-placed : goal.invariant_of-self-in-Some-clause-placed
+invariant_of-self-in-Some-clause-placed g c =
+    let self = c.args.self.now in
+    rw (c.fix_due_times.ensures.asked) (placed-asked self.local.items self.remote.items c.args.now.0 self.timing (multiset_of self.pairs) self.placed)

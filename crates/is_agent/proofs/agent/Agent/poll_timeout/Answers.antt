@@ -3,7 +3,7 @@ use Rattle.is_agent.specs.View.{record_of}
 use Rattle.is_agent.proofs.agent.Agent.poll_timeout.Goals as goal
 
 pub returns-clause-ahead : goal.returns-clause-ahead
-returns-clause-ahead g c = c.wakes_ahead.ensures (record_of c.args.self.now) (record_of c.next_timeout.new.self) (option_map (λ at. at.0) c.next_timeout.result) c.next_timeout.ensures
+returns-clause-ahead g c = c.timeout_is_ahead.ensures (record_of c.args.self.now) (record_of c.next_timeout.new.self) (option_map (λ at. at.0) c.next_timeout.result) c.next_timeout.ensures
 
 pub returns-clause-in_time : goal.returns-clause-in_time
-returns-clause-in_time g c = c.wakes_in_time.ensures (record_of c.args.self.now) (record_of c.next_timeout.new.self) (option_map (λ at. at.0) c.next_timeout.result) c.next_timeout.ensures
+returns-clause-in_time g c = c.timeout_is_in_time.ensures (record_of c.args.self.now) (record_of c.next_timeout.new.self) (option_map (λ at. at.0) c.next_timeout.result) c.next_timeout.ensures

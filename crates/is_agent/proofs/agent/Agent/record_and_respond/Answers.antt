@@ -13,8 +13,8 @@ use Rattle.is_agent.proofs.agent.Agent.record_and_respond.Goals as goal
 pub returns-clause-served : goal.returns-clause-served
 returns-clause-served g c =
     let q = request_view c.args.request.now in let served = pair_served q c.args.number (record_of c.args.self.now) in
-    let path = c.nominate_where-announced.result in let named = record_of c.nominate_where-announced.new.self in
-    let there = subst (λ (a : AgentRecord g.row.H.Denot g.row.P.Denot). NominatesWhere c.evaluates_at-evaluates.result a path named) c.serve_pair.ensures.served c.nominate_where-announced.ensures.nominates in
+    let path = c.nominate_where-selected_paths.result in let named = record_of c.nominate_where-selected_paths.new.self in
+    let there = subst (λ (a : AgentRecord g.row.H.Denot g.row.P.Denot). NominatesWhere c.evaluates_at-evaluates.result a path named) c.serve_pair.ensures.served c.nominate_where-selected_paths.ensures.nominates in
     let where_valid = subst (λ (evaluates : Bool). NominatesWhere evaluates served path named) c.evaluates_at-evaluates.ensures there in
     let issued = c.new-issued.ensures ∙ ap (λ (via : Path). issued_as via Success c.args.request.now.id.0) c.path_between-path.ensures in (
       path,

@@ -1,6 +1,6 @@
 use Rattle.std.proofs.Common.{Some, List, ℕ, subst}
 use Rattle.is_stun.specs.Checks.{binding_reply}
-use Rattle.is_stun.specs.Laws.{IsPut}
+use Rattle.is_stun.specs.Theorems.{IsPut}
 use Rattle.is_stun.specs.Writing.{written}
 use Rattle.is_rules.specs.Sending.{carried}
 use Rattle.is_agent.proofs.agent.Agent.reply.Goals as goal

@@ -1,6 +1,6 @@
 use Rattle.std.proofs.Common.{◌≡◌, Some, List, ℕ, subst, ap, ◌∙◌, rules}
 use Rattle.is_stun.specs.Checks.{binding_role_conflict_reply}
-use Rattle.is_stun.specs.Laws.{IsPut}
+use Rattle.is_stun.specs.Theorems.{IsPut}
 use Rattle.is_stun.specs.Writing.{written}
 use Rattle.is_rules.specs.declared.emitted.Path.{Path}
 use Rattle.is_rules.specs.Sending.{with_packet}

@@ -1,6 +1,6 @@
 use Rattle.std.proofs.Common.{◌≤◌, rules}
-use Rattle.is_pair.specs.Checklists.{bag_of}
-use Rattle.is_agent.proofs.NumberLemmas.{below-grown}
+use Rattle.is_pair.specs.Checklists.{multiset_of}
+use Rattle.is_agent.proofs.AgentParts.PairsByNumber.{below-grown}
 use Rattle.is_agent.proofs.agent.Agent.skip_pair_ids.Goals as goal
 
 pub invariant_of-self : goal.invariant_of-self
@@ -13,5 +13,6 @@ invariant_of-self g c =
       retransmits = self.retransmits;
       local_key_kept = self.local_key_kept;
       remote_key_kept = self.remote_key_kept;
-      numbered = below-grown self.next_number c.max-self.result (bag_of self.pairs) more self.numbered;
+      numbered = below-grown self.next_number c.max-self.result (multiset_of self.pairs) more self.numbered;
+      placed = self.placed;
     }

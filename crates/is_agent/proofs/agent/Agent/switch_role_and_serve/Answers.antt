@@ -1,11 +1,12 @@
-use Rattle.std.proofs.Common.{subst, ap, rules}
+use Rattle.std.proofs.Common.{◌<◌, List, length, subst, sym, ap, rules}
+use Rattle.is_candidate.specs.Candidates.{CandidateRecord}
 use Rattle.is_rules.specs.Agent.{AgentRecord}
 use Rattle.is_agent.specs.View.{record_of}
 use Rattle.is_rules.specs.RequestView.{request_view}
 use Rattle.is_rules.specs.Places.{remote_index}
 use Rattle.is_rules.specs.Roles.{switched_sides}
 use Rattle.is_rules.specs.Serving.{CountsAndServes}
-use Rattle.is_agent.proofs.RoleLemmas.{between-reprioritized, place-reprioritized}
+use Rattle.is_agent.proofs.AgentParts.RecomputedPriorities.{between-reprioritized, place-reprioritized}
 use Rattle.is_agent.proofs.agent.Agent.switch_role_and_serve.Goals as goal
 
 pub count_and_serve-requires : goal.count_and_serve-requires
@@ -19,6 +20,7 @@ count_and_serve-requires g c =
     let next_number = ap (λ (a : AgentRecord g.row.H.Denot g.row.P.Denot). a.next_number) is in
     let creds = ap (λ (a : AgentRecord g.row.H.Denot g.row.P.Denot). a.local_creds) is in
     record {
+      local = subst (λ (cs : List CandidateRecord). c.args.at.local < length cs) (sym local) c.requires.local;
       remote = rw (limit, pairs, remote) (place-reprioritized (switched_sides (record_of old)) (record_of old).max_discovered (record_of old).remote (record_of old).pairs (request_view c.args.request.now) c.args.at.remote c.requires.remote);
       pair = rw (pairs, remote) (between-reprioritized (switched_sides (record_of old)) (record_of old).pairs c.args.at.local (remote_index old.remote.items c.args.at.remote) c.args.at.pair c.requires.pair);
       sender = rw (creds) c.requires.sender;

@@ -4,7 +4,7 @@ use Rattle.is_stun.specs.declared.header.Method.TheVariants.{Binding}
 use Rattle.is_stun.specs.MessageView.{message_view}
 use Rattle.is_rules.specs.RequestView.{packet_path}
 use Rattle.is_agent.specs.View.{record_of}
-use Rattle.is_agent.proofs.AnswerLemmas.{failure-arrives}
+use Rattle.is_agent.proofs.AgentParts.ReceivedResponses.{failure-arrives}
 use Rattle.is_agent.proofs.agent.Agent.take_packet.Goals as goal
 
 pub returns-in-Failure-clause-arrives : goal.returns-in-Failure-clause-arrives

@@ -1,7 +1,7 @@
 use Rattle.std.proofs.Common.{◌^◌, ◌<◌, IsTrue, sym, ap, ◌∙◌, subst}
 use Rattle.fast_float.specs.Text.{scan, digits_of, IsInteger}
 use Rattle.serde_json.specs.Read.{number_of}
-use Rattle.is_candidate.proofs.Numbers.{where_some, unsigned_number}
+use Rattle.is_candidate.proofs.CandidateJson.WholeNumbers.{where_some, unsigned_number}
 use Rattle.is_candidate.proofs.candidate.flat.is_unsigned.Goals as goal
 
 pub returns : goal.returns

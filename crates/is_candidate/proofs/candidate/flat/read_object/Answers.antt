@@ -4,7 +4,7 @@ use Rattle.json.specs.Json.{read_key}
 use Rattle.json.proofs.Grammar.{read_key-shorter}
 use Rattle.serde_json.specs.Data.{object, no_members, put}
 use Rattle.is_candidate.specs.Flat.{BeginsWith}
-use Rattle.is_candidate.proofs.FlatInfos.{Kept, kept_none, kept_line, kept_ufrag, kept_other, told, goes_on, goes_to_the_end}
+use Rattle.is_candidate.proofs.CandidateJson.MembersSoFar.{Kept, kept_none, kept_line, kept_ufrag, kept_other, reported, goes_on, goes_to_the_end}
 use Rattle.is_candidate.proofs.candidate.flat.read_object.Goals as goal
 
 pub members-init : goal.members-init
@@ -63,4 +63,4 @@ returns c =
     let line : option_copied l.line ≡ Some c.in_ok-ok_or.field-0.now = search rules in
     let begins = goes_to_the_end c.next.new.self l.reader c.next_key.new.self l.invariant.0 found l.invariant.2 l.invariant.3 (grind arith) in
     let kept : Kept found (Some c.in_ok-ok_or.field-0.now) (option_copied l.ufrag) = subst (λ o. Kept found o (option_copied l.ufrag)) line l.invariant.4 in
-    (object found, subst (λ ts. BeginsWith 127 ts (object found) c.next_key.new.self) (sym first) begins, told found c.in_ok-ok_or.field-0.now (option_copied l.ufrag) kept)
+    (object found, subst (λ ts. BeginsWith 127 ts (object found) c.next_key.new.self) (sym first) begins, reported found c.in_ok-ok_or.field-0.now (option_copied l.ufrag) kept)

@@ -1,6 +1,6 @@
 use Rattle.std.proofs.Common.{ℕ, ◌≤◌, length, option_copied}
 use Rattle.serde_json.specs.Data.{Members}
-use Rattle.is_candidate.proofs.FlatInfos.{Kept, Goes}
+use Rattle.is_candidate.proofs.CandidateJson.MembersSoFar.{Kept, Goes}
 use Rattle.is_candidate.proofs.candidate.flat.read_object.Given as goal
 
 abbrev pub invariant-members : goal.invariant-members

@@ -1,5 +1,5 @@
 use Rattle.std.proofs.Common.{refl}
-use Rattle.is_candidate.proofs.KeySteps.{key-step}
+use Rattle.is_candidate.proofs.AttributeTexts.ReadKeys.{key-step}
 use Rattle.is_candidate.proofs.parse.keys.read_keys.Goals as goal
 
 pub loop-at-preserved : goal.loop-at-preserved

@@ -13,7 +13,7 @@ at-keys r e h = let P : List (List ℕ) → Type 0 = λ ws. ReadsKeys no_keys ws
 pub returns-in-Err-read_place : goal.returns-in-Err-read_place
 returns-in-Err-read_place c =
     let fault : Answer Place = Err (fault_text c.in-Err-read_place.fault) in
-    (_, c.in-Ok.ensures, (fault, at-place fault c.behind.ensures c.in-Err-read_place.ensures, refl))
+    (_, c.in-Ok.ensures, (fault, at-place fault c.following.ensures c.in-Err-read_place.ensures, refl))
 
 pub returns-in-Ok-read_keys : goal.returns-in-Ok-read_keys
 returns-in-Ok-read_keys c =
@@ -21,7 +21,7 @@ returns-in-Ok-read_keys c =
     let keys : Answer Keys = Ok (keys_of c.in-Ok-read_keys.keys) in (
       _,
       c.in-Ok.ensures,
-      (place, at-place place c.behind.ensures c.in-Ok-read_place.ensures, (keys, at-keys keys c.behind-2.ensures c.in-Ok-read_keys.ensures, refl)),
+      (place, at-place place c.following.ensures c.in-Ok-read_place.ensures, (keys, at-keys keys c.following-2.ensures c.in-Ok-read_keys.ensures, refl)),
     )
 
 pub returns-in-Err-read_keys : goal.returns-in-Err-read_keys
@@ -30,5 +30,5 @@ returns-in-Err-read_keys c =
     let fault : Answer Keys = Err (fault_text c.in-Err-read_keys.fault) in (
       _,
       c.in-Ok.ensures,
-      (place, at-place place c.behind.ensures c.in-Ok-read_place.ensures, (fault, at-keys fault c.behind-2.ensures c.in-Err-read_keys.ensures, refl)),
+      (place, at-place place c.following.ensures c.in-Ok-read_place.ensures, (fault, at-keys fault c.following-2.ensures c.in-Err-read_keys.ensures, refl)),
     )

@@ -1,7 +1,7 @@
 use Rattle.std.proofs.Common.{◌≡◌, ℕ, ◌<◌, ◌≤◌, List, length, take, get_or, All, ap, subst, arith, rules}
 use Rattle.std.proofs.lemmas.Str.{IsUtf8-drop}
 use Rattle.is_candidate.specs.Words.{IsVisible}
-use Rattle.is_candidate.proofs.SpacedWords.{cut_word}
+use Rattle.is_candidate.proofs.AttributeTexts.SpacedWords.{cut_word}
 use Rattle.is_candidate.proofs.parse.words.first_word.Goals as goal
 
 pub returns : goal.returns

@@ -3,8 +3,8 @@ use Rattle.std.proofs.lemmas.Bool.Decides.{nat_tests}
 use Rattle.std.proofs.lemmas.List.{take_more_set, length-set}
 use Rattle.is_candidate.specs.Scanned.{texts}
 use Rattle.is_candidate.specs.Words.{HasWords}
-use Rattle.is_candidate.proofs.SpacedWords.{no_word}
-use Rattle.is_candidate.proofs.Texts.{texts-push, texts-end}
+use Rattle.is_candidate.proofs.AttributeTexts.SpacedWords.{no_word}
+use Rattle.is_candidate.proofs.AttributeTexts.GrowingTexts.{texts-push, texts-end}
 use Rattle.is_candidate.proofs.parse.words.place_words.Goals as goal
 
 pub loop-rest-preserved : goal.loop-rest-preserved

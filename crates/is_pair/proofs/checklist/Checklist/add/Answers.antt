@@ -1,8 +1,8 @@
 use Rattle.std.proofs.Common.{◌+◌, ap, sym, ◌∙◌}
-use Rattle.is_pair.specs.Bag.{are_below, keeps, ranks, rises}
+use Rattle.is_pair.specs.Multiset.{are_below, keeps, ranks, rises}
 use Rattle.is_pair.specs.Entries.{pairs_of, is_rank}
-use Rattle.is_pair.proofs.BagLemmas.{below-added, rises-last}
-use Rattle.is_pair.proofs.EntryLemmas.{keeps-more, ranks-more}
+use Rattle.is_pair.proofs.PairEntries.ChangedEntry.{below-added, rises-last}
+use Rattle.is_pair.proofs.PairEntries.AddedAndRemovedPairs.{keeps-more, ranks-more}
 use Rattle.is_pair.proofs.checklist.Checklist.add.Goals as goal
 
 pub invariant_of-self-clause-rising : goal.invariant_of-self-clause-rising

@@ -1,8 +1,8 @@
 use Rattle.std.proofs.Common.{rules, ◌≡◌, Some, Option, find, sym, subst}
 use Rattle.is_pair.specs.Pairs.{PairRecord}
-use Rattle.is_pair.specs.Bag.{IsAwaiting}
+use Rattle.is_pair.specs.Multiset.{IsAwaiting}
 use Rattle.is_pair.specs.Entries.{pairs_of, names_passing}
-use Rattle.is_pair.proofs.AwaitingLemmas.{awaiting-found, awaiting-keeps, none-awaiting}
+use Rattle.is_pair.proofs.ChecklistIndex.AwaitingPair.{awaiting-found, awaiting-keeps, none-awaiting}
 use Rattle.is_pair.proofs.checklist.Checklist.awaiting.Goals as goal
 
 pub returns-in-Some-clause-awaiting : goal.returns-in-Some-clause-awaiting

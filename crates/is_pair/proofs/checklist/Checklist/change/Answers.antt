@@ -1,6 +1,6 @@
-use Rattle.is_pair.specs.Bag.{change_at, KeepsKeys}
+use Rattle.is_pair.specs.Multiset.{change_at, KeepsKeys}
 use Rattle.is_pair.specs.Entries.{pairs_of}
-use Rattle.is_pair.proofs.ChangedLemmas.{changed-below, changed-fewer, changed-index, changed-ranking, changed-rises, keeps-keys-at}
+use Rattle.is_pair.proofs.PairEntries.ChangedPairs.{changed-below, changed-fewer, changed-index, changed-ranking, changed-rises, keeps-keys-at}
 use Rattle.is_pair.proofs.checklist.Checklist.change.Goals as goal
 
 pub invariant_of-self-clause-rising : goal.invariant_of-self-clause-rising

@@ -1,6 +1,6 @@
-use Rattle.is_pair.specs.Bag.{KeepsKeys}
+use Rattle.is_pair.specs.Multiset.{KeepsKeys}
 use Rattle.is_pair.specs.Entries.{pairs_of}
-use Rattle.is_pair.proofs.ChangedLemmas.{changed-below, changed-fewer, changed-index, changed-ranking, changed-rises}
+use Rattle.is_pair.proofs.PairEntries.ChangedPairs.{changed-below, changed-fewer, changed-index, changed-ranking, changed-rises}
 use Rattle.is_pair.proofs.checklist.Checklist.change_all.Goals as goal
 
 pub invariant_of-self-clause-rising : goal.invariant_of-self-clause-rising

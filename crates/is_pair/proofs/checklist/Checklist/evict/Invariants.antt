@@ -1,16 +1,16 @@
 use Rattle.std.proofs.Common.{List, ◌≡◌, ℕ, true, length}
 use Rattle.is_pair.specs.Pairs.{PairRecord}
-use Rattle.is_pair.specs.Bag.{are_below, Drops}
-use Rattle.is_pair.specs.Checklists.{bag_of, HasRoom, HasCheckRoom}
+use Rattle.is_pair.specs.Multiset.{are_below, EvictsInTurn}
+use Rattle.is_pair.specs.Checklists.{multiset_of, HasRoom, HasCheckRoom}
 use Rattle.is_pair.proofs.checklist.Checklist.evict.Given as goal
 
 abbrev pub invariant-loop-self : goal.invariant-loop-self
 invariant-loop-self l = record {
-  drops : (gone : List PairRecord) (end : List PairRecord) → Drops l.limit gone (bag_of l.self) end → (all : List PairRecord) × Drops l.limit all (bag_of l.fn.self) end;
+  drops : (gone : List PairRecord) (end : List PairRecord) → EvictsInTurn l.limit gone (multiset_of l.self) end → (all : List PairRecord) × EvictsInTurn l.limit all (multiset_of l.fn.self) end;
   room : (n : ℕ) → HasRoom n l.fn.self → HasRoom n l.self;
   check_room : HasCheckRoom l.fn.self → HasCheckRoom l.self;
-  below : (n : ℕ) → are_below n (bag_of l.fn.self) ≡ true → are_below n (bag_of l.self) ≡ true;
+  below : (n : ℕ) → are_below n (multiset_of l.fn.self) ≡ true → are_below n (multiset_of l.self) ≡ true;
 }
 
 abbrev pub decreases-loop-self : goal.decreases-loop-self
-decreases-loop-self l = length (bag_of l.self)
+decreases-loop-self l = length (multiset_of l.self)

@@ -1,8 +1,8 @@
 use Rattle.std.proofs.Common.{ap, sym, is_some, ◌∙◌}
-use Rattle.is_pair.specs.Bag.{is_numbered}
+use Rattle.is_pair.specs.Multiset.{is_numbered}
 use Rattle.is_pair.specs.Entries.{pairs_of}
-use Rattle.is_pair.proofs.BagLemmas.{found-by}
-use Rattle.is_pair.proofs.CheckLemmas.{is_some-find, is_some-option_copied}
+use Rattle.is_pair.proofs.PairEntries.ChangedEntry.{found-by}
+use Rattle.is_pair.proofs.StoredChecks.LastChecks.{is_some-find, is_some-option_copied}
 use Rattle.is_pair.proofs.checklist.Checklist.get.Goals as goal
 
 pub returns-clause-found : goal.returns-clause-found

@@ -1,7 +1,7 @@
 use Rattle.std.proofs.Common.{rules, ◌≡◌, sym, ◌∙◌, is_some}
 use Rattle.is_pair.specs.Entries.{pairs_of}
-use Rattle.is_pair.proofs.CheckLemmas.{is_some-option_copied}
-use Rattle.is_pair.proofs.AwaitingLemmas.{awaiting-any}
+use Rattle.is_pair.proofs.StoredChecks.LastChecks.{is_some-option_copied}
+use Rattle.is_pair.proofs.ChecklistIndex.AwaitingPair.{awaiting-any}
 use Rattle.is_pair.proofs.checklist.Checklist.has_awaiting.Goals as goal
 
 pub returns : goal.returns

@@ -1,8 +1,8 @@
 use Rattle.std.proofs.Common.{rules, ◌≡◌, Some, None, Option, slice_get, sym, subst}
 use Rattle.is_pair.specs.Pairs.{PairRecord}
-use Rattle.is_pair.specs.Bag.{IsLowest}
+use Rattle.is_pair.specs.Multiset.{IsLowest}
 use Rattle.is_pair.specs.Entries.{pairs_of}
-use Rattle.is_pair.proofs.LeastLemmas.{least-found, none-least}
+use Rattle.is_pair.proofs.PriorityOrder.LeastPair.{least-found, none-least}
 use Rattle.is_pair.proofs.checklist.Checklist.least.Goals as goal
 
 pub returns-in-Some : goal.returns-in-Some

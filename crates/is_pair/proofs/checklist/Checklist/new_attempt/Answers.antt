@@ -2,10 +2,10 @@ use Rattle.std.proofs.Common.{rules, ◌≡◌, ap, refl, ◌∙◌, nat_eq, Som
 use Rattle.std.specs.Map.{lookup}
 use Rattle.is_pair.specs.Pairs.{PairRecord, checked, check_of}
 use Rattle.is_pair.specs.Entries.{pairs_of, are_keyed, named_after}
-use Rattle.is_pair.proofs.BagLemmas.{found-number, keyed-written, none-found, writes}
-use Rattle.is_pair.proofs.ForgetLemmas.{leaves}
-use Rattle.is_pair.proofs.IndexLemmas.{issued}
-use Rattle.is_pair.proofs.WrittenLemmas.{written-below, written-found, written-ranking, written-rises}
+use Rattle.is_pair.proofs.PairEntries.ChangedEntry.{found-number, keyed-written, none-found, writes}
+use Rattle.is_pair.proofs.ChecklistIndex.IndexAfterCut.{leaves}
+use Rattle.is_pair.proofs.ChecklistIndex.IndexAfterCheck.{issued}
+use Rattle.is_pair.proofs.PairEntries.WrittenPair.{written-below, written-found, written-ranking, written-rises}
 use Rattle.is_pair.proofs.checklist.Checklist.new_attempt.Goals as goal
 
 pub unreachable-requires : goal.unreachable-requires

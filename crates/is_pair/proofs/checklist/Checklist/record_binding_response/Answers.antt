@@ -1,11 +1,11 @@
 use Rattle.std.proofs.Common.{rules, ◌≡◌, ap, sym, refl, ◌∙◌, nat_eq, Some}
 use Rattle.std.specs.Map.{lookup}
 use Rattle.is_pair.specs.Checks.{is_kept}
-use Rattle.is_pair.specs.Bag.{change_pair}
+use Rattle.is_pair.specs.Multiset.{change_pair}
 use Rattle.is_pair.specs.Entries.{pairs_of, are_keyed}
-use Rattle.is_pair.proofs.AnswerLemmas.{answer-checks, answer-keeps, answer-number, answer-priority}
-use Rattle.is_pair.proofs.BagLemmas.{found-by, found-number, keyed-written, none-passes, one-passes, writes}
-use Rattle.is_pair.proofs.WrittenLemmas.{written-below, written-fewer, written-index, written-ranking, written-rises}
+use Rattle.is_pair.proofs.PairEntries.AnsweredPair.{answer-checks, answer-keeps, answer-number, answer-priority}
+use Rattle.is_pair.proofs.PairEntries.ChangedEntry.{found-by, found-number, keyed-written, none-passes, one-passes, writes}
+use Rattle.is_pair.proofs.PairEntries.WrittenPair.{written-below, written-fewer, written-index, written-ranking, written-rises}
 use Rattle.is_pair.proofs.checklist.Checklist.record_binding_response.Goals as goal
 
 pub record_binding_response-requires : goal.record_binding_response-requires

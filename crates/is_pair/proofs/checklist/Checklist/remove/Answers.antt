@@ -2,12 +2,12 @@ use Rattle.std.proofs.Common.{◌==◌, ap, not, ◌∙◌, nat_lt, length, arit
 use Rattle.is_pair.specs.Pairs.{PairRecord}
 use Rattle.is_pair.specs.declared.checklist.entries.Kept.{Kept}
 use Rattle.is_pair.specs.declared.checklist.entries.Rank.{Rank}
-use Rattle.is_pair.specs.Bag.{are_below, is_numbered, keep_fewer, rises}
+use Rattle.is_pair.specs.Multiset.{are_below, is_numbered, keep_fewer, rises}
 use Rattle.is_pair.specs.Entries.{pairs_of, are_ordered, ids_rise}
-use Rattle.is_pair.proofs.IdLemmas.{rising-filter}
-use Rattle.is_pair.proofs.BagLemmas.{all-filter, rises-filter}
-use Rattle.is_pair.proofs.GoneLemmas.{index-without, ranking-without}
-use Rattle.is_pair.proofs.RankLemmas.{ordered-filter}
+use Rattle.is_pair.proofs.ChecklistIndex.SortedById.{rising-filter}
+use Rattle.is_pair.proofs.PairEntries.ChangedEntry.{all-filter, rises-filter}
+use Rattle.is_pair.proofs.PairEntries.RemovedPair.{index-without, ranking-without}
+use Rattle.is_pair.proofs.PriorityOrder.OrderedPairs.{ordered-filter}
 use Rattle.is_pair.proofs.checklist.Checklist.remove.Goals as goal
 
 pub invariant_of-self-clause-rising : goal.invariant_of-self-clause-rising

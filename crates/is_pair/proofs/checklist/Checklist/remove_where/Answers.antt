@@ -1,13 +1,13 @@
 use Rattle.std.proofs.Common.{ap, not, ◌∙◌, nat_lt, length, arith}
 use Rattle.is_pair.specs.Pairs.{PairRecord}
 use Rattle.is_pair.specs.declared.checklist.entries.Rank.{Rank}
-use Rattle.is_pair.specs.Bag.{are_below, has_number, keep_fewer, rises}
+use Rattle.is_pair.specs.Multiset.{are_below, has_number, keep_fewer, rises}
 use Rattle.is_pair.specs.declared.checklist.entries.Kept.{Kept}
 use Rattle.is_pair.specs.Entries.{pairs_of, are_ordered, ids_rise}
-use Rattle.is_pair.proofs.IdLemmas.{rising-filter}
-use Rattle.is_pair.proofs.BagLemmas.{all-filter, rises-filter}
-use Rattle.is_pair.proofs.EntryLemmas.{index-left, ranking-left}
-use Rattle.is_pair.proofs.RankLemmas.{ordered-filter}
+use Rattle.is_pair.proofs.ChecklistIndex.SortedById.{rising-filter}
+use Rattle.is_pair.proofs.PairEntries.ChangedEntry.{all-filter, rises-filter}
+use Rattle.is_pair.proofs.PairEntries.AddedAndRemovedPairs.{index-left, ranking-left}
+use Rattle.is_pair.proofs.PriorityOrder.OrderedPairs.{ordered-filter}
 use Rattle.is_pair.proofs.checklist.Checklist.remove_where.Goals as goal
 
 pub invariant_of-self-clause-rising : goal.invariant_of-self-clause-rising

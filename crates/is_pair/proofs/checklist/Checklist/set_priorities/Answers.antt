@@ -1,10 +1,10 @@
 use Rattle.std.proofs.Common.{ap, sym, refl, ◌∙◌}
 use Rattle.is_pair.specs.Checks.{is_kept}
-use Rattle.is_pair.specs.Bag.{keeps, passes_at, rises, with_priority}
+use Rattle.is_pair.specs.Multiset.{keeps, passes_at, rises, with_priority}
 use Rattle.is_pair.specs.Entries.{pairs_of, are_keyed, is_rank}
-use Rattle.is_pair.proofs.AnewLemmas.{anew, keyed-changed, pairs_of-changed}
-use Rattle.is_pair.proofs.BagLemmas.{any-changed, rises-changed}
-use Rattle.is_pair.proofs.ChangedLemmas.{changed-below, changed-fewer}
+use Rattle.is_pair.proofs.PriorityOrder.RecomputedPriorities.{recomputed, keyed-changed, pairs_of-changed}
+use Rattle.is_pair.proofs.PairEntries.ChangedEntry.{any-changed, rises-changed}
+use Rattle.is_pair.proofs.PairEntries.ChangedPairs.{changed-below, changed-fewer}
 use Rattle.is_pair.proofs.checklist.Checklist.set_priorities.Goals as goal
 
 pub returns-clause-set : goal.returns-clause-set
@@ -28,8 +28,8 @@ invariant_of-self-clause-indexed g c = λ id n.
 
 pub invariant_of-self-clause-ranked : goal.invariant_of-self-clause-ranked
 invariant_of-self-clause-ranked g c = λ priority n.
-    c.order_anew.ensures.any (is_rank priority n)
-    ∙ anew c.args.self.now.pairs.entries c.args.self.now.ranks.items c.args.self.now.keyed c.args.self.now.rising c.args.self.now.ranked
+    c.rebuild_order.ensures.any (is_rank priority n)
+    ∙ recomputed c.args.self.now.pairs.entries c.args.self.now.ranks.items c.args.self.now.keyed c.args.self.now.rising c.args.self.now.ranked
     (with_priority (g.R.PairPriority.gives c.args.rule.now)) (λ p. refl) c.set_priorities.new.pairs.entries c.set_priorities.ensures.set priority n
 
 pub returns-clause-check_room : goal.returns-clause-check_room

@@ -2,7 +2,7 @@ use Rattle.std.proofs.Common.{rules, tests, not}
 use Rattle.std.proofs.lemmas.List.Sorted.{IsPartitionPoint-from_clause}
 use Rattle.is_pair.specs.declared.checklist.entries.Kept.{Kept}
 use Rattle.is_pair.specs.Entries.{is_before}
-use Rattle.is_pair.proofs.IdLemmas.{parted-through}
+use Rattle.is_pair.proofs.ChecklistIndex.SortedById.{parted-through}
 use Rattle.is_pair.proofs.checklist.index.count_through.Goals as goal
 
 pub returns-clause-point : goal.returns-clause-point

@@ -2,8 +2,8 @@ use Rattle.std.proofs.Common.{◌≡◌, ◌<◌, ◌≤◌, ◌-◌, ℕ, List,
 use Rattle.std.proofs.lemmas.List.{length-drop}
 use Rattle.is_pair.specs.declared.checklist.entries.Kept.{Kept}
 use Rattle.is_pair.specs.Entries.{ids_rise}
-use Rattle.is_pair.proofs.ForgetLemmas.{filter-around}
-use Rattle.is_pair.proofs.IdLemmas.{IsEnd, IsPoint, from-here, rising-drop}
+use Rattle.is_pair.proofs.ChecklistIndex.IndexAfterCut.{filter-around}
+use Rattle.is_pair.proofs.ChecklistIndex.SortedById.{IsEnd, IsPoint, from-here, rising-drop}
 use Rattle.is_pair.proofs.checklist.index.forget_id.Goals as goal
 
 pub count_through-requires : goal.count_through-requires
@@ -14,11 +14,11 @@ count_through-requires c =
 pub returns-then-count_through-eq1-clause-items : goal.returns-then-count_through-eq1-clause-items
 returns-then-count_through-eq1-clause-items c =
     let items = c.args.index.now.items in let xs = c.deref-2.result.now in let from = c.count_before-place.result in let id = c.args.id.0 in
-    let behind = take (length xs - from) (drop from xs) in
+    let following = take (length xs - from) (drop from xs) in
     let one : c.count_through.result ≡ 1 = search rules in
-    let same : behind ≡ drop from items = from-here from xs ∙ ap (drop from) c.deref-2.ensures.value in
+    let same : following ≡ drop from items = from-here from xs ∙ ap (drop from) c.deref-2.ensures.value in
     let point : IsPoint id items from = subst (λ (ks : List Kept). IsPoint id ks from) c.deref.ensures.value c.count_before-place.ensures.point in
-    let end : IsEnd id (drop from items) 1 = subst (λ (ks : List Kept). IsEnd id ks 1) same (subst (λ (n : ℕ). IsEnd id behind n) one c.count_through.ensures.point) in
+    let end : IsEnd id (drop from items) 1 = subst (λ (ks : List Kept). IsEnd id ks 1) same (subst (λ (n : ℕ). IsEnd id following n) one c.count_through.ensures.point) in
     let some : c.count_through.result ≤ length (drop from items) = subst (λ (ks : List Kept). c.count_through.result ≤ length ks) same c.count_through.ensures.within in
     let left = length-drop from items in
     let within : from < length items = omega (arith, some, one, left) in

@@ -1,9 +1,9 @@
 use Rattle.std.proofs.Common.{rules}
 use Rattle.std.proofs.lemmas.Fn.{filter_same}
 use Rattle.is_pair.specs.declared.checklist.entries.Kept.{Kept}
-use Rattle.is_pair.specs.Bag.{has_number}
+use Rattle.is_pair.specs.Multiset.{has_number}
 use Rattle.is_pair.specs.Entries.{pairs_of}
-use Rattle.is_pair.proofs.BagLemmas.{known}
+use Rattle.is_pair.proofs.PairEntries.ChangedEntry.{known}
 use Rattle.is_pair.proofs.checklist.index.keep_known.Goals as goal
 
 pub returns-clause-items : goal.returns-clause-items

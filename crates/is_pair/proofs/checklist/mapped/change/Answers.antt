@@ -1,7 +1,7 @@
 use Rattle.std.proofs.Common.{rules, ap, sym, ◌∙◌}
 use Rattle.is_pair.specs.Entries.{pairs_of, are_keyed}
 use Rattle.is_pair.specs.Pairs.{PairRecord}
-use Rattle.is_pair.proofs.BagLemmas.{found-number, keyed-written, unwritten, writes}
+use Rattle.is_pair.proofs.PairEntries.ChangedEntry.{found-number, keyed-written, unwritten, writes}
 use Rattle.is_pair.proofs.checklist.mapped.change.Goals as goal
 
 pub returns-in-Some-clause-changed : goal.returns-in-Some-clause-changed

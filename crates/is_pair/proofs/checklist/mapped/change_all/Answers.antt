@@ -1,7 +1,7 @@
 use Rattle.std.proofs.Common.{rules, ap, ◌∙◌}
 use Rattle.std.proofs.lemmas.Map.Made.{map_same_pairs}
 use Rattle.is_pair.specs.Entries.{pairs_of, are_keyed}
-use Rattle.is_pair.proofs.AnewLemmas.{keyed-changed, pairs_of-changed}
+use Rattle.is_pair.proofs.PriorityOrder.RecomputedPriorities.{keyed-changed, pairs_of-changed}
 use Rattle.is_pair.proofs.checklist.mapped.change_all.Goals as goal
 
 pub returns-clause-changed : goal.returns-clause-changed

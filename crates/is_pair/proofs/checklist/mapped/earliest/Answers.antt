@@ -3,7 +3,7 @@ use Rattle.std.proofs.lemmas.Map.Iter.{rest_all, rest_more}
 use Rattle.std.specs.Map.Iter.{deref}
 use Rattle.is_pair.specs.Pairs.{PairRecord}
 use Rattle.is_pair.specs.Entries.{pairs_of}
-use Rattle.is_pair.proofs.DueLemmas.{IsSeen, seen-all, seen-more, seen-none}
+use Rattle.is_pair.proofs.DueTimes.FirstDuePair.{IsSeen, seen-all, seen-more, seen-none}
 use Rattle.is_pair.proofs.checklist.mapped.earliest.Goals as goal
 
 pub loop-pair-init : goal.loop-pair-init

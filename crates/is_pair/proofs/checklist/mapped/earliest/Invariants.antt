@@ -2,7 +2,7 @@ use Rattle.std.proofs.Common.{List}
 use Rattle.std.specs.Option.{option_copied}
 use Rattle.is_pair.specs.Pairs.{PairRecord}
 use Rattle.is_pair.specs.Entries.{pairs_of}
-use Rattle.is_pair.proofs.DueLemmas.{IsSeen}
+use Rattle.is_pair.proofs.DueTimes.FirstDuePair.{IsSeen}
 use Rattle.is_pair.proofs.checklist.mapped.earliest.Given as goal
 
 abbrev pub invariant-loop-pair : goal.invariant-loop-pair

@@ -1,5 +1,5 @@
 use Rattle.std.proofs.Common.{◌≡◌, ℕ, ◌<◌, true}
-use Rattle.is_pair.specs.Bag.{keep_fewer}
+use Rattle.is_pair.specs.Multiset.{keep_fewer}
 use Rattle.is_pair.specs.Entries.{pairs_of}
 use Rattle.is_pair.proofs.checklist.mapped.reserve_beyond_all.Given as goal
 

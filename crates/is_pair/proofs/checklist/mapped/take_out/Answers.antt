@@ -1,7 +1,7 @@
 use Rattle.std.proofs.Common.{rules, ◌≡◌, ap, nat_eq, ◌∙◌}
 use Rattle.std.specs.Map.{remove_entry}
 use Rattle.is_pair.specs.Entries.{pairs_of, are_keyed}
-use Rattle.is_pair.proofs.GoneLemmas.{keyed-out, taken-out}
+use Rattle.is_pair.proofs.PairEntries.RemovedPair.{keyed-out, taken-out}
 use Rattle.is_pair.proofs.checklist.mapped.take_out.Goals as goal
 
 pub returns-clause-left : goal.returns-clause-left

@@ -1,7 +1,7 @@
 use Rattle.std.proofs.Common.{ap}
 use Rattle.is_pair.specs.Checks.{Check}
 use Rattle.is_pair.specs.Pairs.{PairRecord}
-use Rattle.is_pair.proofs.CheckLemmas.{found_at, found_where_kept}
+use Rattle.is_pair.proofs.StoredChecks.LastChecks.{found_at, found_where_kept}
 use Rattle.is_pair.proofs.pair.CandidatePair.record_binding_response.Goals as goal
 
 pub returns-in_default : goal.returns-in_default

@@ -1,6 +1,6 @@
 use Rattle.std.proofs.Common.{ap, ◌∙◌, arith}
 use Rattle.is_pair.specs.Checks.{last_checks}
-use Rattle.is_pair.proofs.CheckLemmas.{last_checks-drop}
+use Rattle.is_pair.proofs.StoredChecks.LastChecks.{last_checks-drop}
 use Rattle.is_pair.proofs.pair.attempts.keep_last.Goals as goal
 
 pub loop-attempts-preserved : goal.loop-attempts-preserved

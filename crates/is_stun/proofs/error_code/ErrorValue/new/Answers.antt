@@ -1,5 +1,5 @@
 use Rattle.std.proofs.Common.{◌∙◌, refl}
-use Rattle.is_stun.proofs.PutLemmas.{Puts-then, take-Puts}
+use Rattle.is_stun.proofs.WrittenMessages.ConsecutiveTexts.{Puts-then, take-Puts}
 use Rattle.is_stun.proofs.error_code.ErrorValue.new.Goals as goal
 
 pub returns : goal.returns

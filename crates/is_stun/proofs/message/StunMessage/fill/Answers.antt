@@ -1,6 +1,6 @@
 use Rattle.std.proofs.Common.{refl, ◌∙◌, ap, sym}
 use Rattle.is_stun.specs.Reading.{demand_fault}
-use Rattle.is_stun.proofs.FormLemmas.{fault_of-form}
+use Rattle.is_stun.proofs.MessageReading.MalformedMessages.{fault_of-form}
 use Rattle.is_stun.proofs.message.StunMessage.fill.Goals as goal
 
 pub returns-in-Some-clause-fault : goal.returns-in-Some-clause-fault

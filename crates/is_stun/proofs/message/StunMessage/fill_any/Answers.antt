@@ -1,5 +1,5 @@
 use Rattle.std.proofs.Common.{refl, sym}
-use Rattle.is_stun.proofs.FormLemmas.{form_fault-parts}
+use Rattle.is_stun.proofs.MessageReading.MalformedMessages.{form_fault-parts}
 use Rattle.is_stun.proofs.message.StunMessage.fill_any.Goals as goal
 
 pub returns-in-Some-clause-fault : goal.returns-in-Some-clause-fault

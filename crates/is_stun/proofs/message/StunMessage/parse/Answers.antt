@@ -1,4 +1,4 @@
-use Rattle.is_stun.proofs.SpellsLemmas.{reads_spells}
+use Rattle.is_stun.proofs.MessageReading.EncodedMessages.{reads_spells}
 use Rattle.is_stun.proofs.message.StunMessage.parse.Goals as goal
 
 pub returns-clause-spells : goal.returns-clause-spells

@@ -1,8 +1,8 @@
 use Rattle.std.proofs.Common.{refl, length}
 use Rattle.std.specs.Option.{option_copied}
 use Rattle.is_stun.specs.MessageView.{message_view}
-use Rattle.is_stun.proofs.WrittenLemmas.{refusal_at_once}
+use Rattle.is_stun.proofs.WrittenMessages.MessagesByParts.{rejection_at_once}
 use Rattle.is_stun.proofs.message.StunMessage.to_bytes.Goals as goal
 
 pub returns-in-Some-clause-written : goal.returns-in-Some-clause-written
-returns-in-Some-clause-written g c = (refusal_at_once (option_copied c.args.password) (length c.args.buf.now) (message_view c.args.self) c.in-Some.error c.in-Some.ensures.refusal, refl)
+returns-in-Some-clause-written g c = (rejection_at_once (option_copied c.args.password) (length c.args.buf.now) (message_view c.args.self) c.in-Some.error c.in-Some.ensures.rejection, refl)

@@ -1,7 +1,7 @@
 use Rattle.std.proofs.Common.{◌≡◌, ◌+◌, ◌-◌, sum_by, ap, arith}
 use Rattle.std.specs.List.{range_with_len}
 use Rattle.is_stun.specs.Timing.{resend_delay}
-use Rattle.is_stun.proofs.TimingLemmas.{timeout_by_parts, sum_by-range_more}
+use Rattle.is_stun.proofs.BitsOfNumbers.RetransmissionDelays.{timeout_by_parts, sum_by-range_more}
 use Rattle.is_stun.proofs.timing.StunTiming.timeout.Goals as goal
 
 pub loop-count-preserved : goal.loop-count-preserved

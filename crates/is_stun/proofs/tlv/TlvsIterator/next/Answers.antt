@@ -1,6 +1,6 @@
 use Rattle.std.proofs.Common.{ℕ, ◌-◌, length, take, drop, List, ap, arith}
 use Rattle.std.proofs.lemmas.List.{take_rest}
-use Rattle.is_stun.proofs.TlvLemmas.{tlvs_short, next_tlv}
+use Rattle.is_stun.proofs.MessageReading.AttributeSequence.{tlvs_short, next_tlv}
 use Rattle.is_stun.proofs.tlv.TlvsIterator.next.Goals as goal
 
 pub returns-in_default-clause-steps : goal.returns-in_default-clause-steps
@@ -10,9 +10,9 @@ pub returns-clause-steps : goal.returns-clause-steps
 returns-clause-steps c =
     let bytes = c.args.self.now.rest.now in
     let rest : List ℕ = take (length bytes - 4) (drop 4 bytes) in
-    next_tlv c.args.self.now.place c.from_be_bytes-code.result c.from_be_bytes-len.result c.min.result c.min-behind.result bytes
-    rest (take (length rest - c.min-behind.result) (drop c.min-behind.result rest)) (omega arith) (take_rest bytes 4) (take_rest rest c.min-behind.result)
-    c.from_be_bytes-code.ensures c.from_be_bytes-len.ensures c.min.ensures c.min-behind.ensures
+    next_tlv c.args.self.now.place c.from_be_bytes-code.result c.from_be_bytes-len.result c.min.result c.min-following.result bytes
+    rest (take (length rest - c.min-following.result) (drop c.min-following.result rest)) (omega arith) (take_rest bytes 4) (take_rest rest c.min-following.result)
+    c.from_be_bytes-code.ensures c.from_be_bytes-len.ensures c.min.ensures c.min-following.ensures
 
 pub returns-clause-goes : goal.returns-clause-goes
 returns-clause-goes c =

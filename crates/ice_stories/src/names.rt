@@ -1,0 +1,161 @@
+//! The two agents of the stories: their addresses, their credentials, and the ids of their transactions.
+use is::stun::TransId;
+use is::{IceCreds, Instant, Path, Protocol, Side, SocketText, Text};
+use rand_core::SeedableRng;
+use rand_pcg::Pcg32;
+use std::alloc::{AllocError, Global};
+use std::net::{Ipv4Addr, SocketAddr, SocketAddrV4};
+
+/// The nanoseconds of a millisecond.
+pub const MS: u64 = 1_000_000;
+
+/// How many ids are tried to find the number of a transaction.
+const TRANSACTIONS: usize = 500;
+
+/// The random source of each story, new.
+pub fn random() -> Pcg32 {
+    Pcg32::seed_from_u64(1)
+}
+
+fn at(host: u8, port: u16) -> SocketAddr {
+    SocketAddr::V4(SocketAddrV4::new(Ipv4Addr::new(10, 0, 0, host), port))
+}
+
+/// The address of the side's host candidate.
+pub fn home(side: Side) -> SocketAddr {
+    match side {
+        Side::A => at(1, 1000),
+        Side::B => at(2, 2000),
+    }
+}
+
+/// The address of the side as the other one sees it through NATs.
+pub fn mapped(side: Side) -> SocketAddr {
+    match side {
+        Side::A => at(101, 1000),
+        Side::B => at(102, 2000),
+    }
+}
+
+/// An address at which neither has a candidate.
+pub fn unknown() -> SocketAddr {
+    at(5, 2000)
+}
+
+pub fn other(side: Side) -> Side {
+    match side {
+        Side::A => Side::B,
+        Side::B => Side::A,
+    }
+}
+
+/// The value of the side.
+pub fn of<T: Copy>(side: Side, both: [T; 2]) -> T {
+    let [a, b] = both;
+    match side {
+        Side::A => a,
+        Side::B => b,
+    }
+}
+
+/// The same values, with a new one for the side.
+pub fn with<T: Copy>(side: Side, both: [T; 2], value: T) -> [T; 2] {
+    let [a, b] = both;
+    match side {
+        Side::A => [value, b],
+        Side::B => [a, value],
+    }
+}
+
+/// The path between the two host candidates, from the side.
+pub fn path_of(side: Side) -> Path {
+    Path {
+        proto: Protocol::Udp,
+        source: home(side),
+        destination: home(other(side)),
+    }
+}
+
+/// The path in the other direction.
+pub fn back(path: Path) -> Path {
+    Path {
+        proto: path.proto,
+        source: path.destination,
+        destination: path.source,
+    }
+}
+
+pub fn password(side: Side) -> &'static str {
+    match side {
+        Side::A => "nearpass",
+        Side::B => "farpass",
+    }
+}
+
+pub fn ufrag(side: Side) -> &'static str {
+    match side {
+        Side::A => "near",
+        Side::B => "farr",
+    }
+}
+
+/// Credentials, given as `UFRAG` with the side's password, or as `UFRAG/PASSWORD`.
+pub fn creds(alloc: Global, side: Side, text: &str) -> Result<IceCreds, AllocError> {
+    let (ufrag, pass) = match text.split_once('/') {
+        Some((ufrag, pass)) => (ufrag, pass),
+        None => (text, password(side)),
+    };
+    Ok(IceCreds {
+        ufrag: Text::from_str(alloc, ufrag)?,
+        pass: Text::from_str(alloc, pass)?,
+    })
+}
+
+pub fn time(ms: u64) -> Instant {
+    Instant(ms.saturating_mul(MS))
+}
+
+pub fn side_of(word: &str) -> Option<Side> {
+    match word {
+        "A" => Some(Side::A),
+        "B" => Some(Side::B),
+        _ => None,
+    }
+}
+
+/// The name of an address: `A` and `B` are the host candidates.
+pub fn address_of(word: &str) -> Option<SocketAddr> {
+    match side_of(word) {
+        Some(side) => Some(home(side)),
+        None => match SocketText::from_text(word) {
+            Some(SocketText(address)) => Some(address),
+            None => None,
+        },
+    }
+}
+
+/// The id of the agents' check of this number, counted from 0 over both: each draws the next twelve bytes.
+pub fn check_id(number: usize) -> TransId {
+    let mut random = random();
+    let mut id = TransId::new(&mut random);
+    for _ in 0..number {
+        id = TransId::new(&mut random);
+    }
+    id
+}
+
+/// The number of the agents' check with this id.
+pub fn check_number(id: TransId) -> Option<usize> {
+    let mut random = random();
+    for number in 0..TRANSACTIONS {
+        if TransId::new(&mut random) == id {
+            return Some(number);
+        }
+    }
+    None
+}
+
+/// The id of a request that a story writes for B.
+pub fn request_id(number: u8) -> TransId {
+    TransId([number; 12])
+}

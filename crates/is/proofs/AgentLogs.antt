@@ -1,0 +1,5 @@
+-- The log of one agent.
+pub mod GrowingLog
+pub mod UnacceptedBytes
+pub mod PollingOrder
+pub mod StoredAndQueued

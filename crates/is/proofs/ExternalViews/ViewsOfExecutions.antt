@@ -1,0 +1,479 @@
+-- An execution of the two-agent network model is one of the model with external views.
+use Rattle.std.proofs.Common.{◌≡◌, ℕ, zero, suc, Bool, true, false, List, [], ◌∷◌, ◌++◌, map, Option, Some, None, option_map, inl, inr, refl, ap, sym, ◌∙◌, subst, append-nil}
+use Rattle.std.specs.Prelude.{◌||◌, MatchBool, slice_get}
+use Rattle.std.specs.List.{list_any}
+use Rattle.std.proofs.lemmas.Slice.Eq.{bytes_eq-Decides}
+use Rattle.rand_core.specs.Stream.{Stream}
+use Rattle.is_proto.specs.Lists.{Has}
+use Rattle.is_proto.specs.Packets.{Packet}
+use Rattle.is_proto.specs.declared.error.ParseFault.{ParseFault}
+use Rattle.is_candidate.specs.Addresses.{same_address}
+use Rattle.is_candidate.specs.Candidates.{CandidateRecord}
+use Rattle.is_pair.specs.Checks.{Check, has_id, is_kept}
+use Rattle.is_pair.specs.Pairs.{PairRecord}
+use Rattle.is_stun.specs.declared.header.Class.{Class}
+use Rattle.is_stun.specs.declared.header.Class.TheVariants as class
+use Rattle.is_stun.specs.declared.trans_id.TransId.{TransId}
+use Rattle.is_stun.specs.Message.{Message}
+use Rattle.is_stun.specs.Reading.{fault_of, message_of}
+use Rattle.is_theorems.proofs.BasicLemmas.EqualAddresses.{both, same_address-sound}
+use Rattle.is_rules.specs.declared.emitted.Path.{Path}
+use Rattle.is_rules.specs.Steps as agent
+use Rattle.is_rules.specs.Steps.{Answer, Flag, Entry}
+use Rattle.is_theorems.specs.RoleState.{Mail, RoleEvent, RoleEffect}
+use Rattle.is_rules.specs.Agent.{AgentRecord}
+use Rattle.is_rules.specs.Polls.{PollsTransmit}
+use Rattle.is_rules.specs.Sending.{path_of}
+use Rattle.is_rules.specs.Accepting.{IsAcceptedAs}
+use Rattle.is_rules.specs.Answers.{keeps_check_on, goes_back}
+use Rattle.is_rules.specs.Steps.{Step}
+use Rattle.is_rules.specs.Sound.{IsSound}
+use Rattle.is_rules.specs.Brought.{Brings}
+use Rattle.is_rules.specs.Effects.{PathTheorem}
+use Rattle.is_theorems.specs.RoleView.{mail_of, mail_unless, mail_read, mail_in, kept_as, all_kept, role_state_of, when_accepted, sent_as, some_paths, sets_role, sets_lite, packet_path, accepted_by, role_event_of, RoleTheorem}
+use Rattle.is.specs.declared.world.Side.{Side}
+use Rattle.is.specs.declared.world.Side.TheVariants.{A, B}
+use Rattle.is.specs.World as world
+use Rattle.is.specs.World.{WorldRecord, InFlightRecord, Event, Outcome, LoggedEvent, other, in_world, plain, read_unless, moved_by, PolledInto, TakesTurn, Persists, Polls, Delivers, Happens}
+use Rattle.is.specs.WorldRoles.{Makes}
+use Rattle.is.specs.Traces.{StaysFull, IsNeverLite}
+use Rattle.is.proofs.ExternalViews.NetworkModel as seen
+use Rattle.is.proofs.ExternalViews.NetworkModel.{InFlight, Seen, Roles, Moved, Emitted, Kind, Still, Move, Moves, IsAwaited, Happening, emitted_of, NeverLite}
+
+-- ---- lists
+
+pub Has-get : {X : Type 0} (xs : List X) (n : ℕ) (x : X) → slice_get xs n ≡ Some x → Has xs x
+Has-get [] n x h = cc
+Has-get (y ∷ ys) zero x h = inl cc
+Has-get (y ∷ ys) (suc n) x h = inr (Has-get ys n x h)
+
+Has-mapped : {X Y : Type 0} (f : X → Y) (xs : List X) (x : X) → Has xs x → Has (map f xs) (f x)
+Has-mapped f [] x h = absurd h
+Has-mapped f (y ∷ xs) x (inl e) = inl (ap f e)
+Has-mapped f (y ∷ xs) x (inr h) = inr (Has-mapped f xs x h)
+
+pub Has-front : {X : Type 0} (xs ys : List X) (x : X) → Has xs x → Has (xs ++ ys) x
+Has-front [] ys x h = absurd h
+Has-front (y ∷ xs) ys x (inl e) = inl e
+Has-front (y ∷ xs) ys x (inr h) = inr (Has-front xs ys x h)
+
+pub Has-rear : {X : Type 0} (xs ys : List X) (x : X) → Has ys x → Has (xs ++ ys) x
+Has-rear [] ys x h = h
+Has-rear (y ∷ xs) ys x h = inr (Has-rear xs ys x h)
+
+map-push : {X Y : Type 0} (f : X → Y) (xs : List X) (x : X) → map f (xs ++ x ∷ []) ≡ map f xs ++ f x ∷ []
+map-push f [] x = refl
+map-push f (y ∷ xs) x = ap (λ ys. f y ∷ ys) (map-push f xs x)
+
+passing : {X : Type 0} (test : X → Bool) (xs : List X) → list_any test xs ≡ true → (x : X) × Has xs x × (test x ≡ true)
+passing test [] h = absurd (let wrong : false ≡ true = h in cc)
+passing test (x ∷ xs) h = elim (test x) as (λ b. test x ≡ b → b || list_any test xs ≡ true → (y : _) × Has (x ∷ xs) y × (test y ≡ true)) [
+  | true ↦ λ is k. (x, inl refl, is)
+  | false ↦ λ is k. (let more = passing test xs k in (more.0, inr more.1, more.2))
+] refl h
+
+-- ---- what is observed of a network model
+
+abbrev pub in_flight_as : InFlightRecord → InFlight
+in_flight_as l = record { sender = l.sender; mail = mail_in l.packet }
+
+abbrev pub seen_of : {H P : Type 0} → WorldRecord H P → Seen
+seen_of w = record { a = role_state_of w.a; b = role_state_of w.b; network = map in_flight_as w.network }
+
+abbrev pub roles_as : List Bool → Roles
+roles_as (a ∷ b ∷ rest) = record { a = a; b = b }
+roles_as (a ∷ []) = record { a = a; b = false }
+roles_as [] = record { a = false; b = false }
+
+abbrev pub moved_as : Class × TransId → Moved
+moved_as m = record { class = m.0; id = m.1.0 }
+
+abbrev pub is_yes : Answer → Bool
+is_yes (Flag true) = true
+is_yes _ = false
+
+abbrev pub via_in : {P : Type 0} → Event P → Option Path
+via_in (world.Deliver place now via) = Some via
+via_in _ = None
+
+abbrev pub emitted_at : {P : Type 0} → LoggedEvent P → Emitted
+emitted_at x = record {
+  side = x.outcome.side;
+  accepted = is_yes x.outcome.entry.answer;
+  via = via_in x.event;
+  moved = option_map moved_as x.outcome.moved;
+  issued = option_map sent_as x.outcome.entry.emitted.issued;
+  selected_paths = some_paths x.outcome.entry.emitted.selected_paths;
+  clear = x.outcome.clear;
+  roles = roles_as x.outcome.controlling;
+}
+
+-- ---- what was accepted
+
+pub yes_is : (a : Answer) → is_yes a ≡ true → a ≡ Flag true
+yes_is (Flag true) h = refl
+yes_is a h = absurd (let wrong : false ≡ true = h in cc)
+
+when_is : {X : Type 0} (a : Answer) (x : Option X) (y : X) → when_accepted a x ≡ Some y → (a ≡ Flag true) × (x ≡ Some y)
+when_is (Flag true) x y h = (refl, h)
+when_is a x y h = absurd (let wrong : None ≡ Some y = h in cc)
+
+mail_moved : (f : Option ParseFault) (m : Message) (x : Mail) → mail_unless f m ≡ Some x → option_map moved_as (read_unless f m) ≡ Some record { class = x.class; id = x.id }
+mail_moved None m x h = ap (λ o. option_map (λ (y : Mail). let z : Moved = record { class = y.class; id = y.id } in z) o) h
+mail_moved (Some fault) m x h = absurd (let wrong : None ≡ Some x = h in cc)
+
+moved_mail : (f : Option ParseFault) (m : Message) (x : Moved) → option_map moved_as (read_unless f m) ≡ Some x → (mail : Mail) × (mail_unless f m ≡ Some mail) × (mail.class ≡ x.class) × (mail.id ≡ x.id)
+moved_mail None m x h =
+    let same : ◌≡◌ {A = Moved} (record { class = m.class; id = m.id }) x = cc in
+    (mail_of m, refl, ap (λ (y : Moved). y.class) same, ap (λ (y : Moved). y.id) same)
+moved_mail (Some fault) m x h = absurd (let wrong : None ≡ Some x = h in cc)
+
+-- calls of a network model except deliveries
+module _ {P : Type 0} where
+  unaccepting : (c : agent.Call P) (answer : Answer) → in_world c ≡ true → accepted_by c answer ≡ None
+  unaccepting (agent.ReceivePacket now via bytes) answer h = absurd (let wrong : false ≡ true = h in cc)
+  unaccepting c answer h = refl
+
+  unmoving : (c : agent.Call P) → in_world c ≡ true → moved_by c ≡ None
+  unmoving (agent.ReceivePacket now via bytes) h = absurd (let wrong : false ≡ true = h in cc)
+  unmoving c h = refl
+
+  wayless : (c : agent.Call P) → in_world c ≡ true → packet_path c ≡ None
+  wayless (agent.ReceivePacket now via bytes) h = absurd (let wrong : false ≡ true = h in cc)
+  wayless c h = refl
+
+  unset : (c : agent.Call P) → in_world c ≡ true → sets_role c ≡ false
+  unset (agent.SetControlling controlling) h = absurd (let wrong : false ≡ true = h in cc)
+  unset (agent.SetControlTieBreaker tie_breaker) h = absurd (let wrong : false ≡ true = h in cc)
+  unset c h = refl
+
+  stays : (c : agent.Call P) (s side : Side) → StaysFull side (world.Call s c) → s ≡ side → sets_lite c ≡ false
+  stays (agent.SetIceLite lite) s side full is = full is
+  stays c s side full is = refl
+
+module _ {H P : Type 0} where
+  kept_to : (a : AgentRecord H P) (ps : List PairRecord) (p : PairRecord) (c : Check) → Has ps p → Has p.checks c → Has (all_kept a ps) (kept_as (path_of a p) c)
+  kept_to a [] p c h keeps = absurd h
+  kept_to a (q ∷ ps) p c (inl e) keeps =
+      Has-front (map (kept_as (path_of a q)) q.checks) (all_kept a ps) (kept_as (path_of a p) c)
+      (subst (λ (x : PairRecord). Has (map (kept_as (path_of a x)) x.checks) (kept_as (path_of a p) c)) (sym e) (Has-mapped (kept_as (path_of a p)) p.checks c keeps))
+  kept_to a (q ∷ ps) p c (inr h) keeps = Has-rear (map (kept_as (path_of a q)) q.checks) (all_kept a ps) (kept_as (path_of a p) c) (kept_to a ps p c h keeps)
+
+  -- an accepted success response has the id of a check that is stored on the reverse path
+  awaits : (a : AgentRecord H P) (d : RoleEvent) (via : Path) (id : List ℕ) → list_any (keeps_check_on a via id) a.pairs ≡ true → d.via ≡ Some via → IsAwaited (role_state_of a) d id
+  awaits a d via id keeps came =
+      let p = passing (keeps_check_on a via id) a.pairs keeps in
+      let two = both (is_kept id p.0.checks) (goes_back via (path_of a p.0)) p.2 in
+      let c = passing (has_id id) p.0.checks two.0 in
+      let ends = both (same_address via.source (path_of a p.0).destination) (same_address via.destination (path_of a p.0).source) two.1 in
+      record {
+        path = path_of a p.0;
+        role = c.0.controlling;
+        kept = subst (λ i. Has (all_kept a a.pairs) (record { path = path_of a p.0; id = i; controlling = c.0.controlling })) ((bytes_eq-Decides c.0.id id).0 c.2) (kept_to a a.pairs p.0 c.0 p.1 c.1);
+        via = via;
+        came = came;
+        back = (same_address-sound via.source (path_of a p.0).destination ends.0, same_address-sound via.destination (path_of a p.0).source ends.1);
+      }
+
+  at_side : (s : Side) (w : WorldRecord H P) → seen.at s (seen_of w) ≡ role_state_of (world.at s w)
+  at_side A w = refl
+  at_side B w = refl
+
+  put_side : (s : Side) (r : AgentRecord H P) (w : WorldRecord H P) (network : List InFlightRecord)
+      → seen_of (record (world.put s r w) { network = network }) ≡ record (seen.put s (role_state_of r) (seen_of w)) { network = map in_flight_as network }
+  put_side A r w network = refl
+  put_side B r w network = refl
+
+  put_back : (s : Side) (v : WorldRecord H P) (new : AgentRecord H P) (network : List InFlightRecord) → new ≡ world.at s v → network ≡ v.network
+      → ◌≡◌ {A = WorldRecord H P} (record (world.put s new v) { network = network }) v
+  put_back A v new network p q = ap (λ r. let x : WorldRecord H P = record { a = r; b = v.b; network = network } in x) p ∙ ap (λ b. let x : WorldRecord H P = record { a = v.a; b = v.b; network = b } in x) q
+  put_back B v new network p q = ap (λ r. let x : WorldRecord H P = record { a = v.a; b = r; network = network } in x) p ∙ ap (λ b. let x : WorldRecord H P = record { a = v.a; b = v.b; network = b } in x) q
+
+  same_multiset : (side : Side) (new : AgentRecord H P) (w : WorldRecord H P) → record (world.put side new w) { network = w.network } ≡ world.put side new w
+  same_multiset A new w = refl
+  same_multiset B new w = refl
+
+  abbrev pub AreSound : WorldRecord H P → Type 0
+  AreSound w = (side : Side) → IsSound (world.at side w)
+
+  sound_put : (side : Side) (new : AgentRecord H P) (w : WorldRecord H P) (network : List InFlightRecord) → AreSound w → IsSound new → AreSound (record (world.put side new w) { network = network })
+  sound_put A new w network h is A = is
+  sound_put A new w network h is B = h B
+  sound_put B new w network h is A = h A
+  sound_put B new w network h is B = is
+
+-- ---- events
+
+-- the result of an event
+pub record Comes {H P : Type 0} (w w' : WorldRecord H P) (x : LoggedEvent P) : Type 0 where
+  pub kind : Kind
+  pub happens : seen.Happens (seen_of w) kind (emitted_at x) (seen_of w')
+  pub made : (side : Side) (c : agent.Call P) → Makes w x.event side c → kind ≡ Move side (role_event_of (world.at side w) c x.outcome.entry)
+  pub full : (side : Side) → StaysFull side x.event → seen.StaysFull side kind
+  pub sound : AreSound w'
+
+-- what a side does, and the in-flight packets that are added to the multiset
+record Did {H P : Type 0} (w : WorldRecord H P) (side : Side) (d : RoleEvent) (e : Emitted) (new : AgentRecord H P) (network posted : List InFlightRecord) : Type 0 where
+  effect : RoleEffect (role_state_of (world.at side w)) d (role_state_of new)
+  multiset_is : network ≡ w.network ++ posted
+  from : (l : InFlight) → Has (map in_flight_as posted) l → (l.sender ≡ side) × Has (role_state_of (world.at side w)).packets l.mail
+  delivered : (m : Mail) → d.accepts ≡ Some m → (l : InFlightRecord) × Has w.network l × (l.sender ≡ other side) × (mail_in l.packet ≡ Some m) × (e.accepted ≡ true) × (e.moved ≡ Some record { class = m.class; id = m.id })
+  accepts : (x : Moved) → e.accepted ≡ true → e.moved ≡ Some x → (m : Mail) × (d.accepts ≡ Some m) × (m.class ≡ x.class) × (m.id ≡ x.id)
+  awaited : (m : Mail) → d.accepts ≡ Some m → m.class ≡ class.Success → IsAwaited (role_state_of (world.at side w)) d m.id
+  unset_is : d.sets ≡ false
+  side_is : e.side ≡ Some side
+  via_is : e.via ≡ d.via
+  issued_is : e.issued ≡ d.issued
+  selected_is : e.selected_paths ≡ d.selected_paths
+  clear_is : e.clear ≡ d.clears
+  roles_are : e.roles ≡ seen.roles_of (seen_of (record (world.put side new w) { network = network }))
+
+map-append : {X Y : Type 0} (f : X → Y) (xs ys : List X) → map f (xs ++ ys) ≡ map f xs ++ map f ys
+map-append f [] ys = refl
+map-append f (x ∷ xs) ys = ap (λ zs. f x ∷ zs) (map-append f xs ys)
+
+module _ {H P : Type 0} where
+  moves_so : (w : WorldRecord H P) (side : Side) (d : RoleEvent) (e : Emitted) (new : AgentRecord H P) (network posted : List InFlightRecord) → Did w side d e new network posted
+      → Moves (seen_of w) side d e (seen_of (record (world.put side new w) { network = network }))
+  moves_so w side d e new network posted k = record {
+    new = role_state_of new;
+    effect = subst (λ s. RoleEffect s d (role_state_of new)) (sym (at_side side w)) k.effect;
+    posted = map in_flight_as posted;
+    world = put_side side new w network ∙ ap (λ b. record (seen.put side (role_state_of new) (seen_of w)) { network = b }) (ap (map in_flight_as) k.multiset_is ∙ map-append in_flight_as w.network posted);
+    from_queue = λ l has. (let o = k.from l has in (o.0, subst (λ s. Has s.packets l.mail) (sym (at_side side w)) o.1));
+    delivered = λ m accepted. (let o = k.delivered m accepted in record {
+      in_flight = in_flight_as o.0;
+      there = Has-mapped in_flight_as w.network o.0 o.1;
+      sender = o.2;
+      mail = o.3;
+      accepted = o.4;
+      moved = o.5;
+    });
+    accepts = k.accepts;
+    awaited = λ m accepted success. subst (λ s. IsAwaited s d m.id) (sym (at_side side w)) (k.awaited m accepted success);
+    not_set = k.unset_is;
+    side_is = k.side_is;
+    via_is = k.via_is;
+    issued_is = k.issued_is;
+    selected_is = k.selected_is;
+    clear_is = k.clear_is;
+    roles_are = k.roles_are;
+  }
+
+  -- nothing happens
+  persists_still : (w w' : WorldRecord H P) (x : LoggedEvent P) (answer : Answer) (side : Option Side) → AreSound w → x.outcome ≡ plain answer side (world.roles_of w) → w' ≡ w
+      → ((s : Side) (c : agent.Call P) → Makes w x.event s c → ⊥) → Comes w w' x
+  persists_still w w' x answer side sound is same no_one = subst (λ v. Comes w v x) (sym same) (record {
+    kind = Still;
+    happens = record {
+      world = refl;
+      moved_is = ap (λ (o : Outcome). option_map moved_as o.moved) is;
+      issued_is = ap (λ (o : Outcome). option_map sent_as o.entry.emitted.issued) is;
+      selected_is = ap (λ (o : Outcome). some_paths o.entry.emitted.selected_paths) is;
+      clear_is = ap (λ (o : Outcome). o.clear) is;
+      roles_are = ap (λ (o : Outcome). roles_as o.controlling) is;
+    };
+    made = λ s c made. absurd (no_one s c made);
+    full = λ s h. tt;
+    sound = sound;
+  })
+
+  module _ (mac : H → List ℕ → List ℕ → List ℕ) (answers : P → CandidateRecord → ℕ → ℕ → Type 0) (paths : PathTheorem {H = H} {P = P} mac answers) (roles : RoleTheorem {H = H} {P = P} mac answers) where
+    -- ---- a call, and a delivery
+
+    -- what the call implies for the event's packet
+    record Packets (w : WorldRecord H P) (side : Side) (c : agent.Call P) (x : LoggedEvent P) : Type 0 where
+      delivered : (m : Mail) → accepted_by c x.outcome.entry.answer ≡ Some m → (l : InFlightRecord) × Has w.network l × (l.sender ≡ other side) × (mail_in l.packet ≡ Some m) × (is_yes x.outcome.entry.answer ≡ true)
+          × (option_map moved_as x.outcome.moved ≡ Some record { class = m.class; id = m.id })
+      accepts : (y : Moved) → is_yes x.outcome.entry.answer ≡ true → option_map moved_as x.outcome.moved ≡ Some y → (m : Mail) × (accepted_by c x.outcome.entry.answer ≡ Some m) × (m.class ≡ y.class) × (m.id ≡ y.id)
+      awaited : (m : Mail) → accepted_by c x.outcome.entry.answer ≡ Some m → m.class ≡ class.Success → IsAwaited (role_state_of (world.at side w)) (role_event_of (world.at side w) c x.outcome.entry) m.id
+      unset_is : sets_role c ≡ false
+      via_is : via_in x.event ≡ packet_path c
+      made : (s : Side) (d : agent.Call P) → Makes w x.event s d → (side ≡ s) × (c ≡ d)
+      full : (s : Side) → StaysFull s x.event → side ≡ s → sets_lite c ≡ false
+
+    turns : (w w' : WorldRecord H P) (s t : Stream) (side : Side) (c : agent.Call P) (x : LoggedEvent P) → AreSound w → TakesTurn mac answers w s side c x.outcome w' t → Packets w side c x → Comes w w' x
+    turns w w' s t side c x sound k p =
+        let old = world.at side w in
+        let d = role_event_of old c x.outcome.entry in
+        let path = paths old k.new s t c x.outcome.entry (sound side) k.given k.step in
+        let role = roles old k.new s t c x.outcome.entry (sound side) k.given k.step in
+        let did : Did w side d (emitted_at x) k.new w.network [] = record {
+          effect = role;
+          multiset_is = sym (append-nil w.network);
+          from = λ l none. absurd none;
+          delivered = p.delivered;
+          accepts = p.accepts;
+          awaited = p.awaited;
+          unset_is = p.unset_is;
+          side_is = k.side_is;
+          via_is = p.via_is;
+          issued_is = refl;
+          selected_is = refl;
+          clear_is = k.clear;
+          roles_are = ap roles_as (k.roles ∙ ap world.roles_of (k.world ∙ sym (same_multiset side k.new w)));
+        } in
+        subst (λ v. Comes w v x) (sym (k.world ∙ sym (same_multiset side k.new w))) (record {
+          kind = Move side d;
+          happens = moves_so w side d (emitted_at x) k.new w.network [] did;
+          made = λ s' c' made.
+              let is = p.made s' c' made in
+              ap (λ y. Move y (role_event_of (world.at y w) c x.outcome.entry)) is.0 ∙ ap (λ y. Move s' (role_event_of (world.at s' w) y x.outcome.entry)) is.1;
+          full = p.full;
+          sound = sound_put side k.new w w.network sound path.1;
+        })
+
+    called : (w w' : WorldRecord H P) (s t : Stream) (side : Side) (c : agent.Call P) (x : LoggedEvent P) → AreSound w → x.event ≡ world.Call side c → in_world c ≡ true
+        → TakesTurn mac answers w s side c x.outcome w' t → Comes w w' x
+    called w w' s t side c x sound event_is is k = turns w w' s t side c x sound k (record {
+      delivered = λ m accepted. absurd (let none = unaccepting c x.outcome.entry.answer is in cc);
+      accepts = λ y yes moved. absurd (let none = ap (option_map moved_as) (k.moved ∙ unmoving c is) in cc);
+      awaited = λ m accepted success. absurd (let none = unaccepting c x.outcome.entry.answer is in cc);
+      unset_is = unset c is;
+      via_is = ap via_in event_is ∙ sym (wayless c is);
+      made = λ s' d made. (let m : Makes w (world.Call side c) s' d = subst (λ v. Makes w v s' d) event_is made in (m.0, sym m.1));
+      full = λ s' full same. stays c side s' (subst (λ v. StaysFull s' v) event_is full) same;
+    })
+
+    other-other : (s : Side) → s ≡ other (other s)
+    other-other A = refl
+    other-other B = refl
+
+    delivers : (o : Option InFlightRecord) (w w' : WorldRecord H P) (s t : Stream) (place now : ℕ) (via : Path) (x : LoggedEvent P) → x.event ≡ world.Deliver place now via → slice_get w.network place ≡ o
+        → AreSound w → Delivers mac answers w s o now via x.outcome w' t → Comes w w' x
+    delivers None w w' s t place now via x event_is found sound k =
+        persists_still w w' x agent.NoSuchPacket None sound k.2 k.0
+        (λ s' c made. (let m : Makes w (world.Deliver place now via) s' c = subst (λ v. Makes w v s' c) event_is made in let found_one = m.1 in cc))
+    delivers (Some l) w w' s t place now via x event_is found sound k =
+        let side = other l.sender in
+        let bytes = l.packet.contents in
+        let c : agent.Call P = agent.ReceivePacket now via bytes in
+        let old = world.at side w in
+        turns w w' s t side c x sound k (record {
+          delivered = λ m accepted. (
+              let is = when_is x.outcome.entry.answer (mail_read bytes) m accepted in
+              (l, Has-get w.network place l found, other-other l.sender, is.1, ap is_yes is.0, ap (option_map moved_as) k.moved ∙ mail_moved (fault_of bytes) (message_of bytes) m is.1));
+          accepts = λ y yes moved. (
+              let mail = moved_mail (fault_of bytes) (message_of bytes) y (ap (option_map moved_as) (sym k.moved) ∙ moved) in
+              (mail.0, ap (λ a. when_accepted a (mail_read bytes)) (yes_is x.outcome.entry.answer yes) ∙ mail.1, mail.2, mail.3));
+          awaited = λ m accepted success. received w s t side now via bytes x sound k m accepted success;
+          unset_is = refl;
+          via_is = ap via_in event_is;
+          made = λ s' d made. (
+              let m : Makes w (world.Deliver place now via) s' d = subst (λ v. Makes w v s' d) event_is made in
+              let same_in_flight : l ≡ m.0 = (let found_one = m.1 in cc) in
+              (ap (λ (y : InFlightRecord). other y.sender) same_in_flight ∙ m.2, ap (λ (y : InFlightRecord). agent.ReceivePacket now via y.packet.contents) same_in_flight ∙ sym m.3));
+          full = λ s' full same. refl;
+        })
+      where
+        received : (w : WorldRecord H P) (s t : Stream) (side : Side) (now : ℕ) (via : Path) (bytes : List ℕ) (x : LoggedEvent P) → AreSound w
+            → TakesTurn mac answers w s side (agent.ReceivePacket now via bytes) x.outcome w' t → (m : Mail) → when_accepted x.outcome.entry.answer (mail_read bytes) ≡ Some m → m.class ≡ class.Success
+            → IsAwaited (role_state_of (world.at side w)) (role_event_of (world.at side w) (agent.ReceivePacket now via bytes) x.outcome.entry) m.id
+        received w s t side now via bytes x sound k m accepted success =
+            let old = world.at side w in
+            let c : agent.Call P = agent.ReceivePacket now via bytes in
+            let is = when_is x.outcome.entry.answer (mail_read bytes) m accepted in
+            let r = reads_so (fault_of bytes) (message_of bytes) m is.1 in
+            let brings : Brings c x.outcome.entry now via (message_of bytes) = (refl, refl, record { faultless = r.0; spelled = refl }, is.0) in
+            let path = paths old k.new s t c x.outcome.entry (sound side) k.given k.step in
+            let taken = path.0.accepted now via (message_of bytes) brings in
+            let as_success : IsAcceptedAs mac class.Success (keeps_check_on old via (message_of bytes).id) old (message_of bytes) =
+            subst (λ y. IsAcceptedAs mac y (keeps_check_on old via (message_of bytes).id) old (message_of bytes)) (ap (λ (y : Mail). y.class) r.1 ∙ success) taken.1 in
+            subst (λ i. IsAwaited (role_state_of old) (role_event_of old c x.outcome.entry) i) (ap (λ (y : Mail). y.id) r.1)
+            (awaits old (role_event_of old c x.outcome.entry) via (message_of bytes).id as_success.0 refl)
+          where
+            reads_so : (f : Option ParseFault) (n : Message) (y : Mail) → mail_unless f n ≡ Some y → (f ≡ None) × (mail_of n ≡ y)
+            reads_so None n y h = (refl, cc)
+            reads_so (Some fault) n y h = absurd (let wrong : None ≡ Some y = h in cc)
+
+    -- ---- a poll
+
+    polls : (w w' : WorldRecord H P) (s t : Stream) (side : Side) (x : LoggedEvent P) → AreSound w → x.event ≡ world.Poll side → Polls mac answers w s side x.outcome w' t → Comes w w' x
+    polls w w' s t side x sound event_is k = subst (λ v. Comes w v x) (sym k.world) (by k.new k.network k.answer k.polled (k.emitted ∙ ap (λ v. plain k.answer (Some side) (world.roles_of v)) k.world)) where
+      no_one : (s' : Side) (c : agent.Call P) → Makes w x.event s' c → ⊥
+      no_one s' c made = subst (λ v. Makes w v s' c) event_is made
+
+      -- what the agent did, whatever it returned
+      polled_so : (new : AgentRecord H P) (network posted : List InFlightRecord) (answer : Answer) (given : Option Packet) → PollsTransmit (world.at side w) given new
+          → x.outcome ≡ plain answer (Some side) (world.roles_of (record (world.put side new w) { network = network })) → network ≡ w.network ++ posted
+          → ((l : InFlight) → Has (map in_flight_as posted) l → (l.sender ≡ side) × Has (role_state_of (world.at side w)).packets l.mail)
+          → Comes w (record (world.put side new w) { network = network }) x
+      polled_so new network posted answer given polled is multiset_is from =
+          let old = world.at side w in
+          let e : Entry = agent.quiet (agent.Polled given) in
+          let d = role_event_of old agent.PollTransmit e in
+          let step : Step mac answers old s agent.PollTransmit e new s = (given, refl, polled, refl) in
+          let path = paths old new s s agent.PollTransmit e (sound side) tt step in
+          let role = roles old new s s agent.PollTransmit e (sound side) tt step in
+          let did : Did w side d (emitted_at x) new network posted = record {
+            effect = role;
+            multiset_is = multiset_is;
+            from = from;
+            delivered = λ m accepted. absurd (let wrong : None ≡ Some m = accepted in cc);
+            accepts = λ y yes moved. absurd (let none = ap (λ (o : Outcome). option_map moved_as o.moved) is in cc);
+            awaited = λ m accepted success. absurd (let wrong : None ≡ Some m = accepted in cc);
+            unset_is = refl;
+            side_is = ap (λ (o : Outcome). o.side) is;
+            via_is = ap via_in event_is;
+            issued_is = ap (λ (o : Outcome). option_map sent_as o.entry.emitted.issued) is;
+            selected_is = ap (λ (o : Outcome). some_paths o.entry.emitted.selected_paths) is;
+            clear_is = ap (λ (o : Outcome). o.clear) is;
+            roles_are = ap (λ (o : Outcome). roles_as o.controlling) is;
+          } in
+          record {
+            kind = Move side d;
+            happens = moves_so w side d (emitted_at x) new network posted did;
+            made = λ s' c made. absurd (no_one s' c made);
+            full = λ s' full same. refl;
+            sound = sound_put side new w network sound path.1;
+          }
+
+      by : (new : AgentRecord H P) (network : List InFlightRecord) (answer : Answer) → PolledInto (world.at side w) w.network side answer new network
+          → x.outcome ≡ plain answer (Some side) (world.roles_of (record (world.put side new w) { network = network })) → Comes w (record (world.put side new w) { network = network }) x
+      by new network answer (inl (_, new_is, multiset_is)) is =
+          let same_world = put_back side w new network new_is multiset_is in
+          persists_still w (record (world.put side new w) { network = network }) x answer (Some side) sound (is ∙ ap (λ v. plain answer (Some side) (world.roles_of v)) same_world) same_world no_one
+      by new network answer (inr (inl (_, polled, multiset_is))) is = polled_so new network [] answer None polled is (multiset_is ∙ sym (append-nil w.network)) (λ l none. absurd none)
+      by new network answer (inr (inr (p, polled, _, multiset_is))) is =
+          let l : InFlightRecord = record { sender = side; packet = p } in
+          polled_so new network (l ∷ []) answer (Some p) polled is multiset_is
+          (λ y has. elim has [
+            | inl same ↦ subst (λ (z : InFlight). (z.sender ≡ side) × Has (role_state_of (world.at side w)).packets z.mail) same
+                (refl, subst (λ ps. Has (map mail_in ps) (mail_in p)) (sym polled.0) (inl refl))
+            | inr none ↦ absurd none
+          ])
+
+    -- ---- executions
+
+    pub event : (w w' : WorldRecord H P) (s t : Stream) (x : LoggedEvent P) → AreSound w → Happens mac answers w s x.event x.outcome w' t → Comes w w' x
+    event w w' s t x sound h = by x.event refl h where
+      by : (v : Event P) → x.event ≡ v → Happens mac answers w s v x.outcome w' t → Comes w w' x
+      by (world.Call side c) is k =
+          elim (in_world c) as (λ b. in_world c ≡ b → MatchBool b (TakesTurn mac answers w s side c x.outcome w' t) (Persists mac answers w s agent.NotInWorld (Some side) x.outcome w' t) → Comes w w' x) [
+            | true ↦ λ within turn. called w w' s t side c x sound is within turn
+            | false ↦ λ without persisted. persists_still w w' x agent.NotInWorld (Some side) sound persisted.2 persisted.0
+                (λ s' d made. (let m : Makes w (world.Call side c) s' d = subst (λ v. Makes w v s' d) is made in let no = m.2 in cc))
+          ] refl k
+      by (world.Poll side) is k = polls w w' s t side x sound is k
+      by (world.Deliver place now via) is k = delivers (slice_get w.network place) w w' s t place now via x is refl sound k
+
+    -- an execution, as it is observed
+    pub record Follows (first : WorldRecord H P) (log : List (LoggedEvent P)) (last : WorldRecord H P) : Type 0 where
+      pub seen_log : List Happening
+      pub ran : seen.Run (seen_of first) seen_log (seen_of last)
+      pub emitted : emitted_of seen_log ≡ map emitted_at log
+      pub full : (side : Side) → IsNeverLite side log → NeverLite side seen_log
+      pub sound : AreSound last
+
+    pub follow : (log : List (LoggedEvent P)) (first last : WorldRecord H P) (s t : Stream) (n : ℕ) → AreSound first → world.WorldRun mac answers first s n log last t → Follows first log last
+    follow [] first last s t n sound (is, _) = record { seen_log = []; ran = ap seen_of is; emitted = refl; full = λ side h. tt; sound = subst AreSound (sym is) sound }
+    follow (x ∷ log) first last s t n sound (mid, u, number, happens, ran) =
+        let c = event first mid s u x sound happens in
+        let more = follow log mid last u t (suc n) c.sound ran in
+        record {
+          seen_log = record { kind = c.kind; emitted = emitted_at x } ∷ more.seen_log;
+          ran = (seen_of mid, c.happens, more.ran);
+          emitted = ap (λ es. emitted_at x ∷ es) more.emitted;
+          full = λ side never. (c.full side never.0, more.full side never.1);
+          sound = more.sound;
+        }

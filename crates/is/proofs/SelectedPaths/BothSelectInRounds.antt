@@ -1,0 +1,276 @@
+-- Both of two agents select a path in rounds in which the network delivers. The preconditions that mutants/specifications
+-- changes are read by tactics.
+use Rattle.std.proofs.Common.{◌≡◌, ℕ, suc, ◌<◌, Bool, true, false, List, [], ◌∷◌, ◌++◌, length, Option, Some, None, inl, inr, ◌⊎◌, refl, ap, sym, ◌∙◌, subst, arith, if◌then◌else◌}
+use Rattle.std.specs.Prelude.{slice_get}
+use Rattle.rand_core.specs.Stream.{Stream}
+use Rattle.is_proto.specs.Lists.{Has}
+use Rattle.is_proto.specs.Packets.{Packet}
+use Rattle.is_candidate.specs.Candidates.{CandidateRecord}
+use Rattle.is_pair.specs.Pairs.{PairRecord}
+use Rattle.is_rules.specs.declared.emitted.Path.{Path}
+use Rattle.is_rules.specs.Agent.{AgentRecord, fresh}
+use Rattle.is_theorems.specs.Asked.{IsOnlyPair}
+use Rattle.is_theorems.specs.AskedCourses.{AcceptsSuccessOn, IsAnsweredAlong, AcceptedNominationsAreSelected}
+use Rattle.is_theorems.specs.Carried.{CarriedAsk, CarriedSucceedLater}
+use Rattle.is_theorems.specs.Courses.{CourseRound}
+use Rattle.is_rules.specs.Effects.{PathTheorem}
+use Rattle.is_rules.specs.Queue.{request_at}
+use Rattle.is_theorems.specs.Exchange.{AreBetween, Course}
+use Rattle.is_theorems.specs.Reached.{IsInLine}
+use Rattle.is_theorems.specs.ReachedCourses.{IsPassed, PassRounds}
+use Rattle.is_rules.specs.Sending.{path_of}
+use Rattle.is_theorems.specs.FirstChecks.{times_of}
+use Rattle.is_theorems.specs.FirstTimeouts.{AreInRound, IsOpenRound, EndsAmong, Suffices, CoursesReachFromDue}
+use Rattle.is_rules.specs.Sound.{FreshIsSound}
+use Rattle.is_rules.specs.Steps as agent
+use Rattle.is_rules.specs.Steps.{Answer, Entry, Done, Rejected, quiet, Step}
+use Rattle.is.specs.declared.world.Side.{Side}
+use Rattle.is.specs.Connections.{HasRounds, Succeeds, BothConnect}
+use Rattle.is.specs.AcceptedNominationsIn.{Occurrence, IsAskedOver}
+use Rattle.is.specs.Deliveries.{MakesPolls}
+use Rattle.is.specs.Selections.{SideRound, all_of, times_in, state_after, IsKept, AreKept, MayEndInRounds, SideRoundsSuffice, AreEachPolled, RoundChecks}
+use Rattle.is.specs.Sides.{only, polled_as, received_as, acts}
+use Rattle.is.specs.World as world
+use Rattle.is.specs.World.{WorldRecord, InFlightRecord, Event, LoggedEvent, Happens, at, other, in_world}
+use Rattle.is.specs.WorldRoles.{IsNewAgent}
+use Rattle.is.proofs.ExternalViews.ViewsOfExecutions.{Has-front, Has-rear, AreSound}
+use Rattle.is.proofs.TwoAgentEvents.OwnExecutions.{only_own, course_on, turn_step}
+use Rattle.is.proofs.TwoAgentEvents.EventsOfSegments.{Follow, follows, cut, state_is, meet, acts_at, own, own_course, own_from, own_between, own_in_round, own_has, owned, Found}
+use Rattle.is.proofs.SelectedPaths.SelectedAfterNomination.{apart_at, answered, selected_where}
+
+module _ {H P : Type 0} (mac : H → List ℕ → List ℕ → List ℕ) (answers : P → CandidateRecord → ℕ → ℕ → Type 0) where
+  -- ---- what a side does in its rounds
+
+  abbrev pub round_of : Side → SideRound H P → CourseRound P
+  round_of side r = record { now = r.now; timeout = r.timeout.entry.outcome.entry; following = own mac answers side r.following }
+
+  abbrev pub rounds_of : Side → List (SideRound H P) → List (CourseRound P)
+  rounds_of side [] = []
+  rounds_of side (r ∷ later) = round_of side r ∷ rounds_of side later
+
+  pub as_many : (side : Side) (rounds : List (SideRound H P)) → length (rounds_of side rounds) ≡ length rounds
+  as_many side [] = refl
+  as_many side (r ∷ later) = ap suc (as_many side later)
+
+  abbrev pub Moves : Side → SideRound H P → Type 0
+  Moves side r = r.timeout.entry.event ≡ world.Call side (agent.HandleTimeout r.now)
+
+  pub moved : (side : Side) (r : SideRound H P) (s t : Stream) → Moves side r → Happens mac answers r.timeout.before s r.timeout.entry.event r.timeout.entry.outcome r.timeout.following t
+      → Step mac answers (at side r.timeout.before) s (agent.HandleTimeout r.now) r.timeout.entry.outcome.entry (at side r.timeout.following) t
+  moved side r s t comes happens =
+      turn_step mac answers r.timeout.before r.timeout.following s t side (agent.HandleTimeout r.now) r.timeout.entry.outcome
+      (subst (λ (v : Event P). Happens mac answers r.timeout.before s v r.timeout.entry.outcome r.timeout.following t) comes happens)
+
+  -- the rounds of the side as those of a per-agent execution: what may remove a pair of the path there may do so here
+  abbrev Passing : Side → Path → List (SideRound H P) → AgentRecord H P → AgentRecord H P → Type 0
+  Passing side path rounds a b =
+      (run : PassRounds mac answers (rounds_of side rounds) a b) × (EndsAmong mac answers (rounds_of side rounds) a b run path → MayEndInRounds answers side path rounds)
+
+  passes : (side : Side) (path : Path) (rounds : List (SideRound H P)) (w last : WorldRecord H P) → Follow mac answers w (all_of rounds) last → ((r : SideRound H P) → Has rounds r → Moves side r)
+      → Passing side path rounds (at side w) (at side last)
+  passes side path [] w last is comes = (ap (λ (v : WorldRecord H P). at side v) is, λ none. absurd none)
+  passes side path (r ∷ later) w last (from, s, t, happens, more) comes =
+      let c = cut mac answers r.following (all_of later) r.timeout.following last more in
+      let o = owned mac answers side path r.following r.following r.timeout.following c.0 c.1 (λ x has. has) in
+      let k = passes side path later c.0 last c.2 (λ y has. comes y (inr has)) in
+      subst (λ (v : WorldRecord H P). Passing side path (r ∷ later) (at side v) (at side last)) from (
+        (at side r.timeout.following, at side c.0, s, t, moved side r s t (comes r (inl refl)) happens, o.0, k.0),
+        λ ends. elim ends [ inl here ↦ (r, inl refl, o.1 here) | inr others ↦ (let m = k.1 others in (m.0, inr m.1, m.2)) ],
+      )
+
+  abbrev are_all : (CourseRound P → Type 0) → Side → List (SideRound H P) → Type 0
+  are_all Q side rounds = (c : CourseRound P) → Has (rounds_of side rounds) c → Q c
+
+  each_round : (Q : CourseRound P → Type 0) (side : Side) (rounds : List (SideRound H P)) → ((r : SideRound H P) → Has rounds r → Q (round_of side r)) → are_all Q side rounds
+  each_round Q side [] each c has = absurd has
+  each_round Q side (r ∷ later) each c (inl is) = subst (λ (z : CourseRound P). Q z) is (each r (inl refl))
+  each_round Q side (r ∷ later) each c (inr has) = each_round Q side later (λ y there. each y (inr there)) c has
+
+  is_passed : (side : Side) (by : ℕ) (r : SideRound H P) → by < r.now → IsKept side r → ((x : Occurrence H P) → Has r.following x → MakesPolls side x.entry.event) → IsPassed by (round_of side r)
+  is_passed side by r later kept polls = record {
+    done = kept.done;
+    late = omega (arith, later);
+    early = kept.early;
+    between = own_between mac answers side r.following (λ x has. search (polls x has));
+  }
+
+  pub are_passed : (side : Side) (by : ℕ) (r : SideRound H P) (later : List (SideRound H P)) → AreKept side by r later → AreEachPolled side by r later → are_all (λ c. IsPassed by c) side later
+  are_passed side by r later kept each =
+      each_round (λ c. IsPassed by c) side later (λ x has. is_passed side by x (let late = kept.late x has in omega (arith, late)) (kept.kept x (inr has)) (each.polls x (inr has)))
+
+  pub only_polls : (side : Side) (by : ℕ) (r : SideRound H P) (later : List (SideRound H P)) → AreEachPolled side by r later → AreBetween (own mac answers side r.following)
+  only_polls side by r later each = own_between mac answers side r.following (λ x has. search (each.polls r (inl refl) x has))
+
+  pub same_times : (side : Side) (rounds : List (SideRound H P)) → times_of (rounds_of side rounds) ≡ times_in rounds
+  same_times side [] = refl
+  same_times side (r ∷ later) = ap (λ ns. r.now ∷ ns) (same_times side later)
+
+  is_open : (side : Side) (r : SideRound H P) → IsKept side r → AreInRound (own mac answers side r.following)
+  is_open side r kept = own_in_round mac answers side r.following (λ x has. search (kept.between x has))
+
+  are_open : (side : Side) (by : ℕ) (r : SideRound H P) (later : List (SideRound H P)) → AreKept side by r later → are_all (λ c. IsOpenRound by c) side later
+  are_open side by r later kept = each_round (λ c. IsOpenRound by c) side later (λ x has. (let k = kept.kept x (inr has) in record {
+    done = k.done;
+    late = (let late = kept.late x has in omega (arith, late));
+    early = k.early;
+    between = is_open side x k;
+  }))
+
+  -- a round of the per-agent execution is one of the two-agent network model
+  pub back : (side : Side) (rounds : List (SideRound H P)) (c : CourseRound P) → Has (rounds_of side rounds) c → (r : SideRound H P) × Has rounds r × (round_of side r ≡ c)
+  back side [] c has = absurd has
+  back side (r ∷ later) c (inl is) = (r, inl refl, is)
+  back side (r ∷ later) c (inr has) = let k = back side later c has in (k.0, inr k.1, k.2)
+
+  -- ---- a check is sent in one of them, or the path is answered in one
+
+  abbrev pub SomeChecks : Path → List (SideRound H P) → Type 0
+  SomeChecks path rounds = (r : SideRound H P) × Has rounds r × RoundChecks path r
+
+  abbrev Answers : Side → Path → List (SideRound H P) → Type 0
+  Answers side path rounds = (r : SideRound H P) × Has rounds r × IsAnsweredAlong (own mac answers side r.following) path
+
+  -- a check is sent on the path in the rounds, or it is answered in one, or a candidate that is added in one may remove a pair of it
+  abbrev pub Reaches : Side → Path → List (SideRound H P) → Type 0
+  Reaches side path rounds = SomeChecks path rounds ⊎ (Answers side path rounds ⊎ MayEndInRounds answers side path rounds)
+
+  pub reached : CoursesReachFromDue {H = H} {P = P} mac answers → (side : Side) (first last : WorldRecord H P) (s : Stream) (xs : List (agent.Call P × Entry)) (r : SideRound H P) (later : List (SideRound H P)) (p : PairRecord) (by : ℕ)
+      → IsNewAgent (at side first) → Course mac answers xs (at side first) (at side r.timeout.before) → Follow mac answers r.timeout.before (all_of (r ∷ later)) last
+      → IsInLine r.now by (at side r.timeout.before) p → AreKept side by r later → SideRoundsSuffice side by r later last
+      → Reaches side (path_of (at side r.timeout.before) p) (r ∷ later)
+  reached reach side first last s xs r later p by n led (same, u, v, happens, more) line kept enough =
+      let path : Path = path_of (at side r.timeout.before) p in
+      let own_first : IsKept side r = kept.kept r (inl refl) in
+      let c = cut mac answers r.following (all_of later) r.timeout.following last more in
+      let o = owned mac answers side path r.following r.following r.timeout.following c.0 c.1 (λ x has. has) in
+      let k = passes side path later c.0 last c.2 (λ x has. (kept.kept x (inr has)).comes) in
+      let many = as_many side later in
+      let second : state_after r.timeout.following r.following ≡ c.0 = state_is mac answers r.following r.timeout.following c.0 c.1 in
+      let so_many : Suffices by r.now (at side r.timeout.before) (at side c.0) (at side last) (length (rounds_of side later)) =
+      subst (λ i. Suffices by r.now (at side r.timeout.before) (at side c.0) (at side last) i) (sym many)
+      (subst (λ (w : WorldRecord H P). Suffices by r.now (at side r.timeout.before) (at side w) (at side last) (length later)) second (search enough)) in
+      elim (reach (fresh (at side first).provider n.0 n.1) (at side r.timeout.before) (at side last) ((agent.SetControlling n.2, quiet Done) ∷ xs) (round_of side r) (rounds_of side later) p by
+      (n.0, n.1, refl) (at side first, s, s, tt, (refl, n.3, refl), led) line (let from = kept.from in omega (arith, from)) own_first.done own_first.early (is_open side r own_first)
+      (at side r.timeout.following, at side c.0, u, v, moved side r u v own_first.comes happens, o.0, k.0) (are_open side by r later kept) so_many) [
+        | inl (x, id, has, out) ↦ (let z = back side (r ∷ later) x has in inl (z.0, z.1, (id, ap (λ (y : CourseRound P). y.timeout.emitted.issued) z.2 ∙ out)))
+        | inr (inl (x, has, is)) ↦ (let z = back side (r ∷ later) x has in inr (inl (z.0, z.1, subst (λ (y : CourseRound P). IsAnsweredAlong y.following path) (sym z.2) is)))
+        | inr (inr (inl here)) ↦ inr (inr (r, inl refl, o.1 here))
+        | inr (inr (inr others)) ↦ inr (inr (let m = k.1 others in (m.0, inr m.1, m.2)))
+      ]
+
+  -- the rounds of a segment
+  reached_in : CoursesReachFromDue {H = H} {P = P} mac answers → (side : Side) (path : Path) (first start last : WorldRecord H P) (s : Stream) (before part : List (Occurrence H P))
+      → IsNewAgent (at side first) → Follow mac answers first before start → Follow mac answers start part last → (k : HasRounds side path part last) → Reaches side path (k.first ∷ k.later)
+  reached_in reach side path first start last s before part n led on k =
+      let rounds : List (SideRound H P) = k.first ∷ k.later in
+      let c = cut mac answers k.ahead (all_of rounds) start last (subst (λ xs. Follow mac answers start xs last) k.split on) in
+      let begin : WorldRecord H P = k.first.timeout.before in
+      let to : Follow mac answers start k.ahead begin = subst (λ (w : WorldRecord H P). Follow mac answers start k.ahead w) (sym c.2.0) c.1 in
+      let rest : Follow mac answers begin (all_of rounds) last = subst (λ (w : WorldRecord H P). Follow mac answers w (all_of rounds) last) (sym c.2.0) c.2 in
+      subst (λ via. Reaches side via rounds) k.on
+      (reached reach side first last s (own mac answers side before ++ own mac answers side k.ahead) k.first k.later k.pair k.by n
+      (course_on mac answers (own mac answers side before) (own mac answers side k.ahead) (at side first) (at side start) (at side begin)
+      (own_course mac answers side before first start led) (own_course mac answers side k.ahead start begin to))
+      rest k.line k.kept k.enough)
+
+  -- what follows a `handle_timeout` call is in the rounds
+  pub in_rounds : (rounds : List (SideRound H P)) (r : SideRound H P) (x : Occurrence H P) → Has rounds r → Has r.following x → Has (all_of rounds) x
+  in_rounds [] r x has there = absurd has
+  in_rounds (z ∷ later) r x (inl is) there = inr (Has-front z.following (all_of later) x (subst (λ (y : SideRound H P). Has y.following x) (sym is) there))
+  in_rounds (z ∷ later) r x (inr has) there = inr (Has-rear z.following (all_of later) x (in_rounds later r x has there))
+
+  -- ---- a success response in the rounds
+
+  poll_accepts : (answer : Answer) (ps : List Packet) (path : Path) (y : agent.Call P × Entry) → Has (polled_as answer ps) y → AcceptsSuccessOn y.0 y.1 path → ⊥
+  poll_accepts (Rejected error) ps path y has accepts = has
+  poll_accepts _ ps path y (inl is) accepts = (subst (λ (z : agent.Call P × Entry). AcceptsSuccessOn z.0 z.1 path) (sym is) accepts).3
+  poll_accepts _ ps path y (inr none) accepts = none
+
+  call_accepts : (c : agent.Call P) (e : Entry) (path : Path) → in_world c ≡ true → AcceptsSuccessOn c e path → ⊥
+  call_accepts (agent.ReceivePacket now via bytes) e path is accepts = cc
+  call_accepts _ e path is accepts = accepts.3
+
+  succeeds_at : (side : Side) (path : Path) (x : Occurrence H P) (y : agent.Call P × Entry) → Has (acts_at mac answers side x) y → AcceptsSuccessOn y.0 y.1 path → Succeeds side path x
+  succeeds_at side path x y has accepts = by x.entry.event refl has where
+    by : (v : Event P) → x.entry.event ≡ v → Has (acts side x.before v x.entry.outcome.entry) y → Succeeds side path x
+    by (world.Call s c) is there = absurd (within (in_world c) refl there) where
+      within : (b : Bool) → in_world c ≡ b → Has (only side s (if b then (c, x.entry.outcome.entry) ∷ [] else [])) y → ⊥
+      within true inside here = elim (only_own side s ((c, x.entry.outcome.entry) ∷ []) y here).0 [
+        | inl same ↦ call_accepts c x.entry.outcome.entry path inside (subst (λ (z : agent.Call P × Entry). AcceptsSuccessOn z.0 z.1 path) (sym same) accepts)
+        | inr none ↦ none
+      ]
+      within false outside here = (only_own side s [] y here).0
+    by (world.Poll s) is there =
+        absurd (poll_accepts x.entry.outcome.entry.answer (at side x.before).packets path y
+        (only_own side s (polled_as x.entry.outcome.entry.answer (at side x.before).packets) y there).0 accepts)
+    by (world.Deliver n now via) is there = in_flight (slice_get x.before.network n) refl there where
+      in_flight : (o : Option InFlightRecord) → slice_get x.before.network n ≡ o → Has (received_as side now via x.entry.outcome.entry o) y → Succeeds side path x
+      in_flight None sent here = absurd here
+      in_flight (Some l) sent here = let o = only_own side (other l.sender) ((agent.ReceivePacket now via l.packet.contents, x.entry.outcome.entry) ∷ []) y here in elim o.0 [
+        | inl same ↦ record {
+          place = n;
+          now = now;
+          via = via;
+          in_flight = l;
+          event = is;
+          sent = sent;
+          its = o.1;
+          accepts = subst (λ (z : agent.Call P × Entry). AcceptsSuccessOn z.0 z.1 path) (sym same) accepts;
+        }
+        | inr none ↦ absurd none
+      ]
+
+  pub succeeds_in : (side : Side) (path : Path) (xs : List (Occurrence H P)) → IsAnsweredAlong (own mac answers side xs) path → (x : Occurrence H P) × Has xs x × Succeeds side path x
+  succeeds_in side path xs (y, has, accepts) = let o = own_from mac answers side xs y has in (o.0, o.1, succeeds_at side path o.0 y o.2 accepts)
+
+  -- ---- both
+
+  pub both_connect : PathTheorem {H = H} {P = P} mac answers → FreshIsSound H P → CarriedAsk {H = H} {P = P} mac answers → CarriedSucceedLater {H = H} {P = P} mac answers
+      → AcceptedNominationsAreSelected {H = H} {P = P} mac answers → CoursesReachFromDue {H = H} {P = P} mac answers → (first : WorldRecord H P) (s : Stream) (log : List (LoggedEvent P)) → BothConnect mac answers first s log
+  both_connect paths new_sound asks succeeds announce reach first s log last t run before part rest timeout now side path its new split roles asking asks_so asked answered_so comes done none only_pair =
+      elim ask [
+        | inl over ↦
+            elim (selected_where mac answers paths new_sound asks succeeds announce first last s before part rest timeout now side path new follow (λ x has. apart_at mac answers side (part ++ timeout ∷ []) x roles has)
+            (λ start led sound on. (over, answer start led sound on)) comes done idle lone) [
+              | inl selected_paths ↦ inl selected_paths
+              | inr found ↦ inr (inl found)
+            ]
+        | inr ended ↦ inr (inr (search ended))
+      ] where
+        idle : request_at now (at side timeout.before) ≡ None
+        idle = search none
+
+        lone : IsOnlyPair (at side timeout.following) path
+        lone = search only_pair
+
+        follow : Follow mac answers first (before ++ ((part ++ timeout ∷ []) ++ rest)) last
+        follow = subst (λ xs. Follow mac answers first xs last) split (follows mac answers first last s t 0 log run)
+
+        part_roles : (x : Occurrence H P) → Has part x → ((at side x.before).controlling ≡ false) × ((at (other side) x.before).controlling ≡ true)
+        part_roles x has = apart_at mac answers side (part ++ timeout ∷ []) x roles (Has-front part (timeout ∷ []) x has)
+
+        ask : IsAskedOver mac side path part ⊎ MayEndInRounds answers (other side) its (asking.first ∷ asking.later)
+        ask =
+            let led = cut mac answers before ((part ++ timeout ∷ []) ++ rest) first last follow in
+            let on = cut mac answers (part ++ timeout ∷ []) rest led.0 last led.2 in
+            by (reached_in reach (other side) its first led.0 timeout.before s before part (new (other side)) led.1 (meet mac answers part [] timeout led.0 on.0 on.1).led asking) where
+              by : Reaches (other side) its (asking.first ∷ asking.later) → IsAskedOver mac side path part ⊎ MayEndInRounds answers (other side) its (asking.first ∷ asking.later)
+              by (inl (r, has, sent)) = inl (let so = asks_so r has in search (so.asked sent))
+              by (inr (inl (r, has, is))) = inl (let x = succeeds_in (other side) its r.following is in let so = asks_so r has in search (so.early x.0 x.1 x.2))
+              by (inr (inr ended)) = inr ended
+
+        within : (x : Occurrence H P) → Has (all_of (asked.first ∷ asked.later)) x → Has part x
+        within x has = subst (λ xs. Has xs x) (sym asked.split) (Has-rear asked.ahead (all_of (asked.first ∷ asked.later)) x has)
+
+        answer : (start : WorldRecord H P) → Follow mac answers first before start → AreSound start → Follow mac answers start part timeout.before
+            → IsAnsweredAlong (own mac answers side part) path ⊎ Found mac answers side path (part ++ timeout ∷ [])
+        answer start led sound on = by (reached_in reach side path first start timeout.before s before part (new side) led on asked) where
+          by : Reaches side path (asked.first ∷ asked.later) → IsAnsweredAlong (own mac answers side part) path ⊎ Found mac answers side path (part ++ timeout ∷ [])
+          by (inl (r, has, sent)) =
+              answered mac answers paths asks succeeds part (part ++ timeout ∷ []) start timeout.before sound on (λ x there. Has-front part (timeout ∷ []) x there) side path part_roles
+              (search (answered_so r has sent))
+          by (inr (inl (r, has, (y, in_round, accepts)))) =
+              let o = own_from mac answers side r.following y in_round in
+              inl (y, own_has mac answers side part o.0 y (within o.0 (in_rounds (asked.first ∷ asked.later) r o.0 has o.1)) o.2, accepts)
+          by (inr (inr (r, has, (x, in_round, ends)))) =
+              inr (x, Has-front part (timeout ∷ []) x (within x (in_rounds (asked.first ∷ asked.later) r x has in_round)), ends)

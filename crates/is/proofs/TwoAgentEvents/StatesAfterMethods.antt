@@ -1,0 +1,60 @@
+-- The state after a method is the one that its event describes.
+use Rattle.std.proofs.Common.{◌≡◌, ℕ, zero, suc, Bool, true, false, List, [], ◌∷◌, map, Option, Some, None, refl, ap, sym, ◌∙◌, subst}
+use Rattle.std.specs.Prelude.{slice_get, option_map}
+use Rattle.rand_core.specs.Stream.{Stream}
+use Rattle.is_candidate.specs.Candidates.{CandidateRecord}
+use Rattle.is_rules.specs.declared.emitted.Path.{Path}
+use Rattle.is_rules.specs.Agent.{AgentRecord}
+use Rattle.is_rules.specs.Steps as agent
+use Rattle.is_rules.specs.Steps.{Step, Receives, Answer, NoSuchPacket}
+use Rattle.is.specs.declared.world.Side.{Side}
+use Rattle.is.specs.declared.world.Side.TheVariants.{A, B}
+use Rattle.is_rules.specs.Sound.{GivesBased}
+use Rattle.is_stun.specs.declared.header.Class.{Class}
+use Rattle.is_stun.specs.declared.trans_id.TransId.{TransId}
+use Rattle.is_stun.specs.Reading.{fault_of, message_of}
+use Rattle.is_rules.specs.Effects.{clears}
+use Rattle.is.specs.World.{WorldRecord, InFlightRecord, Outcome, plain, in_world, moved_by, read_unless, Poll, Deliver, PolledInto, TakesTurn, Delivers, Happens, at, put, other, roles_of}
+
+pub get-map : {X Y : Type 0} (f : X → Y) (xs : List X) (n : ℕ) (o : Option X) → slice_get xs n ≡ o → slice_get (map f xs) n ≡ option_map f o
+get-map f [] n o is = ap (option_map f) is
+get-map f (x ∷ xs) zero o is = ap (option_map f) is
+get-map f (x ∷ xs) (suc n) o is = get-map f xs n o is
+
+other-other : (s : Side) → other (other s) ≡ s
+other-other A = refl
+other-other B = refl
+
+module _ {H P : Type 0} (mac : H → List ℕ → List ℕ → List ℕ) (answers : P → CandidateRecord → ℕ → ℕ → Type 0) where
+  pub reversed : (side : Side) (w : WorldRecord H P) (s t : Stream) (c : agent.Call P) (new : AgentRecord H P) (entry : agent.Entry) (e : Outcome) (clear : Bool) (moved : Option (Class × TransId))
+      → Step mac answers (at side w) s c entry new t → GivesBased c → clear ≡ clears c entry.answer → moved ≡ moved_by c
+      → e ≡ record { entry = entry; controlling = roles_of (put side new w); side = Some side; clear = clear; moved = moved }
+      → TakesTurn mac answers w s side c e (put side new w) t
+  reversed side w s t c new entry e clear moved step given clear_is moved_is is = subst (λ x. TakesTurn mac answers w s side c x (put side new w) t) (sym is)
+      (record { new = new; step = step; given = given; world = refl; roles = refl; side_is = refl; clear = clear_is; moved = moved_is })
+
+  pub polled : (side : Side) (w : WorldRecord H P) (s : Stream) (answer : Answer) (new : AgentRecord H P) (network : List InFlightRecord) (e : Outcome)
+      → PolledInto (at side w) w.network side answer new network
+      → e ≡ plain answer (Some side) (roles_of (record (put side new w) { network = network }))
+      → Happens mac answers w s (Poll side) e (record (put side new w) { network = network }) s
+  polled side w s answer new network e into is =
+      record { answer = answer; new = new; network = network; polled = into; world = refl; emitted = is; stream = refl }
+
+  -- a delivery to the side that did not send the packet
+  pub delivered : (side : Side) (w : WorldRecord H P) (s : Stream) (place now : ℕ) (path : Path) (l : InFlightRecord) (new : AgentRecord H P) (entry : agent.Entry) (e : Outcome) (moved : Option (Class × TransId))
+      → slice_get w.network place ≡ Some l → l.sender ≡ other side → Receives mac answers now (at side w) path l.packet.contents entry new
+      → moved ≡ read_unless (fault_of l.packet.contents) (message_of l.packet.contents)
+      → e ≡ record { entry = entry; controlling = roles_of (put side new w); side = Some side; clear = false; moved = moved }
+      → Happens mac answers w s (Deliver place now path) e (put side new w) s
+  delivered side w s place now path l new entry e moved found sender received moved_is is =
+      subst (λ o. Delivers mac answers w s o now path e (put side new w) s) (sym found)
+      (subst (λ r. TakesTurn mac answers w s r (agent.ReceivePacket now path l.packet.contents) e (put side new w) s) (sym (ap other sender ∙ other-other side))
+      (reversed side w s s (agent.ReceivePacket now path l.packet.contents) new entry e false moved (received, refl) tt refl moved_is is))
+
+  pub not_found : (w : WorldRecord H P) (s : Stream) (place now : ℕ) (path : Path) (e : Outcome)
+      → slice_get w.network place ≡ None → e ≡ plain NoSuchPacket None (roles_of w) → Happens mac answers w s (Deliver place now path) e w s
+  not_found w s place now path e found is = subst (λ o. Delivers mac answers w s o now path e w s) (sym found) (refl, refl, is)
+
+pub unmoving : {P : Type 0} (c : agent.Call P) → in_world c ≡ true → None ≡ moved_by c
+unmoving (agent.ReceivePacket now path bytes) h = absurd (let wrong : false ≡ true = h in cc)
+unmoving c h = refl

@@ -1,5 +1,0 @@
-use Rattle.is.proofs.Mirrored.{lone_paths_mirror}
-use Rattle.is.proofs.world_laws.lone_paths_mirror.Goals as goal
-
-pub returns : goal.returns
-returns g c = lone_paths_mirror g.H.Sha1HmacProvider.mac g.P.LocalPreference.answers c.path_effect.ensures c.fresh_is_sound.ensures

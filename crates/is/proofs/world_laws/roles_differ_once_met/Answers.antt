@@ -1,5 +1,0 @@
-use Rattle.is.proofs.Settled.{roles_differ_once_met}
-use Rattle.is.proofs.world_laws.roles_differ_once_met.Goals as goal
-
-pub returns : goal.returns
-returns g c = roles_differ_once_met g.H.Sha1HmacProvider.mac g.P.LocalPreference.answers c.path_effect.ensures c.role_effect.ensures c.fresh_is_sound.ensures

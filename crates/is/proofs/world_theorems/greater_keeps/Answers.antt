@@ -1,0 +1,5 @@
+use Rattle.is.proofs.RolesAndChains.ChainsOfSelectedPaths.{log_keeps}
+use Rattle.is.proofs.world_theorems.greater_keeps.Goals as goal
+
+pub returns : goal.returns
+returns g c = log_keeps g.H.Sha1HmacProvider.mac g.P.LocalPreference.answers c.path_effect.ensures c.role_effect.ensures c.fresh_is_sound.ensures

@@ -1,0 +1,8 @@
+-- Parts of an agent and of its model.
+pub mod PairsByNumber
+pub mod DuePairsAfterRemoval
+pub mod EarlyRequests
+pub mod RecomputedPriorities
+pub mod ReceivedResponses
+pub mod UsernameLength
+pub mod PairsInLists

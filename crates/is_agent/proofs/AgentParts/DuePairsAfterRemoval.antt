@@ -1,0 +1,74 @@
+-- Pairs that become due at a time: removing pairs and fixing due times add none.
+use Rattle.std.proofs.Common.{if◌then◌else◌, ◌≡◌, ℕ, ◌&&◌, ◌||◌, Bool, true, false, not, List, [], ◌∷◌, map, Option, Some, None, is_some, option_map, MatchBool, subst, sym, refl}
+use Rattle.std.specs.List.{list_any}
+use Rattle.is_stun.specs.declared.timing.StunTiming.{StunTiming}
+use Rattle.is_pair.specs.Pairs.{PairRecord}
+use Rattle.is_pair.specs.Due.{asked, is_due, IsNextDue}
+use Rattle.is_pair.specs.Multiset.{without, pair_numbered, rises}
+use Rattle.rand_core.specs.Stream.{Stream}
+use Rattle.is_rules.specs.declared.credentials.IceCreds.{IceCreds}
+use Rattle.is_rules.specs.declared.emitted.Issued.{Issued}
+use Rattle.is_rules.specs.Agent.{AgentRecord}
+use Rattle.is_rules.specs.Checking.{all_asked, all_heard, ChecksNext, MayCheck}
+use Rattle.is_rules.specs.Due.{awaits_nomination, falls_due}
+use Rattle.is_rules.proofs.PairLists.PairsByNumber.{numbered-found}
+use Rattle.is_agent.proofs.AgentParts.PairsByNumber.{has-any}
+
+or-right : (a b : Bool) → b ≡ true → a || b ≡ true
+or-right true b h = refl
+or-right false b h = h
+
+pub falls-left : (test gone : PairRecord → Bool) (ps : List PairRecord) → list_any test (without gone ps) ≡ true → list_any test ps ≡ true
+falls-left test gone [] none = none
+falls-left test gone (p ∷ ps) h =
+    elim (gone p) as (λ b. list_any test (if not b then p ∷ without gone ps else without gone ps) ≡ true → (test p || list_any test ps) ≡ true) [
+      | true ↦ λ k. or-right (test p) (list_any test ps) (falls-left test gone ps k)
+      | false ↦ λ k. elim (test p) as (λ b. (b || list_any test (without gone ps)) ≡ true → (b || list_any test ps) ≡ true) [
+        | true ↦ λ _. refl
+        | false ↦ λ l. falls-left test gone ps l
+      ] k
+    ] h
+
+pub falls-asked : (controlling : Bool) (now : ℕ) (t : StunTiming) (ps : List PairRecord) → list_any (is_due now t) (map (asked now t) ps) ≡ true
+    → list_any (falls_due controlling now t) ps ≡ true
+falls-asked controlling now t [] none = none
+falls-asked controlling now t (p ∷ ps) h =
+    elim (is_due now t p) as (λ b. (b || list_any (is_due now t) (map (asked now t) ps)) ≡ true
+    → ((b || (not (is_some p.due) && awaits_nomination controlling p)) || list_any (falls_due controlling now t) ps) ≡ true) [
+      | true ↦ λ _. refl
+      | false ↦ λ k. or-right (not (is_some p.due) && awaits_nomination controlling p) (list_any (falls_due controlling now t) ps) (falls-asked controlling now t ps k)
+    ] h
+
+-- the last of three facts is replaced by a weaker one
+pub and-third : (a b c d : Bool) → (d ≡ true → c ≡ true) → a && b && d ≡ true → a && b && c ≡ true
+and-third true true c d weaker h = weaker h
+and-third true false c d weaker h = h
+and-third false b c d weaker h = h
+
+pub all-three : (a b c : Bool) → a ≡ true → b ≡ true → c ≡ true → a && b && c ≡ true
+all-three a b c x y z = rw (x, y) z
+
+-- if the pair that is checked next has a number, it is due
+pub due-there : {H P : Type 0} (a : AgentRecord H P) (now : ℕ) (t : StunTiming) (next : Option PairRecord) (n : ℕ)
+    → IsNextDue now t a.pairs next → option_map (λ p. p.number) next ≡ Some n → list_any (is_due now t) a.pairs ≡ true
+due-there a now t None n is numbered = absurd (cc)
+due-there a now t (Some p) n ((has, first), due) numbered = has-any (is_due now t) a.pairs p has due
+
+-- and it is found by that number
+pub next-found : (ps : List PairRecord) (now : ℕ) (t : StunTiming) (next : Option PairRecord) (n : ℕ) → rises ps ≡ true
+    → IsNextDue now t ps next → option_map (λ p. p.number) next ≡ Some n
+    → (p : PairRecord) × (next ≡ Some p) × (p.number ≡ n) × (pair_numbered n ps ≡ Some p)
+next-found ps now t None n rising is numbered = absurd (cc)
+next-found ps now t (Some p) n rising ((has, first), due) numbered =
+    let same : p.number ≡ n = cc in
+    (p, refl, same, subst (λ m. pair_numbered m ps ≡ Some p) same (numbered-found ps p rising has))
+
+-- with the peer's credentials, and if the agent is not ICE-lite, the next pair is checked once all due times are
+-- fixed
+pub may-check : {H P : Type 0} (mac : H → List ℕ → List ℕ → List ℕ) (now : ℕ) (creds : Option IceCreds) (peer : IceCreds) (old all new : AgentRecord H P)
+    (s : Stream) (issued : Option Issued) (t : Stream) → creds ≡ Some peer → old.lite ≡ false → all ≡ all_asked now old
+    → ChecksNext mac now peer all s issued new t → MayCheck mac now creds old s issued new t
+may-check mac now creds peer old all new s issued t known full same checked =
+    subst (λ c. MayCheck mac now c old s issued new t) (sym known)
+    (subst (λ b. MatchBool b ((issued ≡ None) × (new ≡ all_heard now old) × (t ≡ s)) (ChecksNext mac now peer (all_asked now old) s issued new t)) (sym full)
+    (subst (λ a. ChecksNext mac now peer a s issued new t) same checked))

@@ -1,0 +1,115 @@
+-- The indices of pairs and senders are in the lists of candidates: what the calls of the agent keep.
+use Rattle.std.proofs.Common.{if◌then◌else◌, ◌≡◌, ℕ, ◌+◌, ◌<◌, ◌++◌, ◌≤◌, nat_lt, Result, Ok, Err, IfOk, IfSome, arith, Bool, true, false, List, [], ◌∷◌, Option, Some, None, length, map, ap, refl, sym, subst, ◌∙◌}
+use Rattle.std.proofs.lemmas.List.{length-append}
+use Rattle.std.proofs.Math.ListN.{length-set}
+use Rattle.std.specs.Prelude.{slice_set, MatchBool}
+use Rattle.std.specs.List.{list_any, list_all}
+use Rattle.is_proto.specs.Lists.{Has}
+use Rattle.is_stun.specs.declared.timing.StunTiming.{StunTiming}
+use Rattle.is_candidate.specs.Candidates.{CandidateRecord}
+use Rattle.is_pair.specs.Multiset.{change_at, is_numbered, has_number, pair_numbered, put_pair, RecordsAnswer}
+use Rattle.is_pair.specs.Due.{asked}
+use Rattle.is_pair.specs.Pairs.{PairRecord, answered, checked, heard, heard_at, undue, TakesAnswer}
+use Rattle.is_rules.specs.declared.places.RemotePlace.{RemotePlace}
+use Rattle.is_rules.specs.declared.places.RemotePlace.TheVariants.{Known, Barred, Unknown, Vacant, Full}
+use Rattle.is_rules.specs.Answers.{joined_by}
+use Rattle.is_rules.specs.Remote.{stored, place_or_end}
+use Rattle.is_rules.specs.Kept.{is_placed, are_placed}
+use Rattle.is_rules.specs.Limit.{has_room, IsPlaceOf, IsVacancy}
+use Rattle.is_rules.specs.Places.{is_sender, place_by}
+use Rattle.is_rules.specs.Request.{RequestRecord}
+use Rattle.is_rules.proofs.PairLists.PairsInLists.{in-lists, is-in, all-mapped, in-is, longer, placed-mapped, placed-changed, KeepsPlaces}
+use Rattle.is_agent.proofs.AgentParts.PairsByNumber.{both, find-Some, has-any}
+
+-- what follows of what was made
+pub also : {X E : Type 0} {P Q : X → Type 0} (r : Result X E) → ((x : X) → P x → Q x) → IfOk r P → IfOk r Q
+also (Ok x) to p = to x p
+also (Err e) to p = p
+
+-- ---- lists of candidates
+
+pub one-longer : (new cs : List CandidateRecord) (c : CandidateRecord) → new ≡ cs ++ c ∷ [] → length new ≡ length cs + 1
+one-longer new cs c is = ap length is ∙ length-append cs (c ∷ [])
+
+pub as-long : (new cs : List CandidateRecord) (k : ℕ) (c : CandidateRecord) → new ≡ slice_set cs k c → length new ≡ length cs
+as-long new cs k c is = ap length is ∙ length-set cs k c
+
+pub joined-longer : (c : Option CandidateRecord) (cs : List CandidateRecord) → length cs ≤ length (joined_by c cs)
+joined-longer None cs = omega arith
+joined-longer (Some c) cs = omega (arith, length-append cs (c ∷ []))
+
+pub stored-longer : (c : CandidateRecord) (place : Option ℕ) (cs : List CandidateRecord) → length cs ≤ length (stored c place cs)
+stored-longer c None cs = omega (arith, length-append cs (c ∷ []))
+stored-longer c (Some place) cs = omega (arith, length-set cs place c)
+
+pub place-stored : (c : CandidateRecord) (place : Option ℕ) (cs : List CandidateRecord) → IfSome place (λ k. k < length cs)
+    → place_or_end place cs < length (stored c place cs)
+place-stored c None cs within = omega (arith, length-append cs (c ∷ []))
+place-stored c (Some place) cs within = omega (arith, within, length-set cs place c)
+
+-- ---- one pair
+
+pub remotes-in : (local remote : List CandidateRecord) (ps : List PairRecord) → are_placed local remote ps ≡ true
+    → list_all (λ (p : PairRecord). nat_lt p.remote (length remote)) ps ≡ true
+remotes-in local remote [] all = refl
+remotes-in local remote (p ∷ ps) all =
+    let b = both (is_placed local remote p) (are_placed local remote ps) all in
+    let its = both (nat_lt p.local (length local)) (nat_lt p.remote (length remote)) b.0 in
+    rw (its.1, remotes-in local remote ps b.1) refl
+
+pub numbered-in : (local remote : List CandidateRecord) (n : ℕ) (ps : List PairRecord) (p : PairRecord) → are_placed local remote ps ≡ true → pair_numbered n ps ≡ Some p
+    → (p.local < length local) × (p.remote < length remote)
+numbered-in local remote n ps p all found = in-lists local remote ps p all (find-Some (is_numbered n) ps p found).0
+
+pub numbered-has : (n : ℕ) (ps : List PairRecord) (p : PairRecord) → pair_numbered n ps ≡ Some p → has_number n ps ≡ true
+numbered-has n ps p found = let is = find-Some (is_numbered n) ps p found in has-any (is_numbered n) ps p is.0 is.1
+
+-- ---- changes of pairs
+
+heard-places : (now : ℕ) (last : Option ℕ) (p : PairRecord) → ((heard_at now last p).local ≡ p.local) × ((heard_at now last p).remote ≡ p.remote)
+heard-places now None p = (refl, refl)
+heard-places now (Some at) p = (refl, refl)
+
+pub placed-heard : (local remote : List CandidateRecord) (now : ℕ) (ps : List PairRecord) → are_placed local remote ps ≡ true → are_placed local remote (map (heard now) ps) ≡ true
+placed-heard local remote now ps all =
+    placed-mapped local remote (heard now) ps (record { local = λ p. (heard-places now p.last_request p).0; remote = λ p. (heard-places now p.last_request p).1 }) all
+
+pub placed-asked : (local remote : List CandidateRecord) (now : ℕ) (t : StunTiming) (ps : List PairRecord) → are_placed local remote ps ≡ true
+    → are_placed local remote (map (asked now t) ps) ≡ true
+placed-asked local remote now t ps all = placed-mapped local remote (asked now t) ps (record { local = λ p. refl; remote = λ p. refl }) all
+
+pub placed-undue : (local remote : List CandidateRecord) (ps : List PairRecord) → are_placed local remote ps ≡ true → are_placed local remote (map undue ps) ≡ true
+placed-undue local remote ps all = placed-mapped local remote undue ps (record { local = λ p. refl; remote = λ p. refl }) all
+
+pub checked-places : (now : ℕ) (t : StunTiming) (controlling : Bool) (id : List ℕ) → KeepsPlaces (checked now t controlling id)
+checked-places now t controlling id = record { local = λ p. refl; remote = λ p. refl }
+
+all-kept : {X : Type 0} (q : X → Bool) (f : X → X) → ((x : X) → q x ≡ true → q (f x) ≡ true) → (xs : List X) → list_all q xs ≡ true → list_all q (map f xs) ≡ true
+all-kept q f keeps [] all = refl
+all-kept q f keeps (x ∷ xs) all = let b = both (q x) (list_all q xs) all in rw (keeps x b.0, all-kept q f keeps xs b.1) refl
+
+-- a pair replaces the one with its number, at the same indices
+pub placed-answered : (local remote : List CandidateRecord) (n now : ℕ) (id : List ℕ) (ps after : List PairRecord) → RecordsAnswer n now id ps after
+    → are_placed local remote ps ≡ true → are_placed local remote after ≡ true
+placed-answered local remote n now id ps after (p, new, found, (place, c, at, is), made) all =
+    let its = numbered-in local remote n ps p all found in
+    let l : new.local ≡ p.local = ap (λ (x : PairRecord). x.local) is in
+    let r : new.remote ≡ p.remote = ap (λ (x : PairRecord). x.remote) is in
+    rw (made) (placed-put local remote new ps all (subst (λ k. k < length local) (sym l) its.0) (subst (λ k. k < length remote) (sym r) its.1)) where
+      placed-put : (local remote : List CandidateRecord) (p : PairRecord) (ps : List PairRecord) → are_placed local remote ps ≡ true → p.local < length local
+          → p.remote < length remote → are_placed local remote (put_pair p ps) ≡ true
+      placed-put local remote p ps all l r = all-kept (is_placed local remote) (change_at p.number (λ _. p))
+          (λ x its. elim (is_numbered p.number x) as (λ b. is_placed local remote (if b then p else x) ≡ true) [ true ↦ in-is local remote p l r | false ↦ its ]) ps all
+
+-- ---- the sender of a request
+
+pub known-within : (limit : Option ℕ) (remote : List CandidateRecord) (pairs : List PairRecord) (q : RequestRecord) (r : ℕ) → IsPlaceOf limit remote pairs q (Known r)
+    → r < length remote
+known-within limit remote pairs q r (Known k, (Some place, greatest, is), same) = let e : place ≡ r = cc in subst (λ n. n < length remote) e greatest.0
+known-within limit remote pairs q r (Known k, (None, none, is), same) =
+    (elim (list_any (is_sender q) remote) as (λ b. Known k ≡ place_by None b → r < length remote) [ true ↦ λ e. absurd (cc) | false ↦ λ e. absurd (cc) ]) is
+known-within limit remote pairs q r (Barred, is, same) = absurd (cc)
+known-within limit remote pairs q r (Unknown, is, room) =
+    (elim (has_room limit remote) as (λ b. MatchBool b (Known r ≡ Unknown) (IsVacancy remote pairs (Known r)) → r < length remote) [ true ↦ λ e. absurd (cc) | false ↦ λ none. absurd none ]) room
+known-within limit remote pairs q r (Vacant k, is, none) = absurd none
+known-within limit remote pairs q r (Full, is, none) = absurd none

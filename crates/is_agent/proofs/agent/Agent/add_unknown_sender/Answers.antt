@@ -1,0 +1,17 @@
+use Rattle.std.proofs.Common.{arith, refl, slice_set}
+use Rattle.is_pair.specs.Checklists.{multiset_of}
+use Rattle.is_rules.proofs.PairLists.PairsInLists.{longer}
+use Rattle.is_agent.proofs.AgentParts.PairsInLists.{as-long, one-longer}
+use Rattle.is_agent.proofs.agent.Agent.add_unknown_sender.Goals as goal
+
+pub invariant_of-self-clause-placed : goal.invariant_of-self-clause-placed
+invariant_of-self-clause-placed g c =
+    let self = c.args.self.now in
+    let long = one-longer c.push_reserved.new.self.items self.remote.items c.in-Unknown-Some.sender c.push_reserved.ensures.items in
+    longer self.local.items self.remote.items self.local.items c.push_reserved.new.self.items (multiset_of self.pairs) (omega arith) (omega (arith, long)) self.placed
+
+pub invariant_of-self-in-Vacant-Some-clause-placed : goal.invariant_of-self-in-Vacant-Some-clause-placed
+invariant_of-self-in-Vacant-Some-clause-placed g c =
+    let self = c.args.self.now in let r = c.in-Vacant-Some.r in let sender = c.in-Vacant-Some.sender in
+    let long = as-long (slice_set self.remote.items r sender) self.remote.items r sender refl in
+    longer self.local.items self.remote.items self.local.items (slice_set self.remote.items r sender) (multiset_of self.pairs) (omega arith) (omega (arith, long)) self.placed

@@ -1,0 +1,16 @@
+use Rattle.is_pair.specs.Checklists.{multiset_of}
+use Rattle.is_rules.proofs.PairLists.PairsInLists.{longer}
+use Rattle.is_agent.proofs.AgentParts.PairsInLists.{joined-longer, placed-answered}
+use Rattle.std.proofs.Common.{◌≤◌, length, arith}
+use Rattle.is_agent.proofs.agent.Agent.record.Goals as goal
+
+pub invariant_of-self-clause-placed : goal.invariant_of-self-clause-placed
+invariant_of-self-clause-placed g c =
+    let self = c.args.self.now in let pairs = multiset_of c.record_binding_response.new.self in
+    let kept = placed-answered self.local.items self.remote.items c.args.number c.args.now.0 c.args.id.0 (multiset_of self.pairs) pairs
+    c.record_binding_response.ensures.answered self.placed in
+    let more : length self.local.items ≤ length c.join.new.local.items = rw (c.join.ensures.items) (joined-longer c.args.mapped self.local.items) in
+    longer self.local.items self.remote.items c.join.new.local.items self.remote.items pairs more (omega arith) kept
+
+pub invariant_of-self-clause-none_too_high : goal.invariant_of-self-clause-none_too_high
+invariant_of-self-clause-none_too_high g c = c.join.ensures.all_low

@@ -1,0 +1,11 @@
+use Rattle.std.proofs.Common.{arith}
+use Rattle.is_pair.specs.Checklists.{multiset_of}
+use Rattle.is_rules.proofs.PairLists.PairsInLists.{longer}
+use Rattle.is_agent.proofs.AgentParts.PairsInLists.{one-longer}
+use Rattle.is_agent.proofs.agent.Agent.store_local.Goals as goal
+
+pub invariant_of-self-clause-placed : goal.invariant_of-self-clause-placed
+invariant_of-self-clause-placed g c =
+    let self = c.args.self.now in
+    let long = one-longer c.append-place.new.local.items self.local.items c.args.own c.append-place.ensures.items in
+    longer self.local.items self.remote.items c.append-place.new.local.items self.remote.items (multiset_of self.pairs) (omega (arith, long)) (omega arith) self.placed

@@ -1,0 +1,4 @@
+-- The members and the text of candidate JSON.
+pub mod WholeNumbers
+pub mod MembersSoFar
+pub mod PrintedJson

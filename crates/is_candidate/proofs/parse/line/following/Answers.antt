@@ -1,0 +1,13 @@
+use Rattle.std.proofs.Common.{◌≡◌, ℕ, ◌-◌, List, length, take, drop, min, sym, ap, ◌∙◌, arith}
+use Rattle.std.proofs.lemmas.List.{take_all, drop_min, drop-map, length-drop}
+use Rattle.is_candidate.specs.Scanned.{texts}
+use Rattle.is_candidate.proofs.parse.line.following.Goals as goal
+
+whole-rest : {X : Type 0} (xs : List X) (n : ℕ) → take (length xs - n) (drop n xs) ≡ drop n xs
+whole-rest xs n = take_all (length xs - n) (drop n xs) (omega (arith, length-drop n xs))
+
+pub returns : goal.returns
+returns c =
+    rw c.min.ensures
+    (ap texts (whole-rest c.args.words.now (min c.args.count (length c.args.words.now)) ∙ drop_min c.args.count c.args.words.now)
+    ∙ sym (drop-map (λ w. w.now) c.args.count c.args.words.now))

@@ -1,5 +1,0 @@
-use Rattle.is_laws.proofs.OpenCourses.{courses-reach-from-due}
-use Rattle.is_laws.proofs.reaching.courses_reach_from_due.Goals as goal
-
-pub returns : goal.returns
-returns g c = courses-reach-from-due _ _ c.open_courses_reach.ensures c.reached_from_due.ensures

@@ -1,5 +1,0 @@
-use Rattle.is_laws.proofs.OpenCourses.{open-courses-reach}
-use Rattle.is_laws.proofs.reaching.open_courses_reach.Goals as goal
-
-pub returns : goal.returns
-returns g c = open-courses-reach _ _ c.pairs_are_reached.ensures

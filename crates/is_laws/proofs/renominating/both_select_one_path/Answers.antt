@@ -1,5 +1,0 @@
-use Rattle.is_laws.proofs.OnePath.{both-select}
-use Rattle.is_laws.proofs.renominating.both_select_one_path.Goals as goal
-
-pub returns : goal.returns
-returns g c = both-select _ _ c.only_selected_are_nominated.ensures c.last_asked_are_selected.ensures

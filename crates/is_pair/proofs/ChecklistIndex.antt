@@ -1,0 +1,5 @@
+-- A checklist's index of transaction ids.
+pub mod SortedById
+pub mod IndexAfterCheck
+pub mod IndexAfterCut
+pub mod AwaitingPair

@@ -1,0 +1,4 @@
+-- When pairs are due, and which pair is due first.
+pub mod FirstDuePair
+pub mod LaterAfterCheck
+pub mod CountOfDuePairs

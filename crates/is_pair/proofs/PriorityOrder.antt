@@ -1,0 +1,6 @@
+-- Pair priorities, and a checklist's order by them.
+pub mod PairPriorities
+pub mod OrderedPairs
+pub mod GreatestPair
+pub mod LeastPair
+pub mod RecomputedPriorities

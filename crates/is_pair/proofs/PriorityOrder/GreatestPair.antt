@@ -1,0 +1,153 @@
+-- The pair of greatest priority, found from the end of the order.
+use Rattle.std.proofs.Common.{if◌then◌else◌, ◌≡◌, ◌==◌, ℕ, ◌≤◌, ◌||◌, Bool, true, false, cond, List, [], ◌∷◌, filter, find, reverse, nat_eq, nat_le, Some, None, unwrap_or, inl, inr, refl, sym, ap, subst, ◌∙◌, arith}
+use Rattle.std.proofs.lemmas.Bool.{eq-eqb, eqb-true}
+use Rattle.std.proofs.lemmas.List.{reverse-append}
+use Rattle.std.proofs.lemmas.List.Folds.{find-append}
+use Rattle.std.specs.List.{list_any, list_all}
+use Rattle.std.specs.Map.{lookup}
+use Rattle.std.specs.Option.{option_or}
+use Rattle.is_proto.specs.Lists.{Has}
+use Rattle.is_pair.specs.declared.checklist.entries.Rank.{Rank}
+use Rattle.is_pair.specs.Pairs.{PairRecord}
+use Rattle.is_pair.specs.Multiset.{passes_at, rises, IsGreatest}
+use Rattle.is_pair.specs.Entries.{pairs_of, are_keyed, are_ordered, is_rank, has_passing, IsRanking}
+use Rattle.is_pair.proofs.PairEntries.ChangedEntry.{both, none-passes, one-passes}
+use Rattle.is_pair.proofs.PriorityOrder.OrderedPairs.{le-from}
+
+-- ---- what is among a list
+
+pub has-any : {X : Type 0} (t : X → Bool) (xs : List X) (x : X) → Has xs x → t x ≡ true → list_any t xs ≡ true
+has-any t [] x h is = elim h [ ]
+has-any t (y ∷ ys) x (inl e) is = rw (e, is) refl
+has-any t (y ∷ ys) x (inr h) is = rw (has-any t ys x h is) (or-true (t y))
+  where
+    or-true : (b : Bool) → (b || true) ≡ true
+    or-true true = refl
+    or-true false = refl
+
+pub any-has : {X : Type 0} (t : X → Bool) (xs : List X) → list_any t xs ≡ true → (x : X) × Has xs x × (t x ≡ true)
+any-has t [] h = absurd (cc)
+any-has t (y ∷ ys) h =
+    elim (t y) as (λ b. t y ≡ b → (b || list_any t ys) ≡ true → (x : _) × Has (y ∷ ys) x × (t x ≡ true)) [
+      | true ↦ λ is h. (y, inl refl, is)
+      | false ↦ λ is h. let rest = any-has t ys h in (rest.0, inr rest.1, rest.2)
+    ] refl h
+
+pub all-has : {X : Type 0} (t : X → Bool) (xs : List X) (x : X) → list_all t xs ≡ true → Has xs x → t x ≡ true
+all-has t [] x h has = elim has [ ]
+all-has t (y ∷ ys) x h (inl e) = ap t (sym e) ∙ (both (t y) (list_all t ys) h).0
+all-has t (y ∷ ys) x h (inr has) = all-has t ys x (both (t y) (list_all t ys) h).1 has
+
+pub none-any : {X : Type 0} (t : X → Bool) (xs : List X) → list_any t xs ≡ false → filter t xs ≡ []
+none-any t [] none = refl
+none-any t (x ∷ xs) none =
+    elim (t x) as (λ b. (b || list_any t xs) ≡ false → (if b then x ∷ filter t xs else filter t xs) ≡ []) [
+      | true ↦ λ h. absurd (cc)
+      | false ↦ λ h. none-any t xs h
+    ] none
+
+pub filter-none : {X : Type 0} (t : X → Bool) (xs : List X) → ((x : X) → Has xs x → t x ≡ true → ⊥) → filter t xs ≡ []
+filter-none t [] none = refl
+filter-none t (x ∷ xs) none =
+    elim (t x) as (λ b. t x ≡ b → (if b then x ∷ filter t xs else filter t xs) ≡ []) [
+      | true ↦ λ is. absurd (none x (inl refl) is)
+      | false ↦ λ is. filter-none t xs (λ y h. none y (inr h))
+    ] refl
+
+pub found-has : (n : ℕ) (es : List (ℕ × PairRecord)) (v : PairRecord) → lookup (nat_eq n) es ≡ Some v → Has (pairs_of es) v
+found-has n [] v found = absurd (cc)
+found-has n (e ∷ es) v found =
+    elim (nat_eq n e.0) as (λ b. cond b (Some e.1) (lookup (nat_eq n) es) ≡ Some v → Has (e.1 ∷ pairs_of es) v) [
+      | true ↦ λ h. inl (ap (λ o. unwrap_or o e.1) h)
+      | false ↦ λ h. inr (found-has n es v h)
+    ] found
+
+-- ---- the last that passes
+
+last-by : (t : Rank → Bool) (r : Rank) (rs : List Rank) → find t (reverse (r ∷ rs)) ≡ option_or (find t (reverse rs)) (if t r then Some r else None)
+last-by t r rs = ap (find t) (reverse-append (r ∷ []) rs) ∙ find-append t (reverse rs) (r ∷ [])
+
+none-last : (t : Rank → Bool) (rs : List Rank) (s : Rank) → find t (reverse rs) ≡ None → Has rs s → t s ≡ true → ⊥
+none-last t [] s none has is = elim has [ ]
+none-last t (r ∷ rs) s none has is =
+    elim (find t (reverse rs)) as (λ o. find t (reverse rs) ≡ o → option_or o (if t r then Some r else None) ≡ None → ⊥) [
+      | Some y ↦ λ found h. absurd (cc)
+      | None ↦ λ found h. by has (λ rest. none-last t rs s found rest is) h
+    ] refl (sym (last-by t r rs) ∙ none)
+  where
+    by : Has (r ∷ rs) s → (Has rs s → ⊥) → (if t r then Some r else None) ≡ None → ⊥
+    by (inl e) following h = let here : t r ≡ true = ap t e ∙ is in absurd (cc)
+    by (inr rest) following h = following rest
+
+abbrev pub IsLast : (Rank → Bool) → List Rank → Rank → Type 0
+IsLast t rs r = Has rs r × (t r ≡ true) × ((s : Rank) → Has rs s → t s ≡ true → s.priority ≤ r.priority)
+
+pub last-found : (t : Rank → Bool) (rs : List Rank) (r : Rank) → are_ordered rs ≡ true → find t (reverse rs) ≡ Some r → IsLast t rs r
+last-found t [] r ordered found = absurd (cc)
+last-found t (x ∷ rs) r ordered found =
+    let b = both (list_all (λ (q : Rank). nat_le x.priority q.priority) rs) (are_ordered rs) ordered in
+    elim (find t (reverse rs)) as (λ o. find t (reverse rs) ≡ o → option_or o (if t x then Some x else None) ≡ Some r → IsLast t (x ∷ rs) r) [
+      | Some y ↦ λ is h.
+          let same : y ≡ r = ap (λ o. unwrap_or o y) h in
+          let rest = last-found t rs r b.1 (is ∙ ap (λ z. Some z) same) in
+          (inr rest.0, rest.1, above b.0 rest)
+      | None ↦ λ is h. first is (elim (t x) as (λ c. t x ≡ c → (if c then Some x else None) ≡ Some r → (x ≡ r) × (t x ≡ true)) [
+        | true ↦ λ passes h. (ap (λ o. unwrap_or o x) h, passes)
+        | false ↦ λ passes h. absurd (cc)
+      ] refl h)
+    ] refl (sym (last-by t x rs) ∙ found)
+  where
+    above : list_all (λ (q : Rank). nat_le x.priority q.priority) rs ≡ true → IsLast t rs r → (s : Rank) → Has (x ∷ rs) s → t s ≡ true → s.priority ≤ r.priority
+    above low rest s (inl e) is = subst (λ (z : Rank). z.priority ≤ r.priority) e (le-from (all-has (λ (q : Rank). nat_le x.priority q.priority) rs r low rest.0))
+    above low rest s (inr h) is = rest.2 s h is
+
+    only_pair : find t (reverse rs) ≡ None → x ≡ r → (s : Rank) → Has (x ∷ rs) s → t s ≡ true → s.priority ≤ r.priority
+    only_pair none same s (inl e) is = subst (λ (z : Rank). z.priority ≤ r.priority) e (subst (λ (z : Rank). x.priority ≤ z.priority) same (omega arith))
+    only_pair none same s (inr h) is = absurd (none-last t rs s none h is)
+
+    first : find t (reverse rs) ≡ None → (x ≡ r) × (t x ≡ true) → IsLast t (x ∷ rs) r
+    first none h = (inl h.0, ap t (sym h.0) ∙ h.1, only_pair none h.0)
+
+-- ---- its pair
+
+module _ (es : List (ℕ × PairRecord)) (rs : List Rank) (test : PairRecord → Bool) (keyed : are_keyed es ≡ true) (rising : rises (pairs_of es) ≡ true) (ranked : IsRanking rs (pairs_of es)) where
+  -- each pair that passes has its rank
+  pub has-rank : (q : PairRecord) → Has (pairs_of es) q → test q ≡ true → (s : Rank) × Has rs s × (has_passing test (pairs_of es) s ≡ true) × (s.priority ≡ q.priority)
+  has-rank q has is =
+      let own = has-any (passes_at q.number (λ p. p.priority == q.priority)) (pairs_of es) q has (rw (eq-eqb q.number q.number refl) (eq-eqb q.priority q.priority refl)) in
+      let found = any-has (is_rank q.priority q.number) rs (ranked q.priority q.number ∙ own) in
+      let b = both (found.0.number == q.number) (found.0.priority == q.priority) found.2 in
+      let number = eqb-true found.0.number q.number b.0 in (
+        found.0,
+        found.1,
+        has-any (passes_at found.0.number test) (pairs_of es) q has (rw (eq-eqb q.number found.0.number (sym number)) is),
+        eqb-true found.0.priority q.priority b.1,
+      )
+
+  -- the pair has the priority of its rank
+  pub rank-priority : (r : Rank) (p : PairRecord) → Has rs r → lookup (nat_eq r.number) es ≡ Some p → p.priority ≡ r.priority
+  rank-priority r p has found =
+      let own = has-any (is_rank r.priority r.number) rs r has (rw (eq-eqb r.number r.number refl) (eq-eqb r.priority r.priority refl)) in
+      eqb-true p.priority r.priority (sym (one-passes r.number (λ q. q.priority == r.priority) es p keyed rising found) ∙ sym (ranked r.priority r.number) ∙ own)
+
+  greatest-at : (r : Rank) (p : PairRecord) → IsLast (has_passing test (pairs_of es)) rs r → lookup (nat_eq r.number) es ≡ Some p → IsGreatest test (pairs_of es) (Some p)
+  greatest-at r p last found =
+      let priority = rank-priority r p last.0 found in (
+        found-has r.number es p found,
+        sym (one-passes r.number test es p keyed rising found) ∙ last.1,
+        λ q has is.
+            let s = has-rank q has is in
+            let below = last.2 s.0 s.1 s.2 in
+            omega (arith, below, s.3, priority),
+      )
+
+  pub greatest-found : (r : Rank) → are_ordered rs ≡ true → find (has_passing test (pairs_of es)) (reverse rs) ≡ Some r → IsGreatest test (pairs_of es) (lookup (nat_eq r.number) es)
+  greatest-found r ordered is =
+      let last = last-found (has_passing test (pairs_of es)) rs r ordered is in
+      elim (lookup (nat_eq r.number) es) as (λ o. lookup (nat_eq r.number) es ≡ o → IsGreatest test (pairs_of es) o) [
+        | Some p ↦ λ found. greatest-at r p last found
+        | None ↦ λ none. let fails = none-passes r.number test es keyed none in absurd (cc)
+      ] refl
+
+  pub none-greatest : find (has_passing test (pairs_of es)) (reverse rs) ≡ None → IsGreatest test (pairs_of es) None
+  none-greatest none = filter-none test (pairs_of es) (λ q has is. let s = has-rank q has is in none-last (has_passing test (pairs_of es)) rs s.0 none s.1 s.2)

@@ -1,0 +1,3 @@
+-- The checks that a pair stores.
+pub mod LastChecks
+pub mod QueueFromBack

@@ -1,0 +1,15 @@
+use Rattle.std.proofs.Common.{rules, tests, ap, sym, ◌∙◌}
+use Rattle.std.proofs.lemmas.List.Sorted.{list_any-IsPermutation, IsNonDecreasingBy-from_sort_by_key}
+use Rattle.std.specs.List.{list_any}
+use Rattle.is_pair.specs.declared.checklist.entries.Rank.{Rank}
+use Rattle.is_pair.proofs.PriorityOrder.OrderedPairs.{ordered-from}
+use Rattle.is_pair.proofs.checklist.ranks.rebuild_order.Goals as goal
+
+pub returns-clause-any : goal.returns-clause-any
+returns-clause-any c = λ test.
+    sym (list_any-IsPermutation test _ _ c.sort_unstable_by_key.ensures.permutation) ∙ ap (list_any test) c.follow_pairs.ensures.items
+
+pub returns-clause-ordered : goal.returns-clause-ordered
+returns-clause-ordered c =
+    ordered-from c.sort_unstable_by_key.new.self.items
+    (IsNonDecreasingBy-from_sort_by_key (λ (r : Rank). r.priority) c.sort_unstable_by_key.new.self.items c.sort_unstable_by_key.ensures.sorted (λ a r f k. search (rules, tests)))

@@ -1,0 +1,33 @@
+//! The pairs that are removed because they failed.
+
+ghost use Rattle.std.specs.Prelude.{◌<◌};
+
+use super::PairTest;
+use crate::pair::CandidatePair;
+use is_proto::Instant;
+use is_stun::stun::StunTiming;
+
+/// A test for failed pairs: those whose consent expired (RFC 7675), and, on an ICE-lite agent, which sends no checks,
+/// those on which the peer's checks stopped.
+#[derive(Clone, Copy)]
+pub struct Expired<'a> {
+    /// Whether the agent is an ICE-lite agent.
+    pub lite: bool,
+    pub now: Instant,
+    pub timing: &'a StunTiming,
+    ghost is_checked: { 0 < timing.now.max_retransmits },
+}
+
+impl PairTest for Expired<'_> {
+    ghost use Rattle.is_pair.specs.Due.{is_pair_expired};
+
+    ghost passes = { λ t p. is_pair_expired t.lite t.now.0 t.timing.now p };
+
+    fn passes(&self, pair: &CandidatePair) -> bool {
+        if self.lite {
+            !pair.is_ice_lite_alive(self.now, self.timing)
+        } else {
+            !pair.is_still_possible(self.now, self.timing)
+        }
+    }
+}

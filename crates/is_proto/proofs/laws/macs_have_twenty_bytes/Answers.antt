@@ -1,5 +1,0 @@
-use Rattle.is_proto.proofs.MacLengths.{mac_length}
-use Rattle.is_proto.proofs.laws.macs_have_twenty_bytes.Goals as goal
-
-pub returns : goal.returns
-returns c = mac_length

@@ -1,0 +1,7 @@
+-- Lists and indices in the proofs of this crate's functions.
+pub mod FoundElements
+pub mod IndexRanges
+pub mod BestIndex
+pub mod FoundChecks
+pub mod EvictedPairs
+pub mod DuePairsAfterNomination

@@ -1,0 +1,19 @@
+-- A check that is found by its id is among the checks and has the id.
+use Rattle.std.proofs.Common.{◌≡◌, ℕ, Bool, true, false, List, Some, find, refl}
+use Rattle.std.proofs.Math.Bool.{beq}
+use Rattle.std.proofs.lemmas.Slice.Eq.{bytes_eq-Decides}
+use Rattle.is_proto.specs.Lists.{Has, same}
+use Rattle.is_pair.specs.Checks.{Check, has_id}
+use Rattle.is_rules.proofs.FunctionProofs.FoundElements.{find-Some}
+
+-- a check that is found by its id
+pub check-found : (id : List ℕ) (checks : List Check) (c : Check) → find (has_id id) checks ≡ Some c → Has checks c × (c.id ≡ id)
+check-found id checks c found =
+    let is = find-Some (has_id id) checks c found in
+    (is.0, (bytes_eq-Decides c.id id).0 is.1)
+
+pub same-beq : (a b : Bool) → beq a b ≡ same a b
+same-beq true true = refl
+same-beq true false = refl
+same-beq false true = refl
+same-beq false false = refl

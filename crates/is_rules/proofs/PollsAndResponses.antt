@@ -1,0 +1,3 @@
+-- The next timeout, and what a response contains.
+pub mod NextTimeout
+pub mod AddressesInResponses

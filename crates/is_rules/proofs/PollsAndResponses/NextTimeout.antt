@@ -1,0 +1,99 @@
+-- The next timeout of an agent: after the last `handle_timeout` call, and no later than any pair's due time, except
+-- for the pacing interval.
+use Rattle.std.proofs.Common.{◌≡◌, ℕ, ◌*◌, ◌<◌, ◌≤◌, ◌||◌, Bool, true, false, not, List, [], ◌∷◌, map, fold, min, max, nat_le, Some, None, inl, inr, refl, ap, ◌∙◌, subst, arith}
+use Rattle.std.proofs.lemmas.Bool.Decides.{nat_tests}
+use Rattle.std.specs.Prelude.{MatchBool}
+use Rattle.is_proto.specs.Lists.{Has, is_empty}
+use Rattle.is_proto.specs.Times.{MAX, SECOND, later}
+use Rattle.is_pair.specs.Pairs.{PairRecord}
+use Rattle.is_pair.specs.Due.{asked, due_time_of}
+use Rattle.is_rules.specs.Agent.{AgentRecord}
+use Rattle.is_rules.specs.Polls.{PollsTimeout, NextTimeoutFrom, NextTimeouts, IdleTimeout, is_waiting, is_idle, soon, earliest_due}
+use Rattle.is_rules.specs.TimeoutTimes.{TimeoutIsAhead, TimeoutIsInTime}
+
+either : (b : Bool) {P Q R : Type 0} → MatchBool b P Q → (b ≡ true → P → R) → (b ≡ false → Q → R) → R
+either true h f g = f refl h
+either false h f g = g refl h
+
+-- ---- the least of a list
+
+least-start : {X : Type 0} (f : X → ℕ) (m : ℕ) (xs : List X) → fold min m (map f xs) ≤ m
+least-start f m [] = omega arith
+least-start f m (x ∷ xs) = let k : fold min (min m (f x)) (map f xs) ≤ min m (f x) = least-start f (min m (f x)) xs in omega (arith, k)
+
+pub least-below : {X : Type 0} (f : X → ℕ) (m : ℕ) (xs : List X) (x : X) → Has xs x → fold min m (map f xs) ≤ f x
+least-below f m [] x has = absurd has
+least-below f m (y ∷ ys) x (inl e) =
+    let k : fold min (min m (f y)) (map f ys) ≤ min m (f y) = least-start f (min m (f y)) ys in
+    let same : f y ≡ f x = ap f e in
+    omega (arith, k, same)
+least-below f m (y ∷ ys) x (inr has) = least-below f (min m (f y)) ys x has
+
+le-of : (n m : ℕ) → nat_le n m ≡ true → n ≤ m
+le-of n m h = grind (arith, nat_tests, h)
+
+lt-of-not : (n m : ℕ) → nat_le n m ≡ false → m < n
+lt-of-not n m h = grind (arith, nat_tests, h)
+
+-- if the least is below the start, it is that of an element
+pub least-is : {X : Type 0} (f : X → ℕ) (m w : ℕ) (xs : List X) → fold min m (map f xs) ≤ w → w < m → (x : X) × Has xs x × (f x ≤ w)
+least-is f m w [] low above = absurd (let no : ⊥ = omega (arith, low, above) in no)
+least-is f m w (x ∷ xs) low above =
+    elim (nat_le (f x) w) as (λ b. nat_le (f x) w ≡ b → (y : _) × Has (x ∷ xs) y × (f y ≤ w)) [
+      | true ↦ λ is. (x, inl refl, le-of (f x) w is)
+      | false ↦ λ is.
+          (let more : w < f x = lt-of-not (f x) w is in
+          let rest = least-is f (min m (f x)) w xs low (omega (arith, more, above)) in
+          (rest.0, inr rest.1, rest.2))
+    ] refl
+
+-- ---- next timeouts
+
+idle-has : (lite : Bool) (pairs : List PairRecord) (p : PairRecord) → lite ≡ false → Has pairs p → lite || is_empty pairs ≡ true → ⊥
+idle-has true pairs p full has h = absurd (cc)
+idle-has false [] p full has h = absurd has
+idle-has false (q ∷ qs) p full has h = absurd (cc)
+
+not-idle : (lite : Bool) (pairs : List PairRecord) → lite ≡ false → is_empty pairs ≡ false → (lite || is_empty pairs) ≡ false
+not-idle true pairs full some = absurd (cc)
+not-idle false pairs full some = some
+
+module _ {H P : Type 0} where
+  pub timeouts-from : (old new : AgentRecord H P) (last deadline : ℕ) → old.last_time ≡ Some last → PollsTimeout old (Some deadline) new → NextTimeouts old last deadline new
+  timeouts-from old new last deadline is h = subst (λ o. NextTimeoutFrom o old (Some deadline) new) is h
+
+  pub timeouts-ahead : TimeoutIsAhead H P
+  timeouts-ahead old new None h = tt
+  timeouts-ahead old new (Some deadline) h = λ last is some early.
+      let next : last < soon old last = omega (arith, some, early) in
+      either (is_waiting old) (timeouts-from old new last deadline is h)
+      (λ _ k. (let is = k.0 in omega (arith, is, next)))
+      (λ _ k. either (is_idle old) k
+      (λ _ l. (let is = l.0 in omega (arith, is, early)))
+      (λ _ l. (let is = l.0 in omega (arith, is, next))))
+
+  pub timeouts-in-time : TimeoutIsInTime H P
+  timeouts-in-time old new None h = tt
+  timeouts-in-time old new (Some deadline) h = λ last is full p has.
+      either (is_waiting old) (timeouts-from old new last deadline is h)
+      (λ _ k. (let is = k.0 in omega (arith, is)))
+      (λ _ k. either (is_idle old) k
+      (λ idle _. absurd (idle-has old.lite old.pairs p full has idle))
+      (λ _ l. (
+      let is = l.0 in let least : earliest_due old last ≤ due_time_of last old.timing p = least-below (due_time_of last old.timing) MAX old.pairs p has in
+      omega (arith, is, least))))
+
+  not-waiting : (a : AgentRecord H P) → a.packets ≡ [] → a.queue ≡ [] → is_waiting a ≡ false
+  not-waiting a no_packets no_queue =
+      ap (λ ps. not (is_empty ps) || not (is_empty a.queue)) no_packets ∙ ap (λ qs. not (is_empty qs)) no_queue
+
+  -- if no request is stored and there is a pair to check, the due times of all pairs are fixed
+  pub all-are-asked : (old new : AgentRecord H P) (last deadline : ℕ) → old.last_time ≡ Some last → old.lite ≡ false → old.packets ≡ [] → old.queue ≡ []
+      → is_empty old.pairs ≡ false → PollsTimeout old (Some deadline) new
+      → (deadline ≡ max (earliest_due old last) (soon old last)) × (new ≡ record old { pairs = map (asked last old.timing) old.pairs })
+  all-are-asked old new last deadline is full no_packets no_queue some h =
+      let w : IdleTimeout old last deadline new =
+      subst (λ b. MatchBool b ((deadline ≡ soon old last) × (new ≡ old)) (IdleTimeout old last deadline new)) (not-waiting old no_packets no_queue) (timeouts-from old new last deadline is h) in
+      subst (λ b. MatchBool b ((deadline ≡ later last (3 * SECOND)) × (new ≡ old))
+      ((deadline ≡ max (earliest_due old last) (soon old last)) × (new ≡ record old { pairs = map (asked last old.timing) old.pairs })))
+      (not-idle old.lite old.pairs full some) w

@@ -1,9 +1,0 @@
-use Rattle.is_rules.proofs.BoundPairs.{bounds_pairs}
-use Rattle.is_rules.proofs.CellLaws.{limits_pairs}
-use Rattle.is_rules.proofs.laws.limits_pairs.Goals as goal
-
-pub returns-clause-few : goal.returns-clause-few
-returns-clause-few g c = limits_pairs _ _
-
-pub returns-clause-bounded : goal.returns-clause-bounded
-returns-clause-bounded g c = bounds_pairs _ _

@@ -1,0 +1,167 @@
+-- Calls that are neither packets nor `handle_timeout` calls: they emit nothing, and leave `selected_pair`.
+use Rattle.std.proofs.Common.{◌≡◌, ℕ, zero, suc, ◌<◌, ◌==◌, Bool, true, false, List, [], ◌∷◌, ◌++◌, Option, Some, None, Result, Ok, Err, inl, inr, refl, ap, sym, subst, arith}
+use Rattle.std.specs.Prelude.{MatchBool}
+use Rattle.rand_core.specs.Stream.{Stream}
+use Rattle.is_proto.specs.declared.error.IceError.{IceError}
+use Rattle.is_candidate.specs.Candidates.{CandidateRecord, IsBased, candidate_at}
+use Rattle.is_stun.specs.declared.timing.StunTiming.{StunTiming}
+use Rattle.is_rules.specs.Steps.{Answer, Done, Flag, Polled, Happened, NextTimeout, NotCalled, Rejected, Entry, quiet, added}
+use Rattle.is_rules.specs.Emitted.{nothing_emitted}
+use Rattle.is_rules.specs.Sound.{KeepsChecks}
+use Rattle.is_rules.specs.Agent.{AgentRecord}
+use Rattle.is_rules.specs.Forming.{Combination, FormsAll}
+use Rattle.is_rules.specs.Settings.{SetsMtu, with_rtos, with_retransmits, with_lite_timeout}
+use Rattle.is_rules.specs.Credentials.{SetsLocal, SetsRemote}
+use Rattle.is_rules.specs.Discarding.{change_place, discarded, local_discarded, remote_discarded, place_to_discard, InvalidatesAt}
+use Rattle.is_rules.specs.Local.{enabled, enabled_again, appended, AddsLocal}
+use Rattle.is_rules.specs.Remote.{as_remote, with_remote, AddsRemote}
+use Rattle.is_rules.specs.Restarting.{with_ufrag, kept_local, restarted, emptied, Restarts, Recreates}
+use Rattle.is_rules.specs.Steps.{Call, SetMtu, SetControlTieBreaker, SetMaxCandidatePairs, SetMaxDiscovered, SetIceLite, SetRenomination, SetTimingAdvance, SetInitialStunRto, SetMaxStunRto, SetMaxStunRetransmits, SetLiteTimeout, SetLocalPreference, SetControlling, SetLocalCredentials, SetRemoteCredentials, SkipPairIds, AddLocalCandidate, AddRemoteCandidate, InvalidateCandidate, RestartIce, RecreateCandidatePairs, ReceivePacket, HandleTimeout, PollTransmit, PollTimeout, PollEvent, Becomes, MayDo, Step}
+use Rattle.is_rules.specs.Sound.{GivesBased}
+use Rattle.is_theorems.proofs.CallEffects.FailedCallsAndNewAgents.{mtu_kept, local_kept, remote_kept, restart_kept, recreation_kept, enrolment_kept, storing_kept}
+use Rattle.is_theorems.proofs.CallEffects.AddedCandidates.{by_adding_local, by_adding_remote, by_waking}
+use Rattle.is_theorems.proofs.RuleEffects.EarlierAndNewPairs.{Has-push}
+use Rattle.is_theorems.proofs.RuleEffects.ChangedPairs.{Has-map}
+use Rattle.is_theorems.proofs.CallEffects.ChecksAndResponses.{Has-set}
+use Rattle.is_theorems.proofs.CallEffects.UnchangedTimingAndBases.{AllBased, based_at}
+
+-- neither a packet nor a `handle_timeout` call
+abbrev pub is_calm : {P : Type 0} → Call P → Bool
+is_calm (ReceivePacket now path bytes) = false
+is_calm (HandleTimeout now) = false
+is_calm _ = true
+
+changed_based : (f : CandidateRecord → CandidateRecord) (cs : List CandidateRecord) (place : ℕ) → ((c : CandidateRecord) → IsBased c → IsBased (f c))
+    → AllBased cs → AllBased (change_place place f cs)
+changed_based f cs place keeps based c has = elim (Has-set cs place (f (candidate_at cs place)) c has) [
+  | inl was ↦ based c was
+  | inr now ↦ subst (λ (x : CandidateRecord). IsBased x) now (keeps (candidate_at cs place) (based_at cs place based))
+]
+
+pub pushed_based : (cs : List CandidateRecord) (c : CandidateRecord) → IsBased c → AllBased cs → AllBased (cs ++ c ∷ [])
+pushed_based cs c own based x has = elim (Has-push cs c x has) [
+  | inl was ↦ based x was
+  | inr now ↦ subst (λ (y : CandidateRecord). IsBased y) now own
+]
+
+kept_based : (keep : Bool) (ufrag : List ℕ) (cs : List CandidateRecord) → AllBased cs → AllBased (kept_local keep ufrag cs)
+kept_based true ufrag cs based c has = let o = Has-map (with_ufrag ufrag) cs c has in subst (λ (x : CandidateRecord). IsBased x) o.2 (based o.0 o.1)
+kept_based false ufrag cs based c has = absurd has
+
+module _ {H P : Type 0} where
+  pub record Calm (call : Call P) (old : AgentRecord H P) (e : Entry) (new : AgentRecord H P) : Type 0 where
+    pub emitted : e.emitted ≡ nothing_emitted
+    pub selected_paths : new.selected_pair ≡ old.selected_pair
+    pub last : new.last_nominated ≡ old.last_nominated
+    pub checks : KeepsChecks old.timing → KeepsChecks new.timing
+    pub based : GivesBased call → AllBased old.local → AllBased new.local
+
+  -- the numbers and the limits stay
+  pub record Keeps (given : Type 0) (old new : AgentRecord H P) : Type 0 where
+    pub selected_paths : new.selected_pair ≡ old.selected_pair
+    pub last : new.last_nominated ≡ old.last_nominated
+    pub checks : KeepsChecks old.timing → KeepsChecks new.timing
+    pub based : given → AllBased old.local → AllBased new.local
+
+  alike : (given : Type 0) (old new : AgentRecord H P) → new.selected_pair ≡ old.selected_pair → new.last_nominated ≡ old.last_nominated → new.timing ≡ old.timing → (given → AllBased old.local → AllBased new.local) → Keeps given old new
+  alike given old new number last timing based = record {
+    selected_paths = number;
+    last = last;
+    checks = λ h. subst (λ (t : StunTiming). KeepsChecks t) (sym timing) h;
+    based = based;
+  }
+
+  local_alike : (given : Type 0) (old new : AgentRecord H P) → new.selected_pair ≡ old.selected_pair → new.last_nominated ≡ old.last_nominated → new.timing ≡ old.timing → new.local ≡ old.local → Keeps given old new
+  local_alike given old new number last timing local = alike given old new number last timing (λ _ h. subst (λ (cs : List CandidateRecord). AllBased cs) (sym local) h)
+
+  same : (given : Type 0) (old new : AgentRecord H P) → new ≡ old → Keeps given old new
+  same given old new made = local_alike given old new (ap (λ (a : AgentRecord H P). a.selected_pair) made) (ap (λ (a : AgentRecord H P). a.last_nominated) made) (ap (λ (a : AgentRecord H P). a.timing) made) (ap (λ (a : AgentRecord H P). a.local) made)
+
+  becoming : (given : Type 0) (old needed new : AgentRecord H P) → Keeps given old needed → new ≡ needed → Keeps given old new
+  becoming given old needed new h made = subst (λ (a : AgentRecord H P). Keeps given old a) (sym made) h
+
+  forming : (given : Type 0) (old mid new : AgentRecord H P) (all : List Combination) → Keeps given old mid → FormsAll mid all new → Keeps given old new
+  forming given old mid new all h (f, forms, made) = subst (λ (a : AgentRecord H P). Keeps given old a) (sym made) (record { selected_paths = h.selected_paths; last = h.last; checks = h.checks; based = h.based })
+
+  adds_local : (answers : P → CandidateRecord → ℕ → ℕ → Type 0) (old new : AgentRecord H P) (c : CandidateRecord) (place : Option ℕ)
+      → AddsLocal answers old c (Ok place) new → Keeps (IsBased c) old new
+  adds_local answers old new c place h = by_adding_local old new answers c place h
+      (λ made. same (IsBased c) old new made)
+      (λ x own f. forming (IsBased c) old (appended x old) new _ (alike (IsBased c) old (appended x old) refl refl refl (λ g b. pushed_based old.local x (own g) b)) f)
+      (λ k lt f. forming (IsBased c) old (enabled_again k old) new _ (alike (IsBased c) old (enabled_again k old) refl refl refl (λ g b. changed_based enabled old.local k (λ x is. is) b)) f)
+      (λ x own k f. forming (IsBased c) old (appended x (local_discarded k old)) new _
+      (alike (IsBased c) old (appended x (local_discarded k old)) refl refl refl
+      (λ g b. pushed_based (change_place k discarded old.local) x (own g) (changed_based discarded old.local k (λ x is. is) b))) f)
+
+  adds_remote : (old new : AgentRecord H P) (c : CandidateRecord) → AddsRemote old c (Ok _) new → Keeps (Unit {0}) old new
+  adds_remote old new c h = by_adding_remote old new c h
+      (λ made. same (Unit {0}) old new made)
+      (λ f. forming (Unit {0}) old (with_remote (as_remote c) None old) new _ (local_alike (Unit {0}) old _ refl refl refl refl) f)
+      (λ k lt addr f. forming (Unit {0}) old (with_remote (as_remote c) (Some k) old) new _ (local_alike (Unit {0}) old _ refl refl refl refl) f)
+
+  invalidates : (old new : AgentRecord H P) (l r : Option ℕ) (found : Bool) → InvalidatesAt l r old found new → Keeps (Unit {0}) old new
+  invalidates old new (Some place) r found h =
+      becoming (Unit {0}) old (local_discarded place old) new (alike (Unit {0}) old _ refl refl refl (λ _ b. changed_based discarded old.local place (λ x is. is) b)) h.1
+  invalidates old new None (Some place) found h = becoming (Unit {0}) old (remote_discarded place old) new (local_alike (Unit {0}) old _ refl refl refl refl) h.1
+  invalidates old new None None found h = same (Unit {0}) old new h.1
+
+  recreates : (old new : AgentRecord H P) → Recreates old (Ok _) new → Keeps (Unit {0}) old new
+  recreates old new (enough, forms) = forming (Unit {0}) old (emptied old) new _ (local_alike (Unit {0}) old _ refl refl refl refl) forms
+
+  module _ (mac : H → List ℕ → List ℕ → List ℕ) (answers : P → CandidateRecord → ℕ → ℕ → Type 0) (old new : AgentRecord H P) (s t : Stream) (e : Entry) where
+    by : (call : Call P) (a : Answer) → e ≡ quiet a → Keeps (GivesBased call) old new → Calm call old e new
+    by call a is k = record { emitted = ap (λ (x : Entry). x.emitted) is; selected_paths = k.selected_paths; last = k.last; checks = k.checks; based = k.based }
+
+    becomes : (call : Call P) (needed : AgentRecord H P) → Keeps (GivesBased call) old needed → Becomes needed s e new t → Calm call old e new
+    becomes call needed k (is, made, drawn) = by call Done is (becoming (GivesBased call) old needed new k made)
+
+    done_or : (call : Call P) (Does : Result (Unit {0}) IceError → AgentRecord H P → Type 0) → (Does (Ok _) new → Keeps (GivesBased call) old new)
+        → ((error : IceError) → Does (Err error) new → new ≡ old) → MayDo Does s e new t → Calm call old e new
+    done_or call Does goes kept (Ok _, is, h, drawn) = by call Done is (goes h)
+    done_or call Does goes kept (Err error, is, h, drawn) = by call (Rejected error) is (same (GivesBased call) old new (kept error h))
+
+    retransmits : (b : Bool) (n : ℕ) → (n == 0) ≡ b → MatchBool b ((e ≡ quiet NotCalled) × (new ≡ old) × (t ≡ s)) (Becomes (with_retransmits n old) s e new t)
+        → Calm (SetMaxStunRetransmits n) old e new
+    retransmits true n none (is, made, drawn) = by (SetMaxStunRetransmits n) NotCalled is (same (Unit {0}) old new made)
+    retransmits false n some h = becomes (SetMaxStunRetransmits n) (with_retransmits n old)
+        (record { selected_paths = refl; last = refl; checks = λ _. positive n some; based = λ _ b. b }) h where
+          positive : (n : ℕ) → (n == 0) ≡ false → 0 < n
+          positive zero h = let wrong : true ≡ false = h in cc
+          positive (suc n) h = omega arith
+
+    pub calm : (call : Call P) → is_calm call ≡ true → Step mac answers old s call e new t → Calm call old e new
+    calm (SetMtu target warn) is h = done_or (SetMtu target warn) (SetsMtu old target warn)
+        (λ k. becoming (Unit {0}) old _ new (local_alike (Unit {0}) old _ refl refl refl refl) k.1) (λ error k. mtu_kept old new target warn error k) h
+    calm (SetControlTieBreaker tie) is h = becomes (SetControlTieBreaker tie) _ (local_alike (Unit {0}) old _ refl refl refl refl) h
+    calm (SetMaxCandidatePairs n) is h = becomes (SetMaxCandidatePairs n) _ (local_alike (Unit {0}) old _ refl refl refl refl) h
+    calm (SetMaxDiscovered n) is h = becomes (SetMaxDiscovered n) _ (local_alike (Unit {0}) old _ refl refl refl refl) h
+    calm (SetIceLite lite) is h = becomes (SetIceLite lite) _ (local_alike (Unit {0}) old _ refl refl refl refl) h
+    calm (SetRenomination on) is h = becomes (SetRenomination on) _ (local_alike (Unit {0}) old _ refl refl refl refl) h
+    calm (SetTimingAdvance step) is h = becomes (SetTimingAdvance step) _ (local_alike (Unit {0}) old _ refl refl refl refl) h
+    calm (SetInitialStunRto rto) is h = becomes (SetInitialStunRto rto) (with_rtos rto old.timing.max_rto.0 old) (record { selected_paths = refl; last = refl; checks = λ k. k; based = λ _ b. b }) h
+    calm (SetMaxStunRto rto) is h = becomes (SetMaxStunRto rto) (with_rtos old.timing.initial_rto.0 rto old) (record { selected_paths = refl; last = refl; checks = λ k. k; based = λ _ b. b }) h
+    calm (SetMaxStunRetransmits n) is h = retransmits (n == 0) n refl h
+    calm (SetLiteTimeout by) is h = becomes (SetLiteTimeout by) (with_lite_timeout by old) (record { selected_paths = refl; last = refl; checks = λ k. k; based = λ _ b. b }) h
+    calm (SetLocalPreference object) is h = becomes (SetLocalPreference object) _ (local_alike (Unit {0}) old _ refl refl refl refl) h
+    calm (SetControlling controlling) is h = becomes (SetControlling controlling) _ (local_alike (Unit {0}) old _ refl refl refl refl) h
+    calm (SetLocalCredentials creds) is h = done_or (SetLocalCredentials creds) (SetsLocal old creds)
+        (λ k. becoming (Unit {0}) old _ new (local_alike (Unit {0}) old _ refl refl refl refl) k.1) (λ error k. local_kept old new creds error k) h
+    calm (SetRemoteCredentials creds) is h = done_or (SetRemoteCredentials creds) (SetsRemote old creds)
+        (λ k. becoming (Unit {0}) old _ new (local_alike (Unit {0}) old _ refl refl refl refl) k.1) (λ error k. remote_kept old new creds error k) h
+    calm (SkipPairIds n) is h = becomes (SkipPairIds n) _ (local_alike (Unit {0}) old _ refl refl refl refl) h
+    calm (AddLocalCandidate c) is (Ok place, emitted, h, drawn) = by (AddLocalCandidate c) (added place) emitted (adds_local answers old new c place h)
+    calm (AddLocalCandidate c) is (Err error, emitted, h, drawn) = by (AddLocalCandidate c) (Rejected error) emitted (same (IsBased c) old new (enrolment_kept answers old new c error h))
+    calm (AddRemoteCandidate c) is h = done_or (AddRemoteCandidate c) (AddsRemote old c) (λ k. adds_remote old new c k) (λ error k. storing_kept old new c error k) h
+    calm (InvalidateCandidate c) is (found, emitted, h, drawn) =
+        by (InvalidateCandidate c) (Flag found) emitted (invalidates old new (place_to_discard c old.local) (place_to_discard c old.remote) found h)
+    calm (RestartIce creds keep) is h = done_or (RestartIce creds keep) (Restarts old creds keep)
+        (λ k. becoming (Unit {0}) old (restarted creds keep old) new (alike (Unit {0}) old (restarted creds keep old) refl refl refl (λ _ b. kept_based keep creds.ufrag old.local b)) k.1)
+        (λ error k. restart_kept old new creds keep error k) h
+    calm RecreateCandidatePairs is h = done_or RecreateCandidatePairs (Recreates old) (λ k. recreates old new k) (λ error k. recreation_kept old new error k) h
+    calm (ReceivePacket now path bytes) is h = let no : false ≡ true = is in absurd (cc)
+    calm (HandleTimeout now) is h = let no : false ≡ true = is in absurd (cc)
+    calm PollTransmit is (given, emitted, (polled, made), drawn) = by PollTransmit (Polled given) emitted (becoming (Unit {0}) old (record old { packets = new.packets }) new (local_alike (Unit {0}) old _ refl refl refl refl) made)
+    calm PollTimeout is (deadline, emitted, h, drawn) = by PollTimeout (NextTimeout deadline) emitted (by_waking old new deadline h
+        (λ made. same (Unit {0}) old new made)
+        (λ at made. becoming (Unit {0}) old _ new (local_alike (Unit {0}) old _ refl refl refl refl) made))
+    calm PollEvent is (given, emitted, (polled, made), drawn) = by PollEvent (Happened given) emitted (becoming (Unit {0}) old (record old { events = new.events }) new (local_alike (Unit {0}) old _ refl refl refl refl) made)

@@ -1,0 +1,178 @@
+-- A call that fails keeps the abstract state and the stream, and a newly created agent is sound.
+use Rattle.std.proofs.Common.{◌≡◌, ℕ, ◌==◌, Bool, true, false, List, Option, Some, None, Result, Ok, Err, inl, inr, refl, ap, sym, ◌∙◌, arith}
+use Rattle.std.specs.Prelude.{MatchBool, nat_lt, position, length}
+use Rattle.rand_core.specs.Stream.{Stream}
+use Rattle.is_proto.specs.declared.error.IceError.{IceError}
+use Rattle.is_proto.specs.declared.error.IceError.TheVariants.{BadCandidate, OutOfMemory, PairIdsExhausted, MtuTooSmall, CredentialsTooLong, PriorityTooHigh}
+use Rattle.is_candidate.specs.Candidates.{CandidateRecord}
+use Rattle.is_rules.specs.declared.credentials.IceCreds.{IceCreds}
+use Rattle.is_rules.specs.declared.emitted.Path.{Path}
+use Rattle.is_rules.specs.Steps.{Answer, Done, Flag, Polled, Happened, NextTimeout, NotCalled, Entry, quiet, added, is_rejection}
+use Rattle.is_rules.specs.Agent.{AgentRecord}
+use Rattle.is_rules.specs.Settings.{SetsMtu, with_retransmits}
+use Rattle.is_rules.specs.Credentials.{SetsLocal, SetsRemote}
+use Rattle.is_rules.specs.Remote.{as_remote, is_ignored, JoinsRemote, AddsRemote}
+use Rattle.is_rules.specs.Restarting.{Restarts, Recreates}
+use Rattle.is_rules.specs.Steps.{Call, SetMtu, SetControlTieBreaker, SetMaxCandidatePairs, SetMaxDiscovered, SetIceLite, SetRenomination, SetTimingAdvance, SetInitialStunRto, SetMaxStunRto, SetMaxStunRetransmits, SetLiteTimeout, SetLocalPreference, SetControlling, SetLocalCredentials, SetRemoteCredentials, SkipPairIds, AddLocalCandidate, AddRemoteCandidate, InvalidateCandidate, RestartIce, RecreateCandidatePairs, ReceivePacket, HandleTimeout, PollTransmit, PollTimeout, PollEvent, Becomes, MayDo, Receives, Step}
+use Rattle.is_rules.specs.Sound.{FreshIsSound}
+use Rattle.is_rules.specs.Effects.{RejectionKeeps}
+use Rattle.is_candidate.specs.Candidates.{candidate_at}
+use Rattle.is_candidate.specs.Priorities.{candidate_priority}
+use Rattle.is_candidate.specs.Equality.{is_same_place}
+use Rattle.is_rules.specs.Discarding.{local_discarded}
+use Rattle.is_rules.specs.Local.{is_too_high, is_unwanted, comes_again, enabled, enabled_again, appended, as_own, preferred, Enters, EnrolsAt, AddsLocal}
+use Rattle.is_theorems.proofs.RuleEffects.UnchangedSettings.{either}
+
+never : {A : Type 0} → false ≡ true → A
+never h = cc
+
+-- a result that is no error
+no_rejection : {A : Type 0} (e : Entry) (a : Answer) → e.answer ≡ a → is_rejection a ≡ false → is_rejection e.answer ≡ true → A
+no_rejection e a is isnt h = never (sym isnt ∙ ap is_rejection (sym is) ∙ h)
+
+added-no : (place : Option ℕ) → is_rejection (added place) ≡ false
+added-no None = refl
+added-no (Some place) = refl
+
+module _ {H P : Type 0} where
+  pub mtu_kept : (old new : AgentRecord H P) (target warn : ℕ) (error : IceError) → SetsMtu old target warn (Err error) new → new ≡ old
+  mtu_kept old new target warn MtuTooSmall h = h.1
+  mtu_kept old new target warn (BadCandidate text) h = absurd h
+  mtu_kept old new target warn OutOfMemory h = absurd h
+  mtu_kept old new target warn PairIdsExhausted h = absurd h
+  mtu_kept old new target warn CredentialsTooLong h = absurd h
+  mtu_kept old new target warn PriorityTooHigh h = absurd h
+
+  pub local_kept : (old new : AgentRecord H P) (creds : IceCreds) (error : IceError) → SetsLocal old creds (Err error) new → new ≡ old
+  local_kept old new creds CredentialsTooLong h = h.1
+  local_kept old new creds (BadCandidate text) h = absurd h
+  local_kept old new creds OutOfMemory h = absurd h
+  local_kept old new creds PairIdsExhausted h = absurd h
+  local_kept old new creds MtuTooSmall h = absurd h
+  local_kept old new creds PriorityTooHigh h = absurd h
+
+  pub remote_kept : (old new : AgentRecord H P) (creds : IceCreds) (error : IceError) → SetsRemote old creds (Err error) new → new ≡ old
+  remote_kept old new creds CredentialsTooLong h = h.1
+  remote_kept old new creds (BadCandidate text) h = absurd h
+  remote_kept old new creds OutOfMemory h = absurd h
+  remote_kept old new creds PairIdsExhausted h = absurd h
+  remote_kept old new creds MtuTooSmall h = absurd h
+  remote_kept old new creds PriorityTooHigh h = absurd h
+
+  pub restart_kept : (old new : AgentRecord H P) (creds : IceCreds) (keep : Bool) (error : IceError) → Restarts old creds keep (Err error) new → new ≡ old
+  restart_kept old new creds keep CredentialsTooLong h = h.1
+  restart_kept old new creds keep OutOfMemory h = h.1
+  restart_kept old new creds keep (BadCandidate text) h = absurd h
+  restart_kept old new creds keep PairIdsExhausted h = absurd h
+  restart_kept old new creds keep MtuTooSmall h = absurd h
+  restart_kept old new creds keep PriorityTooHigh h = absurd h
+
+  pub recreation_kept : (old new : AgentRecord H P) (error : IceError) → Recreates old (Err error) new → new ≡ old
+  recreation_kept old new PairIdsExhausted h = h.1
+  recreation_kept old new OutOfMemory h = h.1
+  recreation_kept old new (BadCandidate text) h = absurd h
+  recreation_kept old new CredentialsTooLong h = absurd h
+  recreation_kept old new MtuTooSmall h = absurd h
+  recreation_kept old new PriorityTooHigh h = absurd h
+
+  entry_kept : (old mid new : AgentRecord H P) (c : CandidateRecord) (place : ℕ) (error : IceError) → Enters old c place mid (Err error) new → new ≡ old
+  entry_kept old mid new c place PairIdsExhausted h = h.1
+  entry_kept old mid new c place OutOfMemory h = h.1
+  entry_kept old mid new c place (BadCandidate text) h = absurd h
+  entry_kept old mid new c place CredentialsTooLong h = absurd h
+  entry_kept old mid new c place MtuTooSmall h = absurd h
+  entry_kept old mid new c place PriorityTooHigh h = absurd h
+
+  enrols_kept : (old new : AgentRecord H P) (c : CandidateRecord) (at : Option ℕ) (error : IceError) → EnrolsAt old c at (Err error) new → new ≡ old
+  enrols_kept old new c None error h = entry_kept old (appended (as_own old c) old) new (as_own old c) (length old.local) error h
+  enrols_kept old new c (Some place) error h = either (comes_again c (candidate_at old.local place)) h
+      (λ _ k. entry_kept old (enabled_again place old) new (enabled (candidate_at old.local place)) place error k)
+      (λ _ k. either (nat_lt (candidate_priority c) (candidate_priority (candidate_at old.local place))) k
+      (λ _ n. absurd n)
+      (λ _ n. entry_kept old (appended (as_own old c) (local_discarded place old)) new (as_own old c) (length old.local) error n))
+
+  pub enrolment_kept : (answers : P → CandidateRecord → ℕ → ℕ → Type 0) (old new : AgentRecord H P) (c : CandidateRecord) (error : IceError)
+      → AddsLocal answers old c (Err error) new → new ≡ old
+  enrolment_kept answers old new c error h = either (is_too_high c) h
+      (λ _ k. k.1)
+      (λ _ k. either (is_unwanted old c) k
+      (λ _ n. absurd n)
+      (λ _ n. enrols_kept old new (preferred n.0 c) (position (is_same_place (preferred n.0 c)) old.local) error n.2))
+
+  joining_kept : (old new : AgentRecord H P) (c : CandidateRecord) (error : IceError) → JoinsRemote old c (Err error) new → new ≡ old
+  joining_kept old new c PairIdsExhausted h = h.1
+  joining_kept old new c OutOfMemory h = h.1
+  joining_kept old new c (BadCandidate text) h = absurd h
+  joining_kept old new c CredentialsTooLong h = absurd h
+  joining_kept old new c MtuTooSmall h = absurd h
+  joining_kept old new c PriorityTooHigh h = absurd h
+
+  pub storing_kept : (old new : AgentRecord H P) (c : CandidateRecord) (error : IceError) → AddsRemote old c (Err error) new → new ≡ old
+  storing_kept old new c error h = either (is_ignored old c) h (λ _ k. absurd k) (λ _ k. joining_kept old new (as_remote c) error k)
+
+  module _ (mac : H → List ℕ → List ℕ → List ℕ) (answers : P → CandidateRecord → ℕ → ℕ → Type 0) (old new : AgentRecord H P) (s t : Stream) (e : Entry) where
+    abbrev Kept : Type 0
+    Kept = (new ≡ old) × (t ≡ s)
+
+    silent : {A : Type 0} (a : Answer) → e ≡ quiet a → is_rejection a ≡ false → is_rejection e.answer ≡ true → A
+    silent a is isnt r = no_rejection e a (ap (λ (x : Entry). x.answer) is) isnt r
+
+    does : (Does : Result (Unit {0}) IceError → AgentRecord H P → Type 0) → ((error : IceError) → Does (Err error) new → new ≡ old)
+        → MayDo Does s e new t → is_rejection e.answer ≡ true → Kept
+    does Does kept (Ok done, is, h, same) r = silent Done is refl r
+    does Does kept (Err error, is, h, same) r = (kept error h, same)
+
+    receives : (now : ℕ) (path : Path) (bytes : List ℕ) → Receives mac answers now old path bytes e new → is_rejection e.answer ≡ true → new ≡ old
+    receives now path bytes (inl (fault, has, is, same)) r = same
+    receives now path bytes (inr (m, reads, (Ok flag, emitted, is, h))) r = no_rejection e (Flag flag) (ap (λ (x : Entry). x.answer) is) refl r
+    receives now path bytes (inr (m, reads, (Err error, emitted, is, h))) r = h.2
+
+    retransmits : (b : Bool) (n : ℕ) → MatchBool b ((e ≡ quiet NotCalled) × (new ≡ old) × (t ≡ s)) (Becomes (with_retransmits n old) s e new t)
+        → is_rejection e.answer ≡ true → Kept
+    retransmits true n h r = silent NotCalled h.0 refl r
+    retransmits false n h r = silent Done h.0 refl r
+
+    pub kept : (call : Call P) → Step mac answers old s call e new t → is_rejection e.answer ≡ true → Kept
+    kept (SetMtu target warn) h r = does (SetsMtu old target warn) (mtu_kept old new target warn) h r
+    kept (SetControlTieBreaker tie) h r = silent Done h.0 refl r
+    kept (SetMaxCandidatePairs n) h r = silent Done h.0 refl r
+    kept (SetMaxDiscovered n) h r = silent Done h.0 refl r
+    kept (SetIceLite lite) h r = silent Done h.0 refl r
+    kept (SetRenomination on) h r = silent Done h.0 refl r
+    kept (SetTimingAdvance by) h r = silent Done h.0 refl r
+    kept (SetInitialStunRto rto) h r = silent Done h.0 refl r
+    kept (SetMaxStunRto rto) h r = silent Done h.0 refl r
+    kept (SetMaxStunRetransmits n) h r = retransmits (n == 0) n h r
+    kept (SetLiteTimeout by) h r = silent Done h.0 refl r
+    kept (SetLocalPreference object) h r = silent Done h.0 refl r
+    kept (SetControlling controlling) h r = silent Done h.0 refl r
+    kept (SetLocalCredentials creds) h r = does (SetsLocal old creds) (local_kept old new creds) h r
+    kept (SetRemoteCredentials creds) h r = does (SetsRemote old creds) (remote_kept old new creds) h r
+    kept (SkipPairIds n) h r = silent Done h.0 refl r
+    kept (AddLocalCandidate c) (Ok place, is, h, same) r = silent (added place) is (added-no place) r
+    kept (AddLocalCandidate c) (Err error, is, h, same) r = (enrolment_kept answers old new c error h, same)
+    kept (AddRemoteCandidate c) h r = does (AddsRemote old c) (storing_kept old new c) h r
+    kept (InvalidateCandidate c) h r = silent (Flag h.0) h.1 refl r
+    kept (RestartIce creds keep) h r = does (Restarts old creds keep) (restart_kept old new creds keep) h r
+    kept RecreateCandidatePairs h r = does (Recreates old) (recreation_kept old new) h r
+    kept (ReceivePacket now path bytes) h r = (receives now path bytes h.0 r, h.1)
+    kept (HandleTimeout now) (Ok done, emitted, is, h) r = no_rejection e Done (ap (λ (x : Entry). x.answer) is) refl r
+    kept (HandleTimeout now) (Err error, emitted, is, h) r = (h.2, h.3)
+    kept PollTransmit h r = silent (Polled h.0) h.1 refl r
+    kept PollTimeout h r = silent (NextTimeout h.0) h.1 refl r
+    kept PollEvent h r = silent (Happened h.0) h.1 refl r
+
+  pub rejection_keeps : (mac : H → List ℕ → List ℕ → List ℕ) (answers : P → CandidateRecord → ℕ → ℕ → Type 0) → RejectionKeeps mac answers
+  rejection_keeps mac answers old new s t call e step r = kept mac answers old new s t e call step r
+
+pub fresh_sound : (H P : Type 0) → FreshIsSound H P
+fresh_sound H P provider creds tie_breaker = record {
+  placed = λ p has. absurd has;
+  rising = refl;
+  below = refl;
+  selected_paths = _;
+  started = λ p c has keeps. absurd has;
+  checks = omega arith;
+  queued = omega arith;
+  based = λ c has. absurd has;
+}

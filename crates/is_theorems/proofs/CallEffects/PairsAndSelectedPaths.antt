@@ -1,0 +1,393 @@
+-- For each call: its effect on pairs, and which paths are selected.
+use Rattle.std.proofs.Common.{if◌then◌else◌, [], ◌∷◌, ◌++◌, ◌≡◌, ℕ, ◌==◌, ◌&&◌, ◌||◌, Bool, true, false, not, List, Option, Some, None, is_some, Result, Ok, Err, inl, inr, ◌⊎◌, refl, ap, sym, ◌∙◌, subst}
+use Rattle.std.specs.Prelude.{MatchBool, MatchOption, IsSomeAnd}
+use Rattle.rand_core.specs.Stream.{Stream}
+use Rattle.is_proto.specs.Lists.{Has, same}
+use Rattle.is_proto.specs.declared.error.IceError.{IceError}
+use Rattle.is_candidate.specs.Candidates.{CandidateRecord, IsBased}
+use Rattle.is_pair.specs.Checks.{Check}
+use Rattle.is_pair.specs.Pairs.{PairRecord}
+use Rattle.is_stun.specs.Message.{Message}
+use Rattle.is_stun.specs.Reading.{Reads}
+use Rattle.is_stun.specs.Integrity.{IsSignedBy}
+use Rattle.is_stun.specs.declared.header.Class.{Class}
+use Rattle.is_stun.specs.declared.header.Class.TheVariants as class
+use Rattle.is_stun.specs.Theorems.{IsPut}
+use Rattle.is_rules.proofs.PairLists.RisingNumbers.{rising-each, below-each}
+use Rattle.is_theorems.proofs.BasicLemmas.EqualAddresses.{both}
+use Rattle.is_rules.specs.declared.credentials.IceCreds.{IceCreds}
+use Rattle.is_rules.specs.declared.emitted.Path.{Path}
+use Rattle.is_rules.specs.declared.emitted.Emitted.{Emitted}
+use Rattle.is_rules.specs.Request.{RequestRecord, request_in}
+use Rattle.is_rules.specs.Steps.{Answer, Done, Flag, Polled, Happened, NextTimeout, NotCalled, Rejected, Entry, quiet, added, done, answer_by}
+use Rattle.is_rules.specs.Emitted.{nothing_emitted, issued_as, reversed}
+use Rattle.is_stun.specs.Checks.{binding_reply, binding_role_conflict_reply}
+use Rattle.is_stun.specs.Writing.{written}
+use Rattle.is_rules.specs.declared.roles.Conflict.TheVariants.{Send487}
+use Rattle.is_rules.specs.Agent.{AgentRecord}
+use Rattle.is_rules.specs.Sending.{path_of, carried}
+use Rattle.is_rules.specs.Roles.{conflict_by, conflict_of, switched}
+use Rattle.is_rules.specs.Settings.{SetsMtu, with_retransmits}
+use Rattle.is_rules.specs.Credentials.{SetsLocal, SetsRemote}
+use Rattle.is_rules.specs.Discarding.{place_to_discard}
+use Rattle.is_rules.specs.Remote.{AddsRemote}
+use Rattle.is_rules.specs.Restarting.{Restarts, Recreates}
+use Rattle.is_rules.specs.Serving.{Drops, Serves}
+use Rattle.is_rules.specs.Queue.{queued, first_taken, request_at}
+use Rattle.is_pair.specs.Multiset.{keeps_check}
+use Rattle.is_rules.specs.Answers.{keeps_check_on, goes_back, is_role_conflict, TakesSuccess, TakesFailure, LeavesRole}
+use Rattle.is_rules.specs.Accepting.{Takes, IsAcceptedAs, IsAcceptedOn, discovered_emitted}
+use Rattle.is_rules.specs.Timeouts.{timeout_begun, MaintainsPairs, ServesQueued, TimesOut}
+use Rattle.is_rules.specs.Steps.{Call, SetMtu, SetControlTieBreaker, SetMaxCandidatePairs, SetMaxDiscovered, SetIceLite, SetRenomination, SetTimingAdvance, SetInitialStunRto, SetMaxStunRto, SetMaxStunRetransmits, SetLiteTimeout, SetLocalPreference, SetControlling, SetLocalCredentials, SetRemoteCredentials, SkipPairIds, AddLocalCandidate, AddRemoteCandidate, InvalidateCandidate, RestartIce, RecreateCandidatePairs, ReceivePacket, HandleTimeout, PollTransmit, PollTimeout, PollEvent, Becomes, MayDo, Receives, Step}
+use Rattle.is_rules.specs.Sound.{IsSound}
+use Rattle.is_rules.specs.Brought.{Brings, IsServing, IsNominatedByPeer, IsAnswered}
+use Rattle.is_theorems.proofs.CallEffects.FailedCallsAndNewAgents.{mtu_kept, local_kept, remote_kept, restart_kept, recreation_kept, enrolment_kept, storing_kept}
+use Rattle.is_theorems.proofs.RuleEffects.UnchangedSettings.{Frame, frame_of, packet_along, either}
+use Rattle.is_theorems.proofs.CallEffects.SettingsRoleAndQueues as frames
+use Rattle.is_theorems.proofs.RuleEffects.EarlierAndNewPairs.{Parts, Fit, IsNominatedIn, Onward, here}
+use Rattle.is_theorems.proofs.RuleEffects.ChangedPairs.{parts_of}
+use Rattle.is_theorems.proofs.RuleEffects.SelectedPaths.{Returns, returns_none}
+use Rattle.is_theorems.proofs.CallEffects.CallsThatEmitNothing.{Calm, calm, is_calm}
+use Rattle.is_theorems.proofs.CallEffects.TimeoutsAndSuccesses.{CheckOut, maintains_pairs, succeeds}
+use Rattle.is_theorems.proofs.CallEffects.ServedRequests.{Replied, ConflictSent, AcceptedNominations, serves_does, switches}
+use Rattle.is_theorems.proofs.CallEffects.ChangedCandidates.{adds_local_goes, adds_remote_goes, invalidates_goes, recreates_goes, restarts_goes, skips_goes, rtos_goes, polls_goes}
+
+or_true : (a b : Bool) → (a || b) ≡ true → (a ≡ true) ⊎ (b ≡ true)
+or_true true b h = inl refl
+or_true false b h = inr h
+
+and_left : (a b : Bool) → (a && b) ≡ true → a ≡ true
+and_left true b h = refl
+and_left false b h = h
+
+not_true : (a : Bool) → not a ≡ true → a ≡ false
+not_true true h = sym h
+not_true false h = refl
+
+not_false : (a : Bool) → not a ≡ false → a ≡ true
+not_false true h = refl
+not_false false h = sym h
+
+module _ {H P : Type 0} (mac : H → List ℕ → List ℕ → List ℕ) (answers : P → CandidateRecord → ℕ → ℕ → Type 0) (old new : AgentRecord H P) (s t : Stream) (e : Entry) where
+  abbrev pub Asks : Call P → Path → Type 0
+  Asks call path = IsNominatedByPeer old call e path ⊎ ((old.lite ≡ true) ⊎ ((old.controlling ≡ true) ⊎ (new.controlling ≡ true)))
+
+  abbrev pub Met : Call P → Path → Type 0
+  Met call path = IsAnswered mac old call e path ⊎ (old.lite ≡ true)
+
+  abbrev pub Sent : Path → List ℕ → Bool → Type 0
+  Sent path id role = (e.emitted.issued ≡ Some (issued_as path class.Request id)) × (role ≡ old.controlling) × (new.controlling ≡ old.controlling)
+
+  abbrev pub Moves : Call P → AgentRecord H P → Type 0
+  Moves call a =
+      Onward (Asks call) (Met call) Sent (parts_of (Asks call) (Met call) Sent old) (parts_of (Asks call) (Met call) Sent a)
+
+  abbrev pub Telling : Call P → Type 0
+  Telling call =
+      Returns (Asks call) (Met call) Sent (parts_of (Asks call) (Met call) Sent old) (parts_of (Asks call) (Met call) Sent new) old.selected_pair new.selected_pair e.emitted.selected_paths
+
+  -- what is sent: nothing, a check, or a response to the request that is served
+  abbrev pub Posted : Call P → Type 0
+  Posted call =
+      (e.emitted.issued ≡ None)
+      ⊎ (((new.controlling ≡ old.controlling) × CheckOut mac (frame_of old) old.local old.packets e.emitted.issued new.packets)
+      ⊎ ((q : RequestRecord) × IsServing old call e q
+      × (Replied (Asks call) (Met call) Sent mac q old e.emitted new ⊎ ConflictSent (Asks call) (Met call) Sent mac q old e.emitted new)))
+
+  abbrev pub PairEffect : Call P → Type 0
+  PairEffect call = Moves call new × Telling call × Posted call
+
+  module _ (call : Call P) (fit : Fit (parts_of (Asks call) (Met call) Sent old)) where
+    silent : (emitted : Emitted) → e.emitted ≡ emitted → emitted ≡ nothing_emitted → new.selected_pair ≡ old.selected_pair → Moves call new → PairEffect call
+    silent emitted is nothing number moves = (
+      moves,
+      subst (λ (ps : List (Option Path)). Returns (Asks call) (Met call) Sent (parts_of (Asks call) (Met call) Sent old) (parts_of (Asks call) (Met call) Sent new) old.selected_pair new.selected_pair ps)
+          (sym (ap (λ (x : Emitted). x.selected_paths) (is ∙ nothing)))
+          (returns_none (Asks call) (Met call) Sent (parts_of (Asks call) (Met call) Sent old) (parts_of (Asks call) (Met call) Sent new) old.selected_pair new.selected_pair number),
+      inl (ap (λ (x : Emitted). x.issued) (is ∙ nothing)),
+    )
+
+    quietly : (answer : Answer) → e ≡ quiet answer → Calm call old e new → Moves call new → PairEffect call
+    quietly answer is calm moves = silent nothing_emitted (ap (λ (x : Entry). x.emitted) is) refl calm.selected_paths moves
+
+    unmoved : new ≡ old → Moves call new
+    unmoved made = subst (λ (a : AgentRecord H P). Moves call a) (sym made) (here (Asks call) (Met call) Sent (parts_of (Asks call) (Met call) Sent old) fit)
+
+    becomes : (needed : AgentRecord H P) → Moves call needed → Calm call old e new → Becomes needed s e new t → PairEffect call
+    becomes needed moves calm (is, made, drawn) = quietly Done is calm (subst (λ (a : AgentRecord H P). Moves call a) (sym made) moves)
+
+    resting : Moves call old
+    resting = here (Asks call) (Met call) Sent (parts_of (Asks call) (Met call) Sent old) fit
+
+    done_or : (Does : Result (Unit {0}) IceError → AgentRecord H P → Type 0) → (Does (Ok _) new → Moves call new)
+        → ((error : IceError) → Does (Err error) new → new ≡ old) → Calm call old e new → MayDo Does s e new t → PairEffect call
+    done_or Does goes kept calm (Ok _, is, h, drawn) = quietly Done is calm (goes h)
+    done_or Does goes kept calm (Err error, is, h, drawn) = quietly (Rejected error) is calm (unmoved (kept error h))
+
+    sends_487_of : (a : AgentRecord H P) → a.tie_breaker ≡ old.tie_breaker → a.controlling ≡ old.controlling → (q : RequestRecord) → conflict_of a q ≡ Send487 → conflict_of old q ≡ Send487
+    sends_487_of a tie role q is =
+        sym (ap (λ n. conflict_by n (if a.controlling then q.ice_controlling else q.ice_controlled)) tie ∙ ap (λ c. conflict_by old.tie_breaker (if c then q.ice_controlling else q.ice_controlled)) role) ∙ is
+
+    -- a request that is served, with its reverse path
+    accepts_nomination : (q : RequestRecord) (a : AgentRecord H P) → a.lite ≡ old.lite → a.controlling ≡ old.controlling → IsServing old call e q
+        → AcceptedNominations (Asks call) (Met call) Sent mac q a
+    accepts_nomination q a lite role serving = record {
+      valid = λ h. inr (sym lite ∙ and_left a.lite (not a.controlling) h);
+      asking = λ c u. inl (q, serving, u, refl);
+      free = λ h p. elim (or_true a.controlling a.lite h) [ inl c ↦ inr (inr (inl (sym role ∙ c))) | inr l ↦ inr (inl (sym lite ∙ l)) ];
+    }
+
+    accepts_nomination_switched : (q : RequestRecord) (a : AgentRecord H P) → a.lite ≡ old.lite → new.controlling ≡ not a.controlling → IsServing old call e q
+        → AcceptedNominations (Asks call) (Met call) Sent mac q (switched a)
+    accepts_nomination_switched q a lite role serving = record {
+      valid = λ h. inr (sym lite ∙ and_left a.lite (not (not a.controlling)) h);
+      asking = λ c u. inl (q, serving, u, refl);
+      free = λ h p. elim (or_true (not a.controlling) a.lite h) [ inl c ↦ inr (inr (inr (role ∙ c))) | inr l ↦ inr (inl (sym lite ∙ l)) ];
+    }
+
+    serves_pairs : (q : RequestRecord) (a b : AgentRecord H P) (emitted : Emitted) → parts_of (Asks call) (Met call) Sent a ≡ parts_of (Asks call) (Met call) Sent old
+        → parts_of (Asks call) (Met call) Sent new ≡ parts_of (Asks call) (Met call) Sent b → ((c : CandidateRecord) → Has a.local c → IsBased c)
+        → a.lite ≡ old.lite → a.controlling ≡ old.controlling → new.controlling ≡ b.controlling
+        → a.selected_pair ≡ old.selected_pair → new.selected_pair ≡ b.selected_pair → a.packets ≡ old.packets → new.packets ≡ b.packets
+        → (a.provider ≡ old.provider) × (a.local_creds ≡ old.local_creds) × (a.tie_breaker ≡ old.tie_breaker)
+        → IsServing old call e q → e.emitted ≡ emitted → Serves mac q a emitted b → PairEffect call
+    serves_pairs q a b emitted parts following based lite role after number number_after packets packets_after (provider, creds, tie) serving is h =
+        let fit_a : Fit (parts_of (Asks call) (Met call) Sent a) = subst (λ (x : Parts). Fit x) (sym parts) fit in
+        let k = serves_does (Asks call) (Met call) Sent mac q a b emitted based fit_a (λ _. accepts_nomination q a lite role serving)
+        (λ _ switched_role. accepts_nomination_switched q a lite (after ∙ switched_role) serving) h in
+        let x : Parts = parts_of (Asks call) (Met call) Sent old in
+        let y : Parts = parts_of (Asks call) (Met call) Sent b in
+        let bytes : (m : Message) → written (mac a.provider) (Some a.local_creds.pass) m ≡ written (mac old.provider) (Some old.local_creds.pass) m =
+        (λ m. ap (λ p. written (mac p) (Some a.local_creds.pass) m) provider ∙ ap (λ (c : IceCreds). written (mac old.provider) (Some c.pass) m) creds) in
+        let out : (m : Message) → b.packets ≡ a.packets ++ packet_along (reversed q.path) (written (mac a.provider) (Some a.local_creds.pass) m) ∷ []
+        → new.packets ≡ old.packets ++ packet_along (reversed q.path) (written (mac old.provider) (Some old.local_creds.pass) m) ∷ [] =
+        (λ m put. packets_after ∙ put ∙ ap (λ ps. ps ++ packet_along (reversed q.path) (written (mac a.provider) (Some a.local_creds.pass) m) ∷ []) packets
+        ∙ ap (λ w. old.packets ++ packet_along (reversed q.path) w ∷ []) (bytes m)) in (
+          subst (λ (x : Parts). Onward (Asks call) (Met call) Sent (parts_of (Asks call) (Met call) Sent old) x) (sym following)
+              (subst (λ (x : Parts). Onward (Asks call) (Met call) Sent x y) parts k.0),
+          subst (λ (t : Emitted). Returns (Asks call) (Met call) Sent x (parts_of (Asks call) (Met call) Sent new) old.selected_pair new.selected_pair t.selected_paths) (sym is)
+              (subst (λ n. Returns (Asks call) (Met call) Sent x (parts_of (Asks call) (Met call) Sent new) old.selected_pair n emitted.selected_paths) (sym number_after)
+              (subst (λ n. Returns (Asks call) (Met call) Sent x (parts_of (Asks call) (Met call) Sent new) n b.selected_pair emitted.selected_paths) number
+              (subst (λ (z : Parts). Returns (Asks call) (Met call) Sent x z a.selected_pair b.selected_pair emitted.selected_paths) (sym following)
+              (subst (λ (z : Parts). Returns (Asks call) (Met call) Sent z y a.selected_pair b.selected_pair emitted.selected_paths) parts k.1)))),
+          subst (λ (t : Emitted). (t.issued ≡ None) ⊎ (((new.controlling ≡ old.controlling) × CheckOut mac (frame_of old) old.local old.packets t.issued new.packets)
+              ⊎ ((q : RequestRecord) × IsServing old call e q
+              × (Replied (Asks call) (Met call) Sent mac q old t new ⊎ ConflictSent (Asks call) (Met call) Sent mac q old t new)))) (sym is)
+              (elim k.2 [
+                | inl r ↦ elim r [
+                  | inl none ↦ inl none.0
+                  | inr (issued, values, put, nominates_it) ↦ inr (inr (
+                    q,
+                    serving,
+                    inl (inr (
+                      issued,
+                      subst (λ w. IsPut w (binding_reply q.id (carried q.path.source))) (bytes (binding_reply q.id q.path.source)) values,
+                      out (binding_reply q.id q.path.source) put,
+                      (λ uses controlled. subst (λ (z : Parts). IsNominatedIn z (reversed q.path)) (sym following) (nominates_it uses (sym after ∙ controlled))),
+                    )),
+                  ))
+                ]
+                | inr (issued, values, put, sends_487, stays) ↦ inr (inr (
+                  q,
+                  serving,
+                  inr (
+                    issued,
+                    subst (λ w. IsPut w (binding_role_conflict_reply q.id)) (bytes (binding_role_conflict_reply q.id)) values,
+                    out (binding_role_conflict_reply q.id) put,
+                    sends_487_of a tie role q sends_487,
+                    after ∙ stays ∙ role,
+                  ),
+                ))
+              ]),
+        )
+
+  -- ---- `handle_timeout` calls
+
+  timeout_by : (now : ℕ) (sound : IsSound old) (fit : Fit (parts_of (Asks (HandleTimeout now)) (Met (HandleTimeout now)) Sent old)) (emitted : Emitted) (o : Option RequestRecord)
+      → request_at now old ≡ o → e ≡ record { answer = Done; emitted = emitted }
+      → MatchOption o (MaintainsPairs mac now (timeout_begun now old) s emitted new t) (λ q. ServesQueued mac q (timeout_begun now old) s emitted new t) → PairEffect (HandleTimeout now)
+  timeout_by now sound fit emitted None is e_is h =
+      let call : Call P = HandleTimeout now in
+      let frame = frames.maintains_pairs mac now (timeout_begun now old) new s t emitted h in
+      let role : new.controlling ≡ old.controlling = ap (λ (f : Frame H). f.controlling) frame.0 in
+      let emitted_is : e.emitted ≡ emitted = ap (λ (x : Entry). x.emitted) e_is in
+      let k = maintains_pairs (Asks call) (Met call) Sent mac now (timeout_begun now old) new s t emitted
+      (λ allowed p. elim (or_true old.controlling old.lite allowed) [ inl c ↦ inr (inr (inl c)) | inr l ↦ inr (inl l) ])
+      (λ path id out. (ap (λ (x : Emitted). x.issued) emitted_is ∙ out, refl, role)) fit h in (
+        k.0,
+        subst (λ (x : Emitted). Returns (Asks call) (Met call) Sent (parts_of (Asks call) (Met call) Sent old) (parts_of (Asks call) (Met call) Sent new) old.selected_pair new.selected_pair x.selected_paths) (sym emitted_is) k.1,
+        inr (inl (
+          role,
+          subst (λ (x : Emitted). CheckOut mac (frame_of old) old.local old.packets x.issued new.packets) (sym emitted_is)
+              k.2,
+        )),
+      )
+  timeout_by now sound fit emitted (Some q) is e_is (h, drawn) =
+      serves_pairs (HandleTimeout now) fit q (first_taken (timeout_begun now old)) new emitted refl refl sound.based refl refl refl refl refl refl refl (refl, refl, refl)
+      (is, ap (λ (x : Entry). x.answer) e_is) (ap (λ (x : Entry). x.emitted) e_is) h
+
+  -- ---- packets
+
+  module _ (now : ℕ) (via : Path) (bytes : List ℕ) (m : Message) (mid : AgentRecord H P) (emitted : Emitted) (sound : IsSound old)
+      (fit : Fit (parts_of (Asks (ReceivePacket now via bytes)) (Met (ReceivePacket now via bytes)) Sent old))
+      (reads : Reads bytes m) (accepted : IsAcceptedOn mac old via m) (e_is : e ≡ record { answer = Flag true; emitted = emitted }) (made : new ≡ discovered_emitted via mid) where
+    abbrev packet : Call P
+    packet = ReceivePacket now via bytes
+
+    emitted_is : e.emitted ≡ emitted
+    emitted_is = ap (λ (x : Entry). x.emitted) e_is
+
+    brought : Brings packet e now via m
+    brought = (refl, refl, reads, ap (λ (x : Entry). x.answer) e_is)
+
+    following : parts_of (Asks packet) (Met packet) Sent new ≡ parts_of (Asks packet) (Met packet) Sent mid
+    following = ap (λ (a : AgentRecord H P). parts_of (Asks packet) (Met packet) Sent a) made
+
+    moved_on : Moves packet mid → Moves packet new
+    moved_on k = subst (λ (x : Parts). Onward (Asks packet) (Met packet) Sent (parts_of (Asks packet) (Met packet) Sent old) x) (sym following) k
+
+    rounds_to_select : (n : Option ℕ) → mid.selected_pair ≡ n
+        → Returns (Asks packet) (Met packet) Sent (parts_of (Asks packet) (Met packet) Sent old) (parts_of (Asks packet) (Met packet) Sent mid) old.selected_pair mid.selected_pair emitted.selected_paths
+        → Telling packet
+    rounds_to_select n is k =
+        subst (λ (x : Emitted). Returns (Asks packet) (Met packet) Sent (parts_of (Asks packet) (Met packet) Sent old) (parts_of (Asks packet) (Met packet) Sent new) old.selected_pair new.selected_pair x.selected_paths) (sym emitted_is)
+        (subst (λ (a : AgentRecord H P). Returns (Asks packet) (Met packet) Sent (parts_of (Asks packet) (Met packet) Sent old) (parts_of (Asks packet) (Met packet) Sent a) old.selected_pair a.selected_pair emitted.selected_paths) (sym made) k)
+
+    drops_pairs : (a : AgentRecord H P) → Moves packet a → a.selected_pair ≡ old.selected_pair → Drops a emitted mid → PairEffect packet
+    drops_pairs a moves number (nothing, same_is) =
+        silent packet fit emitted emitted_is nothing (ap (λ (x : AgentRecord H P). x.selected_pair) made ∙ ap (λ (x : AgentRecord H P). x.selected_pair) same_is ∙ number) (moved_on (subst (λ (x : AgentRecord H P). Moves packet x) (sym same_is) moves))
+
+    request_pairs : (peer : Option IceCreds) → old.remote_creds ≡ peer → m.class ≡ class.Request
+        → MatchOption peer ((emitted ≡ nothing_emitted) × (mid ≡ queued (request_in now via m) old)) (λ peer. Serves mac (request_in now via m) old emitted mid) → PairEffect packet
+    request_pairs None none is (nothing, same_is) =
+        silent packet fit emitted emitted_is nothing (ap (λ (x : AgentRecord H P). x.selected_pair) made ∙ ap (λ (x : AgentRecord H P). x.selected_pair) same_is)
+        (moved_on (subst (λ (x : AgentRecord H P). Moves packet x) (sym same_is) (resting packet fit)))
+    request_pairs (Some peer) known is h =
+        serves_pairs packet fit (request_in now via m) old mid emitted refl following sound.based refl refl (ap (λ (a : AgentRecord H P). a.controlling) made)
+        refl (ap (λ (a : AgentRecord H P). a.selected_pair) made) refl (ap (λ (a : AgentRecord H P). a.packets) made) (refl, refl, refl)
+        (now, via, m, brought, is, ap is_some known, refl) emitted_is h
+
+    awaited : (c : Class) → m.class ≡ c → IsAcceptedAs mac c (keeps_check_on old via m.id) old m
+    awaited c is = subst (λ x. IsAcceptedAs mac x (keeps_check_on old via m.id) old m) is accepted.1
+
+    signed_by : (peer : Option IceCreds) → old.remote_creds ≡ peer → IsSomeAnd peer (λ p. IsSignedBy (mac old.provider) m p.pass)
+        → (p : IceCreds) × (old.remote_creds ≡ Some p) × IsSignedBy (mac old.provider) m p.pass
+    signed_by None none h = absurd h
+    signed_by (Some p) known h = (p, known, h)
+
+    answers_path : m.class ≡ class.Success → (p : PairRecord) (c : Check) → Has old.pairs p → keeps_check_on old via m.id p ≡ true → Has p.checks c → c.id ≡ m.id
+        → Met packet (path_of old p)
+    answers_path is p c has on keeps id_is =
+        let peer = signed_by old.remote_creds refl (awaited class.Success is).1 in
+        let goes = both (keeps_check m.id p) (goes_back via (path_of old p)) on in
+        inl (now, via, m, c.controlling, peer.0, brought, is, (p, c, has, keeps, id_is, refl, refl), peer.1, peer.2, goes.1)
+
+    failure_pairs : TakesFailure old via m emitted mid → PairEffect packet
+    failure_pairs h = either (is_role_conflict m) h
+        (λ _ k. gives k)
+        (λ _ k. drops_pairs old (resting packet fit) refl k) where
+          gives : LeavesRole old via m emitted mid → PairEffect packet
+          gives (p, c, has, on, keeps, id_is, k) = either (same c.controlling old.controlling) k
+              (λ _ z. drops_pairs (switched old) (switches (Asks packet) (Met packet) Sent old fit) refl z)
+              (λ _ z. drops_pairs old (resting packet fit) refl z)
+
+    quiet_success : TakesSuccess now old via m emitted mid → emitted.issued ≡ None
+    quiet_success (recorded, records_it, (path, named, nominating, is, done)) = ap (λ (x : Emitted). x.issued) is
+
+    taken : (c : Class) → m.class ≡ c → Takes mac c now old via m emitted mid → PairEffect packet
+    taken class.Request is h = request_pairs old.remote_creds refl is h
+    taken class.Success is h =
+        let k = succeeds (Asks packet) (Met packet) Sent now old mid via m emitted
+        (λ allowed p. elim (or_true old.controlling old.lite allowed) [ inl c ↦ inr (inr (inl c)) | inr l ↦ inr (inl l) ])
+        (answers_path is) fit h in
+        (moved_on k.0, rounds_to_select mid.selected_pair refl k.1, inl (ap (λ (x : Emitted). x.issued) emitted_is ∙ quiet_success h))
+    taken class.Failure is h = failure_pairs h
+    taken class.Indication is h = absurd h
+    taken class.Unknown is h = absurd h
+
+  receives : (now : ℕ) (via : Path) (bytes : List ℕ) (sound : IsSound old) (fit : Fit (parts_of (Asks (ReceivePacket now via bytes)) (Met (ReceivePacket now via bytes)) Sent old))
+      → Receives mac answers now old via bytes e new → PairEffect (ReceivePacket now via bytes)
+  receives now via bytes sound fit (inl (fault, has, is, made)) = silent (ReceivePacket now via bytes) fit nothing_emitted (ap (λ (x : Entry). x.emitted) is) refl (ap (λ (x : AgentRecord H P). x.selected_pair) made) (unmoved (ReceivePacket now via bytes) fit made)
+  receives now via bytes sound fit (inr (m, reads, (Ok false, emitted, is, (unaccepted, nothing, made)))) =
+      silent (ReceivePacket now via bytes) fit emitted (ap (λ (x : Entry). x.emitted) is) nothing (ap (λ (x : AgentRecord H P). x.selected_pair) made) (unmoved (ReceivePacket now via bytes) fit made)
+  receives now via bytes sound fit (inr (m, reads, (Ok true, emitted, is, (accepted, (mid, takes, made))))) =
+      taken now via bytes m mid emitted sound fit reads accepted is made m.class refl takes
+  receives now via bytes sound fit (inr (m, reads, (Err error, emitted, is, (may, nothing, made)))) =
+      silent (ReceivePacket now via bytes) fit emitted (ap (λ (x : Entry). x.emitted) is) nothing (ap (λ (x : AgentRecord H P). x.selected_pair) made) (unmoved (ReceivePacket now via bytes) fit made)
+
+  timeouts : (now : ℕ) (sound : IsSound old) (fit : Fit (parts_of (Asks (HandleTimeout now)) (Met (HandleTimeout now)) Sent old)) (r : Result (Unit {0}) IceError) (emitted : Emitted)
+      → e ≡ record { answer = answer_by done r; emitted = emitted } → TimesOut mac now old s r emitted new t → PairEffect (HandleTimeout now)
+  timeouts now sound fit (Ok _) emitted is h = timeout_by now sound fit emitted (request_at now old) refl is h
+  timeouts now sound fit (Err error) emitted is (may, nothing, made, drawn) =
+      silent (HandleTimeout now) fit emitted (ap (λ (x : Entry). x.emitted) is) nothing (ap (λ (x : AgentRecord H P). x.selected_pair) made) (unmoved (HandleTimeout now) fit made)
+
+  retransmits : (b : Bool) (n : ℕ) (fit : Fit (parts_of (Asks (SetMaxStunRetransmits n)) (Met (SetMaxStunRetransmits n)) Sent old))
+      → Calm (SetMaxStunRetransmits n) old e new → MatchBool b ((e ≡ quiet NotCalled) × (new ≡ old) × (t ≡ s)) (Becomes (with_retransmits n old) s e new t) → PairEffect (SetMaxStunRetransmits n)
+  retransmits true n fit calm (is, made, drawn) = quietly (SetMaxStunRetransmits n) fit NotCalled is calm (unmoved (SetMaxStunRetransmits n) fit made)
+  retransmits false n fit calm h = becomes (SetMaxStunRetransmits n) fit (with_retransmits n old) (resting (SetMaxStunRetransmits n) fit) calm h
+
+  fits : (call : Call P) → IsSound old → Fit (parts_of (Asks call) (Met call) Sent old)
+  fits call sound = record { placed = sound.placed; rising = rising-each old.pairs sound.rising; below = below-each old.next_number old.pairs sound.below; started = λ p has c keeps. sound.started p c has keeps }
+
+  abbrev calms : (call : Call P) → is_calm call ≡ true → Step mac answers old s call e new t → Calm call old e new
+  calms call is h = calm mac answers old new s t e call is h
+
+  abbrev as_it_was : (call : Call P) → IsSound old → Moves call old
+  as_it_was call sound = resting call (fits call sound)
+
+  -- each call
+  pub paired : (call : Call P) (sound : IsSound old) → Step mac answers old s call e new t → PairEffect call
+  paired (SetMtu target warn) sound h = done_or (SetMtu target warn) (fits (SetMtu target warn) sound) (SetsMtu old target warn)
+      (λ k. subst (λ (a : AgentRecord H P). Moves (SetMtu target warn) a) (sym k.1) (as_it_was (SetMtu target warn) sound)) (λ error k. mtu_kept old new target warn error k) (calms (SetMtu target warn) refl h) h
+  paired (SetControlTieBreaker tie) sound h = becomes (SetControlTieBreaker tie) (fits (SetControlTieBreaker tie) sound) _ (as_it_was (SetControlTieBreaker tie) sound) (calms (SetControlTieBreaker tie) refl h) h
+  paired (SetMaxCandidatePairs n) sound h = becomes (SetMaxCandidatePairs n) (fits (SetMaxCandidatePairs n) sound) _ (as_it_was (SetMaxCandidatePairs n) sound) (calms (SetMaxCandidatePairs n) refl h) h
+  paired (SetMaxDiscovered n) sound h = becomes (SetMaxDiscovered n) (fits (SetMaxDiscovered n) sound) _ (as_it_was (SetMaxDiscovered n) sound) (calms (SetMaxDiscovered n) refl h) h
+  paired (SetIceLite lite) sound h = becomes (SetIceLite lite) (fits (SetIceLite lite) sound) _ (as_it_was (SetIceLite lite) sound) (calms (SetIceLite lite) refl h) h
+  paired (SetRenomination on) sound h = becomes (SetRenomination on) (fits (SetRenomination on) sound) _ (as_it_was (SetRenomination on) sound) (calms (SetRenomination on) refl h) h
+  paired (SetTimingAdvance by) sound h = becomes (SetTimingAdvance by) (fits (SetTimingAdvance by) sound) _ (as_it_was (SetTimingAdvance by) sound) (calms (SetTimingAdvance by) refl h) h
+  paired (SetInitialStunRto rto) sound h =
+      let call : Call P = SetInitialStunRto rto in
+      becomes call (fits call sound) _ (rtos_goes (Asks call) (Met call) Sent old rto old.timing.max_rto.0 (fits call sound)) (calms (SetInitialStunRto rto) refl h) h
+  paired (SetMaxStunRto rto) sound h =
+      let call : Call P = SetMaxStunRto rto in
+      becomes call (fits call sound) _ (rtos_goes (Asks call) (Met call) Sent old old.timing.initial_rto.0 rto (fits call sound)) (calms (SetMaxStunRto rto) refl h) h
+  paired (SetMaxStunRetransmits n) sound h = retransmits (n == 0) n (fits (SetMaxStunRetransmits n) sound) (calms (SetMaxStunRetransmits n) refl h) h
+  paired (SetLiteTimeout by) sound h = becomes (SetLiteTimeout by) (fits (SetLiteTimeout by) sound) _ (as_it_was (SetLiteTimeout by) sound) (calms (SetLiteTimeout by) refl h) h
+  paired (SetLocalPreference object) sound h = becomes (SetLocalPreference object) (fits (SetLocalPreference object) sound) _ (as_it_was (SetLocalPreference object) sound) (calms (SetLocalPreference object) refl h) h
+  paired (SetControlling controlling) sound h = becomes (SetControlling controlling) (fits (SetControlling controlling) sound) _ (as_it_was (SetControlling controlling) sound) (calms (SetControlling controlling) refl h) h
+  paired (SetLocalCredentials creds) sound h = done_or (SetLocalCredentials creds) (fits (SetLocalCredentials creds) sound) (SetsLocal old creds)
+      (λ k. subst (λ (a : AgentRecord H P). Moves (SetLocalCredentials creds) a) (sym k.1) (as_it_was (SetLocalCredentials creds) sound)) (λ error k. local_kept old new creds error k) (calms (SetLocalCredentials creds) refl h) h
+  paired (SetRemoteCredentials creds) sound h = done_or (SetRemoteCredentials creds) (fits (SetRemoteCredentials creds) sound) (SetsRemote old creds)
+      (λ k. subst (λ (a : AgentRecord H P). Moves (SetRemoteCredentials creds) a) (sym k.1) (as_it_was (SetRemoteCredentials creds) sound)) (λ error k. remote_kept old new creds error k) (calms (SetRemoteCredentials creds) refl h) h
+  paired (SkipPairIds n) sound h =
+      let call : Call P = SkipPairIds n in
+      becomes call (fits call sound) _ (skips_goes (Asks call) (Met call) Sent old n (fits call sound)) (calms (SkipPairIds n) refl h) h
+  paired (AddLocalCandidate c) sound (Ok place, is, h, drawn) =
+      let call : Call P = AddLocalCandidate c in
+      quietly call (fits call sound) (added place) is (calms (AddLocalCandidate c) refl (Ok place, is, h, drawn)) (adds_local_goes (Asks call) (Met call) Sent answers old new c place (fits call sound) h)
+  paired (AddLocalCandidate c) sound (Err error, is, h, drawn) =
+      let call : Call P = AddLocalCandidate c in
+      quietly call (fits call sound) (Rejected error) is (calms (AddLocalCandidate c) refl (Err error, is, h, drawn)) (unmoved call (fits call sound) (enrolment_kept answers old new c error h))
+  paired (AddRemoteCandidate c) sound h =
+      let call : Call P = AddRemoteCandidate c in
+      done_or call (fits call sound) (AddsRemote old c) (λ k. adds_remote_goes (Asks call) (Met call) Sent old new c (fits call sound) k) (λ error k. storing_kept old new c error k) (calms (AddRemoteCandidate c) refl h) h
+  paired (InvalidateCandidate c) sound (found, is, h, drawn) =
+      let call : Call P = InvalidateCandidate c in
+      quietly call (fits call sound) (Flag found) is (calms (InvalidateCandidate c) refl (found, is, h, drawn))
+      (invalidates_goes (Asks call) (Met call) Sent old new (place_to_discard c old.local) (place_to_discard c old.remote) found (fits call sound) h)
+  paired (RestartIce creds keep) sound h =
+      let call : Call P = RestartIce creds keep in
+      done_or call (fits call sound) (Restarts old creds keep) (λ k. restarts_goes (Asks call) (Met call) Sent old new creds keep k.1)
+      (λ error k. restart_kept old new creds keep error k) (calms (RestartIce creds keep) refl h) h
+  paired RecreateCandidatePairs sound h =
+      let call : Call P = RecreateCandidatePairs in
+      done_or call (fits call sound) (Recreates old) (λ k. recreates_goes (Asks call) (Met call) Sent old new (fits call sound) k)
+      (λ error k. recreation_kept old new error k) (calms RecreateCandidatePairs refl h) h
+  paired (ReceivePacket now via bytes) sound h = receives now via bytes sound (fits (ReceivePacket now via bytes) sound) h.0
+  paired (HandleTimeout now) sound (r, emitted, is, h) = timeouts now sound (fits (HandleTimeout now) sound) r emitted is h
+  paired PollTransmit sound (given, is, (polled, made), drawn) = quietly PollTransmit (fits PollTransmit sound) (Polled given) is (calms PollTransmit refl (given, is, (polled, made), drawn))
+      (subst (λ (a : AgentRecord H P). Moves PollTransmit a) (sym made) (as_it_was PollTransmit sound))
+  paired PollTimeout sound (deadline, is, h, drawn) = quietly PollTimeout (fits PollTimeout sound) (NextTimeout deadline) is (calms PollTimeout refl (deadline, is, h, drawn))
+      (polls_goes (Asks PollTimeout) (Met PollTimeout) Sent old new deadline (fits PollTimeout sound) h)
+  paired PollEvent sound (given, is, (polled, made), drawn) = quietly PollEvent (fits PollEvent sound) (Happened given) is (calms PollEvent refl (given, is, (polled, made), drawn))
+      (subst (λ (a : AgentRecord H P). Moves PollEvent a) (sym made) (as_it_was PollEvent sound))

@@ -1,0 +1,110 @@
+-- A check that is delivered, and its response that comes back.
+use Rattle.std.proofs.Common.{◌≡◌, ℕ, Bool, true, false, if◌then◌else◌, List, [], ◌∷◌, length, Option, Some, inl, inr, refl, ap, sym, ◌∙◌, subst}
+use Rattle.std.specs.List.{list_any}
+use Rattle.rand_core.specs.Stream.{Stream}
+use Rattle.is_proto.specs.Packets.{Packet}
+use Rattle.is_candidate.specs.Candidates.{CandidateRecord}
+use Rattle.is_rules.specs.declared.credentials.IceCreds.{IceCreds}
+use Rattle.is_rules.specs.Agent.{AgentRecord}
+use Rattle.is_rules.specs.Answers.{keeps_check_on}
+use Rattle.is_theorems.specs.Delivery.{IsFragment, KnowEachOther, ChecksAreServed, ChecksAreKept, RepliesAreAccepted}
+use Rattle.is_rules.specs.Effects.{local_after, remote_after}
+use Rattle.is_theorems.specs.Exchange.{AreBetween, Course, ExchangesSucceed}
+use Rattle.is_rules.specs.Fitting.{are_too_long}
+use Rattle.is_rules.specs.Issuing.{via_out}
+use Rattle.is_theorems.specs.Rounds.{is_between}
+use Rattle.is_rules.specs.Sound.{GivesBased, IsSound}
+use Rattle.is_rules.specs.Steps.{Call, Entry, HandleTimeout, PollTransmit, PollTimeout, PollEvent, ReceivePacket, Step, is_done}
+use Rattle.is_theorems.proofs.CallEffects.PathAndTradeEffects.{path_theorem, trade_theorem}
+use Rattle.is_theorems.proofs.ExecutionLogs.LogSegments.{no-case}
+use Rattle.is_theorems.proofs.StoredPairs.TransactionsOverPackets.{sound-course, checks-stay}
+
+-- the key that an agent signs with, and both passwords
+pub record Keys (H : Type 0) : Type 0 where
+  pub provider : H
+  pub local : IceCreds
+  pub remote : Option IceCreds
+
+module _ {H P : Type 0} where
+  abbrev pub keys_of : AgentRecord H P → Keys H
+  keys_of a = record { provider = a.provider; local = a.local_creds; remote = a.remote_creds }
+
+  -- an agent with the same keys is known as well
+  pub known-on : (mac : H → List ℕ → List ℕ → List ℕ) (a c b : AgentRecord H P) → keys_of c ≡ keys_of a → KnowEachOther mac a b → KnowEachOther mac c b
+  known-on mac a c b is know = record {
+    mine = ap (λ (k : Keys H). k.remote) is ∙ know.mine;
+    its = know.its ∙ ap (λ (k : Keys H). Some k.local) (sym is);
+    own = subst (λ (k : Keys H). IsFragment k.local.ufrag) (sym is) know.own;
+    other = know.other;
+    fit = ap (λ (k : Keys H). are_too_long k.local (Some b.local_creds)) is ∙ know.fit;
+    alike = ap (λ (k : Keys H). mac k.provider) is ∙ know.alike;
+    twenty = subst (λ (k : Keys H). (key text : List ℕ) → length (mac k.provider key text) ≡ 20) (sym is) know.twenty;
+  }
+
+  module _ (mac : H → List ℕ → List ℕ → List ℕ) (answers : P → CandidateRecord → ℕ → ℕ → Type 0) where
+    -- a step whose call sets no credentials keeps the keys
+    keys_step : (call : Call P) (e : Entry) (old new : AgentRecord H P) (s t : Stream) → IsSound old → GivesBased call
+        → remote_after call e.answer old.remote_creds ≡ old.remote_creds → local_after call e.answer old.local_creds ≡ old.local_creds
+        → Step mac answers old s call e new t → keys_of new ≡ keys_of old
+    keys_step call e old new s t sound based remote local step =
+        let p = (path_theorem mac answers old new s t call e sound based step).0 in
+        let q = trade_theorem mac answers old new s t call e sound based step in
+        ap (λ h. record { provider = h; local = new.local_creds; remote = new.remote_creds }) p.provider
+        ∙ (ap (λ c. record { provider = old.provider; local = c; remote = new.remote_creds }) (q.local_creds ∙ local)
+        ∙ ap (λ c. record { provider = old.provider; local = old.local_creds; remote = c }) (p.remote_creds ∙ remote))
+
+    same_if : {A : Type 0} (b : Bool) (x : A) → (if b then x else x) ≡ x
+    same_if true x = refl
+    same_if false x = refl
+
+    pub keys-timeout : (now : ℕ) (e : Entry) (old new : AgentRecord H P) (s t : Stream) → IsSound old → Step mac answers old s (HandleTimeout now) e new t → keys_of new ≡ keys_of old
+    keys-timeout now e old new s t sound step =
+        keys_step (HandleTimeout now) e old new s t sound tt (same_if (is_done e.answer) old.remote_creds) (same_if (is_done e.answer) old.local_creds) step
+
+    keys_one : (call : Call P) (e : Entry) (old new : AgentRecord H P) (s t : Stream) → IsSound old → is_between call ≡ true → Step mac answers old s call e new t → keys_of new ≡ keys_of old
+    keys_one (ReceivePacket now path bytes) e old new s t sound is step =
+        keys_step (ReceivePacket now path bytes) e old new s t sound tt (same_if (is_done e.answer) old.remote_creds) (same_if (is_done e.answer) old.local_creds) step
+    keys_one PollTransmit e old new s t sound is step =
+        keys_step PollTransmit e old new s t sound tt (same_if (is_done e.answer) old.remote_creds) (same_if (is_done e.answer) old.local_creds) step
+    keys_one PollTimeout e old new s t sound is step =
+        keys_step PollTimeout e old new s t sound tt (same_if (is_done e.answer) old.remote_creds) (same_if (is_done e.answer) old.local_creds) step
+    keys_one PollEvent e old new s t sound is step =
+        keys_step PollEvent e old new s t sound tt (same_if (is_done e.answer) old.remote_creds) (same_if (is_done e.answer) old.local_creds) step
+    keys_one _ e old new s t sound is step = no-case is
+
+    pub keys-between : (xs : List (Call P × Entry)) (old new : AgentRecord H P) → IsSound old → AreBetween xs → Course mac answers xs old new → keys_of new ≡ keys_of old
+    keys-between [] old new sound fits is = ap (λ (a : AgentRecord H P). keys_of a) is
+    keys-between (x ∷ rest) old new sound fits (mid, s, t, based, step, more) =
+        let on = (path_theorem mac answers old mid s t x.0 x.1 sound based step).1 in
+        keys-between rest mid new on (λ y has. fits y (inr has)) more ∙ keys_one x.0 x.1 old mid s t sound (fits x (inl refl)) step
+
+    pub exchanges-succeed : ChecksAreServed mac answers → ChecksAreKept mac answers → RepliesAreAccepted mac answers → ExchangesSucceed mac answers
+    exchanges-succeed served_law kept_law accepted_law a sent near b served s t now at check id timeout handed xs sound_a sound_b step sends fits gone know apart reached delivered =
+        let sound_sent = (path_theorem mac answers a sent s t (HandleTimeout now) timeout sound_a tt step).1 in
+        let keys : keys_of a ≡ keys_of near = sym (keys-between xs sent near sound_sent fits gone ∙ keys-timeout now timeout a sent s t sound_a step) in
+        let taken = served_law a sent b served check id at handed sound_a sound_b (known-on mac near a b keys know) apart reached
+        (record { call = HandleTimeout now; entry = timeout; before = s; following = t; step = step; sends = sends }) delivered in
+        let reply : Packet = taken.1.0 in
+        let via_back : list_any (keeps_check_on sent (via_out reply) id) sent.pairs ≡ true =
+        subst (λ w. list_any (keeps_check_on sent w id) sent.pairs ≡ true) (sym taken.1.1) (kept_law a sent s t now check id timeout sound_a step sends) in
+        let kept = checks-stay mac answers sent near xs (via_out reply) id sound_sent fits gone via_back in
+        let sound_near = sound-course mac answers xs sent near sound_sent gone in (
+          taken.0,
+          (
+            reply,
+            taken.1.1,
+            taken.1.2,
+            λ mid end ys back returned fits_on on came.
+                accepted_law mid end b served reply id back returned sound_b (known-on mac near mid b (keys-between ys near mid sound_near fits_on on) know)
+                (record {
+                  call = ReceivePacket at (via_out check) check.contents;
+                  entry = handed;
+                  before = delivered.before;
+                  following = delivered.following;
+                  step = delivered.step;
+                  sends = taken.1.2;
+                })
+                (checks-stay mac answers near mid ys (via_out reply) id sound_near fits_on on kept)
+                came,
+          ),
+        )

@@ -1,0 +1,233 @@
+-- What nomination and removal leave of a list of pairs: fewer of them, each due as it was.
+use Rattle.std.proofs.Common.{◌≡◌, ℕ, ◌≤◌, ◌&&◌, ◌||◌, Bool, true, false, not, List, [], ◌∷◌, length, map, filter, nat_le, nat_lt, Option, Some, None, unwrap_or, inl, inr, ◌⊎◌, refl, ap, sym, ◌∙◌, subst, arith, if◌then◌else◌}
+use Rattle.std.specs.List.{list_any}
+use Rattle.is_proto.specs.Lists.{Has}
+use Rattle.is_candidate.specs.Candidates.{CandidateRecord}
+use Rattle.is_pair.specs.Pairs.{PairRecord, is_nominated, is_valid, nominated}
+use Rattle.is_pair.specs.Checks.{unanswered_count}
+use Rattle.is_pair.specs.Due as due
+use Rattle.is_pair.specs.Multiset.{is_numbered, change_at}
+use Rattle.is_stun.specs.declared.timing.StunTiming.{StunTiming}
+use Rattle.is_rules.specs.declared.credentials.IceCreds.{IceCreds}
+use Rattle.is_rules.specs.declared.emitted.Path.{Path}
+use Rattle.is_rules.specs.Request.{RequestRecord}
+use Rattle.is_rules.specs.Agent.{AgentRecord}
+use Rattle.is_rules.specs.Nominating.{nominated_by_self, Nominates, followed, remains, selection_of}
+use Rattle.is_rules.specs.Timeouts.{is_expired, expired_gone, RemovesExpired}
+use Rattle.is_theorems.proofs.RuleEffects.UnchangedSettings.{either}
+use Rattle.is_theorems.proofs.RuleEffects.ChangedPairs.{Has-map}
+use Rattle.is_theorems.proofs.RuleEffects.EarlierAndNewPairs.{Has-filter}
+use Rattle.is_theorems.proofs.CallEffects.ServedRequests.{Has-mapped}
+use Rattle.is_theorems.proofs.RuleEffects.NominatedPairs.{SelectsPath, selects_path}
+use Rattle.is_pair.proofs.DueTimes.CountOfDuePairs.{no-more, thinner}
+use Rattle.is_theorems.specs.Progress.{IsGone}
+
+-- ---- lists
+
+-- a number has one pair
+abbrev pub Distinct : List PairRecord → Type 0
+Distinct ps = (p q : PairRecord) → Has ps p → Has ps q → p.number ≡ q.number → p ≡ q
+
+-- the same pair, due as it was
+pub record Alike (p q : PairRecord) : Type 0 where
+  pub number : q.number ≡ p.number
+  pub local : q.local ≡ p.local
+  pub remote : q.remote ≡ p.remote
+  pub due : q.due ≡ p.due
+  pub checks : q.checks ≡ p.checks
+  pub valid : is_valid q ≡ is_valid p
+
+alike-same : (p : PairRecord) → Alike p p
+alike-same p = record { number = refl; local = refl; remote = refl; due = refl; checks = refl; valid = refl }
+
+alike-on : (p q r : PairRecord) → Alike p q → Alike q r → Alike p r
+alike-on p q r a b = record {
+  number = b.number ∙ a.number;
+  local = b.local ∙ a.local;
+  remote = b.remote ∙ a.remote;
+  due = b.due ∙ a.due;
+  checks = b.checks ∙ a.checks;
+  valid = b.valid ∙ a.valid;
+}
+
+-- its due time, if it is fixed, is at most this time
+abbrev pub is_fixed_by : ℕ → PairRecord → Bool
+is_fixed_by by p = nat_le (unwrap_or p.due 0) by
+
+pub record Thinned (by : ℕ) (old new : List PairRecord) : Type 0 where
+  pub distinct : Distinct old → Distinct new
+  pub back : (q : PairRecord) → Has new q → (p : PairRecord) × Has old p × Alike p q
+  pub forth : Distinct old → (p : PairRecord) → Has old p → ((q : PairRecord) × Has new q × Alike p q) ⊎ IsGone p.number new
+  pub fewer : length (filter (is_fixed_by by) new) ≤ length (filter (is_fixed_by by) old)
+
+pub thinned-same : (by : ℕ) (ps : List PairRecord) → Thinned by ps ps
+thinned-same by ps = record {
+  distinct = λ d. d;
+  back = λ q has. (q, has, alike-same q);
+  forth = λ d p has. inl (p, has, alike-same p);
+  fewer = omega arith;
+}
+
+gone-on : (by : ℕ) (xs ys : List PairRecord) (n : ℕ) → Thinned by xs ys → IsGone n xs → IsGone n ys
+gone-on by xs ys n t gone q has same = let o = t.back q has in gone o.0 o.1 (sym o.2.number ∙ same)
+
+pub thinned-on : (by : ℕ) (xs ys zs : List PairRecord) → Thinned by xs ys → Thinned by ys zs → Thinned by xs zs
+thinned-on by xs ys zs a b = record {
+  distinct = λ d. b.distinct (a.distinct d);
+  back = λ r has. (let o = b.back r has in let n = a.back o.0 o.1 in (n.0, n.1, alike-on n.0 o.0 r n.2 o.2));
+  forth = λ d p has. elim (a.forth d p has) [
+    | inl k ↦ elim (b.forth (a.distinct d) k.0 k.1) [
+      | inl l ↦ inl (l.0, l.1, alike-on p k.0 l.0 k.2 l.2)
+      | inr gone ↦ inr (λ q there. (let apart = gone q there in λ same. apart (same ∙ sym k.2.number)))
+    ]
+    | inr gone ↦ inr (gone-on by ys zs p.number b gone)
+  ];
+  fewer = (let f = a.fewer in let g = b.fewer in omega (arith, f, g));
+}
+
+pub thinned-map : (by : ℕ) (f : PairRecord → PairRecord) (ps : List PairRecord) → ((p : PairRecord) → Alike p (f p)) → Thinned by ps (map f ps)
+thinned-map by f ps alike = record {
+  distinct = λ d x y has_x has_y same.
+      (let a = Has-map f ps x has_x in let b = Has-map f ps y has_y in
+      let one : a.0 ≡ b.0 = d a.0 b.0 a.1 b.1 (sym (alike a.0).number ∙ (ap (λ (p : PairRecord). p.number) a.2 ∙ (same ∙ (ap (λ (p : PairRecord). p.number) (sym b.2) ∙ (alike b.0).number)))) in
+      sym a.2 ∙ (ap f one ∙ b.2));
+  back = λ q has. (let o = Has-map f ps q has in (o.0, o.1, subst (λ (x : PairRecord). Alike o.0 x) o.2 (alike o.0)));
+  forth = λ d p has. inl (f p, Has-mapped f ps p has, alike p);
+  fewer = no-more (is_fixed_by by) (is_fixed_by by) f ps (λ p has is. sym (ap (λ o. nat_le (unwrap_or o 0) by) (alike p).due) ∙ is);
+}
+
+pub Has-kept : {X : Type 0} (keep : X → Bool) (xs : List X) (x : X) → Has xs x → keep x ≡ true → Has (filter keep xs) x
+Has-kept keep [] x has is = absurd has
+Has-kept keep (y ∷ ys) x (inl e) is = first (keep y) (ap keep e ∙ is) where
+  first : (b : Bool) → b ≡ true → Has (if b then y ∷ filter keep ys else filter keep ys) x
+  first true h = inl e
+  first false h = absurd (cc)
+Has-kept keep (y ∷ ys) x (inr has) is = following (keep y) (Has-kept keep ys x has is) where
+  following : (b : Bool) → Has (filter keep ys) x → Has (if b then y ∷ filter keep ys else filter keep ys) x
+  following true h = inr h
+  following false h = h
+
+passed : {X : Type 0} (keep : X → Bool) (xs : List X) (x : X) → Has (filter keep xs) x → keep x ≡ true
+passed keep [] x has = absurd has
+passed keep (y ∷ ys) x has =
+    elim (keep y) as (λ b. keep y ≡ b → Has (if b then y ∷ filter keep ys else filter keep ys) x → keep x ≡ true) [
+      | true ↦ λ is h. (elim h [ inl e ↦ ap keep (sym e) ∙ is | inr k ↦ passed keep ys x k ])
+      | false ↦ λ is h. passed keep ys x h
+    ] refl has
+
+pub thinned-filter : (by : ℕ) (keep : PairRecord → Bool) (ps : List PairRecord) → Thinned by ps (filter keep ps)
+thinned-filter by keep ps = record {
+  distinct = λ d x y has_x has_y same. d x y (Has-filter keep ps x has_x) (Has-filter keep ps y has_y) same;
+  back = λ q has. (q, Has-filter keep ps q has, alike-same q);
+  forth = λ d p has. apart d p has (keep p) refl;
+  fewer = thinner (is_fixed_by by) keep ps;
+} where
+  apart : Distinct ps → (p : PairRecord) → Has ps p → (b : Bool) → keep p ≡ b → ((q : PairRecord) × Has (filter keep ps) q × Alike p q) ⊎ IsGone p.number (filter keep ps)
+  apart d p has true is = inl (p, Has-kept keep ps p has is, alike-same p)
+  apart d p has false is = inr (λ q there same.
+      (let one : q ≡ p = d q p (Has-filter keep ps q there) has same in
+      let no : true ≡ false = sym (passed keep ps q there) ∙ (ap keep one ∙ is) in cc))
+
+-- ---- what stays of the agent
+
+pub record Base : Type 0 where
+  pub lite : Bool
+  pub remote_creds : Option IceCreds
+  pub timing : StunTiming
+  pub local : List CandidateRecord
+  pub remote : List CandidateRecord
+  pub queue : List RequestRecord
+  pub last_time : Option ℕ
+  pub controlling : Bool
+  pub next_number : ℕ
+
+self-alike : (c l : Bool) (p : PairRecord) → Alike p (nominated_by_self c l p)
+self-alike c l p = apart (not (is_nominated p) && (c || l)) l where
+  apart : (b l : Bool) → Alike p (if b then nominated l p else p)
+  apart true true = record { number = refl; local = refl; remote = refl; due = refl; checks = refl; valid = refl }
+  apart true false = record { number = refl; local = refl; remote = refl; due = refl; checks = refl; valid = refl }
+  apart false l = alike-same p
+
+at-alike : (n : ℕ) (c l : Bool) (p : PairRecord) → Alike p (change_at n (nominated_by_self c l) p)
+at-alike n c l p = apart (is_numbered n p) where
+  apart : (b : Bool) → Alike p (if b then nominated_by_self c l p else p)
+  apart true = self-alike c l p
+  apart false = alike-same p
+
+possible : (h b u i : Bool) → u ≡ true → (h || b || u || i) ≡ true
+possible true b u i is = refl
+possible false true u i is = refl
+possible false false true i is = refl
+possible false false false i is = absurd (cc)
+
+pub stays-young : (lite : Bool) (now : ℕ) (t : StunTiming) (p : PairRecord) → lite ≡ false → nat_lt (unanswered_count p.checks) t.max_retransmits ≡ true → not (due.is_pair_expired lite now t p) ≡ true
+stays-young true now t p full young = absurd (cc)
+stays-young false now t p full young =
+    ap (λ b. not (not b)) (possible (due.is_heard now p) (nat_lt (length p.checks) t.max_retransmits) (nat_lt (unanswered_count p.checks) t.max_retransmits) (due.is_in_time now t p.checks) young)
+
+module _ {H P : Type 0} where
+  abbrev pub base_of : AgentRecord H P → Base
+  base_of a = record {
+    lite = a.lite;
+    remote_creds = a.remote_creds;
+    timing = a.timing;
+    local = a.local;
+    remote = a.remote;
+    queue = a.queue;
+    last_time = a.last_time;
+    controlling = a.controlling;
+    next_number = a.next_number;
+  }
+
+  abbrev pub Thins : ℕ → AgentRecord H P → AgentRecord H P → Type 0
+  Thins by old new = (base_of new ≡ base_of old) × Thinned by old.pairs new.pairs
+
+  pub thins-same : (by : ℕ) (old new : AgentRecord H P) → new ≡ old → Thins by old new
+  thins-same by old new is = subst (λ (a : AgentRecord H P). Thins by old a) (sym is) (refl, thinned-same by old.pairs)
+
+  pub thins-on : (by : ℕ) (x y z : AgentRecord H P) → Thins by x y → Thins by y z → Thins by x z
+  thins-on by x y z a b = (b.0 ∙ a.0, thinned-on by x.pairs y.pairs z.pairs a.1 b.1)
+
+  pub nominates-thins : (by : ℕ) (old new : AgentRecord H P) (path : Option Path) → Nominates old path new → Thins by old new
+  nominates-thins by old new path h = from (selects_path old new path h) where
+    from : SelectsPath old path new → Thins by old new
+    from (None, none, (is, same)) = thins-same by old new same
+    from (Some top, greatest, k) = either (remains (followed old) top (selection_of old)) k
+        (λ _ l. thins-same by old new l.1)
+        (λ _ l. subst (λ (a : AgentRecord H P). Thins by old a) (sym l.1)
+        (refl, thinned-map by (change_at top.number (nominated_by_self old.controlling old.lite)) old.pairs (at-alike top.number old.controlling old.lite)))
+
+  pub gives-up-thins : (by now : ℕ) (old new : AgentRecord H P) (path : Option Path) → RemovesExpired now old path new → Thins by old new
+  gives-up-thins by now old new path h = either (list_any (is_expired now old) old.pairs) h
+      (λ _ k. (
+      let a : Thins by old (expired_gone now old) = (refl, thinned-filter by (λ p. not (is_expired now old p)) old.pairs) in
+      let b : Thins by (expired_gone now old) k.0 = nominates-thins by (expired_gone now old) k.0 path k.1 in
+      let c : Thins by k.0 new = subst (λ (a : AgentRecord H P). Thins by k.0 a) (sym k.2) (refl, thinned-same by k.0.pairs) in
+      thins-on by old k.0 new (thins-on by old (expired_gone now old) k.0 a b) c))
+      (λ _ k. thins-same by old new k.1)
+
+  -- ---- a pair that was checked less often than the limit stays
+
+  pub nominates-has : (old new : AgentRecord H P) (path : Option Path) → Nominates old path new → (p : PairRecord) → Has old.pairs p → (q : PairRecord) × Has new.pairs q × Alike p q
+  nominates-has old new path h p has = from (selects_path old new path h) where
+    same : new ≡ old → (q : PairRecord) × Has new.pairs q × Alike p q
+    same e = subst (λ (a : AgentRecord H P). (q : PairRecord) × Has a.pairs q × Alike p q) (sym e) (p, has, alike-same p)
+
+    from : SelectsPath old path new → (q : PairRecord) × Has new.pairs q × Alike p q
+    from (None, none, (is, e)) = same e
+    from (Some top, greatest, k) = either (remains (followed old) top (selection_of old)) k
+        (λ _ l. same l.1)
+        (λ _ l. subst (λ (a : AgentRecord H P). (q : PairRecord) × Has a.pairs q × Alike p q) (sym l.1) (
+          change_at top.number (nominated_by_self old.controlling old.lite) p,
+          Has-mapped (change_at top.number (nominated_by_self old.controlling old.lite)) old.pairs p has,
+          at-alike top.number old.controlling old.lite p,
+        ))
+
+  pub gives-up-has : (now : ℕ) (old new : AgentRecord H P) (path : Option Path) → old.lite ≡ false → RemovesExpired now old path new → (p : PairRecord) → Has old.pairs p
+      → nat_lt (unanswered_count p.checks) old.timing.max_retransmits ≡ true → (q : PairRecord) × Has new.pairs q × Alike p q
+  gives-up-has now old new path full h p has young = either (list_any (is_expired now old) old.pairs) h
+      (λ _ k. (
+      let there : Has (expired_gone now old).pairs p = Has-kept (λ q. not (is_expired now old q)) old.pairs p has (stays-young old.lite now old.timing p full young) in
+      let n = nominates-has (expired_gone now old) k.0 path k.1 p there in
+      subst (λ (a : AgentRecord H P). (q : PairRecord) × Has a.pairs q × Alike p q) (sym k.2) (n.0, n.1, n.2)))
+      (λ _ k. subst (λ (a : AgentRecord H P). (q : PairRecord) × Has a.pairs q × Alike p q) (sym k.1) (p, has, alike-same p))

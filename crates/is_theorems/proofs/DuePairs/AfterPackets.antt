@@ -1,0 +1,338 @@
+-- A packet that is not an accepted success response leaves a controlling agent's pairs due as they were, and adds
+-- none that is due early.
+use Rattle.std.proofs.Common.{◌≡◌, ℕ, ◌+◌, ◌<◌, ◌≤◌, ◌&&◌, ◌||◌, Bool, true, false, not, List, [], ◌∷◌, ◌++◌, length, map, filter, min, nat_le, Option, Some, None, is_some, Ok, Err, inl, inr, ◌⊎◌, refl, ap, sym, ◌∙◌, subst, arith, if◌then◌else◌}
+use Rattle.std.specs.Prelude.{MatchOption}
+use Rattle.std.specs.List.{list_any}
+use Rattle.is_proto.specs.Lists.{Has, same}
+use Rattle.is_proto.specs.Times.{MAX, later}
+use Rattle.is_candidate.specs.Candidates.{CandidateRecord, candidate_at}
+use Rattle.is_pair.specs.Pairs.{PairRecord, is_valid, new_pair}
+use Rattle.is_pair.specs.Due.{due_time_of}
+use Rattle.is_pair.specs.Multiset.{is_numbered, change_at, passes_at, is_valid_at}
+use Rattle.is_stun.specs.declared.header.Class.{Class}
+use Rattle.is_stun.specs.declared.header.Class.TheVariants as class
+use Rattle.is_stun.specs.declared.timing.StunTiming.{StunTiming}
+use Rattle.is_stun.specs.Message.{Message}
+use Rattle.is_rules.specs.declared.credentials.IceCreds.{IceCreds}
+use Rattle.is_rules.specs.declared.places.RemotePlace.{RemotePlace}
+use Rattle.is_rules.specs.declared.places.RemotePlace.TheVariants.{Known, Barred, Unknown, Vacant, Full}
+use Rattle.is_rules.specs.declared.roles.Conflict.{Conflict}
+use Rattle.is_rules.specs.declared.roles.Conflict.TheVariants.{Absent, Send487, SwitchRole}
+use Rattle.is_rules.specs.declared.emitted.Path.{Path}
+use Rattle.is_rules.specs.declared.emitted.Emitted.{Emitted}
+use Rattle.is_rules.specs.Request.{RequestRecord, request_in}
+use Rattle.is_rules.specs.Places.{local_place}
+use Rattle.is_rules.specs.Limit.{IsSenderPlace}
+use Rattle.is_rules.specs.Agent.{AgentRecord}
+use Rattle.is_rules.specs.Sending.{path_between}
+use Rattle.is_rules.specs.Forming.{formed, with_pair, priority_between}
+use Rattle.is_rules.specs.Nominating.{NominatesWhere}
+use Rattle.is_rules.specs.Roles.{conflict_of, switched}
+use Rattle.is_rules.specs.Serving.{served, is_misled, names_another, pair_served, request_counted, with_sender, with_sender_at, sender_candidate, replied, Drops, Queues, RecordsAndResponds, FindsOrAddsPair, AddsUnknownSender, CountsAndServes, ResolvesRoleConflictBy, ResolvesRoleConflict, Serves}
+use Rattle.is_rules.specs.Answers.{is_role_conflict, LeavesRole, TakesFailure}
+use Rattle.rand_core.specs.Stream.{Stream}
+use Rattle.is_rules.specs.Steps.{Entry, Flag, ReceivePacket, Step}
+use Rattle.is_rules.specs.Accepting.{Takes, HandlesPacket}
+use Rattle.is_theorems.proofs.RuleEffects.UnchangedSettings.{either, Frame, admits}
+use Rattle.is_theorems.proofs.RuleEffects.ChangedPairs.{Has-map}
+use Rattle.is_theorems.proofs.RuleEffects.EarlierAndNewPairs.{Has-push}
+use Rattle.is_rules.proofs.PairLists.RisingNumbers.{AllBelow}
+use Rattle.is_theorems.proofs.CallEffects.ServedRequests.{Has-mapped}
+use Rattle.is_theorems.proofs.BasicLemmas.VacantIndices.{KeepsRemote, keeps-remote-same, keeps-remote-more, keeps-remote-put, vacant-at}
+use Rattle.is_pair.specs.Turns.{is_due_by, due_by}
+use Rattle.is_pair.proofs.DueTimes.CountOfDuePairs.{no-more, not-by}
+use Rattle.is_theorems.specs.Progress.{Arrival, IsSuccess}
+use Rattle.is_theorems.proofs.DuePairs.AfterNominationAndRemoval.{Distinct}
+use Rattle.is_theorems.proofs.DuePairs.FirstDuePair.{Matches, matches-on, follows-map}
+
+abbrev pub NoneValid : List PairRecord → Type 0
+NoneValid ps = (p : PairRecord) → Has ps p → is_valid p ≡ false
+
+-- the pair is due as it was; computed at another time, its due time is the old pair's at that time, or at this one
+pub record DueAlike (at : ℕ) (t : StunTiming) (p q : PairRecord) : Type 0 where
+  pub matches : Matches p q
+  pub checks : q.checks ≡ p.checks
+  pub due : due_time_of at t q ≡ due_time_of at t p
+  pub whenever : (m : ℕ) → (due_time_of m t q ≡ due_time_of m t p) ⊎ (due_time_of m t q ≡ due_time_of at t p)
+
+due-same : (at : ℕ) (t : StunTiming) (p : PairRecord) → DueAlike at t p p
+due-same at t p = record { matches = record { number = refl; local = refl; remote = refl; valid = refl }; checks = refl; due = refl; whenever = λ m. inl refl }
+
+pub due-on : (at : ℕ) (t : StunTiming) (p q r : PairRecord) → DueAlike at t p q → DueAlike at t q r → DueAlike at t p r
+due-on at t p q r a b = record {
+  matches = matches-on p q r a.matches b.matches;
+  checks = b.checks ∙ a.checks;
+  due = b.due ∙ a.due;
+  whenever = λ m. elim (b.whenever m) [
+    | inl e ↦ elim (a.whenever m) [ inl k ↦ inl (e ∙ k) | inr k ↦ inr (e ∙ k) ]
+    | inr e ↦ inr (e ∙ a.due)
+  ];
+}
+
+-- a pair that is due by a time, as computed at any later time, is also due by it as computed at this one
+abbrev pub Held : ℕ → ℕ → StunTiming → List PairRecord → Type 0
+Held by at t ps = (p : PairRecord) → Has ps p → (m : ℕ) → by < m → due_time_of m t p ≤ by → due_time_of at t p ≤ by
+
+held-alike : (by at m : ℕ) (t : StunTiming) (p q : PairRecord) → DueAlike at t p q → (due_time_of m t p ≤ by → due_time_of at t p ≤ by) → due_time_of m t q ≤ by → due_time_of at t q ≤ by
+held-alike by at m t p q a held le = subst (λ n. n ≤ by) (sym a.due) (elim (a.whenever m) [
+  | inl e ↦ held (subst (λ n. n ≤ by) e le)
+  | inr e ↦ subst (λ n. n ≤ by) e le
+])
+
+-- the effect of a packet on pairs and on the counter
+pub record Spares (by at : ℕ) (t : StunTiming) (n : ℕ) (xs : List PairRecord) (m : ℕ) (ys : List PairRecord) : Type 0 where
+  pub distinct : AllBelow n xs → Distinct xs → Distinct ys
+  pub below : AllBelow n xs → AllBelow m ys
+  pub invalid : NoneValid xs → NoneValid ys
+  pub forth : (p : PairRecord) → Has xs p → (q : PairRecord) × Has ys q × DueAlike at t p q
+  pub held : Held by at t xs → Held by at t ys
+  pub count : length (due_by by at t ys) ≤ length (due_by by at t xs)
+
+pub spares-same : (by at : ℕ) (t : StunTiming) (n : ℕ) (xs : List PairRecord) → Spares by at t n xs n xs
+spares-same by at t n xs = record {
+  distinct = λ b d. d;
+  below = λ b. b;
+  invalid = λ v. v;
+  forth = λ p has. (p, has, due-same at t p);
+  held = λ h. h;
+  count = omega arith;
+}
+
+spares-on : (by at : ℕ) (t : StunTiming) (k m n : ℕ) (xs ys zs : List PairRecord) → Spares by at t k xs m ys → Spares by at t m ys n zs → Spares by at t k xs n zs
+spares-on by at t k m n xs ys zs a b = record {
+  distinct = λ low d. b.distinct (a.below low) (a.distinct low d);
+  below = λ low. b.below (a.below low);
+  invalid = λ v. b.invalid (a.invalid v);
+  forth = λ p has. (let x = a.forth p has in let y = b.forth x.0 x.1 in (y.0, y.1, due-on at t p x.0 y.0 x.2 y.2));
+  held = λ h. b.held (a.held h);
+  count = (let c = a.count in let d = b.count in omega (arith, c, d));
+}
+
+pub spares-map : (by at : ℕ) (t : StunTiming) (n : ℕ) (f : PairRecord → PairRecord) (xs : List PairRecord) → ((p : PairRecord) → DueAlike at t p (f p)) → Spares by at t n xs n (map f xs)
+spares-map by at t n f xs alike = record {
+  distinct = λ low d. (follows-map f xs (λ p. (alike p).matches)).distinct d;
+  below = λ low q has. (let o = Has-map f xs q has in
+      let was : o.0.number < n = low o.0 o.1 in
+      let same : q.number ≡ o.0.number = ap (λ (x : PairRecord). x.number) (sym o.2) ∙ (alike o.0).matches.number in
+      omega (arith, was, same));
+  invalid = λ v q has. (let o = Has-map f xs q has in ap (λ (x : PairRecord). is_valid x) (sym o.2) ∙ ((alike o.0).matches.valid ∙ v o.0 o.1));
+  forth = λ p has. (f p, Has-mapped f xs p has, alike p);
+  held = λ h q has m above le.
+      (let o = Has-map f xs q has in
+      subst (λ (x : PairRecord). due_time_of at t x ≤ by) o.2
+      (held-alike by at m t o.0 (f o.0) (alike o.0) (h o.0 o.1 m above) (subst (λ (x : PairRecord). due_time_of m t x ≤ by) (sym o.2) le)));
+  count = no-more (is_due_by by at t) (is_due_by by at t) f xs (λ p has is. ap (λ n. nat_le n by) (sym (alike p).due) ∙ is);
+}
+
+has-front : (xs : List PairRecord) (x y : PairRecord) → Has xs y → Has (xs ++ x ∷ []) y
+has-front [] x y h = absurd h
+has-front (z ∷ zs) x y (inl e) = inl e
+has-front (z ∷ zs) x y (inr h) = inr (has-front zs x y h)
+
+-- an element that does not pass adds none
+pushed : (test : PairRecord → Bool) (x : PairRecord) → test x ≡ false → (xs : List PairRecord) → length (filter test (xs ++ x ∷ [])) ≤ length (filter test xs)
+pushed test x fails [] = only_pair (test x) fails where
+  only_pair : (b : Bool) → b ≡ false → length (if b then x ∷ [] else []) ≤ 0
+  only_pair true is = absurd (cc)
+  only_pair false is = omega arith
+pushed test x fails (y ∷ ys) = ahead (test y) (pushed test x fails ys) where
+  ahead : (b : Bool) → length (filter test (ys ++ x ∷ [])) ≤ length (filter test ys)
+      → length (if b then y ∷ filter test (ys ++ x ∷ []) else filter test (ys ++ x ∷ [])) ≤ length (if b then y ∷ filter test ys else filter test ys)
+  ahead true k = omega (arith, k)
+  ahead false k = k
+
+-- a new pair is due when its due time is computed, which is after that time
+new-due : (by at by_rto : ℕ) → by < at → by < MAX → by < min at (later at by_rto)
+new-due by at by_rto h early = omega (arith, h, early)
+
+never-due : (by m by_rto : ℕ) → by < m → by < MAX → min m (later m by_rto) ≤ by → ⊥
+never-due by m by_rto h early le = omega (arith, h, early, le)
+
+spares-push : (by at : ℕ) (t : StunTiming) (n l r priority : ℕ) (xs : List PairRecord) → by < at → at < MAX
+    → Spares by at t n xs (n + 1) (xs ++ new_pair n l r priority ∷ [])
+spares-push by at t n l r priority xs following early = record {
+  distinct = λ low d x y has_x has_y same. apart low d x y (Has-push xs (new_pair n l r priority) x has_x) (Has-push xs (new_pair n l r priority) y has_y) same;
+  below = λ low q has. elim (Has-push xs (new_pair n l r priority) q has) [
+    | inl k ↦ (let was : q.number < n = low q k in omega (arith, was))
+    | inr e ↦ (let same : n ≡ q.number = ap (λ (x : PairRecord). x.number) e in omega (arith, same))
+  ];
+  invalid = λ v q has. elim (Has-push xs (new_pair n l r priority) q has) [
+    | inl k ↦ v q k
+    | inr e ↦ ap (λ (x : PairRecord). is_valid x) (sym e)
+  ];
+  forth = λ p has. (p, has-front xs (new_pair n l r priority) p has, due-same at t p);
+  held = λ h q has m above le. elim (Has-push xs (new_pair n l r priority) q has) [
+    | inl k ↦ h q k m above le
+    | inr e ↦ absurd (never-due by m t.max_rto.0 above (omega (arith, following, early)) (subst (λ (x : PairRecord). due_time_of m t x ≤ by) (sym e) le))
+  ];
+  count = pushed (is_due_by by at t) (new_pair n l r priority) (not-by (due_time_of at t (new_pair n l r priority)) by (new-due by at t.max_rto.0 following (omega (arith, following, early)))) xs;
+} where
+  differ : AllBelow n xs → (x y : PairRecord) → Has xs x → new_pair n l r priority ≡ y → x.number ≡ y.number → ⊥
+  differ low x y has e same =
+      let was : x.number < n = low x has in
+      let its : n ≡ y.number = ap (λ (x : PairRecord). x.number) e in
+      omega (arith, was, its, same)
+
+  apart : AllBelow n xs → Distinct xs → (x y : PairRecord) → Has xs x ⊎ (new_pair n l r priority ≡ x) → Has xs y ⊎ (new_pair n l r priority ≡ y) → x.number ≡ y.number → x ≡ y
+  apart low d x y (inl k) (inl m) same = d x y k m same
+  apart low d x y (inl k) (inr e) same = absurd (differ low x y k e same)
+  apart low d x y (inr e) (inl m) same = absurd (differ low y x m e (sym same))
+  apart low d x y (inr e) (inr f) same = sym e ∙ f
+
+-- a request leaves the pair due as it was, while the agent is controlling and not ICE-lite
+served-alike : (at : ℕ) (t : StunTiming) (n : ℕ) (c l : Bool) (q : RequestRecord) (p : PairRecord) → c ≡ true → l ≡ false → DueAlike at t p (change_at n (served c l q) p)
+served-alike at t n true false q p is full = numbered (is_numbered n p) where
+  numbered : (b : Bool) → DueAlike at t p (if b then served true false q p else p)
+  numbered true = record { matches = record { number = refl; local = refl; remote = refl; valid = refl }; checks = refl; due = refl; whenever = λ m. inl refl }
+  numbered false = due-same at t p
+served-alike at t n true true q p is full = absurd (cc)
+served-alike at t n false l q p is full = absurd (cc)
+
+none-passes : (n : ℕ) (ps : List PairRecord) → NoneValid ps → is_valid_at n ps ≡ false
+none-passes n [] none = refl
+none-passes n (p ∷ ps) none = by (is_numbered n p) (is_valid p) (none p (inl refl)) (none-passes n ps (λ q has. none q (inr has))) where
+  by : (a b : Bool) → b ≡ false → list_any (passes_at n is_valid) ps ≡ false → ((a && b) || list_any (passes_at n is_valid) ps) ≡ false
+  by true true is rest = absurd (cc)
+  by true false is rest = rest
+  by false b is rest = rest
+
+and-false : (a b : Bool) → b ≡ false → (a && b) ≡ false
+and-false true b is = is
+and-false false b is = refl
+
+-- ---- the agent
+
+pub record Core : Type 0 where
+  pub lite : Bool
+  pub remote_creds : Option IceCreds
+  pub timing : StunTiming
+  pub local : List CandidateRecord
+  pub queue : List RequestRecord
+  pub last_time : Option ℕ
+  pub controlling : Bool
+
+-- remote candidates are only appended
+abbrev pub Grown : List CandidateRecord → List CandidateRecord → Type 0
+Grown old new = (new ≡ old) ⊎ ((c : CandidateRecord) × (new ≡ old ++ c ∷ []))
+
+module _ {H P : Type 0} where
+  abbrev pub core_of : AgentRecord H P → Core
+  core_of a = record {
+    lite = a.lite;
+    remote_creds = a.remote_creds;
+    timing = a.timing;
+    local = a.local;
+    queue = a.queue;
+    last_time = a.last_time;
+    controlling = a.controlling;
+  }
+
+  module _ (mac : H → List ℕ → List ℕ → List ℕ) (by at : ℕ) (following : by < at) (early : at < MAX) where
+    -- the lists of candidates stay too
+    abbrev Rests : AgentRecord H P → AgentRecord H P → Type 0
+    Rests old new = (core_of new ≡ core_of old) × (new.remote ≡ old.remote) × Spares by at old.timing old.next_number old.pairs new.next_number new.pairs
+
+    abbrev pub Arrived : AgentRecord H P → AgentRecord H P → Type 0
+    Arrived old new = (core_of new ≡ core_of old) × KeepsRemote old.pairs old.remote new.remote × Spares by at old.timing old.next_number old.pairs new.next_number new.pairs
+
+    rests-same : (old new : AgentRecord H P) → new ≡ old → Rests old new
+    rests-same old new e = subst (λ (a : AgentRecord H P). Rests old a) (sym e) (refl, refl, spares-same by at old.timing old.next_number old.pairs)
+
+    arrived : (old new : AgentRecord H P) → Rests old new → Arrived old new
+    arrived old new r = (r.0, keeps-remote-same old.pairs old.remote new.remote r.1, r.2)
+
+    pub arrived-same : (old new : AgentRecord H P) → new ≡ old → Arrived old new
+    arrived-same old new e = arrived old new (rests-same old new e)
+
+    module _ (q : RequestRecord) where
+      pair : (l r number : ℕ) (s new : AgentRecord H P) (emitted : Emitted) → s.controlling ≡ true → s.lite ≡ false → NoneValid s.pairs → RecordsAndResponds mac q l r number s emitted new → Rests s new
+      pair l r number s new emitted role full none (path, mid, nominates, (values, is, made)) =
+          let k : (path ≡ None) × (mid ≡ pair_served q number s) =
+          subst (λ b. NominatesWhere b (pair_served q number s) path mid) (and-false s.controlling (is_valid_at number s.pairs) (none-passes number s.pairs none)) nominates in
+          subst (λ (a : AgentRecord H P). Rests s a) (sym (made ∙ ap (λ (a : AgentRecord H P). replied mac q (path_between s l r) a) k.1))
+          (refl, refl, spares-map by at s.timing s.next_number (change_at number (served s.controlling s.lite q)) s.pairs (λ p. served-alike at s.timing number s.controlling s.lite q p role full))
+
+      takes : (l r : ℕ) (number : Option ℕ) (s new : AgentRecord H P) (emitted : Emitted) → s.controlling ≡ true → s.lite ≡ false → NoneValid s.pairs → FindsOrAddsPair mac q l r number s emitted new → Rests s new
+      takes l r (Some number) s new emitted role full none h = pair l r number s new emitted role full none h
+      takes l r None s new emitted role full none h = either (candidate_at s.local l).discarded h
+          (λ _ k. rests-same s new k.1)
+          (λ _ k. (
+          let push = spares-push by at s.timing s.next_number l r (priority_between s l r) s.pairs following early in
+          let rest = pair l r s.next_number (with_pair (formed s l r) s) new emitted role full (push.invalid none) k.1 in
+          (rest.0, rest.1, spares-on by at s.timing s.next_number (s.next_number + 1) new.next_number s.pairs (s.pairs ++ formed s l r ∷ []) new.pairs push rest.2)))
+
+      joins_at : (l : ℕ) (place : RemotePlace) (s new : AgentRecord H P) (emitted : Emitted) → s.controlling ≡ true → s.lite ≡ false → NoneValid s.pairs → IsSenderPlace s q place → AddsUnknownSender mac q l place s emitted new → Arrived s new
+      joins_at l (Known r) s new emitted role full none is (number, between, h) = arrived s new (takes l r number s new emitted role full none h)
+      joins_at l Barred s new emitted role full none is h = arrived-same s new h.1
+      joins_at l (Vacant place) s new emitted role full none is (number, between, h) =
+          let r = takes l place number (with_sender_at place q s) new emitted role full none h in
+          (r.0, keeps-remote-put s.pairs s.remote new.remote place (sender_candidate s q) (vacant-at s.max_discovered s.remote s.pairs q place is).1 r.1, r.2)
+      joins_at l Full s new emitted role full none is h = arrived-same s new h.1
+      joins_at l Unknown s new emitted role full none is (number, between, h) =
+          let r = takes l (length s.remote) number (with_sender q s) new emitted role full none h in
+          (r.0, keeps-remote-more s.pairs s.remote new.remote (sender_candidate s q) r.1, r.2)
+
+      admitted : (l : ℕ) (s new : AgentRecord H P) (emitted : Emitted) → s.controlling ≡ true → s.lite ≡ false → NoneValid s.pairs → CountsAndServes mac q l s emitted new → Arrived s new
+      admitted l s new emitted role full none h = either (is_misled s.controlling q) h
+          (λ _ k. arrived-same s new k.1)
+          (λ _ k. joins_at l k.0 (request_counted s) new emitted role full none k.1 k.2)
+
+      resolves_by : (conflict : Conflict) (l : ℕ) (s new : AgentRecord H P) (emitted : Emitted) → s.controlling ≡ true → s.lite ≡ false → NoneValid s.pairs → new.controlling ≡ true
+          → ResolvesRoleConflictBy mac conflict q l s emitted new → Arrived s new
+      resolves_by Absent l s new emitted role full none stays h = admitted l s new emitted role full none h
+      resolves_by Send487 l s new emitted role full none stays (values, emitted_is, made) =
+          subst (λ (a : AgentRecord H P). Arrived s a) (sym made) (refl, keeps-remote-same s.pairs s.remote s.remote refl, spares-same by at s.timing s.next_number s.pairs)
+      resolves_by SwitchRole l s new emitted role full none stays h =
+          let f : new.controlling ≡ not s.controlling = ap (λ (f : Frame H). f.controlling) (admits mac q l (switched s) new emitted h).0 in
+          let no : true ≡ false = sym stays ∙ (f ∙ ap not role) in absurd (cc)
+
+      here : (place : Option ℕ) (s new : AgentRecord H P) (emitted : Emitted) → s.controlling ≡ true → s.lite ≡ false → NoneValid s.pairs → new.controlling ≡ true
+          → MatchOption place (Drops s emitted new) (λ l. ResolvesRoleConflict mac q l s emitted new) → Arrived s new
+      here None s new emitted role full none stays h = arrived-same s new h.1
+      here (Some l) s new emitted role full none stays h = resolves_by (conflict_of s q) l s new emitted role full none stays h
+
+      requested : (remote : Option IceCreds) (s new : AgentRecord H P) (emitted : Emitted) → is_some remote ≡ true → s.controlling ≡ true → s.lite ≡ false → NoneValid s.pairs → new.controlling ≡ true
+          → MatchOption remote (Queues q s emitted new) (λ _. Serves mac q s emitted new) → Arrived s new
+      requested None s new emitted known role full none stays h = absurd (cc)
+      requested (Some peer) s new emitted known role full none stays h = either (names_another s q) h
+          (λ _ k. arrived-same s new k.1)
+          (λ _ k. here (local_place s.local q) s new emitted role full none stays k)
+
+    failed : (s new : AgentRecord H P) (path : Path) (m : Message) (emitted : Emitted) → s.controlling ≡ true → new.controlling ≡ true → TakesFailure s path m emitted new → Arrived s new
+    failed s new path m emitted role stays h = either (is_role_conflict m) h
+        (λ _ k. expired k)
+        (λ _ k. arrived-same s new k.1) where
+          expired : LeavesRole s path m emitted new → Arrived s new
+          expired (p, c, has, keeps, kept, is, acts) = either (same c.controlling s.controlling) acts
+              (λ _ k. (let no : true ≡ false = sym stays ∙ (ap (λ (a : AgentRecord H P). a.controlling) k.1 ∙ ap not role) in absurd (cc)))
+              (λ _ k. arrived-same s new k.1)
+
+    by-class : (c : Class) (now : ℕ) (old mid : AgentRecord H P) (path : Path) (m : Message) (emitted : Emitted) → is_some old.remote_creds ≡ true → old.controlling ≡ true → old.lite ≡ false
+        → NoneValid old.pairs → mid.controlling ≡ true → Takes mac c now old path m emitted mid → (c ≡ class.Success) ⊎ Arrived old mid
+    by-class class.Request now old mid path m emitted known role full none stays h = inr (requested (request_in now path m) old.remote_creds old mid emitted known role full none stays h)
+    by-class class.Success now old mid path m emitted known role full none stays h = inl refl
+    by-class class.Failure now old mid path m emitted known role full none stays h = inr (failed old mid path m emitted role stays h)
+    by-class class.Indication now old mid path m emitted known role full none stays h = absurd h
+    by-class class.Unknown now old mid path m emitted known role full none stays h = absurd h
+
+    -- a packet that arrived is an accepted success response, or leaves the pairs as `Spares` says
+    pub arrives : (now : ℕ) (old new : AgentRecord H P) (path : Path) (m : Message) (accepted : Bool) (emitted : Emitted) → is_some old.remote_creds ≡ true → old.controlling ≡ true → old.lite ≡ false
+        → NoneValid old.pairs → new.controlling ≡ true → HandlesPacket mac now old path m (Ok accepted) emitted new
+        → ((accepted ≡ true) × (m.class ≡ class.Success)) ⊎ Arrived old new
+    arrives now old new path m false emitted known role full none stays (no_one, is, made) = inr (arrived-same old new made)
+    arrives now old new path m true emitted known role full none stays (is_accepted, (mid, takes_it, made)) =
+        elim (by-class m.class now old mid path m emitted known role full none (ap (λ (a : AgentRecord H P). a.controlling) (sym made) ∙ stays) takes_it) [
+          | inl success ↦ inl (refl, success)
+          | inr k ↦ inr (subst (λ (a : AgentRecord H P). Arrived old a) (sym made) (k.0, k.1, k.2))
+        ]
+
+    -- raw bytes that arrived: an accepted success response, or the pairs are left as `Spares` says
+    pub receives : (answers : P → CandidateRecord → ℕ → ℕ → Type 0) (x : Arrival) (old new : AgentRecord H P) (s t : Stream) → is_some old.remote_creds ≡ true → old.controlling ≡ true → old.lite ≡ false
+        → NoneValid old.pairs → new.controlling ≡ true → Step mac answers old s (ReceivePacket x.at x.via x.bytes) x.entry new t → IsSuccess x ⊎ Arrived old new
+    receives answers x old new s t known role full none stays (inl (fault, has, is, made), drawn) = inr (arrived-same old new made)
+    receives answers x old new s t known role full none stays (inr (m, reads, (Err error, emitted, is, (may, emitted_is, made))), drawn) = inr (arrived-same old new made)
+    receives answers x old new s t known role full none stays (inr (m, reads, (Ok accepted, emitted, is, handles)), drawn) =
+        elim (arrives x.at old new x.via m accepted emitted known role full none stays handles) [
+          | inl (yes_it_was, success) ↦ inl (m, reads, ap (λ (e : Entry). e.answer) is ∙ ap Flag yes_it_was, success)
+          | inr k ↦ inr k
+        ]

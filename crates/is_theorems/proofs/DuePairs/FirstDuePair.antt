@@ -1,0 +1,332 @@
+-- A `handle_timeout` call checks the pair that is due first, and leaves the others due as they were.
+use Rattle.std.proofs.Common.{◌≡◌, ℕ, ◌<◌, ◌≤◌, Bool, true, false, List, length, map, filter, nat_le, nat_lt, Option, Some, None, is_some, unwrap_or, inl, inr, ◌⊎◌, refl, ap, sym, ◌∙◌, subst, arith, if◌then◌else◌}
+use Rattle.std.specs.Prelude.{MatchBool}
+use Rattle.std.proofs.lemmas.Bool.{eqb-true}
+use Rattle.std.proofs.lemmas.Bool.Decides.{nat_tests}
+use Rattle.rand_core.specs.Stream.{Stream}
+use Rattle.is_proto.specs.Lists.{Has}
+use Rattle.is_proto.specs.Times.{MAX}
+use Rattle.is_candidate.specs.Candidates.{CandidateRecord, base_of, candidate_at}
+use Rattle.is_pair.specs.Checks.{unanswered_count}
+use Rattle.is_pair.specs.declared.pair.states.CheckState.{CheckState}
+use Rattle.is_pair.specs.declared.pair.states.CheckState.TheVariants.{Waiting, InProgress, Succeeded}
+use Rattle.is_pair.specs.States.{is_valid_state, state_once_sent}
+use Rattle.is_pair.specs.Pairs.{PairRecord, is_valid, checked}
+use Rattle.is_pair.specs.Due.{asked, due_time_of, is_due, GoesBefore, IsNextDue}
+use Rattle.is_pair.specs.Multiset.{is_numbered, change_at, change_pair}
+use Rattle.is_stun.specs.declared.header.Class.TheVariants as class
+use Rattle.is_stun.specs.declared.timing.StunTiming.{StunTiming}
+use Rattle.is_rules.specs.declared.credentials.IceCreds.{IceCreds}
+use Rattle.is_rules.specs.declared.emitted.Issued.{Issued}
+use Rattle.is_rules.specs.declared.emitted.Path.{Path}
+use Rattle.is_rules.specs.declared.emitted.Emitted.{Emitted}
+use Rattle.is_rules.specs.Emitted.{issued_as}
+use Rattle.is_rules.specs.Agent.{AgentRecord}
+use Rattle.is_rules.specs.Sending.{path_of}
+use Rattle.is_rules.specs.Checking.{all_asked, all_heard, check_sent, ChecksTop, ChecksNext, MayCheck}
+use Rattle.is_rules.specs.Timeouts.{at_timeout, MaintainsPairs}
+use Rattle.is_theorems.proofs.RuleEffects.ChangedPairs.{Has-map}
+use Rattle.is_theorems.proofs.CallEffects.ServedRequests.{Has-mapped}
+use Rattle.is_rules.proofs.PairLists.ChosenPair.{none_pass}
+use Rattle.is_pair.specs.Turns.{IsPaced, is_due_by, due_by}
+use Rattle.is_pair.proofs.DueTimes.CountOfDuePairs.{no-more, fewer-due}
+use Rattle.is_theorems.specs.Progress.{IsGone, ChecksOn}
+use Rattle.is_theorems.proofs.DuePairs.AfterNominationAndRemoval.{Distinct, Alike, Thinned, is_fixed_by, Base, Thins, base_of as agent_base, thins-on, nominates-thins, gives-up-thins, nominates-has, gives-up-has}
+
+-- ---- pairs
+
+-- with the same indices
+pub record Matches (p q : PairRecord) : Type 0 where
+  pub number : q.number ≡ p.number
+  pub local : q.local ≡ p.local
+  pub remote : q.remote ≡ p.remote
+  pub valid : is_valid q ≡ is_valid p
+
+pub matches-on : (p q r : PairRecord) → Matches p q → Matches q r → Matches p r
+matches-on p q r a b = record { number = b.number ∙ a.number; local = b.local ∙ a.local; remote = b.remote ∙ a.remote; valid = b.valid ∙ a.valid }
+
+alike-matches : (p q : PairRecord) → Alike p q → Matches p q
+alike-matches p q a = record { number = a.number; local = a.local; remote = a.remote; valid = a.valid }
+
+-- all due times are fixed
+abbrev pub AllAsked : List PairRecord → Type 0
+AllAsked ps = (p : PairRecord) → Has ps p → is_some p.due ≡ true
+
+asked-on : (by : ℕ) (xs ys : List PairRecord) → Thinned by xs ys → AllAsked xs → AllAsked ys
+asked-on by xs ys t all q has = let o = t.back q has in ap is_some o.2.due ∙ all o.0 o.1
+
+pub fixed-is : (o : Option ℕ) (x : ℕ) → is_some o ≡ true → unwrap_or o x ≡ unwrap_or o 0
+fixed-is None x is = absurd (cc)
+fixed-is (Some e) x is = refl
+
+le-is : (n m : ℕ) → n ≤ m → nat_le n m ≡ true
+le-is n m h = grind (arith, nat_tests, h)
+
+le-from : (n m : ℕ) → nat_le n m ≡ true → n ≤ m
+le-from n m h = grind (arith, nat_tests, h)
+
+sent-valid : (state : CheckState) → is_valid_state (state_once_sent state) ≡ is_valid_state state
+sent-valid Waiting = refl
+sent-valid InProgress = refl
+sent-valid Succeeded = refl
+
+checked-matches : (now n : ℕ) (t : StunTiming) (c : Bool) (id : List ℕ) (p : PairRecord) → Matches p (change_at n (checked now t c id) (asked now t p))
+checked-matches now n t c id p = apart (is_numbered n (asked now t p)) where
+  apart : (b : Bool) → Matches p (if b then checked now t c id (asked now t p) else asked now t p)
+  apart true = record { number = refl; local = refl; remote = refl; valid = sent-valid p.state }
+  apart false = record { number = refl; local = refl; remote = refl; valid = refl }
+
+-- the pairs of a list that matches another one
+pub record Follows (old new : List PairRecord) : Type 0 where
+  pub distinct : Distinct old → Distinct new
+  pub back : (q : PairRecord) → Has new q → (p : PairRecord) × Has old p × Matches p q
+
+pub follows-on : (xs ys zs : List PairRecord) → Follows xs ys → Follows ys zs → Follows xs zs
+follows-on xs ys zs a b = record {
+  distinct = λ d. b.distinct (a.distinct d);
+  back = λ r has. (let o = b.back r has in let n = a.back o.0 o.1 in (n.0, n.1, matches-on n.0 o.0 r n.2 o.2));
+}
+
+pub follows-same : (ps : List PairRecord) → Follows ps ps
+follows-same ps = record { distinct = λ d. d; back = λ q has. (q, has, record { number = refl; local = refl; remote = refl; valid = refl }) }
+
+pub follows-map : (f : PairRecord → PairRecord) (ps : List PairRecord) → ((p : PairRecord) → Matches p (f p)) → Follows ps (map f ps)
+follows-map f ps matches = record {
+  distinct = λ d x y has_x has_y same.
+      (let a = Has-map f ps x has_x in let b = Has-map f ps y has_y in
+      let one : a.0 ≡ b.0 = d a.0 b.0 a.1 b.1 (sym (matches a.0).number ∙ (ap (λ (p : PairRecord). p.number) a.2 ∙ (same ∙ (ap (λ (p : PairRecord). p.number) (sym b.2) ∙ (matches b.0).number)))) in
+      sym a.2 ∙ (ap f one ∙ b.2));
+  back = λ q has. (let o = Has-map f ps q has in (o.0, o.1, subst (λ (x : PairRecord). Matches o.0 x) o.2 (matches o.0)));
+}
+
+pub thinned-follows : (by : ℕ) (xs ys : List PairRecord) → Thinned by xs ys → Follows xs ys
+thinned-follows by xs ys t = record {
+  distinct = t.distinct;
+  back = λ q has. (let o = t.back q has in (o.0, o.1, alike-matches o.0 q o.2));
+}
+
+pub gone-follows : (xs ys : List PairRecord) (n : ℕ) → Follows xs ys → IsGone n xs → IsGone n ys
+gone-follows xs ys n f gone q has = let o = f.back q has in let apart = gone o.0 o.1 in λ same. apart (sym o.2.number ∙ same)
+
+-- ---- paths
+
+abbrev via : List CandidateRecord → List CandidateRecord → ℕ → ℕ → Path
+via local remote l r = record {
+  proto = (candidate_at local l).proto;
+  source = base_of (candidate_at local l);
+  destination = (candidate_at remote r).addr;
+}
+
+module _ {H P : Type 0} where
+  pub same-path : (a b : AgentRecord H P) (p q : PairRecord) → b.local ≡ a.local → b.remote ≡ a.remote → Matches p q → path_of b q ≡ path_of a p
+  same-path a b p q locals remotes m =
+      ap (λ cs. via cs b.remote q.local q.remote) locals
+      ∙ (ap (λ cs. via a.local cs q.local q.remote) remotes
+      ∙ (ap (λ i. via a.local a.remote i q.remote) m.local ∙ ap (λ i. via a.local a.remote p.local i) m.remote))
+
+  module _ (mac : H → List ℕ → List ℕ → List ℕ) where
+    -- ---- the check
+
+    pub next-check : (now : ℕ) (remote : Option IceCreds) (old new : AgentRecord H P) (s t : Stream) (issued : Option Issued) → is_some remote ≡ true → old.lite ≡ false
+        → MayCheck mac now remote old s issued new t
+        → (peer : IceCreds) × (next : Option PairRecord) × IsNextDue now old.timing (all_asked now old).pairs next × ChecksTop mac now peer next (all_asked now old) s issued new t
+    next-check now None old new s t issued known full h = absurd (cc)
+    next-check now (Some peer) old new s t issued known full h =
+        let k : ChecksNext mac now peer (all_asked now old) s issued new t =
+        subst (λ b. MatchBool b ((issued ≡ None) × (new ≡ all_heard now old) × (t ≡ s)) (ChecksNext mac now peer (all_asked now old) s issued new t)) full h in
+        (peer, k.0, k.1, k.2)
+
+    pub check-follows : (now : ℕ) (remote : Option IceCreds) (old new : AgentRecord H P) (s t : Stream) (issued : Option Issued) → is_some remote ≡ true → old.lite ≡ false
+        → MayCheck mac now remote old s issued new t → (agent_base new ≡ agent_base old) × Follows old.pairs new.pairs
+    check-follows now remote old new s t issued known full h = let k = next-check now remote old new s t issued known full h in by-next k.0 k.1 k.3 where
+      by-next : (peer : IceCreds) (next : Option PairRecord) → ChecksTop mac now peer next (all_asked now old) s issued new t → (agent_base new ≡ agent_base old) × Follows old.pairs new.pairs
+      by-next peer None (is, made, drawn) = (
+        ap (λ (a : AgentRecord H P). agent_base a) made,
+        subst (λ ps. Follows old.pairs ps) (sym (ap (λ (a : AgentRecord H P). a.pairs) made))
+            (follows-map (asked now old.timing) old.pairs (λ p. record { number = refl; local = refl; remote = refl; valid = refl })),
+      )
+      by-next peer (Some q) (id, drawn, values, is, made) = (
+        ap (λ (a : AgentRecord H P). agent_base a) made,
+        subst (λ ps. Follows old.pairs ps) (sym (ap (λ (a : AgentRecord H P). a.pairs) made))
+            (follows-on old.pairs (map (asked now old.timing) old.pairs) (change_pair q.number (checked now old.timing old.controlling id) (map (asked now old.timing) old.pairs))
+            (follows-map (asked now old.timing) old.pairs (λ p. record { number = refl; local = refl; remote = refl; valid = refl }))
+            (follows-map (change_at q.number (checked now old.timing old.controlling id)) (map (asked now old.timing) old.pairs) (λ p. once p (is_numbered q.number p)))),
+      ) where
+        once : (p : PairRecord) (b : Bool) → Matches p (if b then checked now old.timing old.controlling id p else p)
+        once p true = record { number = refl; local = refl; remote = refl; valid = sent-valid p.state }
+        once p false = record { number = refl; local = refl; remote = refl; valid = refl }
+
+    -- a pair still waits, due as it was, and fewer than n go before it
+    abbrev pub WaitsOn : ℕ → ℕ → ℕ → AgentRecord H P → AgentRecord H P → PairRecord → Type 0
+    WaitsOn now by n old new p =
+        (q : PairRecord) × Has new.pairs q × Matches p q × (q.checks ≡ p.checks) × ((at : ℕ) → due_time_of at old.timing q ≤ by)
+        × (IsPaced old.timing → now < MAX → length (due_by by now old.timing new.pairs) < n)
+
+    -- the pair that is due first is checked: this one, or one before it
+    abbrev pub Checked : ℕ → ℕ → ℕ → AgentRecord H P → Option Issued → AgentRecord H P → PairRecord → Type 0
+    Checked now by n old issued new p =
+        (o : PairRecord) × Has old.pairs o × ((id : List ℕ) × (issued ≡ Some (issued_as (path_of old o) class.Request id)))
+        × ((o ≡ p) ⊎ WaitsOn now by n old new p)
+
+    module _ (now by n : ℕ) (old : AgentRecord H P) (distinct : Distinct old.pairs) (from : by ≤ now)
+        (p : PairRecord) (has : Has old.pairs p) (own-due : due_time_of now old.timing p ≤ by)
+        (count-asked : length (due_by by now old.timing (map (asked now old.timing) old.pairs)) ≤ n) where
+      first-due : (x y : ℕ) (q : PairRecord) → (x < y) ⊎ ((x ≡ y) × (p.priority ≤ q.priority)) → y ≤ by → x ≤ by
+      first-due x y q (inl less) le = omega (arith, less, le)
+      first-due x y q (inr same) le = let e = same.0 in omega (arith, e, le)
+
+      -- the pair itself is checked, or it stays as it is
+      by-number : (new : AgentRecord H P) (s t : Stream) (issued : Option Issued) (peer : IceCreds) (q : PairRecord) (id : List ℕ)
+          → new ≡ check_sent mac now peer q id (all_asked now old) → (o : PairRecord) → Has old.pairs o → o.number ≡ q.number
+          → (b : Bool) → is_numbered q.number (asked now old.timing p) ≡ b
+          → (IsPaced old.timing → now < MAX
+          → length (due_by by now old.timing (change_pair q.number (checked now old.timing old.controlling id) (map (asked now old.timing) old.pairs))) < n)
+          → (o ≡ p) ⊎ WaitsOn now by n old new p
+      by-number new s t issued peer q id made o there same true is fewer =
+          inl (distinct o p there has (same ∙ sym (eqb-true p.number q.number is)))
+      by-number new s t issued peer q id made o there same false is fewer =
+          let in_new : Has new.pairs (change_at q.number (checked now old.timing old.controlling id) (asked now old.timing p)) =
+          subst (λ ps. Has ps (change_at q.number (checked now old.timing old.controlling id) (asked now old.timing p))) (sym (ap (λ (a : AgentRecord H P). a.pairs) made))
+          (Has-mapped (change_at q.number (checked now old.timing old.controlling id)) (map (asked now old.timing) old.pairs) (asked now old.timing p)
+          (Has-mapped (asked now old.timing) old.pairs p has)) in
+          inr (
+            asked now old.timing p,
+            subst (λ b. Has new.pairs (if b then checked now old.timing old.controlling id (asked now old.timing p) else asked now old.timing p)) is in_new,
+            record { number = refl; local = refl; remote = refl; valid = refl },
+            refl,
+            (λ at. own-due),
+            (λ paced early. subst (λ ps. length (due_by by now old.timing ps) < n) (sym (ap (λ (a : AgentRecord H P). a.pairs) made)) (fewer paced early)),
+          )
+
+      by-next : (new : AgentRecord H P) (s t : Stream) (issued : Option Issued) (peer : IceCreds) (next : Option PairRecord)
+          → IsNextDue now old.timing (all_asked now old).pairs next → ChecksTop mac now peer next (all_asked now old) s issued new t → Checked now by n old issued new p
+      by-next new s t issued peer None none h =
+          let it : is_due now old.timing (asked now old.timing p) ≡ true = le-is (due_time_of now old.timing p) now (let d = own-due in omega (arith, d, from)) in
+          absurd (none_pass (is_due now old.timing) (map (asked now old.timing) old.pairs) (asked now old.timing p) none (Has-mapped (asked now old.timing) old.pairs p has) it)
+      by-next new s t issued peer (Some q) ((there, first), is_now) (id, drawn, values, is, made) =
+          let o = Has-map (asked now old.timing) old.pairs q there in
+          let before : GoesBefore now old.timing q (asked now old.timing p) = first (asked now old.timing p) (Has-mapped (asked now old.timing) old.pairs p has) in
+          let q_due : due_time_of now old.timing q ≤ by = first-due (due_time_of now old.timing q) (due_time_of now old.timing p) q before own-due in
+          let counted = count-asked in
+          let fewer : IsPaced old.timing → now < MAX
+          → length (due_by by now old.timing (change_pair q.number (checked now old.timing old.controlling id) (map (asked now old.timing) old.pairs))) < n =
+          λ paced early.
+          (let drop = fewer-due now by old.timing old.controlling id paced early from (map (asked now old.timing) old.pairs) q there (le-is (due_time_of now old.timing q) by q_due) in
+          omega (arith, drop, counted)) in (
+            o.0,
+            o.1,
+            (id, is ∙ ap (λ (x : PairRecord). Some (issued_as (path_of old x) class.Request id)) (sym o.2)),
+            by-number new s t issued peer q id made o.0 o.1 (ap (λ (x : PairRecord). x.number) o.2) (is_numbered q.number (asked now old.timing p)) refl fewer,
+          )
+
+      pub check-moves : (new : AgentRecord H P) (s t : Stream) (issued : Option Issued) (remote : Option IceCreds) → is_some remote ≡ true → old.lite ≡ false
+          → MayCheck mac now remote old s issued new t → Checked now by n old issued new p
+      check-moves new s t issued remote known full h = let k = next-check now remote old new s t issued known full h in by-next new s t issued k.0 k.1 k.2 k.3
+
+    -- ---- the `handle_timeout` call
+
+    -- it removes the pair, or checks the pair that is due first
+    pub record Moved (now by : ℕ) (old : AgentRecord H P) (emitted : Emitted) (new : AgentRecord H P) (p : PairRecord) : Type 0 where
+      pub base : agent_base new ≡ record (agent_base old) { last_time = Some now }
+      pub follows : Follows old.pairs new.pairs
+      pub does : IsGone p.number new.pairs ⊎ ((o : PairRecord) × Has old.pairs o × ChecksOn old emitted o × ((o ≡ p) ⊎ WaitsOn now by (length (filter (is_fixed_by by) old.pairs)) old new p))
+
+    -- what it leaves, for any pair
+    pub timeout-follows : (now : ℕ) (old new : AgentRecord H P) (s t : Stream) (emitted : Emitted) → is_some old.remote_creds ≡ true → old.lite ≡ false
+        → MaintainsPairs mac now old s emitted new t → (agent_base new ≡ record (agent_base old) { last_time = Some now }) × Follows old.pairs new.pairs
+    timeout-follows now old new s t emitted known full (first, second, issued, named, kept, nominating, giving, checking, is) =
+        let a = nominates-thins 0 (at_timeout now old) named first nominating in
+        let b = gives-up-thins 0 now named kept second giving in
+        let c = thins-on 0 (at_timeout now old) named kept a b in
+        let known_kept : is_some kept.remote_creds ≡ true = ap (λ (x : Base). is_some x.remote_creds) c.0 ∙ known in
+        let full_kept : kept.lite ≡ false = ap (λ (x : Base). x.lite) c.0 ∙ full in
+        let d = check-follows now kept.remote_creds kept new s t issued known_kept full_kept checking in
+        (d.0 ∙ c.0, follows-on old.pairs kept.pairs new.pairs (thinned-follows 0 old.pairs kept.pairs c.1) d.1)
+
+    fixed-due : (now by : ℕ) (a : AgentRecord H P) (p : PairRecord) → is_some p.due ≡ true → unwrap_or p.due 0 ≤ by → due_time_of now a.timing p ≤ by
+    fixed-due now by a p fixed due = subst (λ n. n ≤ by) (sym (fixed-is p.due _ fixed)) due
+
+    fixed-count : (now by : ℕ) (a : AgentRecord H P) → AllAsked a.pairs → length (due_by by now a.timing (map (asked now a.timing) a.pairs)) ≤ length (filter (is_fixed_by by) a.pairs)
+    fixed-count now by a all = no-more (is_fixed_by by) (is_due_by by now a.timing) (asked now a.timing) a.pairs
+        (λ q there is. ap (λ n. nat_le n by) (sym (fixed-is q.due _ (all q there))) ∙ is)
+
+    pub timeout-moves : (now by : ℕ) (old new : AgentRecord H P) (s t : Stream) (emitted : Emitted) → is_some old.remote_creds ≡ true → old.lite ≡ false
+        → Distinct old.pairs → AllAsked old.pairs → by ≤ now → (p : PairRecord) → Has old.pairs p → unwrap_or p.due 0 ≤ by
+        → MaintainsPairs mac now old s emitted new t → Moved now by old emitted new p
+    timeout-moves now by old new s t emitted known full distinct all from p has due (first, second, issued, named, kept, nominating, giving, checking, is) =
+        let a = nominates-thins by (at_timeout now old) named first nominating in
+        let b = gives-up-thins by now named kept second giving in
+        let c = thins-on by (at_timeout now old) named kept a b in
+        let known_kept : is_some kept.remote_creds ≡ true = ap (λ (x : Base). is_some x.remote_creds) c.0 ∙ known in
+        let full_kept : kept.lite ≡ false = ap (λ (x : Base). x.lite) c.0 ∙ full in
+        let timing : kept.timing ≡ old.timing = ap (λ (x : Base). x.timing) c.0 in
+        let d = check-follows now kept.remote_creds kept new s t issued known_kept full_kept checking in
+        record {
+          base = d.0 ∙ c.0;
+          follows = follows-on old.pairs kept.pairs new.pairs (thinned-follows by old.pairs kept.pairs c.1) d.1;
+          does = elim (c.1.forth distinct p has) [
+            | inr gone ↦ inl (gone-follows kept.pairs new.pairs p.number d.1 gone)
+            | inl k ↦
+                inr (on-kept now by old kept new s t emitted issued c timing distinct p has k
+                (check-moves now by (length (filter (is_fixed_by by) kept.pairs)) kept (c.1.distinct distinct) from k.0 k.1
+                (fixed-due now by kept k.0 (asked-on by old.pairs kept.pairs c.1 all k.0 k.1) (subst (λ o. unwrap_or o 0 ≤ by) (sym k.2.due) due))
+                (fixed-count now by kept (asked-on by old.pairs kept.pairs c.1 all)) new s t issued kept.remote_creds known_kept full_kept checking)
+                (ap (λ (x : Emitted). x.issued) is))
+          ];
+        } where
+          on-kept : (now by : ℕ) (old kept new : AgentRecord H P) (s t : Stream) (emitted : Emitted) (issued : Option Issued) → Thins by (at_timeout now old) kept → kept.timing ≡ old.timing
+              → Distinct old.pairs → (p : PairRecord) → Has old.pairs p → (k : (q : PairRecord) × Has kept.pairs q × Alike p q) → Checked now by (length (filter (is_fixed_by by) kept.pairs)) kept issued new k.0 → emitted.issued ≡ issued
+              → (o : PairRecord) × Has old.pairs o × ChecksOn old emitted o × ((o ≡ p) ⊎ WaitsOn now by (length (filter (is_fixed_by by) old.pairs)) old new p)
+          on-kept now by old kept new s t emitted issued c timing distinct p has (q, there, alike) (n, n_there, (id, out), which) issues =
+              let o = c.1.back n n_there in (
+                o.0,
+                o.1,
+                (
+                  id,
+                  issues ∙ (out ∙ ap (λ w. Some (issued_as w class.Request id))
+                      (same-path old kept o.0 n (ap (λ (x : Base). x.local) c.0) (ap (λ (x : Base). x.remote) c.0) (alike-matches o.0 n o.2))),
+                ),
+                elim which [
+                  | inl same ↦ inl (distinct o.0 p o.1 has (sym o.2.number ∙ (ap (λ (x : PairRecord). x.number) same ∙ alike.number)))
+                  | inr (r, r_there, matches, checks, r_due, fewer) ↦
+                      (let counted = c.1.fewer in
+                      let fewer_old : IsPaced kept.timing → now < MAX → length (due_by by now kept.timing new.pairs) < length (filter (is_fixed_by by) old.pairs) =
+                      λ paced early. (let f = fewer paced early in omega (arith, f, counted)) in
+                      inr (
+                        r,
+                        r_there,
+                        matches-on p q r (alike-matches p q alike) matches,
+                        checks ∙ alike.checks,
+                        (λ at. subst (λ (x : StunTiming). due_time_of at x r ≤ by) timing (r_due at)),
+                        subst (λ (x : StunTiming). IsPaced x → now < MAX → length (due_by by now x new.pairs) < length (filter (is_fixed_by by) old.pairs)) timing fewer_old,
+                      ))
+                ],
+              )
+
+    -- a pair that was checked less often than the limit is not removed
+    pub timeout-keeps : (now : ℕ) (old new : AgentRecord H P) (s t : Stream) (emitted : Emitted) → is_some old.remote_creds ≡ true → old.lite ≡ false
+        → (p : PairRecord) → Has old.pairs p → nat_lt (unanswered_count p.checks) old.timing.max_retransmits ≡ true
+        → MaintainsPairs mac now old s emitted new t → IsGone p.number new.pairs → ⊥
+    timeout-keeps now old new s t emitted known full p has young (first, second, issued, named, kept, nominating, giving, checking, is) gone =
+        let a = nominates-thins 0 (at_timeout now old) named first nominating in
+        let b = gives-up-thins 0 now named kept second giving in
+        let c = thins-on 0 (at_timeout now old) named kept a b in
+        let n = nominates-has (at_timeout now old) named first nominating p has in
+        let named_full : named.lite ≡ false = ap (λ (x : Base). x.lite) a.0 ∙ full in
+        let timing : named.timing ≡ old.timing = ap (λ (x : Base). x.timing) a.0 in
+        let n_young : nat_lt (unanswered_count n.0.checks) named.timing.max_retransmits ≡ true =
+        ap (λ cs. nat_lt (unanswered_count cs) named.timing.max_retransmits) n.2.checks ∙ (ap (λ (x : StunTiming). nat_lt (unanswered_count p.checks) x.max_retransmits) timing ∙ young) in
+        let k = gives-up-has now named kept second named_full giving n.0 n.1 n_young in
+        let known_kept : is_some kept.remote_creds ≡ true = ap (λ (x : Base). is_some x.remote_creds) c.0 ∙ known in
+        let full_kept : kept.lite ≡ false = ap (λ (x : Base). x.lite) c.0 ∙ full in
+        let m = next-check now kept.remote_creds kept new s t issued known_kept full_kept checking in
+        still now kept new s t issued m.0 m.1 m.3 k.0 k.1 (λ q there same. gone q there (same ∙ (k.2.number ∙ n.2.number))) where
+          still : (now : ℕ) (kept new : AgentRecord H P) (s t : Stream) (issued : Option Issued) (peer : IceCreds) (next : Option PairRecord)
+              → ChecksTop mac now peer next (all_asked now kept) s issued new t → (q : PairRecord) → Has kept.pairs q → IsGone q.number new.pairs → ⊥
+          still now kept new s t issued peer None (is, made, drawn) q there gone =
+              gone (asked now kept.timing q) (subst (λ (a : AgentRecord H P). Has a.pairs (asked now kept.timing q)) (sym made) (Has-mapped (asked now kept.timing) kept.pairs q there)) refl
+          still now kept new s t issued peer (Some x) (id, drawn, values, is, made) q there gone =
+              gone (change_at x.number (checked now kept.timing kept.controlling id) (asked now kept.timing q))
+              (subst (λ (a : AgentRecord H P). Has a.pairs (change_at x.number (checked now kept.timing kept.controlling id) (asked now kept.timing q))) (sym made)
+              (Has-mapped (change_at x.number (checked now kept.timing kept.controlling id)) (map (asked now kept.timing) kept.pairs) (asked now kept.timing q) (Has-mapped (asked now kept.timing) kept.pairs q there)))
+              (checked-matches now x.number kept.timing kept.controlling id q).number

@@ -1,0 +1,320 @@
+-- Starvation freedom: a pair that is due is checked within as many polling cycles as there are pairs that are due no
+-- later.
+use Rattle.std.proofs.Common.{◌≡◌, ℕ, suc, ◌<◌, ◌≤◌, Bool, true, false, List, [], ◌∷◌, length, map, filter, drop, take_while, max, nat_le, nat_lt, Option, Some, None, is_some, Ok, inl, inr, ◌⊎◌, refl, ap, sym, ◌∙◌, subst, arith}
+use Rattle.std.specs.Prelude.{MatchOption}
+use Rattle.std.proofs.lemmas.Bool.Decides.{nat_tests}
+use Rattle.std.proofs.lemmas.List.{length-drop}
+use Rattle.rand_core.specs.Stream.{Stream}
+use Rattle.is_proto.specs.Lists.{Has, is_empty, head, drop_while}
+use Rattle.is_proto.specs.Times.{MAX}
+use Rattle.is_pair.specs.Checks.{unanswered_count}
+use Rattle.is_pair.specs.Pairs.{PairRecord}
+use Rattle.is_pair.specs.Due.{asked, due_time_of}
+use Rattle.is_stun.specs.declared.header.Class.TheVariants as class
+use Rattle.is_stun.specs.declared.timing.StunTiming.{StunTiming}
+use Rattle.is_rules.specs.declared.credentials.IceCreds.{IceCreds}
+use Rattle.is_rules.specs.declared.emitted.Emitted.{Emitted}
+use Rattle.is_rules.specs.Emitted.{issued_as}
+use Rattle.is_rules.specs.Request.{RequestRecord}
+use Rattle.is_rules.specs.Agent.{AgentRecord}
+use Rattle.is_rules.specs.Sending.{path_of}
+use Rattle.is_rules.specs.Queue.{is_outdated, queue_left, next_request, first_taken, request_at}
+use Rattle.is_rules.specs.Polls.{PollsTimeout, NextTimeoutFrom, is_waiting, is_idle, soon, earliest_due}
+use Rattle.is_rules.specs.Timeouts.{timeout_begun, MaintainsPairs, ServesQueued, TimesOut}
+use Rattle.is_rules.specs.Sound.{IsSound}
+use Rattle.is_theorems.proofs.RuleEffects.UnchangedSettings.{either, Frame, Turns as SwitchRole, serves}
+use Rattle.is_theorems.proofs.RuleEffects.ChangedPairs.{Has-map}
+use Rattle.is_theorems.proofs.CallEffects.ServedRequests.{Has-mapped}
+use Rattle.is_rules.proofs.PairLists.RisingNumbers.{rising-each}
+use Rattle.is_theorems.proofs.RuleEffects.SelectedPaths.{one_pair}
+use Rattle.is_pair.specs.Turns.{IsPaced, is_due_by, due_by}
+use Rattle.is_pair.proofs.DueTimes.CountOfDuePairs.{no-more, some-pass}
+use Rattle.is_theorems.specs.Progress.{IsGone, IsChecking, ChecksOn, IsOfUse, TimeoutsAreOfUse, Turn, Turns, IsIdle, NoPairIsStarved}
+use Rattle.is_rules.proofs.PollsAndResponses.NextTimeout.{timeouts-from, all-are-asked, least-is}
+use Rattle.is_theorems.proofs.DuePairs.AfterNominationAndRemoval.{Distinct, is_fixed_by, Base, base_of}
+use Rattle.is_theorems.proofs.DuePairs.FirstDuePair.{Matches, Follows, follows-on, follows-same, follows-map, gone-follows, same-path, Moved, timeout-follows, timeout-moves, timeout-keeps}
+
+le-is : (n m : ℕ) → n ≤ m → nat_le n m ≡ true
+le-is n m h = grind (arith, nat_tests, h)
+
+some-pairs : (ps : List PairRecord) (p : PairRecord) → Has ps p → is_empty ps ≡ false
+some-pairs [] p has = absurd has
+some-pairs (q ∷ qs) p has = refl
+
+-- ---- the queue of early requests
+
+none-waits : (now : ℕ) (t : StunTiming) (remote : Option IceCreds) (queue : List RequestRecord) → queue ≡ [] → next_request remote (queue_left now t remote queue) ≡ None
+none-waits now t remote queue none = subst (λ q. next_request remote (queue_left now t remote q) ≡ None) (sym none) (by remote) where
+  by : (remote : Option IceCreds) → next_request remote (queue_left now t remote []) ≡ None
+  by None = refl
+  by (Some peer) = refl
+
+pub none-left : (now : ℕ) (t : StunTiming) (remote : Option IceCreds) (queue : List RequestRecord) → queue ≡ [] → queue_left now t remote queue ≡ []
+none-left now t remote queue none = subst (λ q. queue_left now t remote q ≡ []) (sym none) (by remote) where
+  by : (remote : Option IceCreds) → queue_left now t remote [] ≡ []
+  by None = refl
+  by (Some peer) = refl
+
+shorter : (xs : List RequestRecord) (q : RequestRecord) → head xs ≡ Some q → length (drop 1 xs) < length xs
+shorter [] q is = absurd (cc)
+shorter (x ∷ xs) q is = omega arith
+
+front-gone : (test : RequestRecord → Bool) (xs : List RequestRecord) → length (drop_while test xs) ≤ length xs
+front-gone test xs = omega (arith, length-drop (length (take_while test xs)) xs)
+
+queue-shorter : (now : ℕ) (t : StunTiming) (remote : Option IceCreds) (queue : List RequestRecord) (q : RequestRecord) → next_request remote (queue_left now t remote queue) ≡ Some q
+    → length (drop 1 (queue_left now t remote queue)) < length queue
+queue-shorter now t None queue q is = absurd (cc)
+queue-shorter now t (Some peer) queue q is =
+    let a = shorter (drop_while (is_outdated now t) queue) q is in
+    let b = front-gone (is_outdated now t) queue in
+    omega (arith, a, b)
+
+none-head : (xs : List RequestRecord) → head xs ≡ None → xs ≡ []
+none-head [] is = refl
+none-head (x ∷ xs) is = absurd (cc)
+
+queue-gone : (now : ℕ) (t : StunTiming) (remote : Option IceCreds) (queue : List RequestRecord) → is_some remote ≡ true → next_request remote (queue_left now t remote queue) ≡ None
+    → queue_left now t remote queue ≡ []
+queue-gone now t None queue known is = absurd (cc)
+queue-gone now t (Some peer) queue known is = none-head (drop_while (is_outdated now t) queue) is
+
+module _ {H P : Type 0} where
+  module _ (mac : H → List ℕ → List ℕ → List ℕ) where
+    -- ---- a polling cycle
+
+    -- the state at the beginning of a polling cycle
+    pub record Fits (at : ℕ) (a : AgentRecord H P) : Type 0 where
+      pub distinct : Distinct a.pairs
+      pub checking : IsChecking a
+      pub idle : IsIdle a
+      pub last : a.last_time ≡ Some at
+
+    -- `poll_timeout` leaves pairs with the same indices
+    asks-follow : (at deadline : ℕ) (old new : AgentRecord H P) → old.last_time ≡ Some at → PollsTimeout old (Some deadline) new → (base_of new ≡ base_of old) × Follows old.pairs new.pairs
+    asks-follow at deadline old new is h = either (is_waiting old) (timeouts-from old new at deadline is h)
+        (λ _ k. same k.1)
+        (λ _ k. either (is_idle old) k (λ _ l. same l.1) (λ _ l. changed l.1)) where
+          same : new ≡ old → (base_of new ≡ base_of old) × Follows old.pairs new.pairs
+          same e = (ap (λ (a : AgentRecord H P). base_of a) e, subst (λ (a : AgentRecord H P). Follows old.pairs a.pairs) (sym e) (follows-same old.pairs))
+
+          changed : new ≡ record old { pairs = map (asked at old.timing) old.pairs } → (base_of new ≡ base_of old) × Follows old.pairs new.pairs
+          changed e = (
+            ap (λ (a : AgentRecord H P). base_of a) e,
+            subst (λ (a : AgentRecord H P). Follows old.pairs a.pairs) (sym e)
+                (follows-map (asked at old.timing) old.pairs (λ p. record { number = refl; local = refl; remote = refl; valid = refl })),
+          )
+
+    pub maintains_pairs-from : (now : ℕ) (a : AgentRecord H P) (s t : Stream) (emitted : Emitted) (new : AgentRecord H P) → a.queue ≡ [] → TimesOut mac now a s (Ok tt) emitted new t
+        → MaintainsPairs mac now (timeout_begun now a) s emitted new t
+    maintains_pairs-from now a s t emitted new none h =
+        subst (λ o. MatchOption o (MaintainsPairs mac now (timeout_begun now a) s emitted new t) (λ q. ServesQueued mac q (timeout_begun now a) s emitted new t))
+        (none-waits now a.timing a.remote_creds a.queue none) h
+
+    pub turn-fits : (old new : AgentRecord H P) (at now : ℕ) (emitted : Emitted) → Fits at old → Turn mac old now emitted new
+        → Fits now new × Follows old.pairs new.pairs × (new.timing ≡ old.timing) × (new.local ≡ old.local) × (new.remote ≡ old.remote)
+        × (new.controlling ≡ old.controlling) × (new.next_number ≡ old.next_number)
+    turn-fits old new at now emitted f turn =
+        let a = asks-follow at turn.deadline old turn.asked f.last turn.polled in
+        let queue : turn.asked.queue ≡ [] = ap (λ (x : Base). x.queue) a.0 ∙ f.idle.queue in
+        let known : is_some turn.asked.remote_creds ≡ true = ap (λ (x : Base). is_some x.remote_creds) a.0 ∙ f.checking.peer in
+        let full : turn.asked.lite ≡ false = ap (λ (x : Base). x.lite) a.0 ∙ f.checking.full in
+        let m = timeout-follows mac now (timeout_begun now turn.asked) turn.after turn.before turn.following emitted known full
+        (maintains_pairs-from now turn.asked turn.before turn.following emitted turn.after queue turn.timeout) in
+        let taken : base_of new ≡ base_of turn.after = ap (λ (a : AgentRecord H P). base_of a) turn.taken in
+        let all = follows-on old.pairs turn.asked.pairs turn.after.pairs a.1 m.1 in
+        let follows : Follows old.pairs new.pairs = subst (λ ps. Follows old.pairs ps) (sym (ap (λ (a : AgentRecord H P). a.pairs) turn.taken)) all in (
+          record {
+            distinct = follows.distinct f.distinct;
+            checking = record {
+              full = ap (λ (x : Base). x.lite) taken ∙ (ap (λ (x : Base). x.lite) m.0 ∙ full);
+              peer = ap (λ (x : Base). is_some x.remote_creds) taken ∙ (ap (λ (x : Base). is_some x.remote_creds) m.0 ∙ known);
+            };
+            idle = record {
+              packets = ap (λ (a : AgentRecord H P). a.packets) turn.taken;
+              queue = ap (λ (x : Base). x.queue) taken ∙ (ap (λ (x : Base). x.queue) m.0 ∙ none-left now turn.asked.timing turn.asked.remote_creds turn.asked.queue queue);
+            };
+            last = ap (λ (x : Base). x.last_time) taken ∙ ap (λ (x : Base). x.last_time) m.0;
+          },
+          follows,
+          ap (λ (x : Base). x.timing) taken ∙ (ap (λ (x : Base). x.timing) m.0 ∙ ap (λ (x : Base). x.timing) a.0),
+          ap (λ (x : Base). x.local) taken ∙ (ap (λ (x : Base). x.local) m.0 ∙ ap (λ (x : Base). x.local) a.0),
+          ap (λ (x : Base). x.remote) taken ∙ (ap (λ (x : Base). x.remote) m.0 ∙ ap (λ (x : Base). x.remote) a.0),
+          ap (λ (x : Base). x.controlling) taken ∙ (ap (λ (x : Base). x.controlling) m.0 ∙ ap (λ (x : Base). x.controlling) a.0),
+          ap (λ (x : Base). x.next_number) taken ∙ (ap (λ (x : Base). x.next_number) m.0 ∙ ap (λ (x : Base). x.next_number) a.0),
+        )
+
+    -- a pair that is due still waits, and one fewer goes before it
+    abbrev pub StillWaits : ℕ → ℕ → ℕ → AgentRecord H P → AgentRecord H P → PairRecord → Type 0
+    StillWaits at now by old new p =
+        (q : PairRecord) × Has new.pairs q × Matches p q × (q.checks ≡ p.checks) × (due_time_of now new.timing q ≤ by)
+        × (IsPaced old.timing → now < MAX → length (due_by by now new.timing new.pairs) < length (due_by by at old.timing old.pairs))
+
+    abbrev pub Does : ℕ → ℕ → ℕ → AgentRecord H P → Emitted → AgentRecord H P → PairRecord → Type 0
+    Does at now by old emitted new p =
+        IsGone p.number new.pairs ⊎ ((o : PairRecord) × Has old.pairs o × ChecksOn old emitted o × ((o.number ≡ p.number) ⊎ StillWaits at now by old new p))
+
+    -- the `handle_timeout` call after `poll_timeout`
+    asked-moves : (old new : AgentRecord H P) (s t : Stream) (at now by : ℕ) (emitted : Emitted) → Distinct old.pairs → IsChecking old → old.queue ≡ [] → by ≤ now
+        → (p : PairRecord) → Has old.pairs p → due_time_of at old.timing p ≤ by
+        → TimesOut mac now (record old { pairs = map (asked at old.timing) old.pairs }) s (Ok tt) emitted new t
+        → Does at now by old emitted new p
+    asked-moves old new s t at now by emitted distinct checking queue from p has due h =
+        let a : AgentRecord H P = record old { pairs = map (asked at old.timing) old.pairs } in
+        let f = follows-map (asked at old.timing) old.pairs (λ q. record { number = refl; local = refl; remote = refl; valid = refl }) in
+        let m = timeout-moves mac now by (timeout_begun now a) new s t emitted checking.peer checking.full (f.distinct distinct)
+        (λ q there. (let o = Has-map (asked at old.timing) old.pairs q there in ap (λ (x : PairRecord). is_some x.due) (sym o.2)))
+        from (asked at old.timing p) (Has-mapped (asked at old.timing) old.pairs p has) due
+        (maintains_pairs-from now a s t emitted new queue h) in
+        on-does at now by old new emitted p m where
+          counted : (at by : ℕ) (old : AgentRecord H P) → length (filter (is_fixed_by by) (map (asked at old.timing) old.pairs)) ≤ length (due_by by at old.timing old.pairs)
+          counted at by old = no-more (is_due_by by at old.timing) (is_fixed_by by) (asked at old.timing) old.pairs (λ q there is. is)
+
+          on-does : (at now by : ℕ) (old new : AgentRecord H P) (emitted : Emitted) (p : PairRecord)
+              → Moved mac now by (timeout_begun now (record old { pairs = map (asked at old.timing) old.pairs })) emitted new (asked at old.timing p) → Does at now by old emitted new p
+          on-does at now by old new emitted p m = elim m.does [
+            | inl gone ↦ inl gone
+            | inr (o, there, out, which) ↦
+                (let x = Has-map (asked at old.timing) old.pairs o there in
+                let timing : new.timing ≡ old.timing = ap (λ (b : Base). b.timing) m.base in
+                inr (
+                  x.0,
+                  x.1,
+                  (out.0, out.1 ∙ ap (λ w. Some (issued_as w class.Request out.0)) (ap (λ (y : PairRecord). path_of old y) (sym x.2))),
+                  elim which [
+                    | inl same ↦ inl (ap (λ (y : PairRecord). y.number) x.2 ∙ ap (λ (y : PairRecord). y.number) same)
+                    | inr (q, q_there, matches, checks, q_due, fewer) ↦
+                        (let less = counted at by old in
+                        let fewer_old : IsPaced old.timing → now < MAX → length (due_by by now old.timing new.pairs) < length (due_by by at old.timing old.pairs) =
+                        λ paced early. (let g = fewer paced early in omega (arith, g, less)) in
+                        inr (
+                          q,
+                          q_there,
+                          record { number = matches.number; local = matches.local; remote = matches.remote; valid = matches.valid },
+                          checks,
+                          subst (λ (y : StunTiming). due_time_of now y q ≤ by) (sym timing) (q_due now),
+                          subst (λ (y : StunTiming). IsPaced old.timing → now < MAX → length (due_by by now y new.pairs) < length (due_by by at old.timing old.pairs)) (sym timing) fewer_old,
+                        ))
+                  ],
+                ))
+          ]
+
+    pub turn-moves : (old new : AgentRecord H P) (at now by : ℕ) (emitted : Emitted) → Fits at old → by ≤ now
+        → (p : PairRecord) → Has old.pairs p → due_time_of at old.timing p ≤ by → Turn mac old now emitted new → Does at now by old emitted new p
+    turn-moves old new at now by emitted f from p has due turn =
+        let a = all-are-asked old turn.asked at turn.deadline f.last f.checking.full f.idle.packets f.idle.queue (some-pairs old.pairs p has) turn.polled in
+        let m : TimesOut mac now (record old { pairs = map (asked at old.timing) old.pairs }) turn.before (Ok tt) emitted turn.after turn.following =
+        subst (λ (x : AgentRecord H P). TimesOut mac now x turn.before (Ok tt) emitted turn.after turn.following) a.1 turn.timeout in
+        let d = asked-moves old turn.after turn.before turn.following at now by emitted f.distinct f.checking f.idle.queue from p has due m in
+        subst (λ (x : AgentRecord H P). Does at now by old emitted x p) (sym turn.taken) d
+
+    -- a pair that was checked less often than the limit is not removed
+    pub turn-keeps : (old new : AgentRecord H P) (at now : ℕ) (emitted : Emitted) → Fits at old → (p : PairRecord) → Has old.pairs p → nat_lt (unanswered_count p.checks) old.timing.max_retransmits ≡ true
+        → Turn mac old now emitted new → IsGone p.number new.pairs → ⊥
+    turn-keeps old new at now emitted f p has young turn gone =
+        let a = all-are-asked old turn.asked at turn.deadline f.last f.checking.full f.idle.packets f.idle.queue (some-pairs old.pairs p has) turn.polled in
+        let m : TimesOut mac now (record old { pairs = map (asked at old.timing) old.pairs }) turn.before (Ok tt) emitted turn.after turn.following =
+        subst (λ (x : AgentRecord H P). TimesOut mac now x turn.before (Ok tt) emitted turn.after turn.following) a.1 turn.timeout in
+        let k = maintains_pairs-from now (record old { pairs = map (asked at old.timing) old.pairs }) turn.before turn.following emitted turn.after f.idle.queue m in
+        timeout-keeps mac now (timeout_begun now (record old { pairs = map (asked at old.timing) old.pairs })) turn.after turn.before turn.following emitted f.checking.peer f.checking.full
+        (asked at old.timing p) (Has-mapped (asked at old.timing) old.pairs p has) young k
+        (subst (λ (a : AgentRecord H P). IsGone p.number a.pairs) turn.taken gone)
+
+    -- ---- one polling cycle after another
+
+    gone-through : (turns : List (ℕ × Emitted)) (first last : AgentRecord H P) (at n : ℕ) → Fits at first → Turns mac turns first last → IsGone n first.pairs → IsGone n last.pairs
+    gone-through [] first last at n f is gone = subst (λ (a : AgentRecord H P). IsGone n a.pairs) (sym is) gone
+    gone-through (x ∷ rest) first last at n f (mid, turn, more) gone =
+        let k = turn-fits first mid at x.0 x.1 f turn in
+        gone-through rest mid last x.0 n k.0 more (gone-follows first.pairs mid.pairs n k.1 gone)
+
+    abbrev Reached : List (ℕ × Emitted) → AgentRecord H P → AgentRecord H P → PairRecord → Type 0
+    Reached turns first last p = ((x : ℕ × Emitted) × Has turns x × ChecksOn first x.1 p) ⊎ IsGone p.number last.pairs
+
+    starves-not : (turns : List (ℕ × Emitted)) (first last : AgentRecord H P) (p : PairRecord) (at by : ℕ) → Fits at first → IsPaced first.timing → Has first.pairs p
+        → due_time_of at first.timing p ≤ by → ((x : ℕ × Emitted) → Has turns x → (by ≤ x.0) × (x.0 < MAX)) → Turns mac turns first last
+        → length (due_by by at first.timing first.pairs) ≤ length turns → Reached turns first last p
+    starves-not [] first last p at by f paced has due timeouts is enough =
+        let some : 0 < length (due_by by at first.timing first.pairs) = some-pass (is_due_by by at first.timing) first.pairs p has (le-is (due_time_of at first.timing p) by due) in
+        absurd (let no : ⊥ = omega (arith, some, enough) in no)
+    starves-not (x ∷ rest) first last p at by f paced has due timeouts (mid, turn, more) enough =
+        let k = turn-fits first mid at x.0 x.1 f turn in
+        let times = timeouts x (inl refl) in
+        elim (turn-moves first mid at x.0 by x.1 f times.0 p has due turn) [
+          | inl gone ↦ inr (gone-through rest mid last x.0 p.number k.0 more gone)
+          | inr (o, there, out, inl same) ↦
+              (let one : o ≡ p = f.distinct o p there has same in
+              inl (x, inl refl, subst (λ (y : PairRecord). ChecksOn first x.1 y) one out))
+          | inr (o, there, out, inr (q, q_there, matches, checks, q_due, fewer)) ↦
+              onward matches (starves-not rest mid last q x.0 by k.0 (subst (λ (t : StunTiming). IsPaced t) (sym k.2) paced) q_there q_due (λ y has_y. timeouts y (inr has_y)) more
+              (let g = fewer paced times.1 in omega (arith, g, enough)))
+              (same-path first mid p q k.3 k.4 matches)
+        ] where
+          onward : {q : PairRecord} → Matches p q → Reached rest mid last q → path_of mid q ≡ path_of first p → Reached (x ∷ rest) first last p
+          onward {q = q} matches (inl (y, has_y, (id, out))) path = inl (y, inr has_y, (id, out ∙ ap (λ w. Some (issued_as w class.Request id)) path))
+          onward {q = q} matches (inr gone) path = inr (subst (λ n. IsGone n last.pairs) matches.number gone)
+
+    pub distinct-sound : (a : AgentRecord H P) → IsSound a → Distinct a.pairs
+    distinct-sound a sound p q has_p has_q same = one_pair a.pairs p q (rising-each a.pairs sound.rising) has_p has_q same
+
+    -- ---- every timeout makes progress
+
+    -- an early request is served, or outdated ones are removed
+    queue-of-use : (old asked_old new : AgentRecord H P) (s t : Stream) (now : ℕ) (emitted : Emitted) (first : RequestRecord) (following : List RequestRecord) → base_of asked_old ≡ base_of old → is_some old.remote_creds ≡ true → old.lite ≡ false
+        → old.queue ≡ first ∷ following → TimesOut mac now asked_old s (Ok tt) emitted new t → length new.queue < length old.queue
+    queue-of-use old asked_old new s t now emitted first following base known full waits h =
+        by (request_at now asked_old) refl (let long : length old.queue ≡ suc (length following) = ap length waits in omega (arith, long)) h where
+          queue_is : asked_old.queue ≡ old.queue
+          queue_is = ap (λ (x : Base). x.queue) base
+
+          by : (o : Option RequestRecord) → request_at now asked_old ≡ o → 0 < length old.queue
+              → MatchOption o (MaintainsPairs mac now (timeout_begun now asked_old) s emitted new t) (λ q. ServesQueued mac q (timeout_begun now asked_old) s emitted new t) → length new.queue < length old.queue
+          by None is some k =
+              let m = timeout-follows mac now (timeout_begun now asked_old) new s t emitted (ap (λ (x : Base). is_some x.remote_creds) base ∙ known) (ap (λ (x : Base). x.lite) base ∙ full) k in
+              let none : new.queue ≡ [] = ap (λ (x : Base). x.queue) m.0
+              ∙ queue-gone now asked_old.timing asked_old.remote_creds asked_old.queue (ap (λ (x : Base). is_some x.remote_creds) base ∙ known) is in
+              subst (λ qs. length qs < length old.queue) (sym none) some
+          by (Some q) is some (k, drawn) =
+              let less = queue-shorter now asked_old.timing asked_old.remote_creds asked_old.queue q is in
+              let kept : new.queue ≡ drop 1 (queue_left now asked_old.timing asked_old.remote_creds asked_old.queue) = switches_role (serves mac q (first_taken (timeout_begun now asked_old)) new emitted k) in
+              subst (λ n. length new.queue < n) (ap length queue_is) (subst (λ qs. length qs < length asked_old.queue) (sym kept) less) where
+                switches_role : SwitchRole mac q (first_taken (timeout_begun now asked_old)) emitted new → new.queue ≡ drop 1 (queue_left now asked_old.timing asked_old.remote_creds asked_old.queue)
+                switches_role (inl stays) = ap (λ (f : Frame H). f.queue) stays.0
+                switches_role (inr (conflict, (frame, out))) = ap (λ (f : Frame H). f.queue) frame
+
+    pub timeouts-are-of-use : TimeoutsAreOfUse P mac
+    timeouts-are-of-use old asked_old new s t deadline now emitted sound checking packets some early polls kept h = by-last old.last_time refl polls where
+      by-last : (o : Option ℕ) → old.last_time ≡ o → NextTimeoutFrom o old (Some deadline) asked_old → IsOfUse old emitted new
+      by-last None is (nothing, same) = absurd (cc)
+      by-last (Some at) is k = by-queue old.queue refl where
+        polled : PollsTimeout old (Some deadline) asked_old
+        polled = polls
+
+        by-queue : (queue : List RequestRecord) → old.queue ≡ queue → IsOfUse old emitted new
+        by-queue (first ∷ following) waits =
+            inr (let fewer = queue-of-use old asked_old new s t now emitted first following (asks-follow at deadline old asked_old is polled).0 checking.peer checking.full waits h in omega (arith, fewer))
+        by-queue [] none =
+            let a = all-are-asked old asked_old at deadline is checking.full packets none some polled in
+            let low : earliest_due old at ≤ deadline = below (earliest_due old at) (soon old at) a.0 in
+            let p = least-is (due_time_of at old.timing) MAX deadline old.pairs low early in
+            let m : TimesOut mac now (record old { pairs = map (asked at old.timing) old.pairs }) s (Ok tt) emitted new t =
+            subst (λ (x : AgentRecord H P). TimesOut mac now x s (Ok tt) emitted new t) a.1 h in
+            use_of p.0 p.1 (asked-moves old new s t at now now emitted (distinct-sound old sound) checking none (omega arith) p.0 p.1 (let d = p.2 in omega (arith, d, kept)) m) where
+              below : (x y : ℕ) → deadline ≡ max x y → x ≤ deadline
+              below x y e = omega (arith, e)
+
+              use_of : (p : PairRecord) → Has old.pairs p → Does at now now old emitted new p → IsOfUse old emitted new
+              use_of p has (inl gone) = inl (p, has, inr gone)
+              use_of p has (inr (o, there, out, which)) = inl (o, there, inl out)
+
+    pub no-pair-starves : NoPairIsStarved P mac
+    no-pair-starves first last turns p at by sound packets last_is waits timeouts turning enough =
+        starves-not turns first last p at by
+        (record {
+          distinct = distinct-sound first sound;
+          checking = waits.checking;
+          idle = record { packets = packets; queue = waits.queue };
+          last = last_is;
+        })
+        waits.paced waits.there (let due = waits.due in omega (arith, due))
+        (λ x has. (let from = (timeouts x has).0 in let early = (timeouts x has).1 in (omega (arith, from), omega (arith, early)))) turning (omega (arith, enough))

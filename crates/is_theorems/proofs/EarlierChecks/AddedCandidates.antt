@@ -1,0 +1,129 @@
+-- A candidate that is added between two `handle_timeout` calls leaves no more checks of other pairs before a pair, except for
+-- one by each pair that it adds.
+use Rattle.std.proofs.Common.{◌≡◌, ℕ, ◌+◌, ◌≤◌, ◌==◌, Bool, true, false, not, nat_lt, List, [], ◌∷◌, ◌++◌, filter, Option, Some, None, Ok, Err, inl, inr, ◌⊎◌, refl, ap, sym, ◌∙◌, subst, arith, if◌then◌else◌}
+use Rattle.is_proto.specs.Lists.{Has}
+use Rattle.is_candidate.specs.Candidates.{CandidateRecord}
+use Rattle.is_pair.specs.Multiset.{is_numbered, without, EvictsInTurn}
+use Rattle.is_pair.specs.Checks.{Check}
+use Rattle.is_pair.specs.Pairs.{PairRecord, taking_over}
+use Rattle.is_pair.specs.declared.pair.states.NominationState.{NominationState}
+use Rattle.is_pair.specs.declared.pair.states.NominationState.TheVariants.{None as Unnominated, Nominated, Attempt, Success}
+use Rattle.is_rules.specs.Agent.{AgentRecord}
+use Rattle.is_rules.specs.Discarding.{is_local_at, local_discarded}
+use Rattle.is_rules.specs.Each.{Each}
+use Rattle.is_rules.specs.Forming.{SidesRecord, Formed, Combination, combined_priority, local_combinations, pair_of, remote_combinations, sides_of, formed_of, Tries, FormsAll}
+use Rattle.is_rules.specs.Local.{appended, enabled, enabled_again, AddsLocal}
+use Rattle.is_rules.specs.Remote.{as_remote, with_remote, AddsRemote}
+use Rattle.is_theorems.specs.Removing.{MayEndByLocal, MayEndByRemote}
+use Rattle.is_rules.specs.Sound.{IsSound}
+use Rattle.is_theorems.proofs.CallEffects.AddedCandidates.{by_adding_local, by_adding_remote}
+use Rattle.is_theorems.proofs.EarlierChecks.ChecksOfOtherPairs.{own, lead, leads, leads-filter, leads-push, weight}
+use Rattle.is_theorems.proofs.EarlierChecks.ChangedPairs.{Onward, Fixed}
+use Rattle.is_theorems.proofs.EarlierChecks.BetweenTimeouts.{Ground, ground_of, Goes, goes-same}
+use Rattle.is_theorems.proofs.StoredPairs.PairsAfterForming.{local-leaves, remote-leaves}
+use Rattle.is_rules.proofs.PairLists.RisingNumbers.{AreRising, rising-each}
+use Rattle.is_theorems.proofs.RuleEffects.SelectedPaths.{one_pair}
+
+-- ---- one pair
+
+weight-new : (n : NominationState) → weight n false ≤ 1
+weight-new Unnominated = omega arith
+weight-new Nominated = omega arith
+weight-new Attempt = omega arith
+weight-new Success = omega arith
+
+unless-one : (b : Bool) (x : ℕ) → x ≤ 1 → (if b then 0 else x) ≤ 1
+unless-one true x le = omega arith
+unless-one false x le = le
+
+module _ (n by : ℕ) where
+  own-taken : (lite : Bool) (found : PairRecord) (s : SidesRecord) (at : Combination) (k : ℕ) → own n by (taking_over lite found (pair_of s at k)) ≤ 1
+  own-taken true found s at k = unless-one (k == n) _ (weight-new (taking_over true found (pair_of s at k)).nomination)
+  own-taken false found s at k = unless-one (k == n) _ (weight-new (taking_over false found (pair_of s at k)).nomination)
+
+  own-new : (s : SidesRecord) (at : Combination) (k : ℕ) → own n by (pair_of s at k) ≤ 1
+  own-new s at k = unless-one (k == n) 1 (omega arith)
+
+  -- ---- forming
+
+  abbrev Fewer : Formed → Formed → Type 0
+  Fewer old new = leads n by new.pairs + old.next_number ≤ leads n by old.pairs + new.next_number
+
+  pushes : (old : Formed) (rest : List PairRecord) (q : PairRecord) (new : Formed) → leads n by rest ≤ leads n by old.pairs → own n by q ≤ 1 → new ≡ record { pairs = rest ++ q ∷ []; next_number = old.next_number + 1 }
+      → Fewer old new
+  pushes old rest q new fewer one made =
+      let more : leads n by (rest ++ q ∷ []) ≤ leads n by rest + 1 = leads-push n by q rest one in
+      subst (λ (f : Formed). Fewer old f) (sym made) (omega (arith, more, fewer))
+
+  tries-leads : (s : SidesRecord) (at : Combination) (old new : Formed) → Tries s at old new → Fewer old new
+  tries-leads s at old new (None, none, made) = pushes old old.pairs (pair_of s at old.next_number) new (omega arith) (own-new s at old.next_number) made
+  tries-leads s at old new (Some found, is, made) = chosen (nat_lt found.priority (combined_priority s at)) made where
+    chosen : (b : Bool) → new ≡ (if b then record { pairs = without (is_numbered found.number) old.pairs ++ taking_over s.lite found (pair_of s at old.next_number) ∷ []; next_number = old.next_number + 1 } else old)
+        → Fewer old new
+    chosen true replaced =
+        pushes old (without (is_numbered found.number) old.pairs) (taking_over s.lite found (pair_of s at old.next_number)) new
+        (leads-filter n by (λ q. not (is_numbered found.number q)) old.pairs) (own-taken s.lite found s at old.next_number) replaced
+    chosen false same = subst (λ (f : Formed). Fewer old f) (sym same) (omega arith)
+
+  each-leads : (s : SidesRecord) (all : List Combination) (old new : Formed) → Each (Tries s) all old new → Fewer old new
+  each-leads s [] old new same = subst (λ (f : Formed). Fewer old f) (sym same) (omega arith)
+  each-leads s (at ∷ all) old new (mid, one, others) =
+      let a : Fewer old mid = tries-leads s at old mid one in
+      let b : Fewer mid new = each-leads s all mid new others in
+      omega (arith, a, b)
+
+  drops-leads : (limit : ℕ) (gone old new : List PairRecord) → EvictsInTurn limit gone old new → leads n by new ≤ leads n by old
+  drops-leads limit [] old new (within, same) = subst (λ ps. leads n by ps ≤ leads n by old) (sym same) (omega arith)
+  drops-leads limit (p ∷ gone) old new (over, least, others) =
+      let a : leads n by (without (is_numbered p.number) old) ≤ leads n by old = leads-filter n by (λ q. not (is_numbered p.number q)) old in
+      let b : leads n by new ≤ leads n by (without (is_numbered p.number) old) = drops-leads limit gone (without (is_numbered p.number) old) new others in
+      omega (arith, a, b)
+
+  module _ {H P : Type 0} where
+    -- the agent, and how many checks go before the pair
+    abbrev Leads : AgentRecord H P → AgentRecord H P → Type 0
+    Leads old new = (ground_of new ≡ ground_of old) × (leads n by new.pairs + old.next_number ≤ leads n by old.pairs + new.next_number)
+
+    forms-leads : (mid new : AgentRecord H P) (all : List Combination) → FormsAll mid all new → Leads mid new
+    forms-leads mid new all (f, (tried, each, (gone, drops), next_is), made) = subst (λ (a : AgentRecord H P). Leads mid a) (sym made) (
+      refl,
+      (let a : Fewer (formed_of mid) tried = each-leads (sides_of mid) all (formed_of mid) tried each in
+          let b : leads n by f.pairs ≤ leads n by tried.pairs = drops-leads mid.max_pairs gone tried.pairs f.pairs drops in
+          omega (arith, a, b, next_is)),
+    )
+
+    -- the pair is still there, as it was
+    goes : (old new : AgentRecord H P) (p : PairRecord) → IsSound old → Has old.pairs p → p.number ≡ n → Leads old new → Has new.pairs p → Goes n by old new
+    goes old new p sound has number l there = (
+      l.0,
+      record {
+        less = l.1;
+        fixed = λ d cs (q, q_there, is, due, checks). (
+            let one : q ≡ p = one_pair old.pairs q p (rising-each old.pairs sound.rising) q_there has (is ∙ sym number) in
+            (p, there, number, subst (λ (x : PairRecord). x.due ≡ Some d) one due, subst (λ (x : PairRecord). x.checks ≡ cs) one checks));
+      },
+    )
+
+    -- ---- the calls
+
+    pub remote-goes : (old new : AgentRecord H P) (c : CandidateRecord) (p : PairRecord) → IsSound old → Has old.pairs p → p.number ≡ n → AddsRemote old c (Ok tt) new → MayEndByRemote old c p ⊎ Goes n by old new
+    remote-goes old new c p sound has number h = elim (remote-leaves old new c p sound has h) [
+      | inl there ↦ inr (by_adding_remote old new c h
+          (λ same. goes-same n by old new same)
+          (λ f. goes old new p sound has number (let k = forms-leads (with_remote (as_remote c) None old) new _ f in (k.0, k.1)) there)
+          (λ k _ addr f. goes old new p sound has number (let k = forms-leads (with_remote (as_remote c) (Some k) old) new _ f in (k.0, k.1)) there))
+      | inr ends ↦ inl ends
+    ]
+
+    pub local-goes : (answers : P → CandidateRecord → ℕ → ℕ → Type 0) (old new : AgentRecord H P) (c : CandidateRecord) (place : ℕ) (p : PairRecord) → IsSound old → Has old.pairs p → p.number ≡ n
+        → AddsLocal answers old c (Ok (Some place)) new → MayEndByLocal answers old c p ⊎ Goes n by old new
+    local-goes answers old new c place p sound has number h = elim (local-leaves answers old new c place p sound has h) [
+      | inl there ↦ inr (by_adding_local old new answers c (Some place) h
+          (λ same. goes-same n by old new same)
+          (λ x _ f. goes old new p sound has number (let k = forms-leads (appended x old) new _ f in (k.0, k.1)) there)
+          (λ k _ f. goes old new p sound has number (let l = forms-leads (enabled_again k old) new _ f in (l.0, l.1)) there)
+          (λ x _ k f. goes old new p sound has number (superseded x k (forms-leads (appended x (local_discarded k old)) new _ f)) there))
+      | inr ends ↦ inl ends
+    ] where
+      superseded : (x : CandidateRecord) (k : ℕ) → Leads (appended x (local_discarded k old)) new → Leads old new
+      superseded x k l = (l.0, (let a = l.1 in let b : leads n by (without (is_local_at k) old.pairs) ≤ leads n by old.pairs = leads-filter n by (λ q. not (is_local_at k q)) old.pairs in omega (arith, a, b)))

@@ -1,0 +1,189 @@
+-- Whatever happens between two `handle_timeout` calls leaves no more checks of other pairs before a pair, except for
+-- one by each added pair, unless the pair itself is answered.
+use Rattle.std.proofs.Common.{◌≡◌, ℕ, ◌≤◌, ◌&&◌, ◌||◌, Bool, true, false, List, Option, Some, None, is_some, Ok, Err, inl, inr, ◌⊎◌, refl, ap, sym, ◌∙◌, subst}
+use Rattle.std.specs.Prelude.{MatchOption}
+use Rattle.std.proofs.lemmas.Bool.{eq-eqb, eqb-true}
+use Rattle.is_proto.specs.Lists.{Has, same}
+use Rattle.is_candidate.specs.Candidates.{CandidateRecord, candidate_at}
+use Rattle.is_pair.specs.Multiset.{is_numbered, change_at, is_valid_at, keeps_check}
+use Rattle.is_pair.specs.Pairs.{PairRecord, is_nominated}
+use Rattle.is_stun.specs.declared.header.Class.{Class}
+use Rattle.is_stun.specs.declared.header.Class.TheVariants as class
+use Rattle.is_stun.specs.declared.timing.StunTiming.{StunTiming}
+use Rattle.is_stun.specs.Message.{Message}
+use Rattle.is_rules.specs.Accepting.{discovered_emitted, Takes}
+use Rattle.is_rules.specs.Agent.{AgentRecord}
+use Rattle.is_rules.specs.Answers.{goes_back, is_role_conflict, TakesSuccess, LeavesRole, TakesFailure}
+use Rattle.is_rules.specs.declared.credentials.IceCreds.{IceCreds}
+use Rattle.is_rules.specs.declared.places.RemotePlace.{RemotePlace}
+use Rattle.is_rules.specs.declared.places.RemotePlace.TheVariants.{Known, Barred, Unknown, Vacant, Full}
+use Rattle.is_rules.specs.declared.roles.Conflict.{Conflict}
+use Rattle.is_rules.specs.declared.roles.Conflict.TheVariants.{Absent, Send487, SwitchRole}
+use Rattle.is_rules.specs.declared.emitted.Path.{Path}
+use Rattle.is_rules.specs.declared.emitted.Emitted.{Emitted}
+use Rattle.is_rules.specs.Forming.{formed, with_pair, priority_between}
+use Rattle.is_rules.specs.Nominating.{nominated_by_self, Nominates, followed, remains, selection_of}
+use Rattle.is_rules.specs.Places.{local_place}
+use Rattle.is_rules.specs.Request.{RequestRecord, request_in}
+use Rattle.is_rules.specs.Roles.{conflict_of, switched, switched_sides, with_priority_in}
+use Rattle.is_rules.specs.Sending.{path_of}
+use Rattle.is_rules.specs.Serving.{served, is_misled, names_another, pair_served, request_counted, with_sender, with_sender_at, Drops, Queues, RecordsAndResponds, FindsOrAddsPair, AddsUnknownSender, CountsAndServes, ResolvesRoleConflictBy, ResolvesRoleConflict, Serves}
+use Rattle.is_rules.specs.States.{evaluated}
+use Rattle.is_rules.specs.Steps.{Entry, Flag, Receives}
+use Rattle.is_stun.specs.Reading.{Reads}
+use Rattle.is_theorems.proofs.BasicLemmas.EqualAddresses.{both}
+use Rattle.is_theorems.proofs.CallEffects.ChecksAndResponses.{Has-get}
+use Rattle.is_theorems.proofs.RuleEffects.UnchangedSettings.{either}
+use Rattle.is_theorems.proofs.EarlierChecks.ChecksOfOtherPairs.{lead, own-le, lead-answered}
+use Rattle.is_theorems.proofs.EarlierChecks.ChangedPairs.{self-mild, served-mild, at-mild, Onward, onward-same, onward-on, onward-each, onward-adds, onward-set}
+use Rattle.is_theorems.proofs.RuleEffects.NominatedPairs.{SelectsPath, selects_path}
+
+-- what stays of the agent, in either role
+pub record Ground : Type 0 where
+  pub lite : Bool
+  pub remote_creds : Option IceCreds
+  pub timing : StunTiming
+  pub queue : List RequestRecord
+  pub last_time : Option ℕ
+
+module _ {H P : Type 0} where
+  abbrev pub ground_of : AgentRecord H P → Ground
+  ground_of a = record { lite = a.lite; remote_creds = a.remote_creds; timing = a.timing; queue = a.queue; last_time = a.last_time }
+
+  module _ (n by : ℕ) where
+    abbrev pub Goes : AgentRecord H P → AgentRecord H P → Type 0
+    Goes old new = (ground_of new ≡ ground_of old) × Onward n by old.pairs old.next_number new.pairs new.next_number
+
+    pub goes-to : (old needed new : AgentRecord H P) → Goes old needed → new ≡ needed → Goes old new
+    goes-to old needed new h made = subst (λ (a : AgentRecord H P). Goes old a) (sym made) h
+
+    pub goes-same : (old new : AgentRecord H P) → new ≡ old → Goes old new
+    goes-same old new made = goes-to old old new (refl, onward-same n by old.pairs old.next_number) made
+
+    pub goes-on : (x y z : AgentRecord H P) → Goes x y → Goes y z → Goes x z
+    goes-on x y z a b = (b.0 ∙ a.0, onward-on n by x.pairs y.pairs z.pairs x.next_number y.next_number z.next_number a.1 b.1)
+
+    -- ---- nomination
+
+    pub nominates-goes : (old new : AgentRecord H P) (path : Option Path) → Nominates old path new → Goes old new
+    nominates-goes old new path h = from (selects_path old new path h) where
+      from : SelectsPath old path new → Goes old new
+      from (None, greatest, (is, made)) = goes-same old new made
+      from (Some top, greatest, k) = either (remains (followed old) top (selection_of old)) k
+          (λ _ l. goes-same old new l.1)
+          (λ _ l. goes-to old _ new (
+            refl,
+            onward-each n by (change_at top.number (nominated_by_self old.controlling old.lite)) old.pairs old.next_number
+                (λ p. at-mild top.number (nominated_by_self old.controlling old.lite) p (self-mild (old.controlling || old.lite) old.lite (is_nominated p) p refl)),
+          ) l.1)
+
+    -- ---- roles
+
+    switches : (s : AgentRecord H P) → Goes s (switched s)
+    switches s = (
+      refl,
+      onward-each n by (with_priority_in (switched_sides s)) s.pairs s.next_number
+          (λ p. record { number = refl; due = refl; checks = refl; nomination = inl refl }),
+    )
+
+    failure : (old new : AgentRecord H P) (via : Path) (m : Message) (emitted : Emitted) → TakesFailure old via m emitted new → Goes old new
+    failure old new via m emitted h = either (is_role_conflict m) h
+        (λ _ k. expired k)
+        (λ _ k. goes-same old new k.1) where
+          expired : LeavesRole old via m emitted new → Goes old new
+          expired (p, c, has, keeps, kept, is, acts) = either (same c.controlling old.controlling) acts
+              (λ _ k. goes-to old (switched old) new (switches old) k.1)
+              (λ _ k. goes-same old new k.1)
+
+    -- ---- responses
+
+    success : (now : ℕ) (old new : AgentRecord H P) (via path : Path) (m : Message) (emitted : Emitted) → ((q : PairRecord) → Has old.pairs q → q.number ≡ n → path_of old q ≡ path)
+        → TakesSuccess now old via m emitted new → (goes_back via path ≡ true) ⊎ Goes old new
+    success now old new via path m emitted on (recorded, (place, p, after, at, keeps, (i, c, (c_at, c_id), is), made), (named, mid, nominates, emitted_is, done)) = whose (is_numbered n p) refl where
+      whose : (b : Bool) → is_numbered n p ≡ b → (goes_back via path ≡ true) ⊎ Goes old new
+      whose true numbered =
+          inl (subst (λ w. goes_back via w ≡ true) (on p (Has-get old.pairs place p at) (eqb-true p.number n numbered))
+          (both (keeps_check m.id p) (goes_back via (path_of old p)) keeps).1)
+      whose false numbered =
+          inr (goes-on old recorded new
+          (goes-to old _ recorded (
+            refl,
+            onward-set n by old.pairs old.next_number place p after at (λ one. (let no : true ≡ false = sym (eq-eqb p.number n one) ∙ numbered in cc))
+                (own-le n by p after (ap (λ (x : PairRecord). x.number) is) (subst (λ (x : PairRecord). lead by x ≤ lead by p) (sym is) (lead-answered by now i c p c_at))),
+          ) made)
+          (goes-to recorded (evaluated now mid) new (let k = nominates-goes recorded mid named nominates in (k.0, k.1)) done))
+
+    -- ---- requests
+
+    module _ (mac : H → List ℕ → List ℕ → List ℕ) where
+      module _ (q : RequestRecord) where
+        pair : (l r number : ℕ) (s new : AgentRecord H P) (emitted : Emitted) → RecordsAndResponds mac q l r number s emitted new → Goes s new
+        pair l r number s new emitted (path, mid, nominates, (values, is, made)) =
+            goes-to s _ new
+            (let k = goes-on s (pair_served q number s) mid (
+              refl,
+              onward-each n by (change_at number (served s.controlling s.lite q)) s.pairs s.next_number
+                  (λ p. at-mild number (served s.controlling s.lite q) p (served-mild s.controlling s.lite q p)),
+            )
+            (either (s.controlling && is_valid_at number s.pairs) nominates
+            (λ _ k. nominates-goes (pair_served q number s) mid path k)
+            (λ _ k. goes-same (pair_served q number s) mid k.1)) in (k.0, k.1)) made
+
+        takes : (l r : ℕ) (number : Option ℕ) (s new : AgentRecord H P) (emitted : Emitted) → FindsOrAddsPair mac q l r number s emitted new → Goes s new
+        takes l r (Some number) s new emitted h = pair l r number s new emitted h
+        takes l r None s new emitted h = either (candidate_at s.local l).discarded h
+            (λ _ k. goes-same s new k.1)
+            (λ _ k. goes-on s (with_pair (formed s l r) s) new (refl, onward-adds n by s.pairs s.next_number l r (priority_between s l r))
+            (pair l r s.next_number (with_pair (formed s l r) s) new emitted k.1))
+
+        joins : (l : ℕ) (place : RemotePlace) (s new : AgentRecord H P) (emitted : Emitted) → AddsUnknownSender mac q l place s emitted new → Goes s new
+        joins l (Known r) s new emitted (number, between, h) = takes l r number s new emitted h
+        joins l Barred s new emitted h = goes-same s new h.1
+        joins l Unknown s new emitted (number, between, h) = let k = takes l _ number (with_sender q s) new emitted h in (k.0, k.1)
+        joins l (Vacant r) s new emitted (number, between, h) = let k = takes l r number (with_sender_at r q s) new emitted h in (k.0, k.1)
+        joins l Full s new emitted h = goes-same s new h.1
+
+        admitted : (l : ℕ) (s new : AgentRecord H P) (emitted : Emitted) → CountsAndServes mac q l s emitted new → Goes s new
+        admitted l s new emitted h = either (is_misled s.controlling q) h
+            (λ _ k. goes-same s new k.1)
+            (λ _ k. (let g = joins l k.0 (request_counted s) new emitted k.2 in (g.0, g.1)))
+
+        resolves : (conflict : Conflict) (l : ℕ) (s new : AgentRecord H P) (emitted : Emitted) → ResolvesRoleConflictBy mac conflict q l s emitted new → Goes s new
+        resolves Absent l s new emitted h = admitted l s new emitted h
+        resolves Send487 l s new emitted (values, is, made) = goes-to s _ new (refl, onward-same n by s.pairs s.next_number) made
+        resolves SwitchRole l s new emitted h = goes-on s (switched s) new (switches s) (admitted l (switched s) new emitted h)
+
+        here : (place : Option ℕ) (s new : AgentRecord H P) (emitted : Emitted) → MatchOption place (Drops s emitted new) (λ l. ResolvesRoleConflict mac q l s emitted new) → Goes s new
+        here None s new emitted h = goes-same s new h.1
+        here (Some l) s new emitted h = resolves (conflict_of s q) l s new emitted h
+
+        requested : (remote : Option IceCreds) (s new : AgentRecord H P) (emitted : Emitted) → is_some remote ≡ true
+            → MatchOption remote (Queues q s emitted new) (λ _. Serves mac q s emitted new) → Goes s new
+        requested None s new emitted known h = absurd (cc)
+        requested (Some peer) s new emitted known h = either (names_another s q) h
+            (λ _ k. goes-same s new k.1)
+            (λ _ k. here (local_place s.local q) s new emitted k)
+
+      -- ---- packets
+
+      by-class : (c : Class) (now : ℕ) (old mid : AgentRecord H P) (via path : Path) (m : Message) (emitted : Emitted) → is_some old.remote_creds ≡ true
+          → ((q : PairRecord) → Has old.pairs q → q.number ≡ n → path_of old q ≡ path)
+          → Takes mac c now old via m emitted mid → ((c ≡ class.Success) × (goes_back via path ≡ true)) ⊎ Goes old mid
+      by-class class.Request now old mid via path m emitted known on h = inr (requested (request_in now via m) old.remote_creds old mid emitted known h)
+      by-class class.Success now old mid via path m emitted known on h = elim (success now old mid via path m emitted on h) [ inl back ↦ inl (refl, back) | inr k ↦ inr k ]
+      by-class class.Failure now old mid via path m emitted known on h = inr (failure old mid via m emitted h)
+      by-class class.Indication now old mid via path m emitted known on h = absurd h
+      by-class class.Unknown now old mid via path m emitted known on h = absurd h
+
+      -- raw bytes that arrived: the pair's path is answered, or no more checks go before it
+      pub receives-goes : (answers : P → CandidateRecord → ℕ → ℕ → Type 0) (now : ℕ) (old new : AgentRecord H P) (via path : Path) (bytes : List ℕ) (e : Entry) → is_some old.remote_creds ≡ true
+          → ((q : PairRecord) → Has old.pairs q → q.number ≡ n → path_of old q ≡ path) → Receives mac answers now old via bytes e new
+          → ((m : Message) × Reads bytes m × (e.answer ≡ Flag true) × (m.class ≡ class.Success) × (goes_back via path ≡ true)) ⊎ Goes old new
+      receives-goes answers now old new via path bytes e known on (inl (fault, has_fault, is, made)) = inr (goes-same old new made)
+      receives-goes answers now old new via path bytes e known on (inr (m, reads, (Ok true, emitted, is, (accepted, (mid, takes_it, made))))) =
+          elim (by-class m.class now old mid via path m emitted known on takes_it) [
+            | inl (success_came, back) ↦ inl (m, reads, ap (λ (x : Entry). x.answer) is, success_came, back)
+            | inr k ↦ inr (goes-to old (discovered_emitted via mid) new (k.0, k.1) made)
+          ]
+      receives-goes answers now old new via path bytes e known on (inr (m, reads, (Ok false, emitted, is, (no_one, nothing, made)))) = inr (goes-same old new made)
+      receives-goes answers now old new via path bytes e known on (inr (m, reads, (Err error, emitted, is, (may, nothing, made)))) = inr (goes-same old new made)

@@ -1,0 +1,265 @@
+-- A `handle_timeout` call checks a pair that is due, or another one before it, and then one check fewer goes before
+-- it.
+use Rattle.std.proofs.Common.{◌≡◌, ℕ, ◌+◌, ◌<◌, ◌≤◌, ◌==◌, ◌&&◌, ◌||◌, Bool, true, false, not, List, map, nat_le, nat_lt, Option, Some, None, is_some, unwrap_or, inl, inr, ◌⊎◌, refl, ap, sym, ◌∙◌, subst, arith, if◌then◌else◌}
+use Rattle.std.specs.List.{list_any}
+use Rattle.std.proofs.lemmas.Bool.{eq-eqb, eqb-true}
+use Rattle.std.proofs.lemmas.Bool.Decides.{nat_tests}
+use Rattle.rand_core.specs.Stream.{Stream}
+use Rattle.is_proto.specs.Lists.{Has}
+use Rattle.is_proto.specs.Times.{MAX}
+use Rattle.is_pair.specs.Checks.{unanswered_count}
+use Rattle.is_pair.specs.Multiset.{is_numbered, change_at, change_pair}
+use Rattle.is_pair.specs.Due.{asked, due_time_of, is_due, GoesBefore, IsNextDue}
+use Rattle.is_pair.specs.Pairs.{PairRecord, is_valid, is_nominated, checked}
+use Rattle.is_pair.specs.States.{nomination_once_sent}
+use Rattle.is_stun.specs.declared.header.Class.TheVariants as class
+use Rattle.is_stun.specs.declared.timing.StunTiming.{StunTiming}
+use Rattle.is_rules.specs.Agent.{AgentRecord}
+use Rattle.is_rules.specs.Checking.{all_asked, ChecksTop, MayCheck}
+use Rattle.is_rules.specs.declared.credentials.IceCreds.{IceCreds}
+use Rattle.is_rules.specs.declared.emitted.Issued.{Issued}
+use Rattle.is_rules.specs.declared.emitted.Path.{Path}
+use Rattle.is_rules.specs.declared.emitted.Emitted.{Emitted}
+use Rattle.is_rules.specs.Nominating.{nominated_by_self, Nominates, followed, remains, selection_of, is_eligible}
+use Rattle.is_theorems.specs.Progress.{ChecksOn}
+use Rattle.is_rules.specs.Sending.{path_of}
+use Rattle.is_rules.specs.Timeouts.{at_timeout, is_expired, expired_gone, RemovesExpired, MaintainsPairs}
+use Rattle.is_rules.specs.Emitted.{issued_as}
+use Rattle.is_theorems.proofs.RuleEffects.UnchangedSettings.{either}
+use Rattle.is_theorems.proofs.EarlierChecks.ChecksOfOtherPairs.{lead, leads, own, own-le, weight, weight-sent, weight-sent-no-more, lead-asked, lead-checked-is, leads-map, leads-less, leads-filter, is_early, sent_by}
+use Rattle.is_theorems.proofs.EarlierChecks.ChangedPairs.{Fixed}
+use Rattle.is_theorems.proofs.EarlierChecks.BetweenTimeouts.{nominates-goes}
+use Rattle.is_theorems.proofs.RuleEffects.ChangedPairs.{Has-map}
+use Rattle.is_theorems.proofs.DuePairs.FirstDuePair.{fixed-is, same-path, next-check}
+use Rattle.is_rules.proofs.PairLists.ChosenPair.{chosen-able, none_pass}
+use Rattle.is_theorems.proofs.RuleEffects.NominatedPairs.{SelectsPath, selects_path}
+use Rattle.is_theorems.proofs.CallEffects.ServedRequests.{Has-mapped}
+use Rattle.is_theorems.proofs.DuePairs.AfterNominationAndRemoval.{Distinct, Alike, Base, base_of as agent_base, Has-kept, stays-young, thinned-filter, nominates-thins, gives-up-thins, nominates-has}
+
+le-is : (n m : ℕ) → n ≤ m → nat_le n m ≡ true
+le-is n m h = grind (arith, nat_tests, h)
+
+and-left : (a b : Bool) → a ≡ false → (a && b) ≡ true → ⊥
+and-left true b h k = cc
+and-left false b h k = cc
+
+alike-none : (p : PairRecord) → Alike p p
+alike-none p = record { number = refl; local = refl; remote = refl; due = refl; checks = refl; valid = refl }
+
+joins : (p q r : PairRecord) → Alike p q → Alike q r → Alike p r
+joins p q r a b = record {
+  number = b.number ∙ a.number;
+  local = b.local ∙ a.local;
+  remote = b.remote ∙ a.remote;
+  due = b.due ∙ a.due;
+  checks = b.checks ∙ a.checks;
+  valid = b.valid ∙ a.valid;
+}
+
+module _ (now by : ℕ) (late : by < now) (early : now < MAX) where
+  -- due by then, and not valid unless its due time is fixed
+  abbrev pub Ready : StunTiming → PairRecord → Type 0
+  Ready t p = (due_time_of now t p ≤ by) × ((is_valid p ≡ false) ⊎ (is_some p.due ≡ true))
+
+  ready-fixed : (t : StunTiming) (p q : PairRecord) → Alike p q → due_time_of now t p ≤ by → is_some p.due ≡ true → Ready t q
+  ready-fixed t p q a due fixed =
+      let same : due_time_of now t q ≡ due_time_of now t p =
+      fixed-is q.due _ (ap is_some a.due ∙ fixed) ∙ (ap (λ o. unwrap_or o 0) a.due ∙ sym (fixed-is p.due _ fixed)) in
+      (subst (λ d. d ≤ by) (sym same) due, inr (ap is_some a.due ∙ fixed))
+
+  -- ---- a check
+
+  first-due : (x y : ℕ) (p q : PairRecord) → (x < y) ⊎ ((x ≡ y) × (p.priority ≤ q.priority)) → y ≤ by → x ≤ by
+  first-due x y p q (inl less) le = omega (arith, less, le)
+  first-due x y p q (inr same) le = let e = same.0 in omega (arith, e, le)
+
+  module _ (t : StunTiming) (c : Bool) (id : List ℕ) (some : 0 < t.max_retransmits) (n : ℕ) where
+    checked-no-more : (y : PairRecord) → own n by (checked now t c id y) ≤ own n by y
+    checked-no-more y =
+        own-le n by y (checked now t c id y) refl
+        (subst (λ k. k ≤ lead by y) (sym (lead-checked-is by now t c id y late some)) (weight-sent-no-more y.nomination (is_early by y.due y.checks)))
+
+    change-no-more : (m : ℕ) (y : PairRecord) → own n by (change_at m (checked now t c id) y) ≤ own n by y
+    change-no-more m y = at (is_numbered m y) where
+      at : (b : Bool) → own n by (if b then checked now t c id y else y) ≤ own n by y
+      at true = checked-no-more y
+      at false = omega arith
+
+    -- the one that is checked
+    change-less : (d : ℕ) (q : PairRecord) → q.due ≡ Some d → d ≤ by → (q.number == n) ≡ false → own n by (change_at q.number (checked now t c id) q) + 1 ≤ own n by q
+    change-less d q fixed due other = at (is_numbered q.number q) (eq-eqb q.number q.number refl) where
+      fixed-early : is_early by q.due q.checks ≡ true
+      fixed-early = ap (λ o. is_early by o q.checks) fixed ∙ ap (λ b. b || sent_by by q.checks) (le-is d by due)
+
+      less : lead by (checked now t c id q) + 1 ≤ lead by q
+      less = subst (λ k. k + 1 ≤ lead by q) (sym (lead-checked-is by now t c id q late some))
+          (subst (λ e. weight (nomination_once_sent q.nomination) false + 1 ≤ weight q.nomination e) (sym fixed-early) (weight-sent q.nomination))
+
+      unless : (b : Bool) → b ≡ false → (if b then 0 else lead by (checked now t c id q)) + 1 ≤ (if b then 0 else lead by q)
+      unless true is = absurd (cc)
+      unless false is = less
+
+      at : (b : Bool) → b ≡ true → own n by (if b then checked now t c id q else q) + 1 ≤ own n by q
+      at true is = unless (q.number == n) other
+      at false is = absurd (cc)
+
+  module _ {H P : Type 0} where
+    -- ---- nomination, and removed pairs
+
+    named-ready : (t : StunTiming) (old new : AgentRecord H P) (path : Option Path) → Nominates old path new → Distinct old.pairs → (p : PairRecord) → Has old.pairs p → Ready t p
+        → (q : PairRecord) × Has new.pairs q × Alike p q × Ready t q
+    named-ready t old new path h distinct p has (due, inr fixed) =
+        let k = nominates-has old new path h p has in (k.0, k.1, k.2, ready-fixed t p k.0 k.2 due fixed)
+    named-ready t old new path h distinct p has (due, inl invalid) = (p, from (selects_path old new path h), alike-none p, (due, inl invalid)) where
+      from : SelectsPath old path new → Has new.pairs p
+      from (None, greatest, (is, made)) = subst (λ (a : AgentRecord H P). Has a.pairs p) (sym made) has
+      from (Some top, chosen, k) = either (remains (followed old) top (selection_of old)) k
+          (λ _ l. subst (λ (a : AgentRecord H P). Has a.pairs p) (sym l.1) has)
+          (λ _ l. subst (λ (a : AgentRecord H P). Has a.pairs p) (sym l.1) (still (is_numbered top.number p) refl
+          (Has-mapped (change_at top.number (nominated_by_self old.controlling old.lite)) old.pairs p has))) where
+            able : Has old.pairs top × (is_eligible old.controlling top ≡ true)
+            able = chosen-able old.controlling (followed old) (selection_of old) top chosen
+
+            still : (b : Bool) → is_numbered top.number p ≡ b
+                → Has (map (change_at top.number (nominated_by_self old.controlling old.lite)) old.pairs) (if b then nominated_by_self old.controlling old.lite p else p)
+                → Has (map (change_at top.number (nominated_by_self old.controlling old.lite)) old.pairs) p
+            still true is there =
+                let one : p ≡ top = distinct p top has able.0 (eqb-true p.number top.number is) in
+                absurd (and-left (is_valid top) (old.controlling || is_nominated top) (ap (λ (x : PairRecord). is_valid x) (sym one) ∙ invalid) able.1)
+            still false is there = there
+
+    given-ready : (old new : AgentRecord H P) (path : Option Path) → RemovesExpired now old path new → old.lite ≡ false → Distinct old.pairs → (p : PairRecord) → Has old.pairs p
+        → nat_lt (unanswered_count p.checks) old.timing.max_retransmits ≡ true → Ready old.timing p
+        → (q : PairRecord) × Has new.pairs q × Alike p q × Ready old.timing q
+    given-ready old new path h full distinct p has young ready = either (list_any (is_expired now old) old.pairs) h
+        (λ _ k. (
+        let there : Has (expired_gone now old).pairs p = Has-kept (λ q. not (is_expired now old q)) old.pairs p has (stays-young old.lite now old.timing p full young) in
+        let q = named-ready old.timing (expired_gone now old) k.0 path k.1 ((thinned-filter 0 (λ q. not (is_expired now old q)) old.pairs).distinct distinct) p there ready in
+        subst (λ (a : AgentRecord H P). (q : PairRecord) × Has a.pairs q × Alike p q × Ready old.timing q) (sym k.2) (q.0, q.1, q.2, q.3)))
+        (λ _ k. subst (λ (a : AgentRecord H P). (q : PairRecord) × Has a.pairs q × Alike p q × Ready old.timing q) (sym k.1) (p, has, alike-none p, ready))
+
+    module _ (n : ℕ) where
+      named-less : (old new : AgentRecord H P) (path : Option Path) → Nominates old path new → leads n by new.pairs ≤ leads n by old.pairs
+      named-less old new path h =
+          let le : leads n by new.pairs + old.next_number ≤ leads n by old.pairs + new.next_number = (nominates-goes n by old new path h).1.less in
+          let same : new.next_number ≡ old.next_number = ap (λ (b : Base). b.next_number) (nominates-thins 0 old new path h).0 in
+          omega (arith, le, same)
+
+      given-less : (old new : AgentRecord H P) (path : Option Path) → RemovesExpired now old path new → leads n by new.pairs ≤ leads n by old.pairs
+      given-less old new path h = either (list_any (is_expired now old) old.pairs) h
+          (λ _ k. subst (λ (a : AgentRecord H P). leads n by a.pairs ≤ leads n by old.pairs) (sym k.2)
+          (let a : leads n by k.0.pairs ≤ leads n by (expired_gone now old).pairs = named-less (expired_gone now old) k.0 path k.1 in
+          let b : leads n by (expired_gone now old).pairs ≤ leads n by old.pairs = leads-filter n by (λ q. not (is_expired now old q)) old.pairs in
+          omega (arith, a, b)))
+          (λ _ k. subst (λ (a : AgentRecord H P). leads n by a.pairs ≤ leads n by old.pairs) (sym k.1) (omega arith))
+
+    -- ---- the check
+
+    -- its due time is fixed, and one check fewer goes before it
+    abbrev pub WaitsOn : AgentRecord H P → AgentRecord H P → PairRecord → Type 0
+    WaitsOn old new p = (d : ℕ) × (d ≤ by) × Fixed p.number d p.checks new.pairs × (leads p.number by new.pairs + 1 ≤ leads p.number by old.pairs)
+
+    module _ (mac : H → List ℕ → List ℕ → List ℕ) where
+      check-goes : (old new : AgentRecord H P) (s u : Stream) (issued : Option Issued) (remote : Option IceCreds) → is_some remote ≡ true → old.lite ≡ false
+          → Distinct old.pairs → 0 < old.timing.max_retransmits → (p : PairRecord) → Has old.pairs p → due_time_of now old.timing p ≤ by
+          → MayCheck mac now remote old s issued new u
+          → ((id : List ℕ) × (issued ≡ Some (issued_as (path_of old p) class.Request id))) ⊎ WaitsOn old new p
+      check-goes old new s u issued remote known full distinct some p has due h =
+          let k = next-check mac now remote old new s u issued known full h in by-next k.0 k.1 k.2 k.3 where
+            in_asked : Has (map (asked now old.timing) old.pairs) (asked now old.timing p)
+            in_asked = Has-mapped (asked now old.timing) old.pairs p has
+
+            whose : (peer : IceCreds) (q : PairRecord) (id : List ℕ) → new.pairs ≡ change_pair q.number (checked now old.timing old.controlling id) (map (asked now old.timing) old.pairs)
+                → issued ≡ Some (issued_as (path_of old q) class.Request id) → Has (map (asked now old.timing) old.pairs) q
+                → (o : PairRecord) × Has old.pairs o × (asked now old.timing o ≡ q) → due_time_of now old.timing q ≤ by
+                → (b : Bool) → (p.number == q.number) ≡ b
+                → ((id : List ℕ) × (issued ≡ Some (issued_as (path_of old p) class.Request id))) ⊎ WaitsOn old new p
+            whose peer q id made is there (o, o_has, o_is) q_due true same =
+                let one : o ≡ p = distinct o p o_has has (ap (λ (x : PairRecord). x.number) o_is ∙ sym (eqb-true p.number q.number same)) in
+                inl (id, is ∙ ap (λ (x : PairRecord). Some (issued_as (path_of old x) class.Request id)) (sym o_is ∙ ap (asked now old.timing) one))
+            whose peer q id made is there (o, o_has, o_is) q_due false apart =
+                inr (
+                  due_time_of now old.timing p,
+                  due,
+                  subst (λ ps. Fixed p.number (due_time_of now old.timing p) p.checks ps) (sym made) (asked now old.timing p, stays, refl, refl, refl),
+                  fewer,
+                ) where
+                  stays : Has (change_pair q.number (checked now old.timing old.controlling id) (map (asked now old.timing) old.pairs)) (asked now old.timing p)
+                  stays = subst (λ b. Has (change_pair q.number (checked now old.timing old.controlling id) (map (asked now old.timing) old.pairs))
+                      (if b then checked now old.timing old.controlling id (asked now old.timing p) else asked now old.timing p)) apart
+                      (Has-mapped (change_at q.number (checked now old.timing old.controlling id)) (map (asked now old.timing) old.pairs) (asked now old.timing p) in_asked)
+
+                  q_fixed : q.due ≡ Some (due_time_of now old.timing o)
+                  q_fixed = ap (λ (x : PairRecord). x.due) (sym o_is)
+
+                  o_due : due_time_of now old.timing o ≤ by
+                  o_due = subst (λ d. d ≤ by) (ap (λ (x : PairRecord). due_time_of now old.timing x) (sym o_is)) q_due
+
+                  other : (q.number == p.number) ≡ false
+                  other = not-same (q.number == p.number) refl where
+                    not-same : (b : Bool) → (q.number == p.number) ≡ b → (q.number == p.number) ≡ false
+                    not-same true same = (let no : true ≡ false = sym (eq-eqb p.number q.number (sym (eqb-true q.number p.number same))) ∙ apart in absurd (cc))
+                    not-same false same = same
+
+                  fewer : leads p.number by new.pairs + 1 ≤ leads p.number by old.pairs
+                  fewer =
+                      let a : leads p.number by (change_pair q.number (checked now old.timing old.controlling id) (map (asked now old.timing) old.pairs)) + 1
+                      ≤ leads p.number by (map (asked now old.timing) old.pairs) =
+                      leads-less p.number by (change_at q.number (checked now old.timing old.controlling id)) (map (asked now old.timing) old.pairs) q
+                      (change-no-more old.timing old.controlling id some p.number q.number) there
+                      (change-less old.timing old.controlling id some p.number (due_time_of now old.timing o) q q_fixed o_due other) in
+                      let b : leads p.number by (map (asked now old.timing) old.pairs) ≤ leads p.number by old.pairs =
+                      leads-map p.number by (asked now old.timing) old.pairs (λ y. own-le p.number by y (asked now old.timing y) refl (lead-asked by now old.timing y late early)) in
+                      subst (λ ps. leads p.number by ps + 1 ≤ leads p.number by old.pairs) (sym made) (omega (arith, a, b))
+
+            by-next : (peer : IceCreds) (next : Option PairRecord) → IsNextDue now old.timing (all_asked now old).pairs next → ChecksTop mac now peer next (all_asked now old) s issued new u
+                → ((id : List ℕ) × (issued ≡ Some (issued_as (path_of old p) class.Request id))) ⊎ WaitsOn old new p
+            by-next peer None none h =
+                let it : is_due now old.timing (asked now old.timing p) ≡ true = le-is (due_time_of now old.timing p) now (let d = due in omega (arith, d, late)) in
+                absurd (none_pass (is_due now old.timing) (map (asked now old.timing) old.pairs) (asked now old.timing p) none in_asked it)
+            by-next peer (Some q) ((there, first), is_now) (id, drawn, values, is, made) =
+                let before : GoesBefore now old.timing q (asked now old.timing p) = first (asked now old.timing p) in_asked in
+                whose peer q id (ap (λ (a : AgentRecord H P). a.pairs) made) is there (Has-map (asked now old.timing) old.pairs q there)
+                (first-due (due_time_of now old.timing q) (due_time_of now old.timing p) p q before due) (p.number == q.number) refl
+
+      -- ---- the `handle_timeout` call
+
+      pub timeout-goes : (old new : AgentRecord H P) (s u : Stream) (emitted : Emitted) → is_some old.remote_creds ≡ true → old.lite ≡ false
+          → Distinct old.pairs → 0 < old.timing.max_retransmits → (p : PairRecord) → Has old.pairs p
+          → nat_lt (unanswered_count p.checks) old.timing.max_retransmits ≡ true → Ready old.timing p
+          → MaintainsPairs mac now old s emitted new u → ChecksOn old emitted p ⊎ WaitsOn old new p
+      timeout-goes old new s u emitted known full distinct some p has young ready (first, second, issued, named, kept, nominating, giving, checking, is) =
+          let a = nominates-thins 0 (at_timeout now old) named first nominating in
+          let b = gives-up-thins 0 now named kept second giving in
+          let x = named-ready old.timing (at_timeout now old) named first nominating distinct p has ready in
+          let timing : named.timing ≡ old.timing = ap (λ (y : Base). y.timing) a.0 in
+          let y = given-ready named kept second giving (ap (λ (y : Base). y.lite) a.0 ∙ full) (a.1.distinct distinct) x.0 x.1
+          (ap (λ cs. nat_lt (unanswered_count cs) named.timing.max_retransmits) x.2.checks ∙ (ap (λ (z : StunTiming). nat_lt (unanswered_count p.checks) z.max_retransmits) timing ∙ young))
+          (subst (λ z. Ready z x.0) (sym timing) x.3) in
+          let base : agent_base kept ≡ agent_base (at_timeout now old) = b.0 ∙ a.0 in
+          let alike = joins p x.0 y.0 x.2 y.2 in
+          let same : kept.timing ≡ named.timing = ap (λ (z : Base). z.timing) b.0 in
+          let lessened : leads p.number by kept.pairs ≤ leads p.number by old.pairs =
+          (let l : leads p.number by named.pairs ≤ leads p.number by old.pairs = named-less p.number (at_timeout now old) named first nominating in
+          let m : leads p.number by kept.pairs ≤ leads p.number by named.pairs = given-less p.number named kept second giving in
+          omega (arith, l, m)) in
+          elim (check-goes kept new s u issued kept.remote_creds (ap (λ (z : Base). is_some z.remote_creds) base ∙ known) (ap (λ (z : Base). z.lite) base ∙ full)
+          (b.1.distinct (a.1.distinct distinct)) (subst (λ (z : StunTiming). 0 < z.max_retransmits) (sym (same ∙ timing)) some) y.0 y.1
+          (subst (λ (z : StunTiming). due_time_of now z y.0 ≤ by) (sym same) y.3.0) checking) [
+            | inl (id, out) ↦
+                inl (
+                  id,
+                  ap (λ (z : Emitted). z.issued) is ∙ (out ∙ ap (λ w. Some (issued_as w class.Request id))
+                      (same-path old kept p y.0 (ap (λ (z : Base). z.local) base) (ap (λ (z : Base). z.remote) base)
+                      (record { number = alike.number; local = alike.local; remote = alike.remote; valid = alike.valid }))),
+                )
+            | inr (d, due, fixed, less) ↦
+                (let fewer : leads p.number by new.pairs + 1 ≤ leads p.number by kept.pairs =
+                subst (λ k. leads k by new.pairs + 1 ≤ leads k by kept.pairs) alike.number less in
+                inr (
+                  d,
+                  due,
+                  subst (λ cs. Fixed p.number d cs new.pairs) alike.checks (subst (λ k. Fixed k d y.0.checks new.pairs) alike.number fixed),
+                  omega (arith, fewer, lessened),
+                ))
+          ]

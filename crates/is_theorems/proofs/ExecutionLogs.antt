@@ -1,0 +1,8 @@
+-- Executions, their logs, segments and points.
+pub mod LogTheorems
+pub mod LogSegments
+pub mod PointsOfSegments
+pub mod UnacceptedBytes
+pub mod PollingOrder
+pub mod SharedRandomSource
+pub mod PerAgentExecutions

@@ -1,0 +1,16 @@
+pub mod BasicLemmas
+mod RuleEffects
+mod CallEffects
+pub mod ExecutionLogs
+mod StorageBounds
+mod PathSelection
+mod MatchingPaths
+mod StoredPairs
+mod CheckExchanges
+mod DuePairs
+mod EarlierChecks
+mod RemainingChecks
+mod PollingRounds
+mod RenominatedPaths
+mod PunctualTimeouts
+mod WorkedExamples

@@ -1,0 +1,9 @@
+-- Which path is selected, and after what.
+pub mod GreatestEligiblePair
+pub mod SelectedPairIsNominated
+pub mod NominationPoints
+pub mod SelectedAfterResponse
+pub mod SelectedAfterFirstResponse
+pub mod FirstResponsePerAgent
+pub mod NominatedByPeer
+pub mod NominatedByPeerPerAgent

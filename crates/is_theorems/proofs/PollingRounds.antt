@@ -1,0 +1,11 @@
+-- Rounds in which a pair is checked, or a path selected.
+pub mod AnsweredRounds
+pub mod AnsweredRoundsInLogs
+pub mod DuePairsInLogs
+pub mod DuePairsPerAgent
+pub mod FirstRound
+pub mod AddedCandidatesPerAgent
+pub mod AddedCandidatesInLogs
+pub mod FirstRoundWithoutValidPair
+pub mod LimitedPairs
+pub mod LimitedPairsAndRequests

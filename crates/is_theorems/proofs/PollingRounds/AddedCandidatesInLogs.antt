@@ -1,0 +1,228 @@
+-- In rounds in which candidates may be added a pair is checked, or its path answered. Until a success response is accepted no pair is
+-- valid, so the first one selects a path.
+use Rattle.std.proofs.Common.{◌≡◌, ℕ, ◌+◌, ◌*◌, ◌≤◌, Bool, true, false, List, [], ◌∷◌, ◌++◌, length, inl, inr, ◌⊎◌, refl, ap, sym, ◌∙◌, subst, arith, append_assoc}
+use Rattle.rand_core.specs.Stream.{Stream}
+use Rattle.is_proto.specs.Lists.{Has}
+use Rattle.is_candidate.specs.Candidates.{CandidateRecord}
+use Rattle.is_pair.specs.Pairs.{PairRecord, is_valid}
+use Rattle.is_rules.specs.declared.emitted.Path.{Path}
+use Rattle.is_rules.specs.Agent.{AgentRecord}
+use Rattle.is_theorems.specs.Asked.{IsAnsweredIn}
+use Rattle.is_rules.specs.Effects.{PathEffect, lite_set_by}
+use Rattle.is_theorems.specs.Logs.{Logged}
+use Rattle.is_theorems.specs.Reached.{is_in_round, IsPassing, PairsAreReached}
+use Rattle.is_theorems.specs.Rounds.{LoggedRound, entries_of, BringsSuccess, RunsOn, IsControllingIn, SegmentSelects, AnsweredRoundsSelect}
+use Rattle.is_theorems.specs.Runs.{IsFresh, Run, Point}
+use Rattle.is_rules.specs.Sending.{path_of}
+use Rattle.is_rules.specs.Steps.{Call, SetIceLite, HandleTimeout}
+use Rattle.is_theorems.specs.DueRounds.{AnsweredDueRoundsSelect}
+use Rattle.is_theorems.specs.FirstTimeouts.{PairsAreReachedFromDue, SufficesFromDue}
+use Rattle.is_theorems.specs.OpenRounds.{AnsweredOpenRoundsSelect}
+use Rattle.is_theorems.proofs.PathSelection.SelectedAfterFirstResponse.{selects_path-at}
+use Rattle.is_theorems.proofs.DuePairs.AfterPackets.{NoneValid}
+use Rattle.is_theorems.proofs.ExecutionLogs.PerAgentExecutions.{either_has}
+use Rattle.is_theorems.proofs.CallEffects.PathAndTradeEffects.{path_theorem}
+use Rattle.is_theorems.proofs.ExecutionLogs.LogTheorems.{runs_sound}
+use Rattle.is_theorems.proofs.ExecutionLogs.LogSegments.{no-case, run-on}
+
+module _ {P : Type 0} where
+  -- a `handle_timeout` call, or one that may come between two of them
+  abbrev IsOfRound : Logged P → Type 0
+  IsOfRound x = (is_in_round x.call ≡ true) ⊎ ((now : ℕ) × (x.call ≡ HandleTimeout now))
+
+  of_rounds : (by : ℕ) (rounds : List (LoggedRound P)) → ((r : LoggedRound P) → Has rounds r → IsPassing by r) → (x : Logged P) → Has (entries_of rounds) x → IsOfRound x
+  of_rounds by [] passing x has = absurd has
+  of_rounds by (r ∷ older) passing x has = elim (either_has r.following (r.timeout ∷ entries_of older) x has) [
+    | inl following ↦ inl ((passing r (inl refl)).between x following)
+    | inr (inl is) ↦ inr (r.now, ap (λ (y : Logged P). y.call) (sym is) ∙ (passing r (inl refl)).comes)
+    | inr (inr was) ↦ of_rounds by older (λ y there. passing y (inr there)) x was
+  ]
+
+  lite_stays : (c : Call P) (l : Bool) → is_in_round c ≡ true → lite_set_by c l ≡ l
+  lite_stays (SetIceLite lite) l is = no-case is
+  lite_stays _ l is = refl
+
+  lite_kept : (x : Logged P) (l : Bool) → IsOfRound x → lite_set_by x.call l ≡ l
+  lite_kept x l (inl is) = lite_stays x.call l is
+  lite_kept x l (inr (now, is)) = ap (λ (c : Call P). lite_set_by c l) is
+
+  -- what is received in a round is received in the segment
+  in_entries : (rounds : List (LoggedRound P)) (r : LoggedRound P) (x : Logged P) → Has rounds r → Has r.following x → Has (entries_of rounds) x
+  in_entries [] r x has there = absurd has
+  in_entries (z ∷ older) r x (inl is) there = front z.following (z.timeout ∷ entries_of older) x (subst (λ (y : LoggedRound P). Has y.following x) (sym is) there) where
+    front : (xs ys : List (Logged P)) (x : Logged P) → Has xs x → Has (xs ++ ys) x
+    front [] ys x h = absurd h
+    front (y ∷ xs) ys x (inl e) = inl e
+    front (y ∷ xs) ys x (inr h) = inr (front xs ys x h)
+  in_entries (z ∷ older) r x (inr has) there = rear z.following (z.timeout ∷ entries_of older) x (inr (in_entries older r x has there)) where
+    rear : (xs ys : List (Logged P)) (x : Logged P) → Has ys x → Has (xs ++ ys) x
+    rear [] ys x h = h
+    rear (y ∷ xs) ys x h = inr (rear xs ys x h)
+
+  success-is : (part : List (Logged P)) (path : Path) → IsAnsweredIn part path → (x : Logged P) × Has part x × BringsSuccess x
+  success-is part path (x, has, (at, by, m, brings, success, back)) = (x, has, (at, by, m, brings, success))
+
+some-or-none : (ps : List PairRecord) → ((p : PairRecord) × Has ps p × (is_valid p ≡ true)) ⊎ NoneValid ps
+some-or-none [] = inr (λ p has. absurd has)
+some-or-none (p ∷ ps) = by (is_valid p) refl (some-or-none ps) where
+  by : (b : Bool) → is_valid p ≡ b → ((q : PairRecord) × Has ps q × (is_valid q ≡ true)) ⊎ NoneValid ps → ((q : PairRecord) × Has (p ∷ ps) q × (is_valid q ≡ true)) ⊎ NoneValid (p ∷ ps)
+  by true is rest = inl (p, inl refl, is)
+  by false is (inl (q, has, valid)) = inl (q, inr has, valid)
+  by false is (inr none) = inr (λ q has. elim has [ inl same ↦ ap (λ (x : PairRecord). is_valid x) (sym same) ∙ is | inr there ↦ none q there ])
+
+module _ {H P : Type 0} (mac : H → List ℕ → List ℕ → List ℕ) (answers : P → CandidateRecord → ℕ → ℕ → Type 0) where
+  -- no pair is valid, and no success response was accepted in the segment
+  record Waits (xs : List (Logged P)) (a : AgentRecord H P) : Type 0 where
+    full : a.lite ≡ false
+    invalid : NoneValid a.pairs
+    unanswered : (x : Logged P) → Has xs x → BringsSuccess x → ⊥
+
+  module _ (first : AgentRecord H P) (s : Stream) (log : List (Logged P)) (fresh : IsFresh first) (part : List (Logged P)) where
+    waits-on : (before xs : List (Logged P)) (mid last : AgentRecord H P) (x : Logged P) → Point mac answers first s log before mid x last → Has part x → last.controlling ≡ true → IsOfRound x
+        → Waits xs mid → SegmentSelects mac answers first s log part ⊎ Waits (x ∷ xs) last
+    waits-on before xs mid last x point within role of_round w = by (some-or-none last.pairs) where
+      f : PathEffect mac mid x.call x.entry last
+      f = (path_theorem mac answers mid last point.at point.following x.call x.entry (runs_sound mac answers (path_theorem mac answers) first mid s point.at before fresh point.led) point.given point.step).0
+
+      still : NoneValid last.pairs → BringsSuccess x → ⊥
+      still none (at, via, m, brings, success) =
+          let taken = f.taken at via m brings success in
+          let wrong : false ≡ true = sym (none taken.0 taken.1) ∙ taken.3 in cc
+
+      by : ((p : PairRecord) × Has last.pairs p × (is_valid p ≡ true)) ⊎ NoneValid last.pairs → SegmentSelects mac answers first s log part ⊎ Waits (x ∷ xs) last
+      by (inl (p, has, valid)) = elim (f.valid w.full (path_of last p) (p, has, valid, refl)) [
+        | inl (q, there, was, on) ↦ absurd (let wrong : false ≡ true = sym (w.invalid q there) ∙ was in cc)
+        | inr a ↦ inl (selects_path-at mac answers first s log fresh before part mid last x point w.invalid role (a.0, a.1, a.2, a.5, a.6) within)
+      ]
+      by (inr none) = inr (record {
+        full = f.lite ∙ (lite_kept x mid.lite of_round ∙ w.full);
+        invalid = none;
+        unanswered = λ y has success. elim has [
+          | inl is ↦ still none (subst (λ (z : Logged P). BringsSuccess z) (sym is) success)
+          | inr there ↦ w.unanswered y there success
+        ];
+      })
+
+    walk : (before : List (Logged P)) (start last : AgentRecord H P) (u t : Stream) (over xs : List (Logged P)) → log ≡ over ++ (xs ++ before)
+        → ((x : Logged P) → Has xs x → Has part x) → ((x : Logged P) → Has xs x → IsOfRound x)
+        → Run mac answers first s before start u → (run : RunsOn mac answers before start u xs last t) → IsControllingIn mac answers before start u xs last t run
+        → Waits [] start → SegmentSelects mac answers first s log part ⊎ Waits xs last
+    walk before start last u t over [] split within fits led (is, same) role w = inr (subst (λ (a : AgentRecord H P). Waits [] a) (sym is) w)
+    walk before start last u t over (x ∷ xs) split within fits led (mid, v, run, number, based, step) role w =
+        elim (walk before start mid u v (over ++ x ∷ []) xs (split ∙ sym (append_assoc over (x ∷ []) (xs ++ before))) (λ y has. within y (inr has)) (λ y has. fits y (inr has)) led run role.1 w) [
+          | inl selected_paths ↦ inl selected_paths
+          | inr k ↦
+              waits-on (xs ++ before) xs mid last x
+              (record { rest = over; split = split; at = v; led = run-on mac answers first start mid s u v before xs led run; number = number; given = based; following = t; step = step })
+              (within x (inl refl)) role.0 (fits x (inl refl)) k
+        ]
+
+  pub open-rounds-announce : AnsweredRoundsSelect {H = H} {P = P} mac answers → PairsAreReached {H = H} {P = P} mac answers → AnsweredOpenRoundsSelect mac answers
+  open-rounds-announce plain reach first s log fresh before start last rounds p at by part began waits unanswered passing answered role enough =
+      elim enough [
+        | inl (few, polls) ↦ inl (plain first s log fresh before start last rounds p at by part began waits unanswered
+            (λ r has. (let k = passing r has in record {
+              comes = k.comes;
+              done = k.done;
+              late = (let late = k.late in omega (arith, late));
+              early = (let early = k.early in omega (arith, early));
+              between = λ x there. search (polls r has x there);
+              met = λ id out. search (answered r has id out);
+            }))
+            role (omega (arith, few)))
+        | inr many ↦ elim (reach first s log fresh before start last rounds p by part (record {
+          at = at;
+          began = began;
+          line = record {
+            checking = waits.checking;
+            queue = waits.queue;
+            there = waits.there;
+            due = (let due = waits.due in omega (arith, due));
+            settled = inl (search (unanswered.invalid p waits.there));
+            young = (let young = unanswered.young in omega (arith, young));
+          };
+          passing = passing;
+          enough = omega (arith, many);
+        })) [
+          | inl (r, id, has, out) ↦ inl (let x = answered r has id out in selects (x.0, in_entries rounds r x.0 has x.1, x.2))
+          | inr (inl is) ↦ inl (selects (success-is (entries_of rounds) (path_of start p) is))
+          | inr (inr ended) ↦ inr ended
+        ]
+      ] where
+        selects : (x : Logged P) × Has (entries_of rounds) x × BringsSuccess x → SegmentSelects mac answers first s log (entries_of rounds)
+        selects (x, has, success) =
+            elim (walk first s log fresh (entries_of rounds) before start last part.at part.following part.rest (entries_of rounds) part.split (λ y there. there) (of_rounds by rounds passing) part.led part.run role
+            (record { full = waits.checking.full; invalid = unanswered.invalid; unanswered = λ y none success. none })) [
+              | inl selected_paths ↦ selected_paths
+              | inr w ↦ absurd (w.unanswered x has success)
+            ]
+
+  -- ---- from the first `handle_timeout` call on by which the pair is due
+
+  pub due-rounds-announce : PairsAreReachedFromDue {H = H} {P = P} mac answers → AnsweredDueRoundsSelect mac answers
+  due-rounds-announce reach first s log fresh before start second last r later p by one others waits unanswered from comes done between passing answered role role_later enough =
+      elim (reach first s log fresh before start second last r later p by one others (record {
+        checking = waits.checking;
+        queue = waits.queue;
+        there = waits.there;
+        due = (let due = waits.due in omega (arith, due));
+        settled = inl (search (unanswered.invalid p waits.there));
+        young = (let young = unanswered.young in omega (arith, young));
+      }) (omega (arith, from)) comes done (λ x has. between x has) (λ x has. passing x has) (of_enough enough)) [
+        | inl (inl (x, id, inl is, out)) ↦ inl (in-first (in-round (r ∷ []) r (inl refl) (search (answered r (inl refl) id (ap (λ (z : LoggedRound P). z.timeout.entry.emitted.issued) is ∙ out)))))
+        | inl (inl (x, id, inr none, out)) ↦ absurd none
+        | inl (inr (inl is)) ↦ inl (in-first (success-is (entries_of (r ∷ [])) (path_of start p) is))
+        | inl (inr (inr ended)) ↦ inr (inl ended)
+        | inr (inl (x, id, has, out)) ↦ inl (in-later (in-round later x has (search (answered x (inr has) id out))))
+        | inr (inr (inl is)) ↦ inl (in-later (success-is (entries_of later) (path_of start p) is))
+        | inr (inr (inr ended)) ↦ inr (inr ended)
+      ] where
+        all : List (Logged P)
+        all = entries_of later ++ entries_of (r ∷ [])
+
+        of_enough : SufficesFromDue start second last (length later) → SufficesFromDue start second last (length later)
+        of_enough (inl few) = inl (omega (arith, few))
+        of_enough (inr many) = inr (omega (arith, many))
+
+        front : (xs ys : List (Logged P)) (x : Logged P) → Has xs x → Has (xs ++ ys) x
+        front [] ys x h = absurd h
+        front (y ∷ xs) ys x (inl e) = inl e
+        front (y ∷ xs) ys x (inr h) = inr (front xs ys x h)
+
+        rear : (xs ys : List (Logged P)) (x : Logged P) → Has ys x → Has (xs ++ ys) x
+        rear [] ys x h = h
+        rear (y ∷ xs) ys x h = inr (rear xs ys x h)
+
+        of_first : (x : Logged P) → Has (entries_of (r ∷ [])) x → IsOfRound x
+        of_first x has = elim (either_has r.following (r.timeout ∷ []) x has) [
+          | inl following ↦ inl (between x following)
+          | inr (inl is) ↦ inr (r.now, ap (λ (y : Logged P). y.call) (sym is) ∙ comes)
+          | inr (inr none) ↦ absurd none
+        ]
+
+        begin : Waits [] start
+        begin = record { full = waits.checking.full; invalid = unanswered.invalid; unanswered = λ y none success. none }
+
+        -- after the first round no pair is valid, or a path is selected in it
+        after-first : SegmentSelects mac answers first s log all ⊎ Waits (entries_of (r ∷ [])) second
+        after-first = walk first s log fresh all before start second one.at one.following one.rest (entries_of (r ∷ [])) one.split (λ y there. rear (entries_of later) (entries_of (r ∷ [])) y there) of_first one.led one.run role begin
+
+        in-round : (rounds : List (LoggedRound P)) (x : LoggedRound P) → Has rounds x → (y : Logged P) × Has x.following y × BringsSuccess y → (y : Logged P) × Has (entries_of rounds) y × BringsSuccess y
+        in-round rounds x has (y, there, success) = (y, in_entries rounds x y has there, success)
+
+        in-first : (x : Logged P) × Has (entries_of (r ∷ [])) x × BringsSuccess x → SegmentSelects mac answers first s log all
+        in-first (x, has, success) = elim after-first [
+          | inl selected_paths ↦ selected_paths
+          | inr w ↦ absurd (w.unanswered x has success)
+        ]
+
+        in-later : (x : Logged P) × Has (entries_of later) x × BringsSuccess x → SegmentSelects mac answers first s log all
+        in-later (x, has, success) = elim after-first [
+          | inl selected_paths ↦ selected_paths
+          | inr w ↦
+              elim (walk first s log fresh all (entries_of (r ∷ []) ++ before) second last others.at others.following others.rest (entries_of later) others.split (λ y there. front (entries_of later) (entries_of (r ∷ [])) y there)
+              (of_rounds by later passing) others.led others.run role_later (record { full = w.full; invalid = w.invalid; unanswered = λ y none success. none })) [
+                | inl selected_paths ↦ selected_paths
+                | inr v ↦ absurd (v.unanswered x has success)
+              ]
+        ]

@@ -1,0 +1,230 @@
+-- Rounds of an execution in which candidates may be added, as rounds of a log.
+use Rattle.std.proofs.Common.{◌≡◌, ℕ, ◌<◌, true, List, [], ◌∷◌, ◌++◌, length, Some, inl, inr, ◌⊎◌, refl, ap, sym, ◌∙◌, subst, arith, append_assoc}
+use Rattle.rand_core.specs.Stream.{Stream}
+use Rattle.is_proto.specs.Lists.{Has}
+use Rattle.is_candidate.specs.Candidates.{CandidateRecord}
+use Rattle.is_rules.specs.declared.emitted.Path.{Path}
+use Rattle.is_rules.specs.Agent.{AgentRecord}
+use Rattle.is_theorems.specs.Asked.{IsAnsweredOn, IsAnsweredIn}
+use Rattle.is_theorems.specs.AskedCourses.{Ends, EndsAlong}
+use Rattle.is_theorems.specs.Courses.{CourseRound}
+use Rattle.is_theorems.specs.Exchange.{Course}
+use Rattle.is_theorems.specs.Logs.{Logged}
+use Rattle.is_theorems.specs.Reached.{is_in_round, IsPassing, ChecksIn, IsEndedIn, PairsAreReached}
+use Rattle.is_theorems.specs.ReachedCourses.{ChecksAmong, IsAnsweredAmong, PassRounds}
+use Rattle.is_theorems.specs.Rounds.{LoggedRound, entries_of, RunsOn}
+use Rattle.is_theorems.specs.Runs.{Run}
+use Rattle.is_rules.specs.Sending.{path_of}
+use Rattle.is_rules.specs.Sound.{GivesBased}
+use Rattle.is_rules.specs.Steps.{Call, HandleTimeout, Entry, Step}
+use Rattle.is_theorems.proofs.ExecutionLogs.PerAgentExecutions.{entry_of, part_of, pushed, part_is, round_of, rounds_of, begun, as_many, either_has, recomputed, leads_on}
+use Rattle.is_theorems.proofs.ExecutionLogs.LogSegments.{no-case, run-on}
+use Rattle.is_theorems.specs.FirstTimeouts.{IsOpenRound, EndsAmong, IsReached, SufficesFromDue, Suffices, OpenCoursesReach, CoursesReachFromDue, PairsAreReachedFromDue}
+
+module _ {P : Type 0} where
+  -- ---- rounds of an execution, as those of a log
+
+  is_passing : (by : ℕ) (before : List (Logged P)) (r : CourseRound P) → IsOpenRound by r → IsPassing by (round_of before r)
+  is_passing by before r round = record {
+    comes = refl;
+    done = round.done;
+    late = (let late = round.late in omega (arith, late));
+    early = round.early;
+    between = λ x has. round.between (x.call, x.entry) (part_is (entry_of before (HandleTimeout r.now) r.timeout ∷ before) r.following x has);
+  }
+
+  are_passing : (by : ℕ) (before : List (Logged P)) (older : List (LoggedRound P)) (rounds : List (CourseRound P)) → ((r : LoggedRound P) → Has older r → IsPassing by r)
+      → ((r : CourseRound P) → Has rounds r → IsOpenRound by r) → (r : LoggedRound P) → Has (rounds_of before older rounds) r → IsPassing by r
+  are_passing by before older [] were are r has = were r has
+  are_passing by before older (x ∷ later) were are r has =
+      are_passing by before (round_of (entries_of older ++ before) x ∷ older) later
+      (λ y there. elim there [
+        | inl is ↦ subst (λ (z : LoggedRound P). IsPassing by z) is (is_passing by (entries_of older ++ before) x (are x (inl refl)))
+        | inr k ↦ were y k
+      ])
+      (λ y there. are y (inr there)) r has
+
+  checks-later : (x : CourseRound P) (rounds : List (CourseRound P)) (path : Path) → ChecksAmong rounds path → ChecksAmong (x ∷ rounds) path
+  checks-later x rounds path (r, id, has, out) = (r, id, inr has, out)
+
+  answered-later : (x : CourseRound P) (rounds : List (CourseRound P)) (path : Path) → IsAnsweredAmong rounds path → IsAnsweredAmong (x ∷ rounds) path
+  answered-later x rounds path (r, has, is) = (r, inr has, is)
+
+  checks_among : (before : List (Logged P)) (older : List (LoggedRound P)) (rounds : List (CourseRound P)) (path : Path) → ChecksIn (rounds_of before older rounds) path
+      → ChecksAmong rounds path ⊎ ChecksIn older path
+  checks_among before older [] path checks = inr checks
+  checks_among before older (r ∷ later) path checks =
+      elim (checks_among before (round_of (entries_of older ++ before) r ∷ older) later path checks) [
+        | inl k ↦ inl (checks-later r later path k)
+        | inr (x, id, inl is, out) ↦ inl (r, id, inl refl, ap (λ (y : LoggedRound P). y.timeout.entry.emitted.issued) is ∙ out)
+        | inr (x, id, inr has, out) ↦ inr (x, id, has, out)
+      ]
+
+  answered_among : (before : List (Logged P)) (older : List (LoggedRound P)) (rounds : List (CourseRound P)) (path : Path) → IsAnsweredIn (entries_of (rounds_of before older rounds)) path
+      → IsAnsweredAmong rounds path ⊎ IsAnsweredIn (entries_of older) path
+  answered_among before older [] path answered = inr answered
+  answered_among before older (r ∷ later) path answered =
+      elim (answered_among before (round_of (entries_of older ++ before) r ∷ older) later path answered) [
+        | inl k ↦ inl (answered-later r later path k)
+        | inr (x, has, is) ↦ elim (either_has (round_of (entries_of older ++ before) r).following (entry_of (entries_of older ++ before) (HandleTimeout r.now) r.timeout ∷ entries_of older) x has) [
+          | inl following ↦
+              inl (r, inl refl, ((x.call, x.entry), part_is (entry_of (entries_of older ++ before) (HandleTimeout r.now) r.timeout ∷ (entries_of older ++ before)) r.following x following, is))
+          | inr (inl same) ↦ absurd (subst (λ (y : Logged P). IsAnsweredOn y path) (sym same) is).3
+          | inr (inr was) ↦ inr (x, was, is)
+        ]
+      ]
+
+module _ {H P : Type 0} (mac : H → List ℕ → List ℕ → List ℕ) (answers : P → CandidateRecord → ℕ → ℕ → Type 0) where
+  -- ---- segments that may remove a pair of the path only if this does
+
+  module _ (Gone : Type 0) (path : Path) where
+    abbrev Held : List (Logged P) → AgentRecord H P → Stream → List (Logged P) → AgentRecord H P → Stream → Type 0
+    Held before start s part last t = (run : RunsOn mac answers before start s part last t) × (IsEndedIn mac answers before start s part last t run path → Gone)
+
+    abbrev Holds : List (Logged P) → AgentRecord H P → List (Logged P) → AgentRecord H P → Type 0
+    Holds before start part last = (t : Stream) → (s : Stream) × Held before start s part last t
+
+    join : (before one two : List (Logged P)) (start mid last : AgentRecord H P) (s u t : Stream) → Held before start s one mid u → Held (one ++ before) mid u two last t
+        → Held before start s (two ++ one) last t
+    join before one [] start mid last s u t h ((is, same), none) =
+        subst (λ (a : AgentRecord H P). Held before start s one a t) (sym is) (subst (λ v. Held before start s one mid v) (sym same) h)
+    join before one (x ∷ two) start mid last s u t h ((m, v, run, number, based, step), ends) =
+        let k = join before one two start mid m s u v h (run, λ e. ends (inr e)) in (
+          (m, v, k.0, number ∙ ap length (sym (append_assoc two one before)), based, step),
+          λ e. elim e [ inl here ↦ ends (inl here) | inr others ↦ k.1 others ],
+        )
+
+    one-call : (before : List (Logged P)) (c : Call P) (e : Entry) (old new : AgentRecord H P) (s t : Stream) → GivesBased c → Step mac answers old s c e new t
+        → (Ends answers old c e path → Gone) → Held before old s (entry_of before c e ∷ []) new t
+    one-call before c e old new s t based step ends = ((old, s, (refl, refl), refl, based, step), λ k. elim k [ inl here ↦ ends here.1 | inr none ↦ absurd none ])
+
+    holds_course : (xs : List (Call P × Entry)) (before : List (Logged P)) (old new : AgentRecord H P) → (course : Course mac answers xs old new)
+        → (EndsAlong mac answers xs old new course path → Gone) → Holds before old (part_of before xs) new
+    holds_course [] before old new is ends t = (t, ((is, refl), λ none. absurd none))
+    holds_course (x ∷ rest) before old new (mid, s, t, based, step, more) ends u =
+        let k = holds_course rest (entry_of before x.0 x.1 ∷ before) mid new more (λ e. ends (inr e)) u in
+        let a = recomputed mac answers x.0 x.1 old mid s t k.0 step in (
+          a.0,
+          join before (entry_of before x.0 x.1 ∷ []) (part_of (entry_of before x.0 x.1 ∷ before) rest) old mid new a.0 k.0 u
+              (one-call before x.0 x.1 old mid a.0 k.0 based a.1 (λ e. ends (inl e))) k.1,
+        )
+
+    holds_rounds : (rounds : List (CourseRound P)) (before : List (Logged P)) (older : List (LoggedRound P)) (start old new : AgentRecord H P) → Holds before start (entries_of older) old
+        → (chain : PassRounds mac answers rounds old new) → (EndsAmong mac answers rounds old new chain path → Gone) → Holds before start (entries_of (rounds_of before older rounds)) new
+    holds_rounds [] before older start old new held is ends = subst (λ (a : AgentRecord H P). Holds before start (entries_of older) a) (sym is) held
+    holds_rounds (r ∷ later) before older start old new held (mid, next, s, t, step, course, more) ends =
+        holds_rounds later before (round_of (entries_of older ++ before) r ∷ older) start next new one more (λ e. ends (inr e)) where
+          timeout : Logged P
+          timeout = entry_of (entries_of older ++ before) (HandleTimeout r.now) r.timeout
+
+          one : Holds before start (entries_of (round_of (entries_of older ++ before) r ∷ older)) next
+          one u =
+              let k = holds_course r.following (timeout ∷ (entries_of older ++ before)) mid next course (λ e. ends (inl (search e))) u in
+              let a = recomputed mac answers (HandleTimeout r.now) r.timeout old mid s t k.0 step in
+              let h = held a.0 in (
+                h.0,
+                join before (timeout ∷ entries_of older) (part_of (timeout ∷ (entries_of older ++ before)) r.following) start mid next h.0 k.0 u
+                    ((old, a.0, h.1.0, refl, tt, a.1), λ e. elim e [ inl (called, ends_at) ↦ no-case called | inr others ↦ h.1.1 others ]) k.1,
+              )
+
+    -- what is reached in the rounds of the log is reached in those of the execution
+    reached-back : (before : List (Logged P)) (rounds : List (CourseRound P)) (found : Type 0) → (found → Gone)
+        → ChecksIn (rounds_of before [] rounds) path ⊎ (IsAnsweredIn (entries_of (rounds_of before [] rounds)) path ⊎ found)
+        → ChecksAmong rounds path ⊎ (IsAnsweredAmong rounds path ⊎ Gone)
+    reached-back before rounds found gone (inl checks) = elim (checks_among before [] rounds path checks) [
+      | inl k ↦ inl k
+      | inr none ↦ absurd none.2
+    ]
+    reached-back before rounds found gone (inr (inl answered)) = elim (answered_among before [] rounds path answered) [
+      | inl k ↦ inr (inl k)
+      | inr none ↦ absurd none.1
+    ]
+    reached-back before rounds found gone (inr (inr ended)) = inr (inr (gone ended))
+
+  any : Stream
+  any = record { u32_after = λ cs. 0; u64_after = λ cs. 0; bytes_after = λ cs n. [] }
+
+  pub open-courses-reach : PairsAreReached {H = H} {P = P} mac answers → OpenCoursesReach {H = H} {P = P} mac answers
+  open-courses-reach reached first start last xs r rounds p by fresh course line chain are enough =
+      let before : List (Logged P) = pushed [] xs in
+      let path : Path = path_of start p in
+      let Gone : Type 0 = EndsAmong mac answers (r ∷ rounds) start last chain path in
+      let all : List (LoggedRound P) = rounds_of before [] (r ∷ rounds) in
+      let held = holds_rounds Gone path (r ∷ rounds) before [] start start last (λ t. (t, ((refl, refl), λ none. absurd none))) chain (λ e. e) any in
+      let led = leads_on mac answers first xs [] first start (λ t. (t, (refl, refl))) course held.0 in
+      let many = as_many before [] (r ∷ rounds) in
+      reached-back Gone path before (r ∷ rounds) (IsEndedIn mac answers before start held.0 (entries_of all) last any held.1.0 path) held.1.1
+      (reached first led.0 (entries_of all ++ before) fresh before start last all p by
+      (record { rest = []; split = refl; at = held.0; led = led.1; following = any; run = held.1.0 })
+      (record {
+        at = r.now;
+        began = begun before (round_of ([] ++ before) r) [] rounds;
+        line = line;
+        passing = are_passing by before [] (r ∷ rounds) (λ x none. absurd none) are;
+        enough = omega (arith, many, enough);
+      }))
+
+  pub courses-reach-from-due : OpenCoursesReach {H = H} {P = P} mac answers → PairsAreReachedFromDue {H = H} {P = P} mac answers → CoursesReachFromDue {H = H} {P = P} mac answers
+  courses-reach-from-due open_reach reached first start last xs r later p by fresh course line from done early between run passing enough = by-enough enough where
+    path : Path
+    path = path_of start p
+
+    Gone : Type 0
+    Gone = EndsAmong mac answers (r ∷ later) start last run path
+
+    open-from : by < r.now → (x : CourseRound P) → Has (r ∷ later) x → IsOpenRound by x
+    open-from late x (inl is) = subst (λ (y : CourseRound P). IsOpenRound by y) is (record { done = done; late = late; early = early; between = between })
+    open-from late x (inr has) = passing x has
+
+    before : List (Logged P)
+    before = pushed [] xs
+
+    first_round : LoggedRound P
+    first_round = round_of before r
+
+    following : List (Logged P)
+    following = entries_of (first_round ∷ []) ++ before
+
+    others : List (LoggedRound P)
+    others = rounds_of following [] later
+
+    held-later : (s : Stream) × Held Gone path following run.1 s (entries_of others) last any
+    held-later = holds_rounds Gone path later following [] run.1 run.1 last (λ t. (t, ((refl, refl), λ none. absurd none))) run.6 (λ e. inr e) any
+
+    held-first : (s : Stream) × Held Gone path before start s (entries_of (first_round ∷ [])) run.1 held-later.0
+    held-first = holds_rounds Gone path (r ∷ []) before [] start start run.1 (λ t. (t, ((refl, refl), λ none. absurd none)))
+        (run.0, run.1, run.2, run.3, run.4, run.5, refl) (λ e. elim e [ inl k ↦ inl k | inr none ↦ absurd none ]) held-later.0
+
+    led : (s : Stream) × Run mac answers first s before start held-first.0
+    led = leads_on mac answers first xs [] first start (λ t. (t, (refl, refl))) course held-first.0
+
+    from-first : SufficesFromDue start run.1 last (length later) → IsReached mac answers (r ∷ later) start last run path
+    from-first enough =
+        let many = as_many following [] later in
+        elim (reached first led.0 (entries_of others ++ following) fresh before start run.1 last first_round others p by
+        (record { rest = entries_of others; split = refl; at = held-first.0; led = led.1; following = held-later.0; run = held-first.1.0 })
+        (record { rest = []; split = refl; at = held-later.0; led = run-on mac answers first start run.1 led.0 held-first.0 held-later.0 before (entries_of (first_round ∷ [])) led.1 held-first.1.0; following = any; run = held-later.1.0 })
+        line (omega (arith, from)) refl done
+        (λ x has. between (x.call, x.entry) (part_is (entry_of before (HandleTimeout r.now) r.timeout ∷ before) r.following x has))
+        (are_passing by following [] later (λ x none. absurd none) passing)
+        (subst (λ n. SufficesFromDue start run.1 last n) (sym (omega (arith, many))) enough)) [
+          | inl here ↦
+              elim (reached-back Gone path before (r ∷ []) (IsEndedIn mac answers before start held-first.0 (entries_of (first_round ∷ [])) run.1 held-later.0 held-first.1.0 path) held-first.1.1 here) [
+                | inl (x, id, inl is, out) ↦ inl (x, id, inl is, out)
+                | inl (x, id, inr none, out) ↦ absurd none
+                | inr (inl (x, inl is, answered)) ↦ inr (inl (x, inl is, answered))
+                | inr (inl (x, inr none, answered)) ↦ absurd none
+                | inr (inr ends) ↦ inr (inr ends)
+              ]
+          | inr there ↦
+              elim (reached-back Gone path following later (IsEndedIn mac answers following run.1 held-later.0 (entries_of others) last any held-later.1.0 path) held-later.1.1 there) [
+                | inl (x, id, has, out) ↦ inl (x, id, inr has, out)
+                | inr (inl (x, has, answered)) ↦ inr (inl (x, inr has, answered))
+                | inr (inr ends) ↦ inr (inr ends)
+              ]
+        ]
+
+    by-enough : Suffices by r.now start run.1 last (length later) → IsReached mac answers (r ∷ later) start last run path
+    by-enough (inl (late, enough)) =
+        open_reach first start last xs r later p by fresh course line run (λ x has. open-from (omega (arith, late)) x has) (omega (arith, enough))
+    by-enough (inr enough) = from-first enough

@@ -1,0 +1,451 @@
+-- Rounds in a log: a pair that is due is checked in one of them, or answered, before more checks of other pairs are
+-- sent than the bound allows.
+use Rattle.std.proofs.Common.{◌≡◌, ℕ, suc, ◌+◌, ◌*◌, ◌<◌, ◌≤◌, true, false, not, List, [], ◌∷◌, ◌++◌, length, map, nat_lt, Option, Some, None, Ok, Err, is_some, unwrap_or, inl, inr, ◌⊎◌, refl, ap, sym, ◌∙◌, subst, arith, append_assoc}
+use Rattle.std.specs.Prelude.{IsSomeAnd}
+use Rattle.std.proofs.lemmas.Bool.Decides.{nat_tests}
+use Rattle.rand_core.specs.Stream.{Stream}
+use Rattle.is_proto.specs.Lists.{Has}
+use Rattle.is_proto.specs.Times.{MAX}
+use Rattle.is_candidate.specs.Candidates.{CandidateRecord}
+use Rattle.is_pair.specs.Checks.{unanswered_count}
+use Rattle.is_pair.specs.Due.{asked, due_time_of}
+use Rattle.is_pair.specs.Pairs.{PairRecord}
+use Rattle.is_stun.specs.declared.header.Class.TheVariants as class
+use Rattle.is_stun.specs.declared.timing.StunTiming.{StunTiming}
+use Rattle.is_rules.specs.Agent.{AgentRecord}
+use Rattle.is_theorems.specs.Asked.{IsAnsweredOn, IsAnsweredIn, MayEndIn}
+use Rattle.is_theorems.specs.AskedCourses.{Ends}
+use Rattle.is_rules.specs.Brought.{Brings}
+use Rattle.is_rules.specs.declared.emitted.Path.{Path}
+use Rattle.is_theorems.specs.Logs.{Logged}
+use Rattle.is_rules.specs.Polls.{PollsTimeout, NextTimeoutFrom, NextTimeouts, is_waiting, is_idle}
+use Rattle.is_theorems.specs.Progress.{IsChecking}
+use Rattle.is_theorems.specs.Reached.{IsPassing, ChecksIn, is_in_round, IsEndedIn, PairsAreReached, AskedRoundsSelect}
+use Rattle.is_theorems.specs.Rounds.{LoggedRound, entries_of, began_at, Part, RunsOn}
+use Rattle.is_theorems.specs.Runs.{IsFresh, Run, IsTopPath}
+use Rattle.is_rules.specs.Sending.{path_of}
+use Rattle.is_rules.specs.Sound.{IsSound}
+use Rattle.is_theorems.specs.Staying.{MayEnd, Stays}
+use Rattle.is_rules.specs.Steps.{Call, SetMtu, SetControlTieBreaker, SetMaxCandidatePairs, SetMaxDiscovered, SetRenomination, SetTimingAdvance, SetLocalPreference, SetControlling, SetLocalCredentials, AddLocalCandidate, AddRemoteCandidate, Entry, ReceivePacket, HandleTimeout, PollTransmit, PollTimeout, PollEvent, Done, Step}
+use Rattle.is_rules.specs.Timeouts.{timeout_begun}
+use Rattle.is_rules.specs.Emitted.{issued_as}
+use Rattle.is_theorems.proofs.PathSelection.NominatedByPeer.{asked-are-selected_paths}
+use Rattle.is_theorems.proofs.CallEffects.PathAndTradeEffects.{path_theorem}
+use Rattle.is_theorems.proofs.RuleEffects.UnchangedSettings.{either}
+use Rattle.is_theorems.proofs.EarlierChecks.ChecksOfOtherPairs.{leads, own-le, lead-asked, leads-map, leads-others}
+use Rattle.is_theorems.proofs.ExecutionLogs.LogTheorems.{runs_sound}
+use Rattle.is_theorems.proofs.ExecutionLogs.LogSegments.{no-case, run-on, passed as passed-at}
+use Rattle.is_theorems.proofs.EarlierChecks.ChangedPairs.{onward-same}
+use Rattle.is_theorems.proofs.EarlierChecks.BetweenTimeouts.{Ground, Goes, goes-to, goes-same, receives-goes}
+use Rattle.is_theorems.proofs.DuePairs.FirstDuePair.{timeout-follows}
+use Rattle.is_theorems.proofs.EarlierChecks.OneCheckFewer.{Ready, timeout-goes}
+use Rattle.is_rules.proofs.PairLists.RisingNumbers.{rising-each}
+use Rattle.is_theorems.proofs.CallEffects.ServedRequests.{Has-mapped}
+use Rattle.is_theorems.proofs.DuePairs.PollingCycles.{none-left, maintains_pairs-from, distinct-sound}
+use Rattle.is_theorems.proofs.CallEffects.FailedCallsAndNewAgents.{mtu_kept, local_kept, enrolment_kept, storing_kept}
+use Rattle.is_theorems.proofs.StoredPairs.PairsThatStay.{none-entered, pairs-stay}
+use Rattle.is_theorems.proofs.RuleEffects.SelectedPaths.{one_pair}
+use Rattle.is_theorems.proofs.DuePairs.AfterNominationAndRemoval.{Base, stays-young}
+use Rattle.is_theorems.proofs.EarlierChecks.AddedCandidates.{local-goes, remote-goes}
+
+lt-is : (n m : ℕ) → n < m → nat_lt n m ≡ true
+lt-is n m h = grind (arith, nat_tests, h)
+
+module _ {P : Type 0} where
+  falls-late : (by : ℕ) (r : LoggedRound P) → IsPassing by r → by < r.now
+  falls-late by r passing = let late = passing.late in omega (arith, late)
+
+  falls-early : (by : ℕ) (r : LoggedRound P) → IsPassing by r → r.now < MAX
+  falls-early by r passing = let early = passing.early in omega (arith, early)
+
+-- ---- responses on a path
+
+module _ {P : Type 0} (path : Path) where
+  answered-later : (x : Logged P) (xs : List (Logged P)) → IsAnsweredIn xs path → IsAnsweredIn (x ∷ xs) path
+  answered-later x xs (y, has, is) = (y, inr has, is)
+
+  has-front : (xs ys : List (Logged P)) → IsAnsweredIn xs path → IsAnsweredIn (xs ++ ys) path
+  has-front [] ys (y, has, is) = absurd has
+  has-front (x ∷ xs) ys (y, inl e, is) = (y, inl e, is)
+  has-front (x ∷ xs) ys (y, inr has, is) = answered-later x (xs ++ ys) (has-front xs ys (y, has, is))
+
+  has-following : (xs ys : List (Logged P)) → IsAnsweredIn ys path → IsAnsweredIn (xs ++ ys) path
+  has-following [] ys h = h
+  has-following (x ∷ xs) ys h = answered-later x (xs ++ ys) (has-following xs ys h)
+
+  in-entries : (rounds : List (LoggedRound P)) (r : LoggedRound P) → Has rounds r → IsAnsweredIn r.following path → IsAnsweredIn (entries_of rounds) path
+  in-entries [] r has answered = absurd has
+  in-entries (x ∷ older) r (inl e) answered = has-front x.following (x.timeout ∷ entries_of older) (subst (λ (y : LoggedRound P). IsAnsweredIn y.following path) (sym e) answered)
+  in-entries (x ∷ older) r (inr has) answered = has-following x.following (x.timeout ∷ entries_of older) (answered-later x.timeout (entries_of older) (in-entries older r has answered))
+
+module _ {H P : Type 0} where
+  -- `poll_timeout`, called after the time by which the pair is due
+  asks-goes : (n by at : ℕ) → by < at → at < MAX → (old new : AgentRecord H P) (deadline : Option ℕ) → old.last_time ≡ Some at → PollsTimeout old deadline new → Goes n by old new
+  asks-goes n by at following early old new deadline last h = some deadline (subst (λ o. NextTimeoutFrom o old deadline new) last h) where
+    fixed : new ≡ record old { pairs = map (asked at old.timing) old.pairs } → Goes n by old new
+    fixed made = goes-to n by old _ new (
+      refl,
+      record {
+        less = (let le : leads n by (map (asked at old.timing) old.pairs) ≤ leads n by old.pairs =
+            leads-map n by (asked at old.timing) old.pairs (λ y. own-le n by y (asked at old.timing y) refl (lead-asked by at old.timing y following early)) in
+            omega (arith, le));
+        fixed = λ d cs (q, has, is, due, checks).
+            (asked at old.timing q, Has-mapped (asked at old.timing) old.pairs q has, is, ap (λ o. Some (unwrap_or o (due_time_of at old.timing (record q { due = None })))) due, checks);
+      },
+    ) made
+
+    some : (deadline : Option ℕ) → IsSomeAnd deadline (λ w. NextTimeouts old at w new) → Goes n by old new
+    some None k = absurd k
+    some (Some w) k = either (is_waiting old) k
+        (λ _ l. goes-same n by old new l.1)
+        (λ _ l. either (is_idle old) l (λ _ i. goes-same n by old new i.1) (λ _ i. fixed i.1))
+
+  -- ---- a pair that waits for its check
+
+  -- before a `handle_timeout` call
+  record Persists (by n : ℕ) (path : Path) (total base now k : ℕ) (a : AgentRecord H P) : Type 0 where
+    checking : IsChecking a
+    queue : a.queue ≡ []
+    pair : PairRecord
+    there : Has a.pairs pair
+    number : pair.number ≡ n
+    on : path_of a pair ≡ path
+    young : nat_lt (unanswered_count pair.checks) a.timing.max_retransmits ≡ true
+    late : by < now
+    early : now < MAX
+    ready : Ready now by late early a.timing pair
+    count : leads n by a.pairs + k + base ≤ total + a.next_number
+
+  -- after it
+  record Waits (by n : ℕ) (path : Path) (total base at k : ℕ) (a : AgentRecord H P) : Type 0 where
+    checking : IsChecking a
+    queue : a.queue ≡ []
+    last : a.last_time ≡ Some at
+    pair : PairRecord
+    there : Has a.pairs pair
+    number : pair.number ≡ n
+    on : path_of a pair ≡ path
+    young : nat_lt (unanswered_count pair.checks) a.timing.max_retransmits ≡ true
+    timeout : ℕ
+    before : timeout ≤ by
+    due : pair.due ≡ Some timeout
+    count : leads n by a.pairs + k + base ≤ total + a.next_number
+
+  persists : (by n : ℕ) (path : Path) (total base at k now : ℕ) (a : AgentRecord H P) → by < now → now < MAX → Waits by n path total base at k a → Persists by n path total base now k a
+  persists by n path total base at k now a late early w = record {
+    checking = w.checking;
+    queue = w.queue;
+    pair = w.pair;
+    there = w.there;
+    number = w.number;
+    on = w.on;
+    young = w.young;
+    late = late;
+    early = early;
+    ready = (subst (λ d. d ≤ by) (sym (ap (λ o. unwrap_or o (due_time_of now a.timing (record w.pair { due = None }))) w.due)) w.before, inr (ap is_some w.due));
+    count = w.count;
+  }
+
+  module _ (mac : H → List ℕ → List ℕ → List ℕ) (answers : P → CandidateRecord → ℕ → ℕ → Type 0) (by n : ℕ) (path : Path) (total base : ℕ) where
+    -- ---- between two `handle_timeout` calls
+
+    waits-on : (at k : ℕ) (old new : AgentRecord H P) (w : Waits by n path total base at k old) → IsSound new → Goes n by old new → Stays old w.pair new → Waits by n path total base at k new
+    waits-on at k old new w sound (ground, goes) stays =
+        let f = goes.fixed w.timeout w.pair.checks (w.pair, w.there, w.number, w.due, refl) in
+        let one : stays.pair ≡ f.0 = one_pair new.pairs stays.pair f.0 (rising-each new.pairs sound.rising) stays.there f.1 (stays.number ∙ (w.number ∙ sym f.2)) in
+        let timing : new.timing ≡ old.timing = ap (λ (g : Ground). g.timing) ground in
+        let counted = w.count in
+        let less = goes.less in
+        record {
+          checking = record {
+            full = ap (λ (g : Ground). g.lite) ground ∙ w.checking.full;
+            peer = ap (λ (g : Ground). is_some g.remote_creds) ground ∙ w.checking.peer;
+          };
+          queue = ap (λ (g : Ground). g.queue) ground ∙ w.queue;
+          last = ap (λ (g : Ground). g.last_time) ground ∙ w.last;
+          pair = f.0;
+          there = f.1;
+          number = f.2;
+          on = ap (λ (q : PairRecord). path_of new q) (sym one) ∙ (stays.path ∙ w.on);
+          young = ap (λ cs. nat_lt (unanswered_count cs) new.timing.max_retransmits) f.4 ∙ (ap (λ (t : StunTiming). nat_lt (unanswered_count w.pair.checks) t.max_retransmits) timing ∙ w.young);
+          timeout = w.timeout;
+          before = w.before;
+          due = f.3;
+          count = counted-on (leads n by old.pairs) (leads n by new.pairs) old.next_number new.next_number counted less;
+        } where
+          counted-on : (x y i j : ℕ) → x + k + base ≤ total + i → y + i ≤ x + j → y + k + base ≤ total + j
+          counted-on x y i j h l = omega (arith, h, l)
+
+    between-goes : (at : ℕ) → by < at → at < MAX → (x : Logged P) (call : Call P) → x.call ≡ call → (old new : AgentRecord H P) (s t : Stream) → is_some old.remote_creds ≡ true → old.last_time ≡ Some at
+        → (p : PairRecord) → IsSound old → Has old.pairs p → p.number ≡ n → path_of old p ≡ path → is_in_round call ≡ true → Step mac answers old s call x.entry new t
+        → IsAnsweredOn x path ⊎ (MayEnd answers old call x.entry p ⊎ Goes n by old new)
+    between-goes at following early x (ReceivePacket now via bytes) called old new s t known last p sound has number on is (h, drawn) =
+        elim (receives-goes n by mac answers now old new via path bytes x.entry known
+        (λ q there same. (let one : q ≡ p = one_pair old.pairs q p (rising-each old.pairs sound.rising) there has (same ∙ sym number) in ap (λ (y : PairRecord). path_of old y) one ∙ on)) h) [
+          | inl (m, reads, flag, success, back) ↦ inl (now, via, m, subst (λ (c : Call P). Brings c x.entry now via m) (sym called) (refl, refl, reads, flag), success, back)
+          | inr k ↦ inr (inr k)
+        ]
+    between-goes at following early x PollTransmit called old new s t known last p sound has number on is (given, emitted, (polled, made), drawn) = inr (inr (goes-to n by old _ new (refl, onward-same n by old.pairs old.next_number) made))
+    between-goes at following early x PollTimeout called old new s t known last p sound has number on is (deadline, emitted, timed_out, drawn) = inr (inr (asks-goes n by at following early old new deadline last timed_out))
+    between-goes at following early x PollEvent called old new s t known last p sound has number on is (given, emitted, (polled, made), drawn) = inr (inr (goes-to n by old _ new (refl, onward-same n by old.pairs old.next_number) made))
+    between-goes at following early x (AddLocalCandidate c) called old new s t known last p sound has number on is (Ok (Some place), reported, h, drawn) = elim (local-goes n by answers old new c place p sound has number h) [
+      | inl ends ↦ inr (inl (ap (λ (e : Entry). e.answer) reported, ends))
+      | inr k ↦ inr (inr k)
+    ]
+    between-goes at following early x (AddLocalCandidate c) called old new s t known last p sound has number on is (Ok None, reported, h, drawn) = inr (inr (goes-same n by old new (none-entered answers old new c h)))
+    between-goes at following early x (AddLocalCandidate c) called old new s t known last p sound has number on is (Err error, reported, h, drawn) = inr (inr (goes-same n by old new (enrolment_kept answers old new c error h)))
+    between-goes at following early x (AddRemoteCandidate c) called old new s t known last p sound has number on is (Ok _, reported, h, drawn) = elim (remote-goes n by old new c p sound has number h) [
+      | inl ends ↦ inr (inl (ap (λ (e : Entry). e.answer) reported, ends))
+      | inr k ↦ inr (inr k)
+    ]
+    between-goes at following early x (AddRemoteCandidate c) called old new s t known last p sound has number on is (Err error, reported, h, drawn) = inr (inr (goes-same n by old new (storing_kept old new c error h)))
+    between-goes at following early x (SetMtu target warn) called old new s t known last p sound has number on is (Ok _, reported, h, drawn) = inr (inr (goes-to n by old _ new (refl, onward-same n by old.pairs old.next_number) h.1))
+    between-goes at following early x (SetMtu target warn) called old new s t known last p sound has number on is (Err error, reported, h, drawn) = inr (inr (goes-same n by old new (mtu_kept old new target warn error h)))
+    between-goes at following early x (SetLocalCredentials creds) called old new s t known last p sound has number on is (Ok _, reported, h, drawn) = inr (inr (goes-to n by old _ new (refl, onward-same n by old.pairs old.next_number) h.1))
+    between-goes at following early x (SetLocalCredentials creds) called old new s t known last p sound has number on is (Err error, reported, h, drawn) = inr (inr (goes-same n by old new (local_kept old new creds error h)))
+    between-goes at following early x (SetControlTieBreaker tie) called old new s t known last p sound has number on is (reported, made, drawn) = inr (inr (goes-to n by old _ new (refl, onward-same n by old.pairs old.next_number) made))
+    between-goes at following early x (SetMaxCandidatePairs k) called old new s t known last p sound has number on is (reported, made, drawn) = inr (inr (goes-to n by old _ new (refl, onward-same n by old.pairs old.next_number) made))
+    between-goes at following early x (SetMaxDiscovered limit) called old new s t known last p sound has number on is (reported, made, drawn) = inr (inr (goes-to n by old _ new (refl, onward-same n by old.pairs old.next_number) made))
+    between-goes at following early x (SetRenomination renominates) called old new s t known last p sound has number on is (reported, made, drawn) = inr (inr (goes-to n by old _ new (refl, onward-same n by old.pairs old.next_number) made))
+    between-goes at following early x (SetTimingAdvance advance) called old new s t known last p sound has number on is (reported, made, drawn) = inr (inr (goes-to n by old _ new (refl, onward-same n by old.pairs old.next_number) made))
+    between-goes at following early x (SetLocalPreference object) called old new s t known last p sound has number on is (reported, made, drawn) = inr (inr (goes-to n by old _ new (refl, onward-same n by old.pairs old.next_number) made))
+    between-goes at following early x (SetControlling controlling) called old new s t known last p sound has number on is (reported, made, drawn) = inr (inr (goes-to n by old _ new (refl, onward-same n by old.pairs old.next_number) made))
+    between-goes at following early x _ called old new s t known last p sound has number on is step = no-case is
+
+    module _ (first : AgentRecord H P) (s : Stream) (fresh : IsFresh first) where
+      sound-at : (log : List (Logged P)) (a : AgentRecord H P) (t : Stream) → Run mac answers first s log a t → IsSound a
+      sound-at log a t run = runs_sound mac answers (path_theorem mac answers) first a s t log fresh run
+
+      walk : (at k : ℕ) → by < at → at < MAX → (before : List (Logged P)) (start last : AgentRecord H P) (u t : Stream) (xs : List (Logged P)) → ((x : Logged P) → Has xs x → is_in_round x.call ≡ true)
+          → Run mac answers first s before start u → (run : RunsOn mac answers before start u xs last t) → Waits by n path total base at k start
+          → IsAnsweredIn xs path ⊎ (IsEndedIn mac answers before start u xs last t run path ⊎ Waits by n path total base at k last)
+      walk at k following early before start last u t [] fits led (is, same) w = inr (inr (subst (λ (a : AgentRecord H P). Waits by n path total base at k a) (sym is) w))
+      walk at k following early before start last u t (x ∷ xs) fits led (mid, v, run, number, given, step) w =
+          elim (walk at k following early before start mid u v xs (λ y has. fits y (inr has)) led run w) [
+            | inl answered ↦ inl (answered-later path x xs answered)
+            | inr (inl ended) ↦ inr (inl (inr ended))
+            | inr (inr m) ↦
+                (let here = run-on mac answers first start mid s u v before xs led run in
+                let sound = sound-at (xs ++ before) mid v here in
+                let sound_last = sound-at (x ∷ (xs ++ before)) last t (mid, v, here, number, given, step) in
+                let ends-here : MayEnd answers mid x.call x.entry m.pair → Ends answers mid x.call x.entry path = λ ends. (m.pair, m.there, (ap (λ (w : Path). w.source) m.on, ap (λ (w : Path). w.destination) m.on), ends) in
+                elim (between-goes at following early x x.call refl mid last v t m.checking.peer m.last m.pair sound m.there m.number m.on (fits x (inl refl)) step) [
+                  | inl answered ↦ inl (x, inl refl, answered)
+                  | inr (inl ends) ↦ inr (inl (inl (fits x (inl refl), ends-here ends)))
+                  | inr (inr goes) ↦ elim (pairs-stay mac answers mid last v t x.call x.entry m.pair sound given step m.there) [
+                    | inl stays ↦ inr (inr (waits-on at k mid last m sound_last goes stays))
+                    | inr ends ↦ inr (inl (inl (fits x (inl refl), ends-here ends)))
+                  ]
+                ])
+          ]
+
+    -- ---- a `handle_timeout` call
+
+    timeout-on : (now k : ℕ) (e : Entry) (old new : AgentRecord H P) (s t : Stream) → e.answer ≡ Done → Step mac answers old s (HandleTimeout now) e new t → IsSound old → IsSound new
+        → Persists by n path total base now k old
+        → ((id : List ℕ) × (e.emitted.issued ≡ Some (issued_as path class.Request id))) ⊎ Waits by n path total base now (suc k) new
+    timeout-on now k e old new s t done step sound sound_new st =
+        let h = passed-at mac answers old new s t now e done step in
+        let p = maintains_pairs-from mac now old s t e.emitted new st.queue h in
+        let m = timeout-follows mac now (timeout_begun now old) new s t e.emitted st.checking.peer st.checking.full p in
+        elim (timeout-goes now by st.late st.early mac (timeout_begun now old) new s t e.emitted st.checking.peer st.checking.full (distinct-sound mac old sound) sound.checks st.pair st.there st.young st.ready p) [
+          | inl (id, out) ↦ inl (id, out ∙ ap (λ w. Some (issued_as w class.Request id)) st.on)
+          | inr (d, before, (q, has, is, due, checks), fewer) ↦
+              (let stays : Stays old st.pair new = elim (pairs-stay mac answers old new s t (HandleTimeout now) e st.pair sound tt step st.there) [
+                | inl x ↦ x
+                | inr (was_done, none, gone) ↦ (let no : false ≡ true = ap not (sym gone) ∙ stays-young old.lite now old.timing st.pair st.checking.full st.young in absurd (cc))
+              ] in
+              let one : stays.pair ≡ q = one_pair new.pairs stays.pair q (rising-each new.pairs sound_new.rising) stays.there has (stays.number ∙ sym is) in
+              let next : new.next_number ≡ old.next_number = ap (λ (b : Base). b.next_number) m.0 in
+              let timing : new.timing ≡ old.timing = ap (λ (b : Base). b.timing) m.0 in
+              let less : leads n by new.pairs + 1 ≤ leads n by old.pairs = subst (λ i. leads i by new.pairs + 1 ≤ leads i by old.pairs) st.number fewer in
+              let counted = st.count in
+              inr (record {
+                checking = record {
+                  full = ap (λ (b : Base). b.lite) m.0 ∙ st.checking.full;
+                  peer = ap (λ (b : Base). is_some b.remote_creds) m.0 ∙ st.checking.peer;
+                };
+                queue = ap (λ (b : Base). b.queue) m.0 ∙ none-left now old.timing old.remote_creds old.queue st.queue;
+                last = ap (λ (b : Base). b.last_time) m.0;
+                pair = q;
+                there = has;
+                number = is ∙ st.number;
+                on = ap (λ (x : PairRecord). path_of new x) (sym one) ∙ (stays.path ∙ st.on);
+                young = ap (λ cs. nat_lt (unanswered_count cs) new.timing.max_retransmits) checks ∙ (ap (λ (z : StunTiming). nat_lt (unanswered_count st.pair.checks) z.max_retransmits) timing ∙ st.young);
+                timeout = d;
+                before = before;
+                due = due;
+                count = subst (λ j. leads n by new.pairs + suc k + base ≤ total + j) (sym next) (counted-on (leads n by old.pairs) (leads n by new.pairs) (total + old.next_number) counted less);
+              }))
+        ] where
+          counted-on : (x y z : ℕ) → x + k + base ≤ z → y + 1 ≤ x → y + suc k + base ≤ z
+          counted-on x y z h l = omega (arith, h, l)
+
+    -- ---- rounds
+
+    abbrev split-run : (before : List (Logged P)) (start last : AgentRecord H P) (u t : Stream) (xs older : List (Logged P)) → RunsOn mac answers before start u (xs ++ older) last t
+        → (mid : AgentRecord H P) × (v : Stream) × RunsOn mac answers before start u older mid v × RunsOn mac answers (older ++ before) mid v xs last t
+    split-run before start last u t [] older run = (last, t, run, (refl, refl))
+    split-run before start last u t (x ∷ xs) older (m, v, run, number, given, step) =
+        let k = split-run before start m u v xs older run in
+        (k.0, k.1, k.2, (m, v, k.3, number ∙ ap length (append_assoc xs older before), given, step))
+
+    -- what ends a pair in one of two parts of a segment ends it in the segment
+    split-ended : (before : List (Logged P)) (start last : AgentRecord H P) (u t : Stream) (xs older : List (Logged P)) → (run : RunsOn mac answers before start u (xs ++ older) last t)
+        → IsEndedIn mac answers (older ++ before) (split-run before start last u t xs older run).0 (split-run before start last u t xs older run).1 xs last t (split-run before start last u t xs older run).3 path
+        ⊎ IsEndedIn mac answers before start u older (split-run before start last u t xs older run).0 (split-run before start last u t xs older run).1 (split-run before start last u t xs older run).2 path
+        → IsEndedIn mac answers before start u (xs ++ older) last t run path
+    split-ended before start last u t [] older run (inl none) = absurd none
+    split-ended before start last u t [] older run (inr ended) = ended
+    split-ended before start last u t (x ∷ xs) older (m, v, run, number, given, step) (inl (inl here)) = inl here
+    split-ended before start last u t (x ∷ xs) older (m, v, run, number, given, step) (inl (inr ended)) = inr (split-ended before start m u v xs older run (inl ended))
+    split-ended before start last u t (x ∷ xs) older (m, v, run, number, given, step) (inr ended) = inr (split-ended before start m u v xs older run (inr ended))
+
+    abbrev Reached : List (LoggedRound P) → Type 0
+    Reached rounds = ChecksIn rounds path ⊎ IsAnsweredIn (entries_of rounds) path
+
+    reached-later : (r : LoggedRound P) (older : List (LoggedRound P)) → Reached older → Reached (r ∷ older)
+    reached-later r older (inl (x, id, has, out)) = inl (x, id, inr has, out)
+    reached-later r older (inr answered) = inr (has-following path r.following (r.timeout ∷ entries_of older) (answered-later path r.timeout (entries_of older) answered))
+
+    module _ (first : AgentRecord H P) (s : Stream) (fresh : IsFresh first) (before : List (Logged P)) (start : AgentRecord H P) (u : Stream) (led : Run mac answers first s before start u) (at : ℕ)
+        (begin : (late : by < at) (early : at < MAX) → Persists by n path total base at 0 start) where
+      abbrev WaitsAfter : List (LoggedRound P) → AgentRecord H P → Type 0
+      WaitsAfter [] a = a ≡ start
+      WaitsAfter (r ∷ older) a = Waits by n path total base r.now (length (r ∷ older)) a
+
+      some-is : (x y : ℕ) → Some x ≡ Some y → x ≡ y
+      some-is x y e = cc
+
+      persists-at : (r : LoggedRound P) (older : List (LoggedRound P)) (old : AgentRecord H P) → began_at (r ∷ older) ≡ Some at → IsPassing by r → WaitsAfter older old
+          → Persists by n path total base r.now (length older) old
+      persists-at r [] old began passing same =
+          let now : r.now ≡ at = some-is r.now at began in
+          let late : by < r.now = falls-late by r passing in
+          let early : r.now < MAX = falls-early by r passing in
+          subst (λ (a : AgentRecord H P). Persists by n path total base r.now 0 a) (sym same)
+          (subst (λ m. Persists by n path total base m 0 start) (sym now) (begin (omega (arith, late, now)) (omega (arith, early, now))))
+      persists-at r (x ∷ older) old began passing w = persists by n path total base x.now (length (x ∷ older)) r.now old (falls-late by r passing) (falls-early by r passing) w
+
+      older-began : (r : LoggedRound P) (rs : List (LoggedRound P)) → began_at (r ∷ rs) ≡ Some at → (rs ≡ [] ⊎ began_at rs ≡ Some at)
+      older-began r [] is = inl refl
+      older-began r (x ∷ rs) is = inr is
+
+      rounds-go : (rounds : List (LoggedRound P)) (last : AgentRecord H P) (t : Stream) → (rounds ≡ [] ⊎ began_at rounds ≡ Some at) → ((r : LoggedRound P) → Has rounds r → IsPassing by r)
+          → (run : RunsOn mac answers before start u (entries_of rounds) last t)
+          → Reached rounds ⊎ (IsEndedIn mac answers before start u (entries_of rounds) last t run path ⊎ WaitsAfter rounds last)
+      rounds-go [] last t began are (is, same) = inr (inr is)
+      rounds-go (r ∷ older) last t began are run =
+          let h = split-run before start last u t r.following (r.timeout ∷ entries_of older) run in
+          elim (on-halves (here-began began) h (rounds-go older h.2.0 h.2.1 (older-began r older (here-began began)) (λ x has. are x (inr has)) h.2.2)) [
+            | inl reached ↦ inl reached
+            | inr (inl ended) ↦ inr (inl (split-ended before start last u t r.following (r.timeout ∷ entries_of older) run ended))
+            | inr (inr waits) ↦ inr (inr waits)
+          ] where
+            here-began : (r ∷ older ≡ [] ⊎ began_at (r ∷ older) ≡ Some at) → began_at (r ∷ older) ≡ Some at
+            here-began (inl empty) = absurd (cc)
+            here-began (inr is) = is
+
+            on-halves : began_at (r ∷ older) ≡ Some at
+                → (h : (mid : AgentRecord H P) × (v : Stream) × RunsOn mac answers before start u (r.timeout ∷ entries_of older) mid v
+                × RunsOn mac answers ((r.timeout ∷ entries_of older) ++ before) mid v r.following last t)
+                → Reached older ⊎ (IsEndedIn mac answers before start u (entries_of older) h.2.0 h.2.1 h.2.2 path ⊎ WaitsAfter older h.2.0)
+                → Reached (r ∷ older)
+                ⊎ ((IsEndedIn mac answers ((r.timeout ∷ entries_of older) ++ before) h.0 h.1 r.following last t h.3 path ⊎ IsEndedIn mac answers before start u (r.timeout ∷ entries_of older) h.0 h.1 h.2 path)
+                ⊎ Waits by n path total base r.now (length (r ∷ older)) last)
+            on-halves began (mid, v, (old, z, run_older, number, given, step), back) so_far =
+                elim so_far [
+                  | inl reached ↦ inl (reached-later r older reached)
+                  | inr (inl ended) ↦ inr (inl (inr (inr ended)))
+                  | inr (inr w) ↦
+                      (let passing = are r (inl refl) in
+                      let led_old = run-on mac answers first start old s u z before (entries_of older) led run_older in
+                      let led_mid = run-on mac answers first start mid s u v before (r.timeout ∷ entries_of older) led (old, z, run_older, number, given, step) in
+                      elim (timeout-on r.now (length older) r.timeout.entry old mid z v passing.done (subst (λ (c : Call P). Step mac answers old z c r.timeout.entry mid v) passing.comes step)
+                      (sound-at first s fresh (entries_of older ++ before) old z led_old) (sound-at first s fresh ((r.timeout ∷ entries_of older) ++ before) mid v led_mid)
+                      (persists-at r older old began passing w)) [
+                        | inl (id, out) ↦ inl (inl (r, id, inl refl, out))
+                        | inr still_waits ↦
+                            elim (walk first s fresh r.now (length (r ∷ older)) (falls-late by r passing) (falls-early by r passing) ((r.timeout ∷ entries_of older) ++ before) mid last v t r.following passing.between led_mid back still_waits) [
+                              | inl answered ↦ inl (inr (has-front path r.following (r.timeout ∷ entries_of older) answered))
+                              | inr (inl ended) ↦ inr (inl (inl ended))
+                              | inr (inr waits) ↦ inr (inr waits)
+                            ]
+                      ])
+                ]
+
+  module _ (mac : H → List ℕ → List ℕ → List ℕ) (answers : P → CandidateRecord → ℕ → ℕ → Type 0) where
+    pub pairs-are-reached : PairsAreReached {H = H} {P = P} mac answers
+    pairs-are-reached first s log fresh before start last rounds p by found f =
+        by-rounds (IsEndedIn mac answers before start found.at (entries_of rounds) last found.following found.run (path_of start p)) rounds f.began (let enough = f.enough in omega (arith, enough))
+        (rounds-go mac answers by p.number (path_of start p) (leads p.number by start.pairs) start.next_number first s fresh before start found.at found.led f.at begin rounds last found.following (inr f.began) f.passing found.run) where
+          begin : (late : by < f.at) (early : f.at < MAX) → Persists by p.number (path_of start p) (leads p.number by start.pairs) start.next_number f.at 0 start
+          begin late early = record {
+            checking = f.line.checking;
+            queue = f.line.queue;
+            pair = p;
+            there = f.line.there;
+            number = refl;
+            on = refl;
+            young = lt-is (unanswered_count p.checks) start.timing.max_retransmits (let young = f.line.young in omega (arith, young));
+            late = late;
+            early = early;
+            ready = (let due = f.line.due in omega (arith, due), f.line.settled);
+            count = omega arith;
+          }
+
+          over : (x y m i j k : ℕ) → y + k + i ≤ x + j → x + 2 ≤ 2 * m → 2 * m + j ≤ k + 1 + i → ⊥
+          over x y m i j k h l e = omega (arith, h, l, e)
+
+          by-rounds : (Gone : Type 0) (rs : List (LoggedRound P)) → began_at rs ≡ Some f.at → 2 * length start.pairs + last.next_number ≤ length rs + 1 + start.next_number
+              → Reached mac answers by p.number (path_of start p) (leads p.number by start.pairs) start.next_number rs
+              ⊎ (Gone ⊎ WaitsAfter mac answers by p.number (path_of start p) (leads p.number by start.pairs) start.next_number first s fresh before start found.at found.led f.at begin rs last)
+              → ChecksIn rs (path_of start p) ⊎ (IsAnsweredIn (entries_of rs) (path_of start p) ⊎ Gone)
+          by-rounds Gone rs none enough (inl (inl checks)) = inl checks
+          by-rounds Gone rs none enough (inl (inr answered)) = inr (inl answered)
+          by-rounds Gone rs none enough (inr (inl gone)) = inr (inr gone)
+          by-rounds Gone [] none enough (inr (inr w)) = absurd (cc)
+          by-rounds Gone (r ∷ older) began enough (inr (inr w)) =
+              absurd (over (leads p.number by start.pairs) (leads p.number by last.pairs) (length start.pairs) start.next_number last.next_number (length (r ∷ older)) w.count
+              (leads-others by start.pairs p f.line.there) enough)
+
+    -- what may end the pair is an entry of the log
+    ended-may : (first : AgentRecord H P) (s : Stream) (log part before : List (Logged P)) (start : AgentRecord H P) (u : Stream) (path : Path) → Run mac answers first s before start u
+        → (over xs : List (Logged P)) (last : AgentRecord H P) (t : Stream) → log ≡ over ++ (xs ++ before) → ((x : Logged P) → Has xs x → Has part x)
+        → (run : RunsOn mac answers before start u xs last t) → IsEndedIn mac answers before start u xs last t run path → MayEndIn mac answers first s log part path
+    ended-may first s log part before start u path led over [] last t split within run none = absurd none
+    ended-may first s log part before start u path led over (x ∷ xs) last t split within (mid, v, run, number, given, step) (inr ended) =
+        ended-may first s log part before start u path led (over ++ x ∷ []) xs mid v (split ∙ sym (append_assoc over (x ∷ []) (xs ++ before))) (λ y has. within y (inr has)) run ended
+    ended-may first s log part before start u path led over (x ∷ xs) last t split within (mid, v, run, number, given, step) (inl (called, (q, has, joins, ends))) = (
+      xs ++ before,
+      mid,
+      last,
+      x,
+      q,
+      record { rest = over; split = split; at = v; led = run-on mac answers first start mid s u v before xs led run; number = number; given = given; following = t; step = step },
+      within x (inl refl),
+      has,
+      joins,
+      ends,
+    )
+
+    pub asked-rounds-announce : AskedRoundsSelect {H = H} {P = P} mac answers
+    asked-rounds-announce first s log fresh before start last rounds timeout now p by found f met asks comes done none only_pair =
+        elim (pairs-are-reached first s log fresh before start found.run.0 rounds p by part f) [
+          | inl (r, id, has, out) ↦ selected_paths (in-entries (path_of start p) rounds r has (met r has id out))
+          | inr (inl is) ↦ selected_paths is
+          | inr (inr ended) ↦
+              inr (ended-may first s log (timeout ∷ entries_of rounds) before start found.at (path_of start p) found.led part.rest (entries_of rounds) found.run.0 found.run.1 part.split (λ x has. inr has) found.run.2 ended)
+        ] where
+          part : Part mac answers first s log before start (entries_of rounds) found.run.0
+          part = record {
+            rest = found.rest ++ timeout ∷ [];
+            split = found.split ∙ sym (append_assoc found.rest (timeout ∷ []) (entries_of rounds ++ before));
+            at = found.at;
+            led = found.led;
+            following = found.run.1;
+            run = found.run.2;
+          }
+
+          selected_paths : IsAnsweredIn (entries_of rounds) (path_of start p) → IsTopPath mac answers (timeout ∷ (entries_of rounds ++ before)) last ⊎ MayEndIn mac answers first s log (timeout ∷ entries_of rounds) (path_of start p)
+          selected_paths answered = asked-are-selected_paths mac answers first s log fresh before (entries_of rounds) start last timeout now (path_of start p) found comes done none asks answered only_pair

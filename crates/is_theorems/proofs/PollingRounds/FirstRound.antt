@@ -1,0 +1,310 @@
+-- The first round leaves a pair that is due by its `handle_timeout` call, and is not checked in it, due as it was. So what holds of
+-- a pair that is due before the rounds holds of it from the second round on.
+use Rattle.std.proofs.Common.{◌≡◌, ℕ, ◌+◌, ◌*◌, ◌<◌, ◌≤◌, ◌==◌, Bool, true, false, not, List, [], ◌∷◌, ◌++◌, length, map, nat_lt, Option, Some, None, Ok, Err, is_some, unwrap_or, inl, inr, ◌⊎◌, refl, ap, sym, ◌∙◌, subst, arith}
+use Rattle.std.specs.Prelude.{IsSomeAnd}
+use Rattle.std.proofs.lemmas.Bool.{eq-eqb}
+use Rattle.std.proofs.lemmas.Bool.Decides.{nat_tests}
+use Rattle.rand_core.specs.Stream.{Stream}
+use Rattle.is_proto.specs.Lists.{Has}
+use Rattle.is_candidate.specs.Candidates.{CandidateRecord}
+use Rattle.is_pair.specs.Checks.{Check, unanswered_count}
+use Rattle.is_pair.specs.Due.{asked, due_time_of}
+use Rattle.is_pair.specs.Pairs.{PairRecord}
+use Rattle.is_stun.specs.declared.header.Class.TheVariants as class
+use Rattle.is_stun.specs.declared.timing.StunTiming.{StunTiming}
+use Rattle.is_rules.specs.Agent.{AgentRecord}
+use Rattle.is_theorems.specs.Asked.{IsAnsweredIn}
+use Rattle.is_theorems.specs.AskedCourses.{AcceptsSuccessOn, Ends}
+use Rattle.is_rules.specs.declared.emitted.Path.{Path}
+use Rattle.is_rules.specs.Emitted.{issued_as}
+use Rattle.is_theorems.specs.Logs.{Logged}
+use Rattle.is_rules.specs.Polls.{PollsTimeout, NextTimeoutFrom, NextTimeouts, is_waiting, is_idle}
+use Rattle.is_theorems.specs.Progress.{IsChecking}
+use Rattle.is_theorems.specs.Reached.{IsInLine, IsPassing, IsEndedIn, PairsAreReached, is_in_round}
+use Rattle.is_theorems.specs.Rounds.{LoggedRound, Part, RunsOn, began_at, entries_of}
+use Rattle.is_theorems.specs.Runs.{IsFresh, Run}
+use Rattle.is_rules.specs.Sending.{path_of}
+use Rattle.is_rules.specs.Sound.{IsSound}
+use Rattle.is_theorems.specs.Staying.{MayEnd, Stays}
+use Rattle.is_rules.specs.Steps.{Call, SetMtu, SetControlTieBreaker, SetMaxCandidatePairs, SetMaxDiscovered, SetRenomination, SetTimingAdvance, SetLocalPreference, SetControlling, SetLocalCredentials, AddLocalCandidate, AddRemoteCandidate, Entry, ReceivePacket, HandleTimeout, PollTransmit, PollTimeout, PollEvent, Done, Step}
+use Rattle.is_rules.specs.Timeouts.{timeout_begun}
+use Rattle.is_theorems.proofs.CallEffects.PathAndTradeEffects.{path_theorem}
+use Rattle.is_theorems.proofs.RuleEffects.UnchangedSettings.{either}
+use Rattle.is_theorems.proofs.ExecutionLogs.LogTheorems.{runs_sound}
+use Rattle.is_theorems.proofs.ExecutionLogs.LogSegments.{no-case, run-on, passed as passed-at}
+use Rattle.is_theorems.proofs.EarlierChecks.BetweenTimeouts.{Ground, Goes, ground_of, receives-goes}
+use Rattle.is_theorems.proofs.EarlierChecks.ChangedPairs.{Fixed}
+use Rattle.is_theorems.proofs.DuePairs.FirstDuePair.{timeout-follows}
+use Rattle.is_theorems.proofs.CallEffects.FailedCallsAndNewAgents.{mtu_kept, local_kept, enrolment_kept, storing_kept}
+use Rattle.is_rules.proofs.PairLists.RisingNumbers.{rising-each}
+use Rattle.is_theorems.proofs.CallEffects.ServedRequests.{Has-mapped}
+use Rattle.is_theorems.proofs.DuePairs.PollingCycles.{none-left, maintains_pairs-from, distinct-sound}
+use Rattle.is_theorems.proofs.StoredPairs.PairsThatStay.{none-entered, pairs-stay}
+use Rattle.is_theorems.proofs.RuleEffects.SelectedPaths.{one_pair}
+use Rattle.is_theorems.proofs.DuePairs.AfterNominationAndRemoval.{Base, stays-young}
+use Rattle.is_theorems.proofs.EarlierChecks.AddedCandidates.{local-goes, remote-goes}
+use Rattle.is_theorems.specs.FirstTimeouts.{IsReachedIn, PairsAreReachedFromDue}
+use Rattle.is_theorems.proofs.EarlierChecks.FirstTimeout.{Other, timeout-goes}
+
+lt-is : (n m : ℕ) → n < m → nat_lt n m ≡ true
+lt-is n m h = grind (arith, nat_tests, h)
+
+pub lt-from : (n m : ℕ) → nat_lt n m ≡ true → n < m
+lt-from n m h = grind (arith, nat_tests, h)
+
+-- ---- how many there are
+
+some-there : (xs : List PairRecord) (x : PairRecord) → Has xs x → 1 ≤ length xs
+some-there [] x has = absurd has
+some-there (y ∷ ys) x has = omega arith
+
+pub only-one : (xs : List PairRecord) (x y : PairRecord) → length xs ≤ 1 → Has xs x → Has xs y → x ≡ y
+only-one [] x y few has there = absurd has
+only-one (z ∷ []) x y few (inl e) (inl f) = sym e ∙ f
+only-one (z ∷ []) x y few (inr none) there = absurd none
+only-one (z ∷ []) x y few has (inr none) = absurd none
+only-one (z ∷ w ∷ zs) x y few has there = absurd (let no : ⊥ = omega (arith, few) in no)
+
+module _ {H P : Type 0} where
+  -- what the pair depends on, and the pair with the number, is as it was
+  abbrev pub Keeps : ℕ → AgentRecord H P → AgentRecord H P → Type 0
+  Keeps n old new = (ground_of new ≡ ground_of old) × ((d : ℕ) (cs : List Check) → Fixed n d cs old.pairs → Fixed n d cs new.pairs)
+
+  pub keeps-to : (n : ℕ) (old needed new : AgentRecord H P) → Keeps n old needed → new ≡ needed → Keeps n old new
+  keeps-to n old needed new h made = subst (λ (a : AgentRecord H P). Keeps n old a) (sym made) h
+
+  keeps-same : (n : ℕ) (old new : AgentRecord H P) → new ≡ old → Keeps n old new
+  keeps-same n old new made = keeps-to n old old new (refl, λ d cs f. f) made
+
+  keeps-from : (n : ℕ) (old new : AgentRecord H P) → Goes n 0 old new → Keeps n old new
+  keeps-from n old new k = (k.0, k.1.fixed)
+
+  pub asks-keeps : (n at : ℕ) (old new : AgentRecord H P) (deadline : Option ℕ) → old.last_time ≡ Some at → PollsTimeout old deadline new → Keeps n old new
+  asks-keeps n at old new deadline last h = some deadline (subst (λ o. NextTimeoutFrom o old deadline new) last h) where
+    fixed : new ≡ record old { pairs = map (asked at old.timing) old.pairs } → Keeps n old new
+    fixed made = keeps-to n old _ new (
+      refl,
+      λ d cs (q, has, is, due, checks).
+          (asked at old.timing q, Has-mapped (asked at old.timing) old.pairs q has, is, ap (λ o. Some (unwrap_or o (due_time_of at old.timing (record q { due = None })))) due, checks),
+    ) made
+
+    some : (deadline : Option ℕ) → IsSomeAnd deadline (λ w. NextTimeouts old at w new) → Keeps n old new
+    some None k = absurd k
+    some (Some w) k = either (is_waiting old) k
+        (λ _ l. keeps-same n old new l.1)
+        (λ _ l. either (is_idle old) l (λ _ i. keeps-same n old new i.1) (λ _ i. fixed i.1))
+
+  -- after the `handle_timeout` call at time `at`: a pair of the path waits, due by then
+  pub record Waits (by n : ℕ) (path : Path) (at : ℕ) (a : AgentRecord H P) : Type 0 where
+    pub checking : IsChecking a
+    pub queue : a.queue ≡ []
+    pub last : a.last_time ≡ Some at
+    pub pair : PairRecord
+    pub there : Has a.pairs pair
+    pub number : pair.number ≡ n
+    pub on : path_of a pair ≡ path
+    pub young : nat_lt (unanswered_count pair.checks) a.timing.max_retransmits ≡ true
+    pub timeout : ℕ
+    pub before : timeout ≤ by
+    pub due : pair.due ≡ Some timeout
+
+  module _ (mac : H → List ℕ → List ℕ → List ℕ) (answers : P → CandidateRecord → ℕ → ℕ → Type 0) (by n : ℕ) (path : Path) (at : ℕ) where
+    -- ---- the call
+
+    pub timeout-on : by ≤ at → (e : Entry) (old new : AgentRecord H P) (s t : Stream) (p : PairRecord) → e.answer ≡ Done → Step mac answers old s (HandleTimeout at) e new t → IsSound old → IsSound new
+        → IsInLine at by old p → p.number ≡ n → path_of old p ≡ path
+        → ((id : List ℕ) × (e.emitted.issued ≡ Some (issued_as path class.Request id))) ⊎ (Other old p × Waits by n path at new)
+    timeout-on from e old new s t p done step sound sound_new line number on =
+        let h = passed-at mac answers old new s t at e done step in
+        let g = maintains_pairs-from mac at old s t e.emitted new line.queue h in
+        let m = timeout-follows mac at (timeout_begun at old) new s t e.emitted line.checking.peer line.checking.full g in
+        let few = line.young in
+        let young : nat_lt (unanswered_count p.checks) old.timing.max_retransmits ≡ true = lt-is (unanswered_count p.checks) old.timing.max_retransmits (omega (arith, few)) in
+        let due = line.due in
+        elim (timeout-goes at by from mac (timeout_begun at old) new s t e.emitted line.checking.peer line.checking.full (distinct-sound mac old sound) p line.there young (omega (arith, due), line.settled) g) [
+          | inl (id, out) ↦ inl (id, out ∙ ap (λ w. Some (issued_as w class.Request id)) on)
+          | inr (other, (d, before, (q, has, is, due, checks))) ↦
+              (let stays : Stays old p new = elim (pairs-stay mac answers old new s t (HandleTimeout at) e p sound tt step line.there) [
+                | inl x ↦ x
+                | inr (was_done, none, gone) ↦ (let no : false ≡ true = ap not (sym gone) ∙ stays-young old.lite at old.timing p line.checking.full young in absurd (cc))
+              ] in
+              let one : stays.pair ≡ q = one_pair new.pairs stays.pair q (rising-each new.pairs sound_new.rising) stays.there has (stays.number ∙ sym is) in
+              let timing : new.timing ≡ old.timing = ap (λ (b : Base). b.timing) m.0 in
+              inr (
+                other,
+                record {
+                  checking = record {
+                    full = ap (λ (b : Base). b.lite) m.0 ∙ line.checking.full;
+                    peer = ap (λ (b : Base). is_some b.remote_creds) m.0 ∙ line.checking.peer;
+                  };
+                  queue = ap (λ (b : Base). b.queue) m.0 ∙ none-left at old.timing old.remote_creds old.queue line.queue;
+                  last = ap (λ (b : Base). b.last_time) m.0;
+                  pair = q;
+                  there = has;
+                  number = is ∙ number;
+                  on = ap (λ (x : PairRecord). path_of new x) (sym one) ∙ (stays.path ∙ on);
+                  young = ap (λ cs. nat_lt (unanswered_count cs) new.timing.max_retransmits) checks ∙ (ap (λ (z : StunTiming). nat_lt (unanswered_count p.checks) z.max_retransmits) timing ∙ young);
+                  timeout = d;
+                  before = before;
+                  due = due;
+                },
+              ))
+        ]
+
+    -- ---- what comes after it
+
+    pub waits-on : (old new : AgentRecord H P) (w : Waits by n path at old) → IsSound new → Keeps n old new → Stays old w.pair new → Waits by n path at new
+    waits-on old new w sound (ground, fixed) stays =
+        let f = fixed w.timeout w.pair.checks (w.pair, w.there, w.number, w.due, refl) in
+        let one : stays.pair ≡ f.0 = one_pair new.pairs stays.pair f.0 (rising-each new.pairs sound.rising) stays.there f.1 (stays.number ∙ (w.number ∙ sym f.2)) in
+        let timing : new.timing ≡ old.timing = ap (λ (g : Ground). g.timing) ground in
+        record {
+          checking = record {
+            full = ap (λ (g : Ground). g.lite) ground ∙ w.checking.full;
+            peer = ap (λ (g : Ground). is_some g.remote_creds) ground ∙ w.checking.peer;
+          };
+          queue = ap (λ (g : Ground). g.queue) ground ∙ w.queue;
+          last = ap (λ (g : Ground). g.last_time) ground ∙ w.last;
+          pair = f.0;
+          there = f.1;
+          number = f.2;
+          on = ap (λ (q : PairRecord). path_of new q) (sym one) ∙ (stays.path ∙ w.on);
+          young = ap (λ cs. nat_lt (unanswered_count cs) new.timing.max_retransmits) f.4 ∙ (ap (λ (t : StunTiming). nat_lt (unanswered_count w.pair.checks) t.max_retransmits) timing ∙ w.young);
+          timeout = w.timeout;
+          before = w.before;
+          due = f.3;
+        }
+
+    pub between-keeps : (call : Call P) (e : Entry) (old new : AgentRecord H P) (s t : Stream) → is_some old.remote_creds ≡ true → old.last_time ≡ Some at
+        → (p : PairRecord) → IsSound old → Has old.pairs p → p.number ≡ n → path_of old p ≡ path → is_in_round call ≡ true → Step mac answers old s call e new t
+        → AcceptsSuccessOn call e path ⊎ (MayEnd answers old call e p ⊎ Keeps n old new)
+    between-keeps (ReceivePacket now via bytes) e old new s t known last p sound has number on is (h, drawn) =
+        elim (receives-goes n 0 mac answers now old new via path bytes e known
+        (λ q there same. (let one : q ≡ p = one_pair old.pairs q p (rising-each old.pairs sound.rising) there has (same ∙ sym number) in ap (λ (y : PairRecord). path_of old y) one ∙ on)) h) [
+          | inl (m, reads, flag, success, back) ↦ inl (now, via, m, (refl, refl, reads, flag), success, back)
+          | inr k ↦ inr (inr (keeps-from n old new k))
+        ]
+    between-keeps PollTransmit e old new s t known last p sound has number on is (given, emitted, (polled, made), drawn) = inr (inr (keeps-to n old _ new (refl, λ d cs f. f) made))
+    between-keeps PollTimeout e old new s t known last p sound has number on is (deadline, emitted, timed_out, drawn) = inr (inr (asks-keeps n at old new deadline last timed_out))
+    between-keeps PollEvent e old new s t known last p sound has number on is (given, emitted, (polled, made), drawn) = inr (inr (keeps-to n old _ new (refl, λ d cs f. f) made))
+    between-keeps (AddLocalCandidate c) e old new s t known last p sound has number on is (Ok (Some place), reported, h, drawn) = elim (local-goes n 0 answers old new c place p sound has number h) [
+      | inl ends ↦ inr (inl (ap (λ (x : Entry). x.answer) reported, ends))
+      | inr k ↦ inr (inr (keeps-from n old new k))
+    ]
+    between-keeps (AddLocalCandidate c) e old new s t known last p sound has number on is (Ok None, reported, h, drawn) = inr (inr (keeps-same n old new (none-entered answers old new c h)))
+    between-keeps (AddLocalCandidate c) e old new s t known last p sound has number on is (Err error, reported, h, drawn) = inr (inr (keeps-same n old new (enrolment_kept answers old new c error h)))
+    between-keeps (AddRemoteCandidate c) e old new s t known last p sound has number on is (Ok _, reported, h, drawn) = elim (remote-goes n 0 old new c p sound has number h) [
+      | inl ends ↦ inr (inl (ap (λ (x : Entry). x.answer) reported, ends))
+      | inr k ↦ inr (inr (keeps-from n old new k))
+    ]
+    between-keeps (AddRemoteCandidate c) e old new s t known last p sound has number on is (Err error, reported, h, drawn) = inr (inr (keeps-same n old new (storing_kept old new c error h)))
+    between-keeps (SetMtu target warn) e old new s t known last p sound has number on is (Ok _, reported, h, drawn) = inr (inr (keeps-to n old _ new (refl, λ d cs f. f) h.1))
+    between-keeps (SetMtu target warn) e old new s t known last p sound has number on is (Err error, reported, h, drawn) = inr (inr (keeps-same n old new (mtu_kept old new target warn error h)))
+    between-keeps (SetLocalCredentials creds) e old new s t known last p sound has number on is (Ok _, reported, h, drawn) = inr (inr (keeps-to n old _ new (refl, λ d cs f. f) h.1))
+    between-keeps (SetLocalCredentials creds) e old new s t known last p sound has number on is (Err error, reported, h, drawn) = inr (inr (keeps-same n old new (local_kept old new creds error h)))
+    between-keeps (SetControlTieBreaker tie) e old new s t known last p sound has number on is (reported, made, drawn) = inr (inr (keeps-to n old _ new (refl, λ d cs f. f) made))
+    between-keeps (SetMaxCandidatePairs k) e old new s t known last p sound has number on is (reported, made, drawn) = inr (inr (keeps-to n old _ new (refl, λ d cs f. f) made))
+    between-keeps (SetMaxDiscovered limit) e old new s t known last p sound has number on is (reported, made, drawn) = inr (inr (keeps-to n old _ new (refl, λ d cs f. f) made))
+    between-keeps (SetRenomination renominates) e old new s t known last p sound has number on is (reported, made, drawn) = inr (inr (keeps-to n old _ new (refl, λ d cs f. f) made))
+    between-keeps (SetTimingAdvance advance) e old new s t known last p sound has number on is (reported, made, drawn) = inr (inr (keeps-to n old _ new (refl, λ d cs f. f) made))
+    between-keeps (SetLocalPreference object) e old new s t known last p sound has number on is (reported, made, drawn) = inr (inr (keeps-to n old _ new (refl, λ d cs f. f) made))
+    between-keeps (SetControlling controlling) e old new s t known last p sound has number on is (reported, made, drawn) = inr (inr (keeps-to n old _ new (refl, λ d cs f. f) made))
+    between-keeps _ e old new s t known last p sound has number on is step = no-case is
+
+    -- ---- the first round
+
+    module _ (first : AgentRecord H P) (s : Stream) (fresh : IsFresh first) where
+      sound-at : (log : List (Logged P)) (a : AgentRecord H P) (t : Stream) → Run mac answers first s log a t → IsSound a
+      sound-at log a t run = runs_sound mac answers (path_theorem mac answers) first a s t log fresh run
+
+      -- a check is sent on the path, or a success response is received on it, or a pair of the path may be removed, or the pair waits
+      abbrev Passes : (before : List (Logged P)) (start : AgentRecord H P) (u : Stream) (xs : List (Logged P)) (timeout : Logged P) (last : AgentRecord H P) (t : Stream)
+          → RunsOn mac answers before start u (xs ++ timeout ∷ []) last t → PairRecord → Type 0
+      Passes before start u xs timeout last t run p =
+          ((id : List ℕ) × (timeout.entry.emitted.issued ≡ Some (issued_as path class.Request id)))
+          ⊎ (IsAnsweredIn (xs ++ timeout ∷ []) path
+          ⊎ (IsEndedIn mac answers before start u (xs ++ timeout ∷ []) last t run path ⊎ (Other start p × Waits by n path at last)))
+
+      walk : by ≤ at → (before : List (Logged P)) (start last : AgentRecord H P) (u t : Stream) (xs : List (Logged P)) (timeout : Logged P) (p : PairRecord)
+          → ((x : Logged P) → Has xs x → is_in_round x.call ≡ true) → timeout.call ≡ HandleTimeout at → timeout.entry.answer ≡ Done
+          → Run mac answers first s before start u → (run : RunsOn mac answers before start u (xs ++ timeout ∷ []) last t)
+          → IsInLine at by start p → p.number ≡ n → path_of start p ≡ path → Passes before start u xs timeout last t run p
+      walk from before start last u t [] timeout p fits comes done led (mid, v, (is, same), numbered, given, step) line number on =
+          let here : Run mac answers first s before mid v = subst (λ (a : AgentRecord H P). Run mac answers first s before a v) (sym is) (subst (λ w. Run mac answers first s before start w) (sym same) led) in
+          let sound_last = sound-at (timeout ∷ before) last t (mid, v, here, numbered, given, step) in
+          let called : Step mac answers start v (HandleTimeout at) timeout.entry last t =
+          subst (λ (a : AgentRecord H P). Step mac answers a v (HandleTimeout at) timeout.entry last t) is (subst (λ (c : Call P). Step mac answers mid v c timeout.entry last t) comes step) in
+          elim (timeout-on from timeout.entry start last v t p done called (sound-at before start u led) sound_last line number on) [
+            | inl checks ↦ inl checks
+            | inr waits ↦ inr (inr (inr waits))
+          ]
+      walk from before start last u t (x ∷ xs) timeout p fits comes done led (mid, v, run, numbered, given, step) line number on =
+          elim (walk from before start mid u v xs timeout p (λ y has. fits y (inr has)) comes done led run line number on) [
+            | inl checks ↦ inl checks
+            | inr (inl (y, has, is)) ↦ inr (inl (y, inr has, is))
+            | inr (inr (inl ended)) ↦ inr (inr (inl (inr ended)))
+            | inr (inr (inr (other, w))) ↦
+                (let here = run-on mac answers first start mid s u v before (xs ++ timeout ∷ []) led run in
+                let sound = sound-at ((xs ++ timeout ∷ []) ++ before) mid v here in
+                let sound_last = sound-at (x ∷ ((xs ++ timeout ∷ []) ++ before)) last t (mid, v, here, numbered, given, step) in
+                let ends-here : MayEnd answers mid x.call x.entry w.pair → Ends answers mid x.call x.entry path = λ ends. (w.pair, w.there, (ap (λ (y : Path). y.source) w.on, ap (λ (y : Path). y.destination) w.on), ends) in
+                elim (between-keeps x.call x.entry mid last v t w.checking.peer w.last w.pair sound w.there w.number w.on (fits x (inl refl)) step) [
+                  | inl accepts ↦ inr (inl (x, inl refl, accepts))
+                  | inr (inl ends) ↦ inr (inr (inl (inl (fits x (inl refl), ends-here ends))))
+                  | inr (inr keeps) ↦ elim (pairs-stay mac answers mid last v t x.call x.entry w.pair sound given step w.there) [
+                    | inl stays ↦ inr (inr (inr (other, waits-on mid last w sound_last keeps stays)))
+                    | inr ends ↦ inr (inr (inl (inl (fits x (inl refl), ends-here ends))))
+                  ]
+                ])
+          ]
+
+  module _ (mac : H → List ℕ → List ℕ → List ℕ) (answers : P → CandidateRecord → ℕ → ℕ → Type 0) where
+    -- when the oldest round begins
+    oldest : (x : LoggedRound P) (older : List (LoggedRound P)) → (at : ℕ) × (began_at (x ∷ older) ≡ Some at)
+    oldest x [] = (x.now, refl)
+    oldest x (y ∷ older) = oldest y older
+
+    pub reached-from-due : PairsAreReached {H = H} {P = P} mac answers → PairsAreReachedFromDue {H = H} {P = P} mac answers
+    reached-from-due reach first s log fresh before start second last r later p by one others line from comes done between passing enough =
+        elim (walk mac answers by p.number (path_of start p) r.now first s fresh (omega (arith, from)) before start second one.at one.following r.following r.timeout p
+        (λ x has. between x has) comes done one.led one.run line refl refl) [
+          | inl (id, out) ↦ inl (inl (r, id, inl refl, out))
+          | inr (inl answered) ↦ inl (inr (inl answered))
+          | inr (inr (inl ended)) ↦ inl (inr (inr ended))
+          | inr (inr (inr (other, w))) ↦ elim enough [
+            | inl few ↦ absurd (apart other (omega (arith, few)))
+            | inr many ↦ inr (from-second later others w passing (omega (arith, many)))
+          ]
+        ] where
+          -- it is not the only pair
+          apart : Other start p → length start.pairs ≤ 1 → ⊥
+          apart (o, o_has, is) few =
+              let one : o ≡ p = only-one start.pairs o p few o_has line.there in
+              no-case (sym is ∙ eq-eqb p.number o.number (ap (λ (x : PairRecord). x.number) (sym one)))
+
+          from-second : (rounds : List (LoggedRound P)) → (found : Part mac answers first s log (entries_of (r ∷ []) ++ before) second (entries_of rounds) last)
+              → Waits by p.number (path_of start p) r.now second → ((x : LoggedRound P) → Has rounds x → IsPassing by x)
+              → 2 * length second.pairs + last.next_number ≤ length rounds + 1 + second.next_number
+              → IsReachedIn mac answers rounds found (path_of start p)
+          from-second [] found v passing enough =
+              let some = some-there second.pairs v.pair v.there in
+              let same : last.next_number ≡ second.next_number = ap (λ (a : AgentRecord H P). a.next_number) found.run.0 in
+              absurd (let no : ⊥ = omega (arith, some, same, enough) in no)
+          from-second (x ∷ older) found v passing enough =
+              let began = oldest x older in
+              let due : due_time_of began.0 second.timing v.pair ≡ v.timeout = ap (λ o. unwrap_or o (due_time_of began.0 second.timing (record v.pair { due = None }))) v.due in
+              subst (λ w. IsReachedIn mac answers (x ∷ older) found w) v.on
+              (reach first s log fresh (entries_of (r ∷ []) ++ before) second last (x ∷ older) v.pair by found (record {
+                at = began.0;
+                began = began.1;
+                line = record {
+                  checking = v.checking;
+                  queue = v.queue;
+                  there = v.there;
+                  due = subst (λ d. d ≤ by) (sym due) v.before;
+                  settled = inr (ap is_some v.due);
+                  young = lt-from (unanswered_count v.pair.checks) second.timing.max_retransmits v.young;
+                };
+                passing = passing;
+                enough = omega (arith, enough);
+              }))

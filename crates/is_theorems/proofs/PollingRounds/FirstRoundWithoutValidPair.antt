@@ -1,0 +1,238 @@
+-- A controlling agent without a valid pair that is due by its first `handle_timeout` call has none after the round either, or selects
+-- a path in it. So what holds of pairs that are due before the rounds holds of it from the second round on.
+use Rattle.std.proofs.Common.{◌≡◌, ℕ, ◌<◌, ◌≤◌, ◌==◌, true, false, List, [], ◌∷◌, ◌++◌, length, map, Option, Some, None, is_some, unwrap_or, inl, inr, ◌⊎◌, refl, ap, sym, ◌∙◌, subst, arith}
+use Rattle.std.proofs.lemmas.Bool.{eq-eqb}
+use Rattle.rand_core.specs.Stream.{Stream}
+use Rattle.is_proto.specs.Lists.{Has}
+use Rattle.is_candidate.specs.Candidates.{CandidateRecord}
+use Rattle.is_pair.specs.Checks.{unanswered_count}
+use Rattle.is_pair.specs.Due.{asked, due_time_of}
+use Rattle.is_pair.specs.Pairs.{PairRecord, is_valid}
+use Rattle.is_pair.specs.Turns.{IsPaced, due_by}
+use Rattle.is_stun.specs.declared.header.Class.TheVariants as class
+use Rattle.is_stun.specs.declared.timing.StunTiming.{StunTiming}
+use Rattle.is_stun.specs.Message.{Message}
+use Rattle.is_stun.specs.Reading.{Reads}
+use Rattle.is_rules.specs.Agent.{AgentRecord}
+use Rattle.is_theorems.specs.AskedCourses.{selected_along, SelectsAlong, SuccessesSelect}
+use Rattle.is_theorems.specs.Courses.{CourseRound, AcceptsSuccess, SelectsAmong, ControlsAlong, CourseRounds}
+use Rattle.is_rules.specs.declared.emitted.Path.{Path}
+use Rattle.is_rules.specs.Effects.{last_of}
+use Rattle.is_theorems.specs.Exchange.{AreBetween, Course}
+use Rattle.is_rules.specs.Polls.{PollsTimeout}
+use Rattle.is_rules.specs.Points.{HasSelected}
+use Rattle.is_theorems.specs.Progress.{Awaits, IsUnanswered}
+use Rattle.is_theorems.specs.Reached.{IsInLine}
+use Rattle.is_theorems.specs.ReachedCourses.{IsPassed, ChecksAmong, CoursesCheck}
+use Rattle.is_theorems.specs.Rounds.{is_between}
+use Rattle.is_theorems.specs.Runs.{IsFresh}
+use Rattle.is_rules.specs.Sending.{path_of}
+use Rattle.is_rules.specs.Sound.{IsSound, GivesBased}
+use Rattle.is_theorems.specs.Staying.{MayEnd}
+use Rattle.is_rules.specs.Steps.{Call, Entry, Flag, ReceivePacket, HandleTimeout, PollTransmit, PollTimeout, PollEvent, Step}
+use Rattle.is_rules.specs.Timeouts.{timeout_begun}
+use Rattle.is_theorems.proofs.DuePairs.AfterPackets.{NoneValid, receives}
+use Rattle.is_theorems.proofs.PathSelection.NominatedByPeerPerAgent.{course_on}
+use Rattle.is_theorems.proofs.CallEffects.PathAndTradeEffects.{path_theorem}
+use Rattle.is_theorems.proofs.CallEffects.AddedCandidates.{by_waking}
+use Rattle.is_theorems.proofs.ExecutionLogs.LogSegments.{no-case, passed as passed-at}
+use Rattle.is_theorems.proofs.EarlierChecks.BetweenTimeouts.{Ground}
+use Rattle.is_theorems.proofs.RuleEffects.ChangedPairs.{Has-map}
+use Rattle.is_theorems.proofs.DuePairs.FirstDuePair.{Follows, timeout-follows}
+use Rattle.is_theorems.proofs.CallEffects.FailedCallsAndNewAgents.{fresh_sound}
+use Rattle.is_theorems.proofs.DuePairs.PollingCycles.{maintains_pairs-from}
+use Rattle.is_theorems.proofs.StoredPairs.PairsThatStay.{pairs-stay}
+use Rattle.is_theorems.proofs.StoredPairs.TransactionsOverPackets.{sound-course}
+use Rattle.is_theorems.proofs.DuePairs.AfterNominationAndRemoval.{Base, base_of as agent_base}
+use Rattle.is_theorems.specs.FirstChecks.{AreAsManyAsDue, SufficeForDue, CoursesCheckFromDue, times_of}
+use Rattle.is_theorems.proofs.EarlierChecks.FirstTimeout.{Other}
+use Rattle.is_theorems.proofs.PollingRounds.FirstRound.{Keeps, Waits, asks-keeps, between-keeps, keeps-to, lt-from, timeout-on, only-one, waits-on}
+
+many-times : {P : Type 0} (rounds : List (CourseRound P)) → length (times_of rounds) ≡ length rounds
+many-times [] = omega arith
+many-times (r ∷ later) = let k = many-times later in omega (arith, k)
+
+module _ {H P : Type 0} where
+  -- the pair waits, and none is valid
+  pub record Calm (by n : ℕ) (path : Path) (at : ℕ) (a : AgentRecord H P) : Type 0 where
+    pub waits : Waits by n path at a
+    pub invalid : NoneValid a.pairs
+    pub role : a.controlling ≡ true
+    pub paced : IsPaced a.timing
+
+  module _ (mac : H → List ℕ → List ℕ → List ℕ) (answers : P → CandidateRecord → ℕ → ℕ → Type 0) (by n : ℕ) (path : Path) (at : ℕ) where
+    -- ---- what comes after the call
+
+    plain-stays : (old : AgentRecord H P) (c : Call P) (e : Entry) (p : PairRecord) → is_between c ≡ true → MayEnd answers old c e p → ⊥
+    plain-stays old (ReceivePacket now via bytes) e p is ends = ends
+    plain-stays old PollTransmit e p is ends = ends
+    plain-stays old PollTimeout e p is ends = ends
+    plain-stays old PollEvent e p is ends = ends
+    plain-stays old _ e p is ends = no-case is
+
+    -- the pair still waits, if none became valid
+    still : (call : Call P) (e : Entry) (old new : AgentRecord H P) (s t : Stream) → is_between call ≡ true → GivesBased call → Calm by n path at old → IsSound old → IsSound new
+        → Step mac answers old s call e new t → new.controlling ≡ true → NoneValid new.pairs → Keeps n old new → Calm by n path at new
+    still call e old new s t is given c sound sound_new step role invalid keeps =
+        elim (pairs-stay mac answers old new s t call e c.waits.pair sound given step c.waits.there) [
+          | inr ends ↦ absurd (plain-stays old call e c.waits.pair is ends)
+          | inl stays ↦ record {
+            waits = waits-on mac answers by n path at old new c.waits sound_new keeps stays;
+            invalid = invalid;
+            role = role;
+            paced = subst (λ (z : StunTiming). IsPaced z) (sym (ap (λ (g : Ground). g.timing) keeps.0)) c.paced;
+          }
+        ]
+
+    asked-invalid : (now : ℕ) (t : StunTiming) (ps : List PairRecord) → NoneValid ps → NoneValid (map (asked now t) ps)
+    asked-invalid now t ps none q has = let o = Has-map (asked now t) ps q has in ap (λ (x : PairRecord). is_valid x) (sym o.2) ∙ none o.0 o.1
+
+    as-invalid : (old needed new : AgentRecord H P) → NoneValid needed.pairs → new ≡ needed → NoneValid new.pairs
+    as-invalid old needed new none made = subst (λ (a : AgentRecord H P). NoneValid a.pairs) (sym made) none
+
+    timed_out-invalid : (old new : AgentRecord H P) (deadline : Option ℕ) → NoneValid old.pairs → PollsTimeout old deadline new → NoneValid new.pairs
+    timed_out-invalid old new deadline none h = by_waking old new deadline h
+        (λ made. as-invalid old old new none made)
+        (λ now made. as-invalid old (record old { pairs = map (asked now old.timing) old.pairs }) new (asked-invalid now old.timing old.pairs none) made)
+
+    -- a success response selects a path
+    module _ (select : SuccessesSelect {H = H} {P = P} mac answers) (first : AgentRecord H P) (fresh : IsFresh first) where
+      abbrev pub Selects : Call P → Entry → Type 0
+      Selects call e = AcceptsSuccess call e × (is_some (last_of e.emitted.selected_paths) ≡ true)
+
+      selects : (now : ℕ) (via : Path) (bytes : List ℕ) (e : Entry) (m : Message) (old new : AgentRecord H P) (s t : Stream) (zs : List (Call P × Entry)) → Course mac answers zs first old
+          → NoneValid old.pairs → Step mac answers old s (ReceivePacket now via bytes) e new t → new.controlling ≡ true → Reads bytes m → e.answer ≡ Flag true → m.class ≡ class.Success
+          → Selects (ReceivePacket now via bytes) e
+      selects now via bytes e m old new s t zs led none step role reads flag success = ((now, via, m, (refl, refl, reads, flag), success), of-said said.0) where
+        said : SelectsAlong {P = P} ([] ++ (ReceivePacket now via bytes, e) ∷ []) × HasSelected (selected_along None (zs ++ ([] ++ (ReceivePacket now via bytes, e) ∷ []))) new
+        said = select first old old new zs [] s t now via bytes e m fresh led none refl step (refl, refl, reads, flag) success role
+
+        of-said : SelectsAlong {P = P} ((ReceivePacket now via bytes, e) ∷ []) → is_some (last_of e.emitted.selected_paths) ≡ true
+        of-said (y, inl is, selected_paths) = ap (λ (z : Call P × Entry). is_some (last_of z.1.emitted.selected_paths)) is ∙ selected_paths
+        of-said (y, inr none, selected_paths) = absurd none
+
+      pub on-call : (call : Call P) (e : Entry) (old new : AgentRecord H P) (s t : Stream) (zs : List (Call P × Entry)) → Course mac answers zs first old → is_between call ≡ true → GivesBased call
+          → Calm by n path at old → IsSound old → IsSound new → Step mac answers old s call e new t → new.controlling ≡ true → Selects call e ⊎ Calm by n path at new
+      on-call (ReceivePacket now via bytes) e old new s t zs led is given c sound sound_new step role =
+          elim (receives mac 0 1 (omega arith) (omega arith) answers (record { at = now; via = via; bytes = bytes; entry = e }) old new s t c.waits.checking.peer c.role c.waits.checking.full c.invalid role step) [
+            | inl (m, reads, flag, success) ↦ inl (selects now via bytes e m old new s t zs led c.invalid step role reads flag success)
+            | inr (core, grown, spares) ↦
+                elim (between-keeps mac answers by n path at (ReceivePacket now via bytes) e old new s t c.waits.checking.peer c.waits.last c.waits.pair sound c.waits.there c.waits.number c.waits.on refl step) [
+                  | inl (when, by_path, m, (now_is, path_is, reads, flag), success, back) ↦ inl (selects now via bytes e m old new s t zs led c.invalid step role reads flag success)
+                  | inr (inl ends) ↦ absurd ends
+                  | inr (inr keeps) ↦ inr (still (ReceivePacket now via bytes) e old new s t is given c sound sound_new step role (spares.invalid c.invalid) keeps)
+                ]
+          ]
+      on-call PollTransmit e old new s t zs led is given c sound sound_new (packet, emitted, (polled, made), drawn) role =
+          inr (still PollTransmit e old new s t is given c sound sound_new (packet, emitted, (polled, made), drawn) role (as-invalid old _ new c.invalid made) (keeps-to n old _ new (refl, λ d cs f. f) made))
+      on-call PollTimeout e old new s t zs led is given c sound sound_new (deadline, emitted, timed_out, drawn) role =
+          inr (still PollTimeout e old new s t is given c sound sound_new (deadline, emitted, timed_out, drawn) role (timed_out-invalid old new deadline c.invalid timed_out) (asks-keeps n at old new deadline c.waits.last timed_out))
+      on-call PollEvent e old new s t zs led is given c sound sound_new (event, emitted, (polled, made), drawn) role =
+          inr (still PollEvent e old new s t is given c sound sound_new (event, emitted, (polled, made), drawn) role (as-invalid old _ new c.invalid made) (keeps-to n old _ new (refl, λ d cs f. f) made))
+      on-call _ e old new s t zs led is given c sound sound_new step role = no-case is
+
+      walk : (xs : List (Call P × Entry)) (old new : AgentRecord H P) (zs : List (Call P × Entry)) → Course mac answers zs first old → AreBetween xs → IsSound old
+          → (course : Course mac answers xs old new) → ControlsAlong mac answers xs old new course → Calm by n path at old
+          → ((x : Call P × Entry) × Has xs x × Selects x.0 x.1) ⊎ Calm by n path at new
+      walk [] old new zs led fits sound is along c = inr (subst (λ (a : AgentRecord H P). Calm by n path at a) (sym is) c)
+      walk (x ∷ rest) old new zs led fits sound (mid, s, t, given, step, more) along c =
+          let sound_mid : IsSound mid = (path_theorem mac answers old mid s t x.0 x.1 sound given step).1 in
+          elim (on-call x.0 x.1 old mid s t zs led (fits x (inl refl)) given c sound sound_mid step along.0) [
+            | inl selected ↦ inl (x, inl refl, selected)
+            | inr calm ↦
+                elim (walk rest mid new (zs ++ x ∷ []) (course_on mac answers zs (x ∷ []) first old mid led (mid, s, t, given, step, refl)) (λ y has. fits y (inr has)) sound_mid more along.1 calm) [
+                  | inl (y, has, selected) ↦ inl (y, inr has, selected)
+                  | inr after ↦ inr after
+                ]
+          ]
+
+  module _ (mac : H → List ℕ → List ℕ → List ℕ) (answers : P → CandidateRecord → ℕ → ℕ → Type 0) where
+    checks-later : (x : CourseRound P) (rounds : List (CourseRound P)) (path : Path) → ChecksAmong rounds path ⊎ SelectsAmong rounds → ChecksAmong (x ∷ rounds) path ⊎ SelectsAmong (x ∷ rounds)
+    checks-later x rounds path (inl (r, id, has, out)) = inl (r, id, inr has, out)
+    checks-later x rounds path (inr (r, has, selected)) = inr (r, inr has, selected)
+
+    pub courses-check-from-due : CoursesCheck {H = H} {P = P} mac answers → SuccessesSelect {H = H} {P = P} mac answers → CoursesCheckFromDue {H = H} {P = P} mac answers
+    courses-check-from-due check select first start last xs r later p by fresh course role waits unanswered from done early between run passing enough = by-enough enough where
+      path : Path
+      path = path_of start p
+
+      sound_first : IsSound first
+      sound_first = subst (λ (a : AgentRecord H P). IsSound a) (sym fresh.2) (fresh_sound H P first.provider fresh.0 fresh.1)
+
+      sound_start : IsSound start
+      sound_start = sound-course mac answers xs first start sound_first course
+
+      sound_mid : IsSound run.0
+      sound_mid = (path_theorem mac answers start run.0 run.2 run.3 (HandleTimeout r.now) r.timeout sound_start tt run.4).1
+
+      to-mid : Course mac answers (xs ++ (HandleTimeout r.now, r.timeout) ∷ []) first run.0
+      to-mid = course_on mac answers xs ((HandleTimeout r.now, r.timeout) ∷ []) first start run.0 course (run.0, run.2, run.3, tt, run.4, refl)
+
+      to-next : Course mac answers ((xs ++ (HandleTimeout r.now, r.timeout) ∷ []) ++ r.following) first run.1
+      to-next = course_on mac answers (xs ++ (HandleTimeout r.now, r.timeout) ∷ []) r.following first run.0 run.1 to-mid run.6
+
+      line : IsInLine r.now by start p
+      line = record {
+        checking = waits.checking;
+        queue = waits.queue;
+        there = waits.there;
+        due = (let due = waits.due in omega (arith, due));
+        settled = inl (let none = unanswered.invalid in none p waits.there);
+        young = (let young = unanswered.young in omega (arith, young));
+      }
+
+      -- what the call leaves of the others
+      after-call : (agent_base run.0 ≡ record (agent_base (timeout_begun r.now start)) { last_time = Some r.now }) × Follows start.pairs run.0.pairs
+      after-call = timeout-follows mac r.now (timeout_begun r.now start) run.0 run.2 run.3 r.timeout.emitted waits.checking.peer waits.checking.full
+          (maintains_pairs-from mac r.now start run.2 run.3 r.timeout.emitted run.0 waits.queue (passed-at mac answers start run.0 run.2 run.3 r.now r.timeout done run.4))
+
+      -- it is not the only pair
+      apart : Other start p → length start.pairs ≤ 1 → ⊥
+      apart (o, o_has, is) few =
+          let one : o ≡ p = only-one start.pairs o p few o_has waits.there in
+          no-case (sym is ∙ eq-eqb p.number o.number (ap (λ (x : PairRecord). x.number) (sym one)))
+
+      from-second : (rounds : List (CourseRound P)) → Calm by p.number path r.now run.1 → (more : CourseRounds mac answers rounds run.1 last) → ((x : CourseRound P) → Has rounds x → IsPassed by x)
+          → AreAsManyAsDue by run.1 (times_of rounds) → ChecksAmong rounds path ⊎ SelectsAmong rounds
+      from-second [] c more passing enough = absurd enough
+      from-second (second ∷ rounds) c more passing enough =
+          let v = c.waits in
+          let many = many-times rounds in
+          let due : due_time_of second.now run.1.timing v.pair ≡ v.timeout = ap (λ o. unwrap_or o (due_time_of second.now run.1.timing (record v.pair { due = None }))) v.due in
+          subst (λ w. ChecksAmong (second ∷ rounds) w ⊎ SelectsAmong (second ∷ rounds)) v.on
+          (check first run.1 last ((xs ++ (HandleTimeout r.now, r.timeout) ∷ []) ++ r.following) second rounds v.pair by fresh to-next c.role
+          (record {
+            checking = v.checking;
+            paced = c.paced;
+            queue = v.queue;
+            there = v.there;
+            due = subst (λ d. d ≤ by) (sym due) v.before;
+          })
+          (record { invalid = c.invalid; young = lt-from (unanswered_count v.pair.checks) run.1.timing.max_retransmits v.young }) more passing (omega (arith, many, enough)))
+
+      from-first : (length start.pairs ≤ 1) ⊎ AreAsManyAsDue by run.1 (times_of later) → ChecksAmong (r ∷ later) path ⊎ SelectsAmong (r ∷ later)
+      from-first enough = elim (timeout-on mac answers by p.number path r.now (omega (arith, from)) r.timeout start run.0 run.2 run.3 p done run.4 sound_start sound_mid line refl refl) [
+        | inl (id, out) ↦ inl (r, id, inl refl, out)
+        | inr (other, w) ↦ elim enough [
+          | inl few ↦ absurd (apart other (omega (arith, few)))
+          | inr many ↦ elim (walk mac answers by p.number path r.now select first fresh r.following run.0 run.1 (xs ++ (HandleTimeout r.now, r.timeout) ∷ []) to-mid (λ x has. between x has) sound_mid run.6 run.7
+              (record {
+                waits = w;
+                invalid = λ q has. (let o = after-call.1.back q has in o.2.valid ∙ (let none = unanswered.invalid in none o.0 o.1));
+                role = run.5;
+                paced = subst (λ (z : StunTiming). IsPaced z) (sym (ap (λ (b : Base). b.timing) after-call.0)) waits.paced;
+              })) [
+                | inl (x, has, (accepts, selected_paths)) ↦ inr (r, inl refl, (x, has, accepts, selected_paths))
+                | inr c ↦ checks-later r later path (from-second later c run.8 passing many)
+              ]
+        ]
+      ]
+
+      by-enough : SufficeForDue by r.now start run.1 (times_of later) → ChecksAmong (r ∷ later) path ⊎ SelectsAmong (r ∷ later)
+      by-enough (inl (late, enough)) =
+          let many = many-times later in
+          check first start last xs r later p by fresh course role waits unanswered run (λ x has. open-from (omega (arith, late)) x has) (omega (arith, many, enough)) where
+            open-from : by < r.now → (x : CourseRound P) → Has (r ∷ later) x → IsPassed by x
+            open-from before x (inl is) = subst (λ (y : CourseRound P). IsPassed by y) is (record { done = done; late = before; early = early; between = between })
+            open-from before x (inr has) = passing x has
+      by-enough (inr enough) = from-first enough

@@ -1,0 +1,148 @@
+-- With limits, a bound on the rounds before a pair that is due is checked, whatever pairs requests add in them.
+use Rattle.std.proofs.Common.{◌≡◌, ℕ, ◌+◌, ◌*◌, ◌<◌, ◌≤◌, Bool, true, false, List, [], ◌∷◌, ◌++◌, length, count_by, inl, inr, refl, sym, ◌∙◌, subst, arith, cond, append_assoc}
+use Rattle.std.proofs.Math.Nat.{add-mul, le_of_mul-le-mul_right, mul-le-mul_right}
+use Rattle.std.proofs.lemmas.List.Sums.{sum_by-append, sum_by-cons}
+use Rattle.rand_core.specs.Stream.{Stream}
+use Rattle.is_proto.specs.Lists.{Has}
+use Rattle.is_candidate.specs.Candidates.{CandidateRecord}
+use Rattle.is_pair.specs.Pairs.{PairRecord}
+use Rattle.is_rules.specs.Agent.{AgentRecord}
+use Rattle.is_theorems.specs.Bounds.{gathered_count, is_gathered, is_signal, pair_bound, signal_count}
+use Rattle.is_theorems.specs.Logs.{Logged}
+use Rattle.is_theorems.specs.Reached.{IsEndedIn, IsPassing, PairsAreReached, is_in_round}
+use Rattle.is_theorems.specs.Rounds.{LoggedRound, RunsOn, entries_of}
+use Rattle.is_theorems.specs.Runs.{Run}
+use Rattle.is_rules.specs.Sending.{path_of}
+use Rattle.is_rules.specs.Sound.{IsSound}
+use Rattle.is_theorems.specs.Staying.{MayEnd}
+use Rattle.is_rules.specs.Steps.{Call, AddLocalCandidate, AddRemoteCandidate, InvalidateCandidate, RestartIce, RecreateCandidatePairs, HandleTimeout, Entry}
+use Rattle.is_rules.specs.declared.emitted.Path.{Path}
+use Rattle.is_theorems.proofs.StorageBounds.BoundedLists.{at-most-one}
+use Rattle.is_theorems.proofs.StorageBounds.NumberOfPairs.{pairs_within}
+use Rattle.is_theorems.proofs.CallEffects.PathAndTradeEffects.{path_theorem}
+use Rattle.is_theorems.proofs.ExecutionLogs.LogTheorems.{runs_sound}
+use Rattle.is_theorems.proofs.ExecutionLogs.LogSegments.{no-case, run-on}
+use Rattle.is_theorems.proofs.ExecutionLogs.PointsOfSegments.{deeper}
+use Rattle.is_theorems.specs.NotStarved.{AreSteady, NoneIsStarved, is_steady, is_timeout, timeout_count}
+use Rattle.is_theorems.proofs.RemainingChecks.PairsThatRequestsAdd.{requests-add-few}
+
+-- ---- numbers
+
+enough-rounds : (was now next_was next rounds bound m : ℕ) → was ≤ bound → now ≤ bound → 0 < m → next * m ≤ (next_was + now) * m + rounds
+    → 3 * bound * m + rounds ≤ (rounds + 1) * m → 2 * was + next ≤ rounds + 1 + next_was
+enough-rounds was now next_was next rounds bound m was_few now_few some added enough =
+    let all : (2 * was + now) * m ≤ 3 * bound * m = mul-le-mul_right m (omega (arith, was_few, now_few)) in
+    let all_sum : (2 * was + now) * m ≡ 2 * was * m + now * m = add-mul (2 * was) now m in
+    let left : (2 * was + next) * m ≡ 2 * was * m + next * m = add-mul (2 * was) next m in
+    let added_sum : (next_was + now) * m ≡ next_was * m + now * m = add-mul next_was now m in
+    let right : (rounds + 1 + next_was) * m ≡ (rounds + 1) * m + next_was * m = add-mul (rounds + 1) next_was m in
+    le_of_mul-le-mul_right (joined (2 * was * m) (now * m) (next * m) (next_was * m) (3 * bound * m) ((rounds + 1) * m) _ _ _ _ left right added_sum all all_sum added enough) some where
+      joined : (a b c d e f left right added both : ℕ) → left ≡ a + c → right ≡ f + d → added ≡ d + b → both ≤ e → both ≡ a + b → c ≤ added + rounds → e + rounds ≤ f → left ≤ right
+      joined a b c d e f left right added both h1 h2 h3 h4 h5 h6 h7 = omega (arith, h1, h2, h3, h4, h5, h6, h7)
+
+none-of : (b : Bool) → b ≡ false → cond b 1 0 ≤ 0
+none-of true is = no-case (sym is)
+none-of false is = omega arith
+
+-- ---- calls of a segment in which no candidate is added
+
+module _ {P : Type 0} where
+  between-counts : (call : Call P) → is_in_round call ≡ true → is_timeout call ≡ false
+  between-counts (HandleTimeout now) is = no-case is
+  between-counts _ is = refl
+
+  steady-signals : (call : Call P) → is_steady call ≡ true → is_signal call ≡ false
+  steady-signals (AddRemoteCandidate c) is = no-case is
+  steady-signals _ is = refl
+
+  steady-gathered : (call : Call P) → is_steady call ≡ true → is_gathered call ≡ false
+  steady-gathered (AddLocalCandidate c) is = no-case is
+  steady-gathered _ is = refl
+
+  no-timeouts : (xs : List (Logged P)) → ((x : Logged P) → Has xs x → is_in_round x.call ≡ true) → timeout_count xs ≡ 0
+  no-timeouts [] are = refl
+  no-timeouts (x ∷ xs) are =
+      let rest = no-timeouts xs (λ y has. are y (inr has)) in
+      let all = sum_by-cons (λ (y : Logged P). cond (is_timeout y.call) 1 0) x xs in
+      let none : cond (is_timeout x.call) 1 0 ≤ 0 = none-of (is_timeout x.call) (between-counts x.call (are x (inl refl))) in
+      omega (arith, rest, all, none)
+
+  module _ (test : Call P → Bool) (none_passes : (call : Call P) → is_steady call ≡ true → test call ≡ false) where
+    none-counted : (xs : List (Logged P)) → AreSteady xs → count_by (λ (y : Logged P). test y.call) xs ≡ 0
+    none-counted [] are = refl
+    none-counted (x ∷ xs) are =
+        let rest = none-counted xs (λ y has. are y (inr has)) in
+        let all = sum_by-cons (λ (y : Logged P). cond (test y.call) 1 0) x xs in
+        let none : cond (test x.call) 1 0 ≤ 0 = none-of (test x.call) (none_passes x.call (are x (inl refl))) in
+        omega (arith, rest, all, none)
+
+    counted-before : (xs before : List (Logged P)) → AreSteady xs → count_by (λ (y : Logged P). test y.call) (xs ++ before) ≡ count_by (λ (y : Logged P). test y.call) before
+    counted-before xs before are =
+        let sum = sum_by-append (λ (y : Logged P). cond (test y.call) 1 0) xs before in
+        let none = none-counted xs are in
+        omega (arith, sum, none)
+
+  few-timeouts : (by : ℕ) (rounds : List (LoggedRound P)) → ((r : LoggedRound P) → Has rounds r → IsPassing by r) → timeout_count (entries_of rounds) ≤ length rounds
+  few-timeouts by [] are = omega arith
+  few-timeouts by (r ∷ older) are =
+      let rest = few-timeouts by older (λ x has. are x (inr has)) in
+      let split = sum_by-append (λ (y : Logged P). cond (is_timeout y.call) 1 0) r.following (r.timeout ∷ entries_of older) in
+      let here = sum_by-cons (λ (y : Logged P). cond (is_timeout y.call) 1 0) r.timeout (entries_of older) in
+      let none = no-timeouts r.following (are r (inl refl)).between in
+      let one = at-most-one (is_timeout r.timeout.call) in
+      omega (arith, rest, split, here, none, one)
+
+module _ {H P : Type 0} (mac : H → List ℕ → List ℕ → List ℕ) (answers : P → CandidateRecord → ℕ → ℕ → Type 0) where
+  -- nothing in it removes a pair but a timeout
+  may-not : (a : AgentRecord H P) (call : Call P) (e : Entry) (p : PairRecord) → is_in_round call ≡ true → is_steady call ≡ true → MayEnd answers a call e p → ⊥
+  may-not a (AddLocalCandidate c) e p between steady ends = no-case steady
+  may-not a (AddRemoteCandidate c) e p between steady ends = no-case steady
+  may-not a (InvalidateCandidate c) e p between steady ends = no-case between
+  may-not a (RestartIce creds keep) e p between steady ends = no-case between
+  may-not a RecreateCandidatePairs e p between steady ends = no-case between
+  may-not a (HandleTimeout now) e p between steady ends = no-case between
+  may-not a _ e p between steady ends = absurd ends
+
+  none-ends : (before : List (Logged P)) (start : AgentRecord H P) (u : Stream) (part : List (Logged P)) (last : AgentRecord H P) (t : Stream) (run : RunsOn mac answers before start u part last t) (path : Path)
+      → AreSteady part → IsEndedIn mac answers before start u part last t run path → ⊥
+  none-ends before start u [] last t run path steady ended = absurd ended
+  none-ends before start u (x ∷ part) last t run path steady (inl (between, (p, has, joins, ends))) = may-not run.0 x.call x.entry p between (steady x (inl refl)) ends
+  none-ends before start u (x ∷ part) last t run path steady (inr ended) = none-ends before start u part run.0 run.1 run.2 path (λ y has. steady y (inr has)) ended
+
+  -- ---- the theorem
+
+  pub none-starves : PairsAreReached {H = H} mac answers → NoneIsStarved {H = H} mac answers
+  none-starves reached first s log fresh most limit limited few before start last rounds p by part f =
+      elim (reached first s log fresh before start last rounds p by part (record { at = f.at; began = f.began; line = f.line; passing = f.passing; enough = enough })) [
+        | inl checks ↦ inl checks
+        | inr (inl answered) ↦ inr answered
+        | inr (inr ended) ↦ absurd (none-ends before start part.at (entries_of rounds) last part.following part.run (path_of start p) f.steady ended)
+      ] where
+        split : log ≡ (part.rest ++ entries_of rounds) ++ before
+        split = part.split ∙ sym (append_assoc part.rest (entries_of rounds) before)
+
+        led : Run mac answers first s (entries_of rounds ++ before) last part.following
+        led = run-on mac answers first start last s part.at part.following before (entries_of rounds) part.led part.run
+
+        was : length start.pairs ≤ pair_bound limit most (gathered_count before) (signal_count before)
+        was = pairs_within mac answers most limit first s before start part.at fresh
+            (λ b m a y k. limited b m a y (deeper mac answers first s log before (part.rest ++ entries_of rounds) b m y a split k))
+            (λ b m a y k. few b m a y (deeper mac answers first s log before (part.rest ++ entries_of rounds) b m y a split k)) part.led
+
+        now : length last.pairs ≤ pair_bound limit most (gathered_count before) (signal_count before)
+        now =
+            subst (λ k. length last.pairs ≤ pair_bound limit most k (signal_count before)) (counted-before is_gathered steady-gathered (entries_of rounds) before f.steady)
+            (subst (λ k. length last.pairs ≤ pair_bound limit most (gathered_count (entries_of rounds ++ before)) k) (counted-before is_signal steady-signals (entries_of rounds) before f.steady)
+            (pairs_within mac answers most limit first s (entries_of rounds ++ before) last part.following fresh
+            (λ b m a y k. limited b m a y (deeper mac answers first s log (entries_of rounds ++ before) part.rest b m y a part.split k))
+            (λ b m a y k. few b m a y (deeper mac answers first s log (entries_of rounds ++ before) part.rest b m y a part.split k)) led))
+
+        enough : 2 * length start.pairs + last.next_number ≤ length rounds + 1 + start.next_number
+        enough =
+            let added = requests-add-few mac answers first s log fresh before (entries_of rounds) start last part f.line.checking.full f.steady in
+            let timeouts = few-timeouts by rounds f.passing in
+            let sound : IsSound start = runs_sound mac answers (path_theorem mac answers) first start s part.at before fresh part.led in
+            let all = f.enough in
+            enough-rounds (length start.pairs) (length last.pairs) start.next_number last.next_number (length rounds)
+            (pair_bound limit most (gathered_count before) (signal_count before)) start.timing.max_retransmits was now sound.checks
+            (omega (arith, added, timeouts)) (omega (arith, all))

@@ -1,0 +1,3 @@
+-- In which time a pair is checked.
+pub mod UnchangedPacing
+pub mod ChecksInTime

@@ -1,0 +1,214 @@
+-- Each transition leaves the pacing interval, except that `set_timing_advance` sets it.
+use Rattle.std.proofs.Common.{◌≡◌, ℕ, ◌==◌, Bool, true, false, List, Option, Some, None, Ok, Err, inl, inr, ap, ◌∙◌, ◌&&◌}
+use Rattle.std.specs.List.{list_any}
+use Rattle.std.specs.Prelude.{MatchBool, MatchOption}
+use Rattle.rand_core.specs.Stream.{Stream}
+use Rattle.is_proto.specs.Lists.{same}
+use Rattle.is_candidate.specs.Candidates.{CandidateRecord, candidate_at}
+use Rattle.is_pair.specs.Multiset.{is_valid_at}
+use Rattle.is_pair.specs.Pairs.{PairRecord}
+use Rattle.is_stun.specs.declared.header.Class.{Class}
+use Rattle.is_stun.specs.declared.header.Class.TheVariants as class
+use Rattle.is_stun.specs.Message.{Message}
+use Rattle.is_rules.specs.Accepting.{Takes}
+use Rattle.is_rules.specs.Agent.{AgentRecord}
+use Rattle.is_rules.specs.Answers.{is_role_conflict, TakesSuccess, LeavesRole, TakesFailure}
+use Rattle.is_rules.specs.Checking.{all_asked, ChecksTop, MayCheck}
+use Rattle.is_rules.specs.declared.credentials.IceCreds.{IceCreds}
+use Rattle.is_rules.specs.declared.places.RemotePlace.{RemotePlace}
+use Rattle.is_rules.specs.declared.places.RemotePlace.TheVariants.{Known, Barred, Unknown, Vacant, Full}
+use Rattle.is_rules.specs.declared.roles.Conflict.{Conflict}
+use Rattle.is_rules.specs.declared.roles.Conflict.TheVariants.{Absent, Send487, SwitchRole}
+use Rattle.is_rules.specs.declared.emitted.Emitted.{Emitted}
+use Rattle.is_rules.specs.declared.emitted.Issued.{Issued}
+use Rattle.is_rules.specs.declared.emitted.Path.{Path}
+use Rattle.is_rules.specs.Discarding.{place_to_discard, InvalidatesAt}
+use Rattle.is_rules.specs.Forming.{formed, with_pair, Combination, FormsAll}
+use Rattle.is_rules.specs.Nominating.{followed, remains, selection_of, Nominates}
+use Rattle.is_rules.specs.Places.{local_place}
+use Rattle.is_rules.specs.Request.{RequestRecord, request_in}
+use Rattle.is_rules.specs.Roles.{conflict_of, switched}
+use Rattle.is_rules.specs.Serving.{is_misled, names_another, pair_served, request_counted, with_sender, with_sender_at, Drops, Queues, RecordsAndResponds, FindsOrAddsPair, AddsUnknownSender, CountsAndServes, ResolvesRoleConflictBy, ResolvesRoleConflict, Serves}
+use Rattle.is_rules.specs.Steps.{SetMtu, SetControlTieBreaker, SetMaxCandidatePairs, SetMaxDiscovered, SetIceLite, SetRenomination, SetTimingAdvance, SetInitialStunRto, SetMaxStunRto, SetMaxStunRetransmits, SetLiteTimeout, SetLocalPreference, SetControlling, SetLocalCredentials, SetRemoteCredentials, SkipPairIds, AddLocalCandidate, AddRemoteCandidate, InvalidateCandidate, RestartIce, RecreateCandidatePairs, ReceivePacket, HandleTimeout, PollTransmit, PollTimeout, PollEvent, Entry, Becomes, Receives, NotCalled, quiet}
+use Rattle.is_rules.specs.Settings.{with_retransmits}
+use Rattle.is_rules.specs.Timeouts.{at_timeout, is_expired, expired_gone, timeout_begun, RemovesExpired, MaintainsPairs, ServesQueued}
+use Rattle.is_rules.specs.Queue.{request_at}
+use Rattle.is_theorems.proofs.CallEffects.AddedCandidates.{by_adding_local, by_adding_remote, by_waking}
+use Rattle.is_theorems.proofs.RuleEffects.UnchangedSettings.{either}
+use Rattle.is_theorems.proofs.RuleEffects.NominatedPairs.{SelectsPath, selects_path}
+use Rattle.is_theorems.proofs.CallEffects.FailedCallsAndNewAgents.{mtu_kept, local_kept, remote_kept, restart_kept, recreation_kept, enrolment_kept, storing_kept}
+use Rattle.is_theorems.specs.Pacing.{PacingIsSet}
+
+module _ {H P : Type 0} where
+  abbrev Same : AgentRecord H P → AgentRecord H P → Type 0
+  Same old new = new.timing_advance ≡ old.timing_advance
+
+  made-of : (old new : AgentRecord H P) → new ≡ old → Same old new
+  made-of old new made = ap (λ (a : AgentRecord H P). a.timing_advance) made
+
+  -- ---- nomination
+
+  nominates-same : (old new : AgentRecord H P) (path : Option Path) → Nominates old path new → Same old new
+  nominates-same old new path h = from (selects_path old new path h) where
+    from : SelectsPath old path new → Same old new
+    from (None, greatest, (is, made)) = made-of old new made
+    from (Some top, greatest, k) = either (remains (followed old) top (selection_of old)) k
+        (λ _ l. made-of old new l.1)
+        (λ _ l. made-of _ new l.1)
+
+  gives-up-same : (now : ℕ) (old new : AgentRecord H P) (path : Option Path) → RemovesExpired now old path new → Same old new
+  gives-up-same now old new path h = either (list_any (is_expired now old) old.pairs) h
+      (λ _ k. made-of _ new k.2 ∙ nominates-same (expired_gone now old) k.0 path k.1)
+      (λ _ k. made-of old new k.1)
+
+  -- ---- responses
+
+  failure : (old new : AgentRecord H P) (via : Path) (m : Message) (emitted : Emitted) → TakesFailure old via m emitted new → Same old new
+  failure old new via m emitted h = either (is_role_conflict m) h
+      (λ _ k. expired k)
+      (λ _ k. made-of old new k.1) where
+        expired : LeavesRole old via m emitted new → Same old new
+        expired (p, c, has, keeps, kept, is, acts) = either (same c.controlling old.controlling) acts
+            (λ _ k. made-of (switched old) new k.1)
+            (λ _ k. made-of old new k.1)
+
+  success : (now : ℕ) (old new : AgentRecord H P) (via : Path) (m : Message) (emitted : Emitted) → TakesSuccess now old via m emitted new → Same old new
+  success now old new via m emitted (recorded, (place, p, after, at, keeps, answered, made), (named, mid, nominates, emitted_is, done)) =
+      made-of _ new done ∙ (nominates-same recorded mid named nominates ∙ made-of _ recorded made)
+
+  module _ (mac : H → List ℕ → List ℕ → List ℕ) where
+    -- ---- requests
+
+    module _ (q : RequestRecord) where
+      pair : (l r number : ℕ) (s new : AgentRecord H P) (emitted : Emitted) → RecordsAndResponds mac q l r number s emitted new → Same s new
+      pair l r number s new emitted (path, mid, nominates, (values, is, made)) =
+          made-of _ new made ∙ either (s.controlling && is_valid_at number s.pairs) nominates
+          (λ _ k. nominates-same (pair_served q number s) mid path k)
+          (λ _ k. made-of (pair_served q number s) mid k.1)
+
+      takes : (l r : ℕ) (number : Option ℕ) (s new : AgentRecord H P) (emitted : Emitted) → FindsOrAddsPair mac q l r number s emitted new → Same s new
+      takes l r (Some number) s new emitted h = pair l r number s new emitted h
+      takes l r None s new emitted h = either (candidate_at s.local l).discarded h
+          (λ _ k. made-of s new k.1)
+          (λ _ k. pair l r s.next_number (with_pair (formed s l r) s) new emitted k.1)
+
+      joins : (l : ℕ) (place : RemotePlace) (s new : AgentRecord H P) (emitted : Emitted) → AddsUnknownSender mac q l place s emitted new → Same s new
+      joins l (Known r) s new emitted (number, between, h) = takes l r number s new emitted h
+      joins l Barred s new emitted h = made-of s new h.1
+      joins l Unknown s new emitted (number, between, h) = takes l _ number (with_sender q s) new emitted h
+      joins l (Vacant r) s new emitted (number, between, h) = takes l r number (with_sender_at r q s) new emitted h
+      joins l Full s new emitted h = made-of s new h.1
+
+      admitted : (l : ℕ) (s new : AgentRecord H P) (emitted : Emitted) → CountsAndServes mac q l s emitted new → Same s new
+      admitted l s new emitted h = either (is_misled s.controlling q) h
+          (λ _ k. made-of s new k.1)
+          (λ _ k. joins l k.0 (request_counted s) new emitted k.2)
+
+      resolves : (conflict : Conflict) (l : ℕ) (s new : AgentRecord H P) (emitted : Emitted) → ResolvesRoleConflictBy mac conflict q l s emitted new → Same s new
+      resolves Absent l s new emitted h = admitted l s new emitted h
+      resolves Send487 l s new emitted (values, is, made) = made-of _ new made
+      resolves SwitchRole l s new emitted h = admitted l (switched s) new emitted h
+
+      here : (place : Option ℕ) (s new : AgentRecord H P) (emitted : Emitted) → MatchOption place (Drops s emitted new) (λ l. ResolvesRoleConflict mac q l s emitted new) → Same s new
+      here None s new emitted h = made-of s new h.1
+      here (Some l) s new emitted h = resolves (conflict_of s q) l s new emitted h
+
+      serves : (s new : AgentRecord H P) (emitted : Emitted) → Serves mac q s emitted new → Same s new
+      serves s new emitted h = either (names_another s q) h
+          (λ _ k. made-of s new k.1)
+          (λ _ k. here (local_place s.local q) s new emitted k)
+
+      requested : (remote : Option IceCreds) (s new : AgentRecord H P) (emitted : Emitted) → MatchOption remote (Queues q s emitted new) (λ _. Serves mac q s emitted new) → Same s new
+      requested None s new emitted h = made-of _ new h.1
+      requested (Some peer) s new emitted h = serves s new emitted h
+
+    -- ---- packets
+
+    by-class : (c : Class) (now : ℕ) (old mid : AgentRecord H P) (via : Path) (m : Message) (emitted : Emitted) → Takes mac c now old via m emitted mid → Same old mid
+    by-class class.Request now old mid via m emitted h = requested (request_in now via m) old.remote_creds old mid emitted h
+    by-class class.Success now old mid via m emitted h = success now old mid via m emitted h
+    by-class class.Failure now old mid via m emitted h = failure old mid via m emitted h
+    by-class class.Indication now old mid via m emitted h = absurd h
+    by-class class.Unknown now old mid via m emitted h = absurd h
+
+    receives : (answers : P → CandidateRecord → ℕ → ℕ → Type 0) (now : ℕ) (old new : AgentRecord H P) (via : Path) (bytes : List ℕ) (e : Entry) → Receives mac answers now old via bytes e new → Same old new
+    receives answers now old new via bytes e (inl (fault, has_fault, is, made)) = made-of old new made
+    receives answers now old new via bytes e (inr (m, reads, (Ok true, emitted, is, (accepted, (mid, takes_it, made))))) =
+        made-of _ new made ∙ by-class m.class now old mid via m emitted takes_it
+    receives answers now old new via bytes e (inr (m, reads, (Ok false, emitted, is, (no_one, nothing, made)))) = made-of old new made
+    receives answers now old new via bytes e (inr (m, reads, (Err error, emitted, is, (may, nothing, made)))) = made-of old new made
+
+    -- ---- the `handle_timeout` call
+
+    tops : (now : ℕ) (peer : IceCreds) (next : Option PairRecord) (old new : AgentRecord H P) (s t : Stream) (issued : Option Issued) → ChecksTop mac now peer next old s issued new t → Same old new
+    tops now peer None old new s t issued h = made-of old new h.1
+    tops now peer (Some p) old new s t issued (id, drawn, values, is, made) = made-of _ new made
+
+    checks : (now : ℕ) (remote : Option IceCreds) (old new : AgentRecord H P) (s t : Stream) (issued : Option Issued) → MayCheck mac now remote old s issued new t → Same old new
+    checks now None old new s t issued h = made-of old new h.1
+    checks now (Some peer) old new s t issued h = either old.lite h
+        (λ _ k. made-of _ new k.1)
+        (λ _ k. tops now peer k.0 (all_asked now old) new s t issued k.2)
+
+    maintains : (now : ℕ) (old new : AgentRecord H P) (s t : Stream) (emitted : Emitted) → MaintainsPairs mac now old s emitted new t → Same old new
+    maintains now old new s t emitted (first, second, issued, named, kept, nominating, giving, checking, is) =
+        checks now kept.remote_creds kept new s t issued checking ∙ (gives-up-same now named kept second giving ∙ nominates-same (at_timeout now old) named first nominating)
+
+    times-out : (now : ℕ) (request : Option RequestRecord) (old new : AgentRecord H P) (s t : Stream) (emitted : Emitted)
+        → MatchOption request (MaintainsPairs mac now old s emitted new t) (λ q. ServesQueued mac q old s emitted new t) → Same old new
+    times-out now None old new s t emitted h = maintains now old new s t emitted h
+    times-out now (Some q) old new s t emitted h = serves q _ new emitted h.0
+
+  -- ---- the other calls
+
+  forms : (mid new : AgentRecord H P) (all : List Combination) → FormsAll mid all new → Same mid new
+  forms mid new all (f, each, made) = made-of _ new made
+
+  invalidates : (old new : AgentRecord H P) (l r : Option ℕ) (found : Bool) → InvalidatesAt l r old found new → Same old new
+  invalidates old new (Some place) r found h = made-of _ new h.1
+  invalidates old new None (Some place) found h = made-of _ new h.1
+  invalidates old new None None found h = made-of old new h.1
+
+  retransmits : (b : Bool) (n : ℕ) (old new : AgentRecord H P) (s t : Stream) (e : Entry)
+      → MatchBool b ((e ≡ quiet NotCalled) × (new ≡ old) × (t ≡ s)) (Becomes (with_retransmits n old) s e new t) → Same old new
+  retransmits true n old new s t e h = made-of old new h.1
+  retransmits false n old new s t e h = made-of _ new h.1
+
+  module _ (mac : H → List ℕ → List ℕ → List ℕ) (answers : P → CandidateRecord → ℕ → ℕ → Type 0) where
+    pub pacing-is-set : PacingIsSet {H = H} {P = P} mac answers
+    pacing-is-set old new s t (SetMtu target warn) e (Ok _, reported, h, drawn) = made-of _ new h.1
+    pacing-is-set old new s t (SetMtu target warn) e (Err error, reported, h, drawn) = made-of old new (mtu_kept old new target warn error h)
+    pacing-is-set old new s t (SetControlTieBreaker tie) e h = made-of _ new h.1
+    pacing-is-set old new s t (SetMaxCandidatePairs n) e h = made-of _ new h.1
+    pacing-is-set old new s t (SetMaxDiscovered limit) e h = made-of _ new h.1
+    pacing-is-set old new s t (SetIceLite lite) e h = made-of _ new h.1
+    pacing-is-set old new s t (SetRenomination renominates) e h = made-of _ new h.1
+    pacing-is-set old new s t (SetTimingAdvance by) e h = made-of _ new h.1
+    pacing-is-set old new s t (SetInitialStunRto rto) e h = made-of _ new h.1
+    pacing-is-set old new s t (SetMaxStunRto rto) e h = made-of _ new h.1
+    pacing-is-set old new s t (SetMaxStunRetransmits n) e h = retransmits (n == 0) n old new s t e h
+    pacing-is-set old new s t (SetLiteTimeout by) e h = made-of _ new h.1
+    pacing-is-set old new s t (SetLocalPreference object) e h = made-of _ new h.1
+    pacing-is-set old new s t (SetControlling controlling) e h = made-of _ new h.1
+    pacing-is-set old new s t (SetLocalCredentials creds) e (Ok _, reported, h, drawn) = made-of _ new h.1
+    pacing-is-set old new s t (SetLocalCredentials creds) e (Err error, reported, h, drawn) = made-of old new (local_kept old new creds error h)
+    pacing-is-set old new s t (SetRemoteCredentials creds) e (Ok _, reported, h, drawn) = made-of _ new h.1
+    pacing-is-set old new s t (SetRemoteCredentials creds) e (Err error, reported, h, drawn) = made-of old new (remote_kept old new creds error h)
+    pacing-is-set old new s t (SkipPairIds n) e h = made-of _ new h.1
+    pacing-is-set old new s t (AddLocalCandidate c) e (Ok place, reported, h, drawn) = by_adding_local old new answers c place h
+        (λ made. made-of old new made) (λ x _ f. forms _ new _ f) (λ k _ f. forms _ new _ f) (λ x _ k f. forms _ new _ f)
+    pacing-is-set old new s t (AddLocalCandidate c) e (Err error, reported, h, drawn) = made-of old new (enrolment_kept answers old new c error h)
+    pacing-is-set old new s t (AddRemoteCandidate c) e (Ok _, reported, h, drawn) = by_adding_remote old new c h
+        (λ made. made-of old new made) (λ f. forms _ new _ f) (λ k _ addr f. forms _ new _ f)
+    pacing-is-set old new s t (AddRemoteCandidate c) e (Err error, reported, h, drawn) = made-of old new (storing_kept old new c error h)
+    pacing-is-set old new s t (InvalidateCandidate c) e (found, reported, h, drawn) = invalidates old new (place_to_discard c old.local) (place_to_discard c old.remote) found h
+    pacing-is-set old new s t (RestartIce creds keep) e (Ok _, reported, h, drawn) = made-of _ new h.1
+    pacing-is-set old new s t (RestartIce creds keep) e (Err error, reported, h, drawn) = made-of old new (restart_kept old new creds keep error h)
+    pacing-is-set old new s t RecreateCandidatePairs e (Ok _, reported, (some, h), drawn) = forms _ new _ h
+    pacing-is-set old new s t RecreateCandidatePairs e (Err error, reported, h, drawn) = made-of old new (recreation_kept old new error h)
+    pacing-is-set old new s t (ReceivePacket now via bytes) e (h, drawn) = receives mac answers now old new via bytes e h
+    pacing-is-set old new s t (HandleTimeout now) e (Ok _, emitted, reported, h) = times-out mac now (request_at now old) (timeout_begun now old) new s t emitted h
+    pacing-is-set old new s t (HandleTimeout now) e (Err error, emitted, reported, (may, nothing, made, drawn)) = made-of old new made
+    pacing-is-set old new s t PollTransmit e (given, reported, (polled, made), drawn) = made-of _ new made
+    pacing-is-set old new s t PollTimeout e (deadline, reported, h, drawn) = by_waking old new deadline h (λ made. made-of old new made) (λ at made. made-of _ new made)
+    pacing-is-set old new s t PollEvent e (given, reported, (polled, made), drawn) = made-of _ new made

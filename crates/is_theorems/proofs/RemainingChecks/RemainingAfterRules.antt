@@ -1,0 +1,267 @@
+-- How the rules change the number of checks that pairs still send before they may be removed after timeout. A request that adds
+-- a pair adds as many as a pair may have, and a `handle_timeout` call takes at most one.
+use Rattle.std.proofs.Common.{◌≡◌, ℕ, ◌+◌, ◌-◌, ◌*◌, ◌≤◌, ◌&&◌, ◌||◌, Bool, true, false, not, List, [], ◌∷◌, ◌++◌, length, map, Option, Some, None, Result, Ok, Err, inl, inr, refl, ap, sym, ◌∙◌, subst, arith, if◌then◌else◌}
+use Rattle.std.specs.Prelude.{MatchOption}
+use Rattle.std.specs.List.{list_any}
+use Rattle.std.specs.declared.net.socket_addr.SocketAddr.{SocketAddr}
+use Rattle.std.proofs.Math.Nat.{suc-mul}
+use Rattle.std.proofs.lemmas.List.{length-append}
+use Rattle.rand_core.specs.Stream.{Stream}
+use Rattle.is_proto.specs.Lists.{same}
+use Rattle.is_proto.specs.declared.error.IceError.{IceError}
+use Rattle.is_candidate.specs.Candidates.{CandidateRecord, candidate_at}
+use Rattle.is_pair.specs.Multiset.{change_at, is_valid_at, rises}
+use Rattle.is_pair.specs.Due.{asked}
+use Rattle.is_pair.specs.Pairs.{PairRecord, is_nominated, checked}
+use Rattle.is_pair.proofs.PairEntries.ChangedEntry.{rises-changed, rises-filter}
+use Rattle.is_stun.specs.declared.header.Class.{Class}
+use Rattle.is_stun.specs.declared.header.Class.TheVariants as class
+use Rattle.is_stun.specs.declared.timing.StunTiming.{StunTiming}
+use Rattle.is_stun.specs.Message.{Message}
+use Rattle.is_rules.specs.Accepting.{discovered_emitted, Takes}
+use Rattle.is_rules.specs.Agent.{AgentRecord}
+use Rattle.is_rules.specs.Answers.{is_left_out, is_role_conflict, local_with, mapped_candidate, success_counted, TakesSuccess, LeavesRole, TakesFailure}
+use Rattle.is_rules.specs.Checking.{all_asked, ChecksTop, MayCheck}
+use Rattle.is_rules.specs.declared.credentials.IceCreds.{IceCreds}
+use Rattle.is_rules.specs.declared.places.RemotePlace.{RemotePlace}
+use Rattle.is_rules.specs.declared.places.RemotePlace.TheVariants.{Known, Barred, Unknown, Vacant, Full}
+use Rattle.is_rules.specs.declared.roles.Conflict.{Conflict}
+use Rattle.is_rules.specs.declared.roles.Conflict.TheVariants.{Absent, Send487, SwitchRole}
+use Rattle.is_rules.specs.declared.emitted.Path.{Path}
+use Rattle.is_rules.specs.declared.emitted.Emitted.{Emitted}
+use Rattle.is_rules.specs.declared.emitted.Issued.{Issued}
+use Rattle.is_rules.specs.Forming.{formed, with_pair}
+use Rattle.is_rules.specs.Nominating.{nominated_by_self, Nominates, followed, remains, selection_of}
+use Rattle.is_rules.specs.Places.{local_place}
+use Rattle.is_rules.specs.Queue.{first_taken, request_at}
+use Rattle.is_rules.specs.Request.{RequestRecord, request_in}
+use Rattle.is_rules.specs.Roles.{conflict_of, switched, switched_sides, with_priority_in}
+use Rattle.is_rules.specs.Serving.{served, is_misled, names_another, pair_served, request_counted, with_sender, with_sender_at, Drops, Queues, RecordsAndResponds, FindsOrAddsPair, AddsUnknownSender, CountsAndServes, ResolvesRoleConflictBy, ResolvesRoleConflict, Serves}
+use Rattle.is_rules.specs.States.{evaluated}
+use Rattle.is_rules.specs.Steps.{Entry, Receives}
+use Rattle.is_rules.specs.Timeouts.{at_timeout, expired_gone, is_expired, timeout_begun, RemovesExpired, MaintainsPairs, TimesOut}
+use Rattle.is_theorems.proofs.RuleEffects.UnchangedSettings.{either}
+use Rattle.is_theorems.proofs.EarlierChecks.ChangedPairs.{Mild, self-mild, served-mild, at-mild}
+use Rattle.is_theorems.proofs.RuleEffects.NominatedPairs.{SelectsPath, selects_path}
+use Rattle.is_rules.proofs.PairLists.RisingNumbers.{rising-each}
+use Rattle.is_theorems.proofs.RemainingChecks.RemainingOfPairs.{unspent, unspent-alike, unspent-answered, unspent-checked, all-spent, unspents, unspents-map, unspents-push, unspents-filter, unspents-set, unspents-change}
+
+-- what stays of the agent
+pub record Held : Type 0 where
+  pub lite : Bool
+  pub timing : StunTiming
+
+-- one more pair
+one-more : (n m : ℕ) → (n + 1) * m ≡ n * m + m
+one-more n m = ap (λ (k : ℕ). k * m) (omega arith) ∙ suc-mul n m
+
+-- the pairs are changed each by itself, and store the same checks
+each : (m : ℕ) (f : PairRecord → PairRecord) (xs : List PairRecord) (n : ℕ) → ((p : PairRecord) → Mild p (f p)) → unspents m xs + n ≤ unspents m (map f xs) + n + 0
+each m f xs n mild = let le = unspents-map m f xs (λ p. unspent-alike m p (f p) (mild p).checks) in omega (arith, le)
+
+module _ {H P : Type 0} where
+  abbrev pub held_of : AgentRecord H P → Held
+  held_of a = record { lite = a.lite; timing = a.timing }
+
+  module _ (m : ℕ) where
+    -- at most k checks of them are sent, and each added pair has m more
+    abbrev pub Spends : ℕ → AgentRecord H P → AgentRecord H P → Type 0
+    Spends k old new =
+        (held_of new ≡ held_of old) × (length old.local ≤ length new.local)
+        × (unspents m old.pairs + new.next_number * m ≤ unspents m new.pairs + old.next_number * m + k)
+
+    pub spends-to : (k : ℕ) (old needed new : AgentRecord H P) → Spends k old needed → new ≡ needed → Spends k old new
+    spends-to k old needed new h made = subst (λ (a : AgentRecord H P). Spends k old a) (sym made) h
+
+    pub spends-none : (old new : AgentRecord H P) → new ≡ old → Spends 0 old new
+    spends-none old new made = spends-to 0 old old new (refl, omega arith, omega arith) made
+
+    pub spends-on : (i k : ℕ) (x y z : AgentRecord H P) → Spends i x y → Spends k y z → Spends (k + i) x z
+    spends-on i k x y z (held, grown, less) (later_held, later_grown, later_less) =
+        (later_held ∙ held, omega (arith, grown, later_grown), counted (unspents m x.pairs) (unspents m y.pairs) (unspents m z.pairs) (x.next_number * m) (y.next_number * m) (z.next_number * m) less later_less) where
+          counted : (a b c d e f : ℕ) → a + e ≤ b + d + i → b + f ≤ c + e + k → a + f ≤ c + d + (k + i)
+          counted a b c d e f h l = omega (arith, h, l)
+
+    -- ---- nomination
+
+    pub nominates-spends : (old new : AgentRecord H P) (path : Option Path) → Nominates old path new → Spends 0 old new
+    nominates-spends old new path h = from (selects_path old new path h) where
+      from : SelectsPath old path new → Spends 0 old new
+      from (None, greatest, (is, made)) = spends-none old new made
+      from (Some top, greatest, k) = either (remains (followed old) top (selection_of old)) k
+          (λ _ l. spends-none old new l.1)
+          (λ _ l. spends-to 0 old _ new (
+            refl,
+            omega arith,
+            each m (change_at top.number (nominated_by_self old.controlling old.lite)) old.pairs (old.next_number * m)
+                (λ p. at-mild top.number (nominated_by_self old.controlling old.lite) p (self-mild (old.controlling || old.lite) old.lite (is_nominated p) p refl)),
+          ) l.1)
+
+    nominates-rises : (old new : AgentRecord H P) (path : Option Path) → Nominates old path new → rises new.pairs ≡ rises old.pairs
+    nominates-rises old new path h = from (selects_path old new path h) where
+      from : SelectsPath old path new → rises new.pairs ≡ rises old.pairs
+      from (None, greatest, (is, made)) = ap (λ (a : AgentRecord H P). rises a.pairs) made
+      from (Some top, greatest, k) = either (remains (followed old) top (selection_of old)) k
+          (λ _ l. ap (λ (a : AgentRecord H P). rises a.pairs) l.1)
+          (λ _ l. ap (λ (a : AgentRecord H P). rises a.pairs) l.1
+          ∙ rises-changed (change_at top.number (nominated_by_self old.controlling old.lite))
+          (λ p. (at-mild top.number (nominated_by_self old.controlling old.lite) p (self-mild (old.controlling || old.lite) old.lite (is_nominated p) p refl)).number) old.pairs)
+
+    -- ---- roles
+
+    switches : (s : AgentRecord H P) → Spends 0 s (switched s)
+    switches s = (
+      refl,
+      omega arith,
+      each m (with_priority_in (switched_sides s)) s.pairs (s.next_number * m) (λ p. record { number = refl; due = refl; checks = refl; nomination = inl refl }),
+    )
+
+    failure : (old new : AgentRecord H P) (via : Path) (message : Message) (emitted : Emitted) → TakesFailure old via message emitted new → Spends 0 old new
+    failure old new via message emitted h = either (is_role_conflict message) h (λ _ k. expired k) (λ _ k. spends-none old new k.1) where
+      expired : LeavesRole old via message emitted new → Spends 0 old new
+      expired (p, c, has, keeps, kept, is, acts) = either (same c.controlling old.controlling) acts
+          (λ _ k. spends-to 0 old (switched old) new (switches old) k.1)
+          (λ _ k. spends-none old new k.1)
+
+    -- ---- responses
+
+    mapped-grows : (a : AgentRecord H P) (p : PairRecord) (mapped : Option SocketAddr) → length a.local ≤ length (local_with p mapped a)
+    mapped-grows a p None = omega arith
+    mapped-grows a p (Some mapped) = by (is_left_out a.max_discovered a.local mapped) where
+      by : (b : Bool) → length a.local ≤ length (if b then a.local else a.local ++ mapped_candidate a p mapped ∷ [])
+      by true = omega arith
+      by false = let long : length (a.local ++ mapped_candidate a p mapped ∷ []) ≡ length a.local + 1 = length-append a.local (mapped_candidate a p mapped ∷ []) in omega (arith, long)
+
+    success : (now : ℕ) (old new : AgentRecord H P) (via : Path) (message : Message) (emitted : Emitted) → TakesSuccess now old via message emitted new → Spends 0 old new
+    success now old new via message emitted (recorded, (place, p, after, at, keeps, (i, c, c_at, is), made), (named, mid, nominates, emitted_is, done)) =
+        spends-on 0 0 old recorded new
+        (spends-to 0 old _ recorded (
+          refl,
+          mapped-grows (success_counted old) p message.attributes.xor_mapped_address,
+          (let le = unspents-set m old.pairs place p after at (subst (λ (x : PairRecord). unspent m p ≤ unspent m x) (sym is) (unspent-answered m now i c p)) in omega (arith, le)),
+        ) made)
+        (spends-to 0 recorded (evaluated now mid) new (let k = nominates-spends recorded mid named nominates in (k.0, k.1, k.2)) done)
+
+    -- ---- requests
+
+    module _ (mac : H → List ℕ → List ℕ → List ℕ) where
+      module _ (q : RequestRecord) where
+        pair : (l r number : ℕ) (s new : AgentRecord H P) (emitted : Emitted) → RecordsAndResponds mac q l r number s emitted new → Spends 0 s new
+        pair l r number s new emitted (path, mid, nominates, (values, is, made)) =
+            spends-to 0 s _ new
+            (let k = spends-on 0 0 s (pair_served q number s) mid (
+              refl,
+              omega arith,
+              each m (change_at number (served s.controlling s.lite q)) s.pairs (s.next_number * m) (λ p. at-mild number (served s.controlling s.lite q) p (served-mild s.controlling s.lite q p)),
+            )
+            (either (s.controlling && is_valid_at number s.pairs) nominates
+            (λ _ k. nominates-spends (pair_served q number s) mid path k)
+            (λ _ k. spends-none (pair_served q number s) mid k.1)) in (k.0, k.1, k.2)) made
+
+        takes : (l r : ℕ) (number : Option ℕ) (s new : AgentRecord H P) (emitted : Emitted) → FindsOrAddsPair mac q l r number s emitted new → Spends 0 s new
+        takes l r (Some number) s new emitted h = pair l r number s new emitted h
+        takes l r None s new emitted h = either (candidate_at s.local l).discarded h
+            (λ _ k. spends-none s new k.1)
+            (λ _ k. spends-on 0 0 s (with_pair (formed s l r) s) new (
+              refl,
+              omega arith,
+              (let all = unspents-push m (formed s l r) s.pairs refl in let more = one-more s.next_number m in omega (arith, all, more)),
+            )
+            (pair l r s.next_number (with_pair (formed s l r) s) new emitted k.1))
+
+        joins : (l : ℕ) (place : RemotePlace) (s new : AgentRecord H P) (emitted : Emitted) → AddsUnknownSender mac q l place s emitted new → Spends 0 s new
+        joins l (Known r) s new emitted (number, between, h) = takes l r number s new emitted h
+        joins l Barred s new emitted h = spends-none s new h.1
+        joins l Unknown s new emitted (number, between, h) = let k = takes l _ number (with_sender q s) new emitted h in (k.0, k.1, k.2)
+        joins l (Vacant r) s new emitted (number, between, h) = let k = takes l r number (with_sender_at r q s) new emitted h in (k.0, k.1, k.2)
+        joins l Full s new emitted h = spends-none s new h.1
+
+        admitted : (l : ℕ) (s new : AgentRecord H P) (emitted : Emitted) → CountsAndServes mac q l s emitted new → Spends 0 s new
+        admitted l s new emitted h = either (is_misled s.controlling q) h
+            (λ _ k. spends-none s new k.1)
+            (λ _ k. (let g = joins l k.0 (request_counted s) new emitted k.2 in (g.0, g.1, g.2)))
+
+        resolves : (conflict : Conflict) (l : ℕ) (s new : AgentRecord H P) (emitted : Emitted) → ResolvesRoleConflictBy mac conflict q l s emitted new → Spends 0 s new
+        resolves Absent l s new emitted h = admitted l s new emitted h
+        resolves Send487 l s new emitted (values, is, made) = spends-to 0 s _ new (refl, omega arith, omega arith) made
+        resolves SwitchRole l s new emitted h = spends-on 0 0 s (switched s) new (switches s) (admitted l (switched s) new emitted h)
+
+        here : (place : Option ℕ) (s new : AgentRecord H P) (emitted : Emitted) → MatchOption place (Drops s emitted new) (λ l. ResolvesRoleConflict mac q l s emitted new) → Spends 0 s new
+        here None s new emitted h = spends-none s new h.1
+        here (Some l) s new emitted h = resolves (conflict_of s q) l s new emitted h
+
+        pub serves-spends : (s new : AgentRecord H P) (emitted : Emitted) → Serves mac q s emitted new → Spends 0 s new
+        serves-spends s new emitted h = either (names_another s q) h (λ _ k. spends-none s new k.1) (λ _ k. here (local_place s.local q) s new emitted k)
+
+        requested : (remote : Option IceCreds) (s new : AgentRecord H P) (emitted : Emitted) → MatchOption remote (Queues q s emitted new) (λ _. Serves mac q s emitted new) → Spends 0 s new
+        requested None s new emitted h = spends-to 0 s _ new (refl, omega arith, omega arith) h.1
+        requested (Some peer) s new emitted h = serves-spends s new emitted h
+
+      -- ---- packets
+
+      by-class : (c : Class) (now : ℕ) (old mid : AgentRecord H P) (via : Path) (message : Message) (emitted : Emitted) → Takes mac c now old via message emitted mid → Spends 0 old mid
+      by-class class.Request now old mid via message emitted h = requested (request_in now via message) old.remote_creds old mid emitted h
+      by-class class.Success now old mid via message emitted h = success now old mid via message emitted h
+      by-class class.Failure now old mid via message emitted h = failure old mid via message emitted h
+      by-class class.Indication now old mid via message emitted h = absurd h
+      by-class class.Unknown now old mid via message emitted h = absurd h
+
+      pub receives-spends : (answers : P → CandidateRecord → ℕ → ℕ → Type 0) (now : ℕ) (old new : AgentRecord H P) (via : Path) (bytes : List ℕ) (e : Entry)
+          → Receives mac answers now old via bytes e new → Spends 0 old new
+      receives-spends answers now old new via bytes e (inl (fault, has_fault, is, made)) = spends-none old new made
+      receives-spends answers now old new via bytes e (inr (message, reads, (Ok true, emitted, is, (accepted, (mid, takes_it, made))))) =
+          spends-to 0 old (discovered_emitted via mid) new (let k = by-class message.class now old mid via message emitted takes_it in (k.0, k.1, k.2)) made
+      receives-spends answers now old new via bytes e (inr (message, reads, (Ok false, emitted, is, (no_one, nothing, made)))) = spends-none old new made
+      receives-spends answers now old new via bytes e (inr (message, reads, (Err error, emitted, is, (may, nothing, made)))) = spends-none old new made
+
+      -- ---- timeouts
+
+      gives-up : (now : ℕ) (old new : AgentRecord H P) (path : Option Path) → old.lite ≡ false → old.timing.max_retransmits ≡ m → RemovesExpired now old path new → Spends 0 old new × (rises old.pairs ≡ true → rises new.pairs ≡ true)
+      gives-up now old new path full same_most h = either (list_any (is_expired now old) old.pairs) h
+          (λ _ k. (
+          let gone : unspents m old.pairs ≤ unspents m (expired_gone now old).pairs =
+          unspents-filter m (λ p. not (is_expired now old p)) old.pairs
+          (λ p is. subst (λ n. n - length p.checks ≡ 0) same_most (all-spent old.lite now old.timing p full is)) in
+          let named = spends-on 0 0 old (expired_gone now old) k.0 (refl, omega arith, omega (arith, gone)) (nominates-spends (expired_gone now old) k.0 path k.1) in (
+            spends-to 0 old (evaluated now k.0) new (named.0, named.1, named.2) k.2,
+            λ rising. ap (λ (a : AgentRecord H P). rises a.pairs) k.2 ∙ (nominates-rises (expired_gone now old) k.0 path k.1 ∙ rises-filter (λ p. not (is_expired now old p)) old.pairs rising),
+          )))
+          (λ _ k. (spends-none old new k.1, λ rising. ap (λ (a : AgentRecord H P). rises a.pairs) k.1 ∙ rising))
+
+      check : (now : ℕ) (remote : Option IceCreds) (old new : AgentRecord H P) (s t : Stream) (issued : Option Issued) → old.lite ≡ false → rises old.pairs ≡ true
+          → MayCheck mac now remote old s issued new t → Spends 1 old new
+      check now None old new s t issued full rising (is, made, drawn) = spends-to 1 old old new (refl, omega arith, omega arith) made
+      check now (Some remote) old new s t issued full rising h = either old.lite h
+          (λ is _. absurd (let no : true ≡ false = sym is ∙ full in cc))
+          (λ _ k. next k.0 k.2) where
+            all : unspents m old.pairs ≤ unspents m (map (asked now old.timing) old.pairs)
+            all = unspents-map m (asked now old.timing) old.pairs (λ p. unspent-alike m p (asked now old.timing p) refl)
+
+            next : (top : Option PairRecord) → ChecksTop mac now remote top (all_asked now old) s issued new t → Spends 1 old new
+            next None (is, made, drawn) = spends-to 1 old (all_asked now old) new (refl, omega arith, (let le = all in omega (arith, le))) made
+            next (Some p) (id, drawn, values, is, made) =
+                let one : unspents m (map (asked now old.timing) old.pairs) ≤ unspents m (map (change_at p.number (checked now old.timing old.controlling id)) (map (asked now old.timing) old.pairs)) + 1 =
+                unspents-change m p.number (checked now old.timing old.controlling id) (map (asked now old.timing) old.pairs)
+                (λ x. unspent-checked m now old.timing old.controlling id x)
+                (rising-each (map (asked now old.timing) old.pairs) (rises-changed (asked now old.timing) (λ x. refl) old.pairs ∙ rising)) in
+                spends-to 1 old _ new (refl, omega arith, (let le = all in omega (arith, le, one))) made
+
+      maintains : (now : ℕ) (old new : AgentRecord H P) (s t : Stream) (emitted : Emitted) → old.lite ≡ false → old.timing.max_retransmits ≡ m → rises old.pairs ≡ true
+          → MaintainsPairs mac now old s emitted new t → Spends 1 old new
+      maintains now old new s t emitted full same_most rising (first, second, issued, named, kept, nominating, giving, checking, is) =
+          let a = nominates-spends (at_timeout now old) named first nominating in
+          let named_full : named.lite ≡ false = ap (λ (x : Held). x.lite) a.0 ∙ full in
+          let named_most : named.timing.max_retransmits ≡ m = ap (λ (x : Held). x.timing.max_retransmits) a.0 ∙ same_most in
+          let b = gives-up now named kept second named_full named_most giving in
+          let kept_rising = b.1 (nominates-rises (at_timeout now old) named first nominating ∙ rising) in
+          let c = check now kept.remote_creds kept new s t issued (ap (λ (x : Held). x.lite) b.0.0 ∙ named_full) kept_rising checking in
+          let all = spends-on 0 1 (at_timeout now old) kept new (spends-on 0 0 (at_timeout now old) named kept a b.0) c in
+          (all.0, all.1, all.2)
+
+      pub times-out-spends : (now : ℕ) (old new : AgentRecord H P) (s t : Stream) (r : Result (Unit {0}) IceError) (emitted : Emitted) → old.lite ≡ false → old.timing.max_retransmits ≡ m → rises old.pairs ≡ true
+          → TimesOut mac now old s r emitted new t → Spends 1 old new
+      times-out-spends now old new s t (Ok _) emitted full same_most rising h = by (request_at now old) h where
+        by : (q : Option RequestRecord) → MatchOption q (MaintainsPairs mac now (timeout_begun now old) s emitted new t) (λ q. Serves mac q (first_taken (timeout_begun now old)) emitted new × (t ≡ s)) → Spends 1 old new
+        by None k = let all = maintains now (timeout_begun now old) new s t emitted full same_most rising k in (all.0, all.1, all.2)
+        by (Some q) (k, drawn) = let all = serves-spends q (first_taken (timeout_begun now old)) new emitted k in let less = all.2 in (all.0, all.1, omega (arith, less))
+      times-out-spends now old new s t (Err error) emitted full same_most rising (may, is, made, drawn) = spends-to 1 old old new (refl, omega arith, omega arith) made

@@ -1,0 +1,368 @@
+-- Which pair an agent records as the one that its peer nominated last: that of the request with USE-CANDIDATE that was served last.
+use Rattle.std.proofs.Common.{◌≡◌, ℕ, ◌==◌, ◌&&◌, Bool, true, false, not, List, [], ◌∷◌, ◌++◌, length, Option, Some, None, is_some, Result, Ok, Err, inl, inr, ◌⊎◌, refl, ap, sym, ◌∙◌, subst, if◌then◌else◌}
+use Rattle.std.specs.Prelude.{slice_set, MatchOption}
+use Rattle.std.specs.List.{list_any}
+use Rattle.std.proofs.lemmas.Bool.{eqb-true, eq-eqb}
+use Rattle.rand_core.specs.Stream.{Stream}
+use Rattle.is_proto.specs.Lists.{Has, same}
+use Rattle.is_proto.specs.declared.error.IceError.{IceError}
+use Rattle.is_candidate.specs.Candidates.{CandidateRecord, IsBased, base_of, candidate_at}
+use Rattle.is_pair.specs.Multiset.{change_at, change_pair, is_valid_at, IsPairBetween}
+use Rattle.is_pair.specs.Pairs.{PairRecord, is_nominated, with_request, validated}
+use Rattle.is_stun.specs.declared.header.Class.{Class}
+use Rattle.is_stun.specs.declared.header.Class.TheVariants as class
+use Rattle.is_stun.specs.Message.{Message}
+use Rattle.is_stun.specs.Reading.{Reads}
+use Rattle.is_rules.specs.declared.credentials.IceCreds.{IceCreds}
+use Rattle.is_rules.specs.declared.places.RemotePlace.{RemotePlace}
+use Rattle.is_rules.specs.declared.places.RemotePlace.TheVariants.{Known, Barred, Unknown, Vacant, Full}
+use Rattle.is_rules.specs.declared.roles.Conflict.{Conflict}
+use Rattle.is_rules.specs.declared.roles.Conflict.TheVariants.{Absent, Send487, SwitchRole}
+use Rattle.is_rules.specs.declared.emitted.Path.{Path}
+use Rattle.is_rules.specs.declared.emitted.Emitted.{Emitted}
+use Rattle.is_rules.specs.declared.emitted.Issued.{Issued}
+use Rattle.is_rules.specs.Emitted.{issued_as, nothing_emitted, reversed}
+use Rattle.is_rules.specs.Accepting.{Takes, discovered_emitted}
+use Rattle.is_rules.specs.Agent.{AgentRecord}
+use Rattle.is_rules.specs.Answers.{is_role_conflict, TakesSuccess, LeavesRole, TakesFailure}
+use Rattle.is_theorems.specs.Asked.{IsAskedOn}
+use Rattle.is_rules.specs.Brought.{IsServing}
+use Rattle.is_rules.specs.Checking.{all_asked, ChecksTop, MayCheck}
+use Rattle.is_rules.specs.Forming.{formed, with_pair}
+use Rattle.is_rules.specs.Limit.{IsSenderPlace}
+use Rattle.is_theorems.specs.Logs.{Logged}
+use Rattle.is_rules.specs.Nominating.{with_selection, nominated_emitted, Nominates, NominatesWhere}
+use Rattle.is_rules.specs.Places.{local_place}
+use Rattle.is_rules.specs.Queue.{first_taken, queued, request_at}
+use Rattle.is_rules.specs.Request.{RequestRecord, request_in}
+use Rattle.is_rules.specs.Roles.{conflict_of, switched}
+use Rattle.is_rules.specs.Sending.{path_between, path_of}
+use Rattle.is_rules.specs.Serving.{Drops, is_misled, names_another, nominated_last, pair_served, replied, request_counted, sender_candidate, served, validated_by_peer, with_sender, with_sender_at, RecordsAndResponds, FindsOrAddsPair, AddsUnknownSender, CountsAndServes, ResolvesRoleConflictBy, ResolvesRoleConflict, Serves}
+use Rattle.is_rules.specs.Sound.{IsSound}
+use Rattle.is_rules.specs.Steps.{Call, Entry, ReceivePacket, HandleTimeout, Done, Flag, answer_by, done, Receives, Step}
+use Rattle.is_rules.specs.Timeouts.{at_timeout, expired_gone, is_expired, timeout_begun, RemovesExpired, MaintainsPairs, ServesQueued, TimesOut}
+use Rattle.is_theorems.proofs.BasicLemmas.EqualAddresses.{both}
+use Rattle.is_theorems.proofs.PathSelection.NominatedByPeer.{uses-too}
+use Rattle.is_theorems.proofs.CallEffects.CallsThatEmitNothing.{is_calm, calm}
+use Rattle.is_theorems.proofs.RuleEffects.UnchangedSettings.{Frame, either, where_frame}
+use Rattle.is_theorems.proofs.RuleEffects.ChangedPairs.{self_kept}
+use Rattle.is_theorems.proofs.CallEffects.ServedRequests.{reached, known_at, served_nominated, Has-last, Has-mapped}
+use Rattle.is_theorems.proofs.RuleEffects.SelectedPaths.{some_is}
+use Rattle.is_theorems.proofs.BasicLemmas.VacantIndices.{known-in, vacant-at, put-here}
+use Rattle.is_theorems.proofs.BasicLemmas.CandidatesByIndex.{at-end}
+
+-- a request leaves the number and the indices of its pair
+pub record SamePlace (p q : PairRecord) : Type 0 where
+  pub number : q.number ≡ p.number
+  pub local : q.local ≡ p.local
+  pub remote : q.remote ≡ p.remote
+
+served-same : (c l : Bool) (q : RequestRecord) (p : PairRecord) → SamePlace p (served c l q p)
+served-same c l q p =
+    let w : PairRecord = with_request q.time p in
+    let v : PairRecord = validated_by_peer c l w in
+    let a = self_kept (not c && q.use_candidate && not (is_nominated v)) l v in
+    let b = valid-same (l && not c) w in
+    record { number = a.number ∙ b.number; local = a.local ∙ b.local; remote = a.remote ∙ b.remote } where
+      valid-same : (b : Bool) (p : PairRecord) → SamePlace p (if b then validated p else p)
+      valid-same true p = record { number = refl; local = refl; remote = refl }
+      valid-same false p = record { number = refl; local = refl; remote = refl }
+
+true-false : {A : Type 0} → true ≡ false → A
+true-false h = absurd (cc)
+
+none-some : {A X : Type 0} (x : X) → None ≡ Some x → A
+none-some x h = absurd (cc)
+
+-- no success response is issued
+abbrev NoSuccess : Emitted → Type 0
+NoSuccess emitted = (path : Path) (id : List ℕ) → emitted.issued ≡ Some (issued_as path class.Success id) → ⊥
+
+module _ {H P : Type 0} where
+  -- a nominated pair on the path has the recorded number
+  abbrev pub IsRecordedOn : AgentRecord H P → Path → Type 0
+  IsRecordedOn a path = (p : PairRecord) × Has a.pairs p × (a.last_nominated ≡ Some p.number) × (path_of a p ≡ path) × (is_nominated p ≡ true)
+
+  -- ---- what does not change the record
+
+  nominates-last : (old new : AgentRecord H P) (path : Option Path) → Nominates old path new → new.last_nominated ≡ old.last_nominated
+  nominates-last old new path (chosen, names, made) = ap (λ (a : AgentRecord H P). a.last_nominated) made ∙ emitted-last path (with_selection chosen old) where
+    emitted-last : (path : Option Path) (a : AgentRecord H P) → (nominated_emitted path a).last_nominated ≡ a.last_nominated
+    emitted-last None a = refl
+    emitted-last (Some path) a = refl
+
+  where-last : (b : Bool) (old new : AgentRecord H P) (path : Option Path) → NominatesWhere b old path new → new.last_nominated ≡ old.last_nominated
+  where-last true old new path h = nominates-last old new path h
+  where-last false old new path h = ap (λ (a : AgentRecord H P). a.last_nominated) h.1
+
+  gives-up-last : (now : ℕ) (old new : AgentRecord H P) (path : Option Path) → RemovesExpired now old path new → new.last_nominated ≡ old.last_nominated
+  gives-up-last now old new path h = either (list_any (is_expired now old) old.pairs) h
+      (λ _ k. ap (λ (a : AgentRecord H P). a.last_nominated) k.2 ∙ nominates-last (expired_gone now old) k.0 path k.1)
+      (λ _ k. ap (λ (a : AgentRecord H P). a.last_nominated) k.1)
+
+  check-last : (mac : H → List ℕ → List ℕ → List ℕ) (now : ℕ) (remote : Option IceCreds) (old new : AgentRecord H P) (s t : Stream) (issued : Option Issued)
+      → MayCheck mac now remote old s issued new t → new.last_nominated ≡ old.last_nominated
+  check-last mac now None old new s t issued (is, made, drawn) = ap (λ (a : AgentRecord H P). a.last_nominated) made
+  check-last mac now (Some remote) old new s t issued h = either old.lite h
+      (λ _ k. ap (λ (a : AgentRecord H P). a.last_nominated) k.1)
+      (λ _ k. next k.0 k.2) where
+        next : (top : Option PairRecord) → ChecksTop mac now remote top (all_asked now old) s issued new t → new.last_nominated ≡ old.last_nominated
+        next None (is, made, drawn) = ap (λ (a : AgentRecord H P). a.last_nominated) made
+        next (Some p) (id, drawn, values, is, made) = ap (λ (a : AgentRecord H P). a.last_nominated) made
+
+  maintains-last : (mac : H → List ℕ → List ℕ → List ℕ) (now : ℕ) (old new : AgentRecord H P) (s t : Stream) (emitted : Emitted) → MaintainsPairs mac now old s emitted new t
+      → new.last_nominated ≡ old.last_nominated
+  maintains-last mac now old new s t emitted (first, second, issued, named, kept, nominating, giving, checking, is) =
+      check-last mac now kept.remote_creds kept new s t issued checking
+      ∙ (gives-up-last now named kept second giving ∙ nominates-last (at_timeout now old) named first nominating)
+
+  success-last : (now : ℕ) (old new : AgentRecord H P) (via : Path) (m : Message) (emitted : Emitted) → TakesSuccess now old via m emitted new → new.last_nominated ≡ old.last_nominated
+  success-last now old new via m emitted (recorded, (place, p, after, found, on, takes, made), (path, named, nominating, is, concluded)) =
+      ap (λ (a : AgentRecord H P). a.last_nominated) concluded ∙ nominates-last recorded named path nominating ∙ ap (λ (a : AgentRecord H P). a.last_nominated) made
+
+  failure-last : (old new : AgentRecord H P) (via : Path) (m : Message) (emitted : Emitted) → TakesFailure old via m emitted new → new.last_nominated ≡ old.last_nominated
+  failure-last old new via m emitted h = either (is_role_conflict m) h (λ _ k. gives k) (λ _ k. ap (λ (a : AgentRecord H P). a.last_nominated) k.1) where
+    gives : LeavesRole old via m emitted new → new.last_nominated ≡ old.last_nominated
+    gives (p, c, has, on, keeps, id_is, k) = either (same c.controlling old.controlling) k
+        (λ _ z. ap (λ (a : AgentRecord H P). a.last_nominated) z.1)
+        (λ _ z. ap (λ (a : AgentRecord H P). a.last_nominated) z.1)
+
+  -- ---- serving
+
+  module _ (mac : H → List ℕ → List ℕ → List ℕ) (q : RequestRecord) where
+    -- The record stays, and if the request nominates, no success response is issued. Or it is the pair that is served.
+    abbrev Notes : AgentRecord H P → Emitted → AgentRecord H P → Type 0
+    Notes s emitted new =
+        ((new.last_nominated ≡ s.last_nominated) × (q.use_candidate ≡ true → new.controlling ≡ false → NoSuccess emitted))
+        ⊎ ((q.use_candidate ≡ true) × (new.controlling ≡ false) × IsRecordedOn new (reversed q.path)
+        × (emitted.issued ≡ Some (issued_as (reversed q.path) class.Success q.id)))
+
+    dropped : (s new : AgentRecord H P) (emitted : Emitted) → Drops s emitted new → Notes s emitted new
+    dropped s new emitted (is, kept) =
+        inl (ap (λ (a : AgentRecord H P). a.last_nominated) kept, λ _ _ path id out. none-some (issued_as path class.Success id) (sym (ap (λ (t : Emitted). t.issued) is) ∙ out))
+
+    -- the pair of this number, between these candidates
+    abbrev IsThere : AgentRecord H P → ℕ → ℕ → ℕ → Type 0
+    IsThere s l r number = (p : PairRecord) × Has s.pairs p × (p.number ≡ number) × (p.local ≡ l) × (p.remote ≡ r)
+
+    module _ (l r number : ℕ) (s new : AgentRecord H P) (emitted : Emitted) (via : path_between s l r ≡ reversed q.path) (there : IsThere s l r number)
+        (path : Option Path) (mid : AgentRecord H P)
+        (nominating : NominatesWhere (s.controlling && is_valid_at number s.pairs) (pair_served q number s) path mid)
+        (out : emitted.issued ≡ Some (issued_as (path_between s l r) class.Success q.id)) (made : new ≡ replied mac q (path_between s l r) mid) where
+      record-is : new.last_nominated ≡ nominated_last s.controlling q number s.last_nominated
+      record-is = ap (λ (a : AgentRecord H P). a.last_nominated) made ∙ where-last (s.controlling && is_valid_at number s.pairs) (pair_served q number s) mid path nominating
+
+      role-is : new.controlling ≡ s.controlling
+      role-is = ap (λ (a : AgentRecord H P). a.controlling) made
+          ∙ ap (λ (f : Frame H). f.controlling) (where_frame (s.controlling && is_valid_at number s.pairs) (pair_served q number s) mid path nominating).0
+
+      still : s.controlling ≡ false → mid ≡ pair_served q number s
+      still role = (subst (λ c. NominatesWhere (c && is_valid_at number s.pairs) (pair_served q number s) path mid) role nominating).1
+
+      abbrev after : PairRecord
+      after = served s.controlling s.lite q there.0
+
+      after-has : Has (change_pair number (served s.controlling s.lite q) s.pairs) after
+      after-has = subst (λ (z : PairRecord). Has (change_pair number (served s.controlling s.lite q) s.pairs) z)
+          (ap (λ b. if b then after else there.0) (eq-eqb there.0.number number there.2))
+          (Has-mapped (change_at number (served s.controlling s.lite q)) s.pairs there.0 there.1)
+
+      after-path : path_between s after.local after.remote ≡ reversed q.path
+      after-path =
+          let k = served-same s.controlling s.lite q there.0 in
+          ap (λ n. path_between s n after.remote) (k.local ∙ there.3) ∙ ap (λ n. path_between s l n) (k.remote ∙ there.4) ∙ via
+
+      recorded : s.controlling ≡ false → q.use_candidate ≡ true → IsRecordedOn (replied mac q (path_between s l r) (pair_served q number s)) (reversed q.path)
+      recorded role uses = (
+        after,
+        after-has,
+        ap (λ c. if not c && q.use_candidate then Some number else s.last_nominated) role
+            ∙ (ap (λ u. if u then Some number else s.last_nominated) uses ∙ ap Some (sym ((served-same s.controlling s.lite q there.0).number ∙ there.2))),
+        after-path,
+        served_nominated s.controlling s.lite q there.0 role uses,
+      )
+
+      noted : (c u : Bool) → s.controlling ≡ c → q.use_candidate ≡ u → Notes s emitted new
+      noted true u role uses = inl (
+        record-is ∙ ap (λ c. if not c && q.use_candidate then Some number else s.last_nominated) role,
+        λ _ controlled. true-false (sym (role-is ∙ role) ∙ controlled),
+      )
+      noted false false role uses = inl (
+        record-is ∙ (ap (λ c. if not c && q.use_candidate then Some number else s.last_nominated) role ∙ ap (λ u. if u then Some number else s.last_nominated) uses),
+        λ nominates _. true-false (sym nominates ∙ uses),
+      )
+      noted false true role uses = inr (
+        uses,
+        role-is ∙ role,
+        subst (λ (a : AgentRecord H P). IsRecordedOn a (reversed q.path))
+            (sym (made ∙ ap (λ (a : AgentRecord H P). replied mac q (path_between s l r) a) (still role))) (recorded role uses),
+        out ∙ ap (λ w. Some (issued_as w class.Success q.id)) via,
+      )
+
+    pair : (l r number : ℕ) (s new : AgentRecord H P) (emitted : Emitted) → path_between s l r ≡ reversed q.path → IsThere s l r number
+        → RecordsAndResponds mac q l r number s emitted new → Notes s emitted new
+    pair l r number s new emitted via there (path, mid, nominating, (values, is, made)) =
+        noted l r number s new emitted via there path mid nominating (ap (λ (x : Emitted). x.issued) is) made s.controlling q.use_candidate refl refl
+
+    takes : (l r : ℕ) (number : Option ℕ) (s new : AgentRecord H P) (emitted : Emitted) → path_between s l r ≡ reversed q.path → IsPairBetween s.pairs l r number
+        → FindsOrAddsPair mac q l r number s emitted new → Notes s emitted new
+    takes l r (Some number) s new emitted via (p, has, between, is) h =
+        let k = both (p.local == l) (p.remote == r) between in
+        pair l r number s new emitted via (p, has, is, eqb-true p.local l k.0, eqb-true p.remote r k.1) h
+    takes l r None s new emitted via none h = either (candidate_at s.local l).discarded h (λ _ k. dropped s new emitted k)
+        (λ _ k. pair l r s.next_number (with_pair (formed s l r) s) new emitted via (formed s l r, Has-last s.pairs (formed s l r), refl, refl, refl) k.1)
+
+    -- the local candidate receives at the request's destination
+    abbrev IsHere : AgentRecord H P → ℕ → Type 0
+    IsHere s l = (base_of (candidate_at s.local l) ≡ q.path.destination) × ((candidate_at s.local l).proto ≡ q.path.proto)
+
+    via-back : (s : AgentRecord H P) (l r : ℕ) → IsHere s l → (candidate_at s.remote r).addr ≡ q.path.source → path_between s l r ≡ reversed q.path
+    via-back s l r (base, proto) source = rw (base, proto, source) refl
+
+    joins : (l : ℕ) (place : RemotePlace) (s new : AgentRecord H P) (emitted : Emitted) → IsHere s l → IsSenderPlace s q place → AddsUnknownSender mac q l place s emitted new
+        → Notes s emitted new
+    joins l (Known r) s new emitted here remote (number, between, h) =
+        takes l r number s new emitted (via-back s l r here (known_at s.remote q r (known-in s.max_discovered s.remote s.pairs q r remote)).1) between h
+    joins l Barred s new emitted here remote h = dropped s new emitted h
+    joins l Full s new emitted here remote h = dropped s new emitted h
+    joins l Unknown s new emitted here remote (number, between, h) =
+        let at : (candidate_at (s.remote ++ sender_candidate s q ∷ []) (length s.remote)).addr ≡ q.path.source =
+        ap (λ (z : CandidateRecord). z.addr) (at-end s.remote (sender_candidate s q)) in
+        takes l (length s.remote) number (with_sender q s) new emitted (via-back (with_sender q s) l (length s.remote) here at) between h
+    joins l (Vacant r) s new emitted here remote (number, between, h) =
+        let at : (candidate_at (slice_set s.remote r (sender_candidate s q)) r).addr ≡ q.path.source =
+        ap (λ (z : CandidateRecord). z.addr) (put-here s.remote r (sender_candidate s q) (vacant-at s.max_discovered s.remote s.pairs q r remote).0) in
+        takes l r number (with_sender_at r q s) new emitted (via-back (with_sender_at r q s) l r here at) between h
+
+    admits : (l : ℕ) (s new : AgentRecord H P) (emitted : Emitted) → IsHere s l → CountsAndServes mac q l s emitted new → Notes s emitted new
+    admits l s new emitted here h = either (is_misled s.controlling q) h (λ _ k. dropped s new emitted k)
+        (λ _ k. joins l k.0 (request_counted s) new emitted here k.1 k.2)
+
+    resolves : (conflict : Conflict) (l : ℕ) (s new : AgentRecord H P) (emitted : Emitted) → IsHere s l → ResolvesRoleConflictBy mac conflict q l s emitted new → Notes s emitted new
+    resolves Absent l s new emitted here h = admits l s new emitted here h
+    resolves Send487 l s new emitted here (values, is, made) = inl (ap (λ (a : AgentRecord H P). a.last_nominated) made, λ _ _ path id out. failed path id (sym (ap (λ (x : Emitted). x.issued) is) ∙ out)) where
+      failed : (path : Path) (id : List ℕ) → Some (issued_as (reversed q.path) class.Failure q.id) ≡ Some (issued_as path class.Success id) → ⊥
+      failed path id h = let no : class.Failure ≡ class.Success = ap (λ (i : Issued). i.class) (some_is _ _ h) in cc
+    resolves SwitchRole l s new emitted here h = admits l (switched s) new emitted here h
+
+    here-at : (place : Option ℕ) (s new : AgentRecord H P) (emitted : Emitted) → local_place s.local q ≡ place → ((c : CandidateRecord) → Has s.local c → IsBased c)
+        → MatchOption place (Drops s emitted new) (λ l. ResolvesRoleConflict mac q l s emitted new) → Notes s emitted new
+    here-at None s new emitted is based h = dropped s new emitted h
+    here-at (Some l) s new emitted is based h = resolves (conflict_of s q) l s new emitted (reached s.local q l based is).1 h
+
+    serves : (s new : AgentRecord H P) (emitted : Emitted) → ((c : CandidateRecord) → Has s.local c → IsBased c) → Serves mac q s emitted new → Notes s emitted new
+    serves s new emitted based h = either (names_another s q) h (λ _ k. dropped s new emitted k) (λ _ k. here-at (local_place s.local q) s new emitted refl based k)
+
+  -- ---- a transition
+
+  -- The record stays and the peer nominates no path, or a pair on the path is recorded that the peer nominates.
+  abbrev pub Records : AgentRecord H P → Logged P → AgentRecord H P → Type 0
+  Records old x new =
+      ((new.last_nominated ≡ old.last_nominated) × ((path : Path) → IsAskedOn old x new path → ⊥))
+      ⊎ ((path : Path) × IsRecordedOn new path × ((other : Path) → IsAskedOn old x new other → other ≡ path) × IsAskedOn old x new path)
+
+  no-serving : (old : AgentRecord H P) (call : Call P) (e : Entry) (q : RequestRecord) → is_calm call ≡ true → IsServing old call e q → ⊥
+  no-serving old (ReceivePacket now path bytes) e q is serving = true-false (sym is)
+  no-serving old (HandleTimeout now) e q is serving = true-false (sym is)
+  no-serving old _ e q is serving = serving.3
+
+  module _ (mac : H → List ℕ → List ℕ → List ℕ) (answers : P → CandidateRecord → ℕ → ℕ → Type 0) (old new : AgentRecord H P) (s t : Stream) (x : Logged P) (sound : IsSound old) where
+    -- nothing is issued
+    silent : new.last_nominated ≡ old.last_nominated → x.entry.emitted.issued ≡ None → Records old x new
+    silent last none = inl (last, λ path k. none-some (issued_as path class.Success k.1) (sym none ∙ k.4))
+
+    by-serving : (q : RequestRecord) (a b : AgentRecord H P) (emitted : Emitted) → IsServing old x.call x.entry q → x.entry.emitted ≡ emitted
+        → a.last_nominated ≡ old.last_nominated → new ≡ b → Notes mac q a emitted b → Records old x new
+    by-serving q a b emitted serving is last made (inl (kept, none)) = inl (
+      ap (λ (y : AgentRecord H P). y.last_nominated) made ∙ kept ∙ last,
+      λ path k. none (uses-too old x.call x.entry k.0 q k.2 serving k.3) (sym (ap (λ (y : AgentRecord H P). y.controlling) made) ∙ k.5) path k.1
+          (sym (ap (λ (y : Emitted). y.issued) is) ∙ k.4),
+    )
+    by-serving q a b emitted serving is last made (inr (uses, controlled, on, out)) = inr (
+      reversed q.path,
+      subst (λ (y : AgentRecord H P). IsRecordedOn y (reversed q.path)) (sym made) on,
+      λ other k. ap (λ (i : Issued). i.path) (some_is _ _ (sym k.4 ∙ (ap (λ (y : Emitted). y.issued) is ∙ out))),
+      (q, q.id, serving, uses, ap (λ (y : Emitted). y.issued) is ∙ out, ap (λ (y : AgentRecord H P). y.controlling) made ∙ controlled),
+    )
+
+    -- ---- packets and timeouts
+
+    module _ (now : ℕ) (via : Path) (bytes : List ℕ) (comes : x.call ≡ ReceivePacket now via bytes) (m : Message) (mid : AgentRecord H P) (emitted : Emitted)
+        (e_is : x.entry ≡ record { answer = Flag true; emitted = emitted }) (reads : Reads bytes m) (made : new ≡ discovered_emitted via mid) where
+      emitted-is : x.entry.emitted ≡ emitted
+      emitted-is = ap (λ (y : Entry). y.emitted) e_is
+
+      last-by : mid.last_nominated ≡ old.last_nominated → new.last_nominated ≡ old.last_nominated
+      last-by k = ap (λ (a : AgentRecord H P). a.last_nominated) made ∙ k
+
+      serving-now : (peer : IceCreds) → old.remote_creds ≡ Some peer → m.class ≡ class.Request → IsServing old x.call x.entry (request_in now via m)
+      serving-now peer known is =
+          subst (λ (c : Call P). IsServing old c x.entry (request_in now via m)) (sym comes)
+          (now, via, m, (refl, refl, reads, ap (λ (y : Entry). y.answer) e_is), is, ap is_some known, refl)
+
+      request : (peer : Option IceCreds) → old.remote_creds ≡ peer → m.class ≡ class.Request
+          → MatchOption peer ((emitted ≡ nothing_emitted) × (mid ≡ queued (request_in now via m) old)) (λ peer. Serves mac (request_in now via m) old emitted mid) → Records old x new
+      request None none is (nothing, same_is) =
+          silent (last-by (ap (λ (a : AgentRecord H P). a.last_nominated) same_is)) (ap (λ (y : Emitted). y.issued) (emitted-is ∙ nothing))
+      request (Some peer) known is h =
+          by-serving (request_in now via m) old (discovered_emitted via mid) emitted (serving-now peer known is) emitted-is refl made
+          (serves mac (request_in now via m) old mid emitted sound.based h)
+
+      failure-silent : TakesFailure old via m emitted mid → emitted.issued ≡ None
+      failure-silent h = either (is_role_conflict m) h (λ _ k. gives k) (λ _ k. ap (λ (y : Emitted). y.issued) k.0) where
+        gives : LeavesRole old via m emitted mid → emitted.issued ≡ None
+        gives (p, c, has, on, keeps, id_is, k) = either (same c.controlling old.controlling) k (λ _ z. ap (λ (y : Emitted). y.issued) z.0) (λ _ z. ap (λ (y : Emitted). y.issued) z.0)
+
+      success-silent : TakesSuccess now old via m emitted mid → emitted.issued ≡ None
+      success-silent (recorded, records_it, (path, named, nominating, is, concluded)) = ap (λ (y : Emitted). y.issued) is
+
+      taken : (c : Class) → m.class ≡ c → Takes mac c now old via m emitted mid → Records old x new
+      taken class.Request is h = request old.remote_creds refl is h
+      taken class.Success is h = silent (last-by (success-last now old mid via m emitted h)) (ap (λ (y : Emitted). y.issued) emitted-is ∙ success-silent h)
+      taken class.Failure is h = silent (last-by (failure-last old mid via m emitted h)) (ap (λ (y : Emitted). y.issued) emitted-is ∙ failure-silent h)
+      taken class.Indication is h = absurd h
+      taken class.Unknown is h = absurd h
+
+    receives : (now : ℕ) (via : Path) (bytes : List ℕ) → x.call ≡ ReceivePacket now via bytes → Receives mac answers now old via bytes x.entry new → Records old x new
+    receives now via bytes comes (inl (fault, has, is, made)) =
+        silent (ap (λ (a : AgentRecord H P). a.last_nominated) made) (ap (λ (y : Entry). y.emitted.issued) is)
+    receives now via bytes comes (inr (m, reads, (Ok false, emitted, is, (unaccepted, nothing, made)))) =
+        silent (ap (λ (a : AgentRecord H P). a.last_nominated) made) (ap (λ (y : Entry). y.emitted.issued) is ∙ ap (λ (y : Emitted). y.issued) nothing)
+    receives now via bytes comes (inr (m, reads, (Ok true, emitted, is, (accepted, (mid, takes, made))))) =
+        taken now via bytes comes m mid emitted is reads made m.class refl takes
+    receives now via bytes comes (inr (m, reads, (Err error, emitted, is, (may, nothing, made)))) =
+        silent (ap (λ (a : AgentRecord H P). a.last_nominated) made) (ap (λ (y : Entry). y.emitted.issued) is ∙ ap (λ (y : Emitted). y.issued) nothing)
+
+    -- a `handle_timeout` call that serves no early request issues no response
+    no-response : (now : ℕ) → x.call ≡ HandleTimeout now → request_at now old ≡ None → new.last_nominated ≡ old.last_nominated → Records old x new
+    no-response now comes none last = inl (
+      last,
+      λ path k. (let serving : IsServing old (HandleTimeout now) x.entry k.0 = subst (λ (c : Call P). IsServing old c x.entry k.0) comes k.2 in
+          none-some k.0 (sym none ∙ serving.0)),
+    )
+
+    timeout-by : (now : ℕ) → x.call ≡ HandleTimeout now → (emitted : Emitted) (o : Option RequestRecord) → request_at now old ≡ o → x.entry ≡ record { answer = Done; emitted = emitted }
+        → MatchOption o (MaintainsPairs mac now (timeout_begun now old) s emitted new t) (λ q. ServesQueued mac q (timeout_begun now old) s emitted new t) → Records old x new
+    timeout-by now comes emitted None is e_is h = no-response now comes is (maintains-last mac now (timeout_begun now old) new s t emitted h)
+    timeout-by now comes emitted (Some q) is e_is (h, drawn) =
+        by-serving q (first_taken (timeout_begun now old)) new emitted
+        (subst (λ (c : Call P). IsServing old c x.entry q) (sym comes) (is, ap (λ (y : Entry). y.answer) e_is)) (ap (λ (y : Entry). y.emitted) e_is) refl refl
+        (serves mac q (first_taken (timeout_begun now old)) new emitted sound.based h)
+
+    timeout : (now : ℕ) → x.call ≡ HandleTimeout now → (r : Result (Unit {0}) IceError) (emitted : Emitted) → x.entry ≡ record { answer = answer_by done r; emitted = emitted }
+        → TimesOut mac now old s r emitted new t → Records old x new
+    timeout now comes (Ok _) emitted is h = timeout-by now comes emitted (request_at now old) refl is h
+    timeout now comes (Err error) emitted is (may, nothing, made, drawn) =
+        silent (ap (λ (a : AgentRecord H P). a.last_nominated) made) (ap (λ (y : Entry). y.emitted.issued) is ∙ ap (λ (y : Emitted). y.issued) nothing)
+
+    -- ---- each call
+
+    calmly : (call : Call P) → x.call ≡ call → is_calm call ≡ true → Step mac answers old s call x.entry new t → Records old x new
+    calmly call comes is h =
+        let k = calm mac answers old new s t x.entry call is h in
+        inl (k.last, λ path a. no-serving old call x.entry a.0 is (subst (λ (c : Call P). IsServing old c x.entry a.0) comes a.2))
+
+    pub records-by : (call : Call P) → x.call ≡ call → Step mac answers old s call x.entry new t → Records old x new
+    records-by (ReceivePacket now via bytes) comes h = receives now via bytes comes h.0
+    records-by (HandleTimeout now) comes (r, emitted, is, h) = timeout now comes r emitted is h
+    records-by call comes h = calmly call comes refl h

@@ -1,0 +1,6 @@
+-- What the rules of one transition change, leave and select.
+pub mod UnchangedSettings
+pub mod EarlierAndNewPairs
+pub mod SelectedPaths
+pub mod NominatedPairs
+pub mod ChangedPairs

@@ -1,0 +1,49 @@
+-- What nomination leaves, by the pair that it selects.
+use Rattle.std.proofs.Common.{◌≡◌, Bool, true, false, Option, Some, None, ap, ◌∙◌}
+use Rattle.std.specs.Prelude.{MatchBool}
+use Rattle.is_pair.specs.Pairs.{PairRecord}
+use Rattle.is_rules.specs.declared.emitted.Path.{Path}
+use Rattle.is_rules.specs.Agent.{AgentRecord}
+use Rattle.is_pair.specs.Multiset.{change_pair}
+use Rattle.is_rules.specs.Sending.{path_of}
+use Rattle.is_rules.specs.Nominating.{nominated_by_self, Selection, selection, with_selection, nominated_emitted, Nominates, followed, remains, selection_of, IsChosen}
+
+both_ways : (b : Bool) {P Q R S : Type 0} → MatchBool b P Q → (P → R) → (Q → S) → MatchBool b R S
+both_ways true h f g = f h
+both_ways false h f g = g h
+
+module _ {H P : Type 0} where
+  -- the pair becomes the selected one
+  abbrev pub selected_paths : PairRecord → AgentRecord H P → AgentRecord H P
+  selected_paths p a =
+      nominated_emitted (Some (path_of a p)) (with_selection (selection (change_pair p.number (nominated_by_self a.controlling a.lite) a.pairs) (Some p.number)) a)
+
+  -- nothing if no pair is chosen, or if the selected one stays selected
+  abbrev pub SelectsTop : Option PairRecord → AgentRecord H P → Option Path → AgentRecord H P → Type 0
+  SelectsTop None old path new = (path ≡ None) × (new ≡ old)
+  SelectsTop (Some top) old path new =
+      MatchBool (remains (followed old) top (selection_of old))
+      ((path ≡ None) × (new ≡ old))
+      ((path ≡ Some (path_of old top)) × (new ≡ selected_paths top old))
+
+  abbrev pub SelectsPath : AgentRecord H P → Option Path → AgentRecord H P → Type 0
+  SelectsPath old path new = (top : Option PairRecord) × IsChosen old.controlling (followed old) (selection_of old) top × SelectsTop top old path new
+
+  nothing : (old new : AgentRecord H P) (path : Option Path) (chosen : Selection) → path ≡ None → chosen ≡ selection old.pairs old.selected_pair
+      → new ≡ nominated_emitted path (with_selection chosen old) → new ≡ old
+  nothing old new path chosen none same made =
+      made ∙ ap (λ (s : Selection). nominated_emitted path (with_selection s old)) same ∙ ap (λ o. nominated_emitted o old) none
+
+  pub selects_path : (old new : AgentRecord H P) (path : Option Path) → Nominates old path new → SelectsPath old path new
+  selects_path old new path (chosen, (None, greatest, (is, same)), made) = (None, greatest, (is, nothing old new path chosen is same made))
+  selects_path old new path (chosen, (Some top, greatest, h), made) = (
+    Some top,
+    greatest,
+    both_ways (remains (followed old) top (selection_of old)) h
+        (λ k. (k.0, nothing old new path chosen k.0 k.1 made))
+        (λ k. (
+          k.0,
+          made ∙ ap (λ (s : Selection). nominated_emitted path (with_selection s old)) k.1
+              ∙ ap (λ o. nominated_emitted o (with_selection (selection (change_pair top.number (nominated_by_self old.controlling old.lite) old.pairs) (Some top.number)) old)) k.0,
+        )),
+  )

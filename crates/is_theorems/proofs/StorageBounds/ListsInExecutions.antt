@@ -1,0 +1,182 @@
+-- How calls and executions change the lists that a limit bounds.
+use Rattle.std.proofs.Common.{◌≡◌, ℕ, ◌+◌, ◌≤◌, ◌==◌, Bool, true, false, List, [], ◌∷◌, length, Option, Some, None, Result, Ok, Err, refl, sym, subst, ap, ◌∙◌, arith, cond}
+use Rattle.std.proofs.lemmas.List.Sums.{sum_by-cons}
+use Rattle.rand_core.specs.Stream.{Stream}
+use Rattle.is_proto.specs.declared.error.IceError.{IceError}
+use Rattle.is_candidate.specs.Candidates.{CandidateRecord, candidate_at}
+use Rattle.is_rules.specs.declared.accepting.Source.{Source}
+use Rattle.is_rules.specs.declared.credentials.IceCreds.{IceCreds}
+use Rattle.is_rules.specs.Agent.{AgentRecord}
+use Rattle.is_theorems.specs.Bounds.{gathered_count, is_gathered, may_serve, is_signal, signal_count, is_signaled, IsLimited, IsWithin, LimitsBound}
+use Rattle.is_rules.specs.Discarding.{discarded, local_discarded, place_to_discard, remote_discarded, InvalidatesAt}
+use Rattle.is_rules.specs.Forming.{Combination, FormsAll}
+use Rattle.is_rules.specs.Local.{appended, enabled, enabled_again, AddsLocal}
+use Rattle.is_theorems.specs.Logs.{Logged}
+use Rattle.is_rules.specs.Remote.{AddsRemote, as_remote, with_remote}
+use Rattle.is_rules.specs.Restarting.{Restarts, Recreates, emptied, kept_local, restarted, with_ufrag}
+use Rattle.is_rules.specs.Credentials.{SetsLocal, SetsRemote}
+use Rattle.is_rules.specs.Settings.{SetsMtu}
+use Rattle.is_theorems.specs.Runs.{IsFresh, Run, run_to}
+use Rattle.is_rules.specs.Steps.{Call, SetMtu, SetControlTieBreaker, SetMaxCandidatePairs, SetMaxDiscovered, SetIceLite, SetRenomination, SetTimingAdvance, SetInitialStunRto, SetMaxStunRto, SetMaxStunRetransmits, SetLiteTimeout, SetLocalPreference, SetControlling, SetLocalCredentials, SetRemoteCredentials, SkipPairIds, AddLocalCandidate, AddRemoteCandidate, InvalidateCandidate, RestartIce, RecreateCandidatePairs, ReceivePacket, HandleTimeout, PollTransmit, PollTimeout, PollEvent, Entry, Step, MayDo}
+use Rattle.is_theorems.proofs.CallEffects.AddedCandidates.{by_adding_local, by_adding_remote, by_waking}
+use Rattle.is_theorems.proofs.RuleEffects.UnchangedSettings.{either}
+use Rattle.is_theorems.proofs.CallEffects.FailedCallsAndNewAgents.{mtu_kept, local_kept, remote_kept, restart_kept, recreation_kept, enrolment_kept, storing_kept}
+use Rattle.is_theorems.proofs.ExecutionLogs.PointsOfSegments.{deeper, later_point}
+use Rattle.is_theorems.proofs.StorageBounds.BoundedLists.{Fits, Lists, Within, fits-added, fits-changed, fits-mapped, fits-more, fits-none, fits-replaced, is_own}
+use Rattle.is_theorems.proofs.StorageBounds.UnchangedLists.{lists_of, Same, same, forms_same}
+use Rattle.is_theorems.proofs.StorageBounds.ListsAfterRules.{Stays, by_same, received, timed}
+
+module _ {H P : Type 0} where
+  -- ---- calls
+
+  module _ (most g n : ℕ) (mac : H → List ℕ → List ℕ → List ℕ) (answers : P → CandidateRecord → ℕ → ℕ → Type 0) (old new : AgentRecord H P) (s t : Stream) (e : Entry) where
+    abbrev Keeps : Type 0
+    Keeps = Within most g n (lists_of old) → Within most (0 + g) (0 + n) (lists_of new)
+
+    -- the caller's candidates may be fewer than it added
+    wider : (k j : ℕ) (l : Lists) → Within most g n l → Within most (k + g) (j + n) l
+    wider k j l within = record {
+      local = fits-more is_own most k g l.local within.local;
+      remote = fits-more is_signaled most j n l.remote within.remote;
+      sources = within.sources;
+    }
+
+    lifted : Stays most g n old new → Keeps
+    lifted h within = wider 0 0 (lists_of new) (h within)
+
+    kept : Same old new → Keeps
+    kept is = lifted (by_same most g n old new is)
+
+    may : (Does : Result (Unit {0}) IceError → AgentRecord H P → Type 0) → (Does (Ok _) new → Same old new) → ((error : IceError) → Does (Err error) new → new ≡ old) → MayDo Does s e new t → Same old new
+    may Does done failed (Ok _, is, h, drawn) = done h
+    may Does done failed (Err error, is, h, drawn) = same old new (failed error h)
+
+    -- the lists are these afterwards
+    moved : (k j : ℕ) (mid : AgentRecord H P) → Same mid new → Within most (k + g) (j + n) (lists_of mid) → Within most (k + g) (j + n) (lists_of new)
+    moved k j mid is l = subst (λ (x : Lists). Within most (k + g) (j + n) x) (sym is) l
+
+    kept_fits : (keep : Bool) (ufrag : List ℕ) → Fits is_own most g old.local → Fits is_own most g (kept_local keep ufrag old.local)
+    kept_fits true ufrag f = fits-mapped is_own most g (with_ufrag ufrag) (λ c. refl) old.local f
+    kept_fits false ufrag f = fits-none is_own most g
+
+    restarts : (creds : IceCreds) (keep : Bool) → MayDo (Restarts old creds keep) s e new t → Keeps
+    restarts creds keep (Ok _, is, (fits, made), drawn) =
+        λ within. moved 0 0 (restarted creds keep old) (same (restarted creds keep old) new made) (wider 0 0 (lists_of (restarted creds keep old)) (record {
+          local = kept_fits keep creds.ufrag within.local;
+          remote = fits-none is_signaled most n;
+          sources = omega arith;
+        }))
+    restarts creds keep (Err error, is, h, drawn) = kept (same old new (restart_kept old new creds keep error h))
+
+    discards : (l r : Option ℕ) (found : Bool) → InvalidatesAt l r old found new → Keeps
+    discards (Some place) r found (is, made) =
+        λ within. moved 0 0 (local_discarded place old) (same (local_discarded place old) new made) (wider 0 0 (lists_of (local_discarded place old)) (record {
+          local = fits-changed is_own most g old.local place (discarded (candidate_at old.local place)) refl within.local;
+          remote = within.remote;
+          sources = within.sources;
+        }))
+    discards None (Some place) found (is, made) =
+        λ within. moved 0 0 (remote_discarded place old) (same (remote_discarded place old) new made) (wider 0 0 (lists_of (remote_discarded place old)) (record {
+          local = within.local;
+          remote = fits-changed is_signaled most n old.remote place (discarded (candidate_at old.remote place)) refl within.remote;
+          sources = within.sources;
+        }))
+    discards None None found (is, made) = kept (same old new made)
+
+    -- a remote candidate that the caller added
+    signals : (c : CandidateRecord) → MayDo (AddsRemote old c) s e new t → Within most g n (lists_of old) → Within most (0 + g) (1 + n) (lists_of new)
+    signals c (Ok _, is, h, drawn) within = by_adding_remote old new c h
+        (λ made. wider 0 1 (lists_of new) (by_same most g n old new (same old new made) within))
+        (λ f. moved 0 1 (with_remote (as_remote c) None old) (forms_same (with_remote (as_remote c) None old) new _ f) (record {
+          local = fits-more is_own most 0 g old.local within.local;
+          remote = fits-added is_signaled most n old.remote (as_remote c) within.remote;
+          sources = within.sources;
+        }))
+        (λ k lt addr f. moved 0 1 (with_remote (as_remote c) (Some k) old) (forms_same (with_remote (as_remote c) (Some k) old) new _ f) (record {
+          local = fits-more is_own most 0 g old.local within.local;
+          remote = fits-replaced is_signaled most n old.remote k (as_remote c) within.remote;
+          sources = within.sources;
+        }))
+    signals c (Err error, is, h, drawn) within = wider 0 1 (lists_of new) (by_same most g n old new (same old new (storing_kept old new c error h)) within)
+
+    recreates : MayDo (Recreates old) s e new t → Same old new
+    recreates (Ok _, is, (enough, f), drawn) = forms_same (emptied old) new _ f
+    recreates (Err error, is, h, drawn) = same old new (recreation_kept old new error h)
+
+    -- a local candidate that the caller added
+    entered : (mid : AgentRecord H P) (all : List Combination) → FormsAll mid all new → Fits is_own most (1 + g) mid.local → mid.remote ≡ old.remote → mid.discovered_sources ≡ old.discovered_sources
+        → Within most g n (lists_of old) → Within most (1 + g) (0 + n) (lists_of new)
+    entered mid all f local remote sources within = moved 1 0 mid (forms_same mid new all f) (record {
+      local = local;
+      remote = subst (λ cs. Fits is_signaled most (0 + n) cs) (sym remote) (fits-more is_signaled most 0 n old.remote within.remote);
+      sources = subst (λ (xs : List Source). length xs ≤ most) (sym sources) within.sources;
+    })
+
+    adds_local : (c : CandidateRecord) (r : Result (Option ℕ) IceError) → AddsLocal answers old c r new → Within most g n (lists_of old) → Within most (1 + g) (0 + n) (lists_of new)
+    adds_local c (Ok place) h within = by_adding_local old new answers c place h
+        (λ made. wider 1 0 (lists_of new) (by_same most g n old new (same old new made) within))
+        (λ x based f. entered (appended x old) _ f (fits-added is_own most g old.local x within.local) refl refl within)
+        (λ k lt f. entered (enabled_again k old) _ f
+        (fits-more is_own most 1 g _ (fits-changed is_own most g old.local k (enabled (candidate_at old.local k)) refl within.local)) refl refl within)
+        (λ x based k f. entered (appended x (local_discarded k old)) _ f
+        (fits-added is_own most g _ x (fits-changed is_own most g old.local k (discarded (candidate_at old.local k)) refl within.local)) refl refl within)
+    adds_local c (Err error) h within = wider 1 0 (lists_of new) (by_same most g n old new (same old new (enrolment_kept answers old new c error h)) within)
+
+    -- the limit may be set to anything between packets
+    abbrev Bounds : Call P → Type 0
+    Bounds call = (may_serve call ≡ true → IsWithin most old.max_discovered) → Step mac answers old s call e new t → Within most g n (lists_of old)
+        → Within most (cond (is_gathered call) 1 0 + g) (cond (is_signal call) 1 0 + n) (lists_of new)
+
+    relimited : (limit : Option ℕ) → new ≡ record old { max_discovered = limit } → Keeps
+    relimited limit made within =
+        subst (λ (x : AgentRecord H P). Within most (0 + g) (0 + n) (lists_of x)) (sym made) (wider 0 0 (lists_of (record old { max_discovered = limit }))
+        (record { local = within.local; remote = within.remote; sources = within.sources }))
+
+    pub bounds : (call : Call P) → Bounds call
+    bounds (SetMtu target warn) _ h = kept (may (SetsMtu old target warn) (λ k. ap (λ (a : AgentRecord H P). lists_of a) k.1) (mtu_kept old new target warn) h)
+    bounds (SetControlTieBreaker tie) _ (is, made, drawn) = kept (ap (λ (a : AgentRecord H P). lists_of a) made)
+    bounds (SetMaxCandidatePairs k) _ (is, made, drawn) = kept (ap (λ (a : AgentRecord H P). lists_of a) made)
+    bounds (SetMaxDiscovered limit) _ (is, made, drawn) = relimited limit made
+    bounds (SetIceLite lite) _ (is, made, drawn) = kept (ap (λ (a : AgentRecord H P). lists_of a) made)
+    bounds (SetRenomination on) _ (is, made, drawn) = kept (ap (λ (a : AgentRecord H P). lists_of a) made)
+    bounds (SetTimingAdvance by) _ (is, made, drawn) = kept (ap (λ (a : AgentRecord H P). lists_of a) made)
+    bounds (SetInitialStunRto rto) _ (is, made, drawn) = kept (ap (λ (a : AgentRecord H P). lists_of a) made)
+    bounds (SetMaxStunRto rto) _ (is, made, drawn) = kept (ap (λ (a : AgentRecord H P). lists_of a) made)
+    bounds (SetMaxStunRetransmits k) _ h = kept (either (k == 0) h (λ _ x. same old new x.1) (λ _ x. ap (λ (a : AgentRecord H P). lists_of a) x.1))
+    bounds (SetLiteTimeout timeout) _ (is, made, drawn) = kept (ap (λ (a : AgentRecord H P). lists_of a) made)
+    bounds (SetLocalPreference object) _ (is, made, drawn) = kept (ap (λ (a : AgentRecord H P). lists_of a) made)
+    bounds (SetControlling controlling) _ (is, made, drawn) = kept (ap (λ (a : AgentRecord H P). lists_of a) made)
+    bounds (SetLocalCredentials creds) _ h = kept (may (SetsLocal old creds) (λ k. ap (λ (a : AgentRecord H P). lists_of a) k.1) (local_kept old new creds) h)
+    bounds (SetRemoteCredentials creds) _ h = kept (may (SetsRemote old creds) (λ k. ap (λ (a : AgentRecord H P). lists_of a) k.1) (remote_kept old new creds) h)
+    bounds (SkipPairIds k) _ (is, made, drawn) = kept (ap (λ (a : AgentRecord H P). lists_of a) made)
+    bounds (AddLocalCandidate c) _ (r, is, h, drawn) = adds_local c r h
+    bounds (AddRemoteCandidate c) _ h = signals c h
+    bounds (InvalidateCandidate c) _ (found, is, h, drawn) = discards (place_to_discard c old.local) (place_to_discard c old.remote) found h
+    bounds (RestartIce creds keep) _ h = restarts creds keep h
+    bounds RecreateCandidatePairs _ h = kept (recreates h)
+    bounds (ReceivePacket now via bytes) limit (h, drawn) = lifted (received most g n mac answers now old new via bytes e (limit (cc)) h)
+    bounds (HandleTimeout now) limit (r, emitted, is, h) = lifted (timed most g n mac now old new s t r emitted (limit (cc)) h)
+    bounds PollTransmit _ (given, is, (polled, made), drawn) = kept (ap (λ (a : AgentRecord H P). lists_of a) made)
+    bounds PollTimeout _ (deadline, is, h, drawn) = kept (by_waking old new deadline h (λ made. same old new made) (λ at made. ap (λ (a : AgentRecord H P). lists_of a) made))
+    bounds PollEvent _ (given, is, (polled, made), drawn) = kept (ap (λ (a : AgentRecord H P). lists_of a) made)
+
+  -- ---- executions
+
+  module _ (mac : H → List ℕ → List ℕ → List ℕ) (answers : P → CandidateRecord → ℕ → ℕ → Type 0) where
+    pub within_run : (most : ℕ) (first : AgentRecord H P) (s : Stream) (log : List (Logged P)) (last : AgentRecord H P) (t : Stream) → IsFresh first → IsLimited mac answers most first s log
+        → Run mac answers first s log last t → Within most (gathered_count log) (signal_count log) (lists_of last)
+    within_run most first s [] last t (creds, tie, is) limited (same, drawn) =
+        subst (λ (a : AgentRecord H P). Within most 0 0 (lists_of a)) (sym (same ∙ is)) (record { local = fits-none is_own most 0; remote = fits-none is_signaled most 0; sources = omega arith })
+    within_run most first s (x ∷ before) last t is_fresh limited (mid, u, led, number, given, step) =
+        let was = within_run most first s before mid u is_fresh (λ b m a y p. limited b m a y (later_point mac answers first s x before b m y a p)) led in
+        let here = limited before mid last x (record { rest = []; split = refl; at = u; led = led; number = number; given = given; following = t; step = step }) in
+        subst (λ j. Within most j (signal_count (x ∷ before)) (lists_of last)) (sym (sum_by-cons (λ (y : Logged P). cond (is_gathered y.call) 1 0) x before))
+        (subst (λ k. Within most (cond (is_gathered x.call) 1 0 + gathered_count before) k (lists_of last)) (sym (sum_by-cons (λ (y : Logged P). cond (is_signal y.call) 1 0) x before))
+        (bounds most (gathered_count before) (signal_count before) mac answers mid last u t x.entry x.call here step was))
+
+    pub limits_bound : LimitsBound {H = H} mac answers
+    limits_bound first s log is_fresh most limited before mid after x point =
+        let l = within_run most first s (x ∷ before) after point.following is_fresh
+        (λ b m a y p. limited b m a y (deeper mac answers first s log (x ∷ before) point.rest b m y a point.split p))
+        (run_to mac answers first s log before mid x after point) in
+        record { local = l.local.all; remote = l.remote.all; sources = omega (arith, l.sources) }

@@ -1,0 +1,195 @@
+-- How calls and executions change the number of pairs that requests do not bring, and so how many pairs there are.
+use Rattle.std.proofs.Common.{◌≡◌, ℕ, zero, suc, ◌+◌, ◌*◌, ◌≤◌, ◌==◌, ◌&&◌, not, Bool, true, false, cond, if◌then◌else◌, List, [], ◌∷◌, length, map, count_by, Option, Some, None, Result, Ok, Err, inl, inr, ◌⊎◌, refl, sym, subst, ap, ◌∙◌, arith}
+use Rattle.std.proofs.Math.Nat.{mul-le-mul_right}
+use Rattle.std.specs.Prelude.{slice_set}
+use Rattle.std.proofs.lemmas.List.{length-map}
+use Rattle.std.proofs.lemmas.List.Sums.{sum_by-cons}
+use Rattle.rand_core.specs.Stream.{Stream}
+use Rattle.is_proto.specs.declared.error.IceError.{IceError}
+use Rattle.is_candidate.specs.declared.candidate.kind.CandidateKind.{CandidateKind}
+use Rattle.is_candidate.specs.declared.candidate.kind.CandidateKind.TheVariants.{PeerReflexive}
+use Rattle.is_candidate.specs.Candidates.{CandidateRecord, candidate_at}
+use Rattle.is_candidate.specs.Kinds.{same_kind}
+use Rattle.is_pair.specs.Due.{asked}
+use Rattle.is_pair.specs.Pairs.{PairRecord, undue}
+use Rattle.is_rules.specs.declared.credentials.IceCreds.{IceCreds}
+use Rattle.is_rules.specs.Agent.{AgentRecord}
+use Rattle.is_theorems.specs.Bounds.{may_form, FormsFew, LimitsPairs}
+use Rattle.is_rules.specs.Discarding.{discarded, is_local_at, is_remote_at, local_discarded, place_to_discard, remote_discarded, InvalidatesAt}
+use Rattle.is_rules.specs.Forming.{Combination}
+use Rattle.is_rules.specs.Local.{AddsLocal}
+use Rattle.is_theorems.specs.Logs.{Logged}
+use Rattle.is_rules.specs.Remote.{AddsRemote}
+use Rattle.is_rules.specs.Restarting.{Restarts, Recreates, emptied}
+use Rattle.is_rules.specs.Credentials.{SetsLocal, SetsRemote}
+use Rattle.is_rules.specs.Settings.{SetsMtu}
+use Rattle.is_theorems.specs.Runs.{IsFresh, Run, run_to}
+use Rattle.is_rules.specs.Sound.{IsSound}
+use Rattle.is_rules.specs.Steps.{Call, SetMtu, SetControlTieBreaker, SetMaxCandidatePairs, SetMaxDiscovered, SetIceLite, SetRenomination, SetTimingAdvance, SetInitialStunRto, SetMaxStunRto, SetMaxStunRetransmits, SetLiteTimeout, SetLocalPreference, SetControlling, SetLocalCredentials, SetRemoteCredentials, SkipPairIds, AddLocalCandidate, AddRemoteCandidate, InvalidateCandidate, RestartIce, RecreateCandidatePairs, ReceivePacket, HandleTimeout, PollTransmit, PollTimeout, PollEvent, Entry, Step, MayDo}
+use Rattle.is_theorems.proofs.StorageBounds.BoundedLists.{is_own}
+use Rattle.is_theorems.proofs.StorageBounds.PairsByCell.{cell_of, cells, cells-map, extras, extras-agree, extras-filter, extras-length, owned, pairs-in-grid, total-first}
+use Rattle.is_theorems.proofs.StorageBounds.PairsByCellAfterRules.{Fewer, alike, forms_few, grid_of, made-as, own_at, recast, received, surplus, timed, unchanged}
+use Rattle.is_theorems.proofs.CallEffects.PathAndTradeEffects.{path_theorem}
+use Rattle.is_theorems.proofs.CallEffects.AddedCandidates.{by_adding_local, by_adding_remote, by_waking}
+use Rattle.is_theorems.proofs.RuleEffects.UnchangedSettings.{either}
+use Rattle.is_theorems.proofs.ExecutionLogs.LogTheorems.{runs_sound}
+use Rattle.is_theorems.proofs.ExecutionLogs.PointsOfSegments.{deeper, later_point}
+use Rattle.is_theorems.proofs.CallEffects.FailedCallsAndNewAgents.{mtu_kept, local_kept, remote_kept, restart_kept, recreation_kept, enrolment_kept, storing_kept}
+
+-- a changed candidate of the same kind leaves all kinds
+kinds-put : (cs : List CandidateRecord) (r k : ℕ) (c : CandidateRecord) → c.kind ≡ (candidate_at cs r).kind → (candidate_at (slice_set cs r c) k).kind ≡ (candidate_at cs k).kind
+kinds-put [] r k c same = refl
+kinds-put (x ∷ xs) zero zero c same = same
+kinds-put (x ∷ xs) zero (suc k) c same = refl
+kinds-put (x ∷ xs) (suc r) zero c same = refl
+kinds-put (x ∷ xs) (suc r) (suc k) c same = kinds-put xs r k c same
+
+count-most : (test : CandidateRecord → Bool) (cs : List CandidateRecord) → count_by test cs ≤ length cs
+count-most test [] = omega arith
+count-most test (c ∷ cs) = by (test c) (sum_by-cons (λ y. cond (test y) 1 0) c cs) (count-most test cs) where
+  by : (b : Bool) → count_by test (c ∷ cs) ≡ cond b 1 0 + count_by test cs → count_by test cs ≤ length cs → count_by test (c ∷ cs) ≤ length (c ∷ cs)
+  by true e le = omega (arith, e, le)
+  by false e le = omega (arith, e, le)
+
+-- counted by their indices
+owned-count : (cs : List CandidateRecord) → owned (own_at cs) (length cs) ≡ count_by is_own cs
+owned-count [] = refl
+owned-count (c ∷ cs) =
+    let first : owned (own_at (c ∷ cs)) (length (c ∷ cs)) ≡ cond (is_own c) 1 0 + owned (own_at cs) (length cs) =
+    total-first (λ l. cond (own_at (c ∷ cs) l) 1 0) (length cs) in
+    let all : count_by is_own (c ∷ cs) ≡ cond (is_own c) 1 0 + count_by is_own cs = sum_by-cons (λ y. cond (is_own y) 1 0) c cs in
+    let rest = owned-count cs in
+    omega (arith, first, all, rest)
+
+unless_undue : (b : Bool) (ps : List PairRecord) → cells (if b then ps else map undue ps) ≡ cells ps
+unless_undue true ps = refl
+unless_undue false ps = cells-map undue (λ p. refl) ps
+
+module _ {H P : Type 0} where
+  -- no more of them, or the call forms pairs and the limit holds
+  abbrev pub Stays : Call P → AgentRecord H P → AgentRecord H P → Type 0
+  Stays call old new = Fewer old new ⊎ ((may_form call ≡ true) × (length new.pairs ≤ old.max_pairs))
+
+  -- ---- calls
+
+  module _ (mac : H → List ℕ → List ℕ → List ℕ) (answers : P → CandidateRecord → ℕ → ℕ → Type 0) (old new : AgentRecord H P) (s t : Stream) (e : Entry) where
+    kept : new ≡ old → Fewer old new
+    kept made = unchanged old new made
+
+    placed : grid_of new ≡ grid_of old → Fewer old new
+    placed is = alike old new is
+
+    cells_in : (needed : AgentRecord H P) → new ≡ needed → grid_of new ≡ grid_of needed
+    cells_in needed made = ap (λ (a : AgentRecord H P). grid_of a) made
+
+    may : (Does : Result (Unit {0}) IceError → AgentRecord H P → Type 0) → (Does (Ok _) new → Fewer old new) → ((error : IceError) → Does (Err error) new → new ≡ old) → MayDo Does s e new t → Fewer old new
+    may Does done failed (Ok _, is, h, drawn) = done h
+    may Does done failed (Err error, is, h, drawn) = kept (failed error h)
+
+    restarts : (creds : IceCreds) (keep : Bool) → MayDo (Restarts old creds keep) s e new t → Fewer old new
+    restarts creds keep (Ok _, is, (fits, made), drawn) =
+        let none : cells new.pairs ≡ [] = ap (λ (a : AgentRecord H P). cells a.pairs) made in
+        subst (λ (cs : List Combination). extras (own_at new.local) cs ≤ surplus old) (sym none) (omega arith)
+    restarts creds keep (Err error, is, h, drawn) = kept (restart_kept old new creds keep error h)
+
+    discards : (l r : Option ℕ) (found : Bool) → InvalidatesAt l r old found new → Fewer old new
+    discards (Some place) r found (is, made) =
+        made-as old (local_discarded place old) new made (
+        let gone = extras-filter (own_at (local_discarded place old).local) (λ p. not (is_local_at place p)) old.pairs in
+        let same = extras-agree (own_at (local_discarded place old).local) (own_at old.local) (cells old.pairs)
+        (λ c has. ap (λ (kind : CandidateKind). not (same_kind kind PeerReflexive)) (kinds-put old.local place c.0 (discarded (candidate_at old.local place)) refl)) in
+        omega (arith, gone, same))
+    discards None (Some place) found (is, made) =
+        made-as old (remote_discarded place old) new made (extras-filter (own_at old.local) (λ p. not (is_remote_at place p)) old.pairs)
+    discards None None found (is, made) = kept made
+
+    signals : (c : CandidateRecord) → MayDo (AddsRemote old c) s e new t → Stays (AddRemoteCandidate c) old new
+    signals c (Ok _, is, h, drawn) = by_adding_remote old new c h
+        (λ made. inl (kept made))
+        (λ f. inr (refl, forms_few _ new _ f))
+        (λ k lt addr f. inr (refl, forms_few _ new _ f))
+    signals c (Err error, is, h, drawn) = inl (kept (storing_kept old new c error h))
+
+    recreates : MayDo (Recreates old) s e new t → Stays RecreateCandidatePairs old new
+    recreates (Ok _, is, (enough, f), drawn) = let forms : may_form {P = P} RecreateCandidatePairs ≡ true = cc in inr (forms, forms_few (emptied old) new _ f)
+    recreates (Err error, is, h, drawn) = inl (kept (recreation_kept old new error h))
+
+    adds_local : (c : CandidateRecord) (r : Result (Option ℕ) IceError) → AddsLocal answers old c r new → Stays (AddLocalCandidate c) old new
+    adds_local c (Ok place) h = by_adding_local old new answers c place h
+        (λ made. inl (kept made))
+        (λ x based f. inr (refl, forms_few _ new _ f))
+        (λ k lt f. inr (refl, forms_few _ new _ f))
+        (λ x based k f. inr (refl, forms_few _ new _ f))
+    adds_local c (Err error) h = inl (kept (enrolment_kept answers old new c error h))
+
+    pub steps : IsSound old → (call : Call P) → Step mac answers old s call e new t → Stays call old new
+    steps sound (SetMtu target warn) h = inl (may (SetsMtu old target warn) (λ k. placed (cells_in _ k.1)) (mtu_kept old new target warn) h)
+    steps sound (SetControlTieBreaker tie) (is, made, drawn) = inl (placed (cells_in _ made))
+    steps sound (SetMaxCandidatePairs k) (is, made, drawn) = inl (placed (cells_in _ made))
+    steps sound (SetMaxDiscovered limit) (is, made, drawn) = inl (placed (cells_in _ made))
+    steps sound (SetIceLite lite) (is, made, drawn) = inl (placed (cells_in _ made))
+    steps sound (SetRenomination on) (is, made, drawn) = inl (placed (cells_in _ made))
+    steps sound (SetTimingAdvance by) (is, made, drawn) = inl (placed (cells_in _ made))
+    steps sound (SetInitialStunRto rto) (is, made, drawn) = inl (placed (cells_in _ made ∙ recast old _ (unless_undue (old.timing.initial_rto.0 == rto && old.timing.max_rto.0 == old.timing.max_rto.0) old.pairs)))
+    steps sound (SetMaxStunRto rto) (is, made, drawn) = inl (placed (cells_in _ made ∙ recast old _ (unless_undue (old.timing.initial_rto.0 == old.timing.initial_rto.0 && old.timing.max_rto.0 == rto) old.pairs)))
+    steps sound (SetMaxStunRetransmits k) h = inl (either (k == 0) h (λ _ x. kept x.1) (λ _ x. placed (cells_in _ x.1)))
+    steps sound (SetLiteTimeout timeout) (is, made, drawn) = inl (placed (cells_in _ made))
+    steps sound (SetLocalPreference object) (is, made, drawn) = inl (placed (cells_in _ made))
+    steps sound (SetControlling controlling) (is, made, drawn) = inl (placed (cells_in _ made))
+    steps sound (SetLocalCredentials creds) h = inl (may (SetsLocal old creds) (λ k. placed (cells_in _ k.1)) (local_kept old new creds) h)
+    steps sound (SetRemoteCredentials creds) h = inl (may (SetsRemote old creds) (λ k. placed (cells_in _ k.1)) (remote_kept old new creds) h)
+    steps sound (SkipPairIds k) (is, made, drawn) = inl (placed (cells_in _ made))
+    steps sound (AddLocalCandidate c) (r, is, h, drawn) = adds_local c r h
+    steps sound (AddRemoteCandidate c) h = signals c h
+    steps sound (InvalidateCandidate c) (found, is, h, drawn) = inl (discards (place_to_discard c old.local) (place_to_discard c old.remote) found h)
+    steps sound (RestartIce creds keep) h = inl (restarts creds keep h)
+    steps sound RecreateCandidatePairs h = recreates h
+    steps sound (ReceivePacket now via bytes) (h, drawn) = inl (received mac answers now old new via bytes e (λ p has. (sound.placed p has).0) h)
+    steps sound (HandleTimeout now) (r, emitted, is, h) = inl (timed mac now old new s t r emitted h)
+    steps sound PollTransmit (given, is, (polled, made), drawn) = inl (placed (cells_in _ made))
+    steps sound PollTimeout (deadline, is, h, drawn) = inl (by_waking old new deadline h
+        (λ made. kept made)
+        (λ at made. made-as old (record old { pairs = map (asked at old.timing) old.pairs }) new made
+        (alike old (record old { pairs = map (asked at old.timing) old.pairs }) (recast old (map (asked at old.timing) old.pairs) (cells-map (asked at old.timing) (λ p. refl) old.pairs)))))
+    steps sound PollEvent (given, is, (polled, made), drawn) = inl (placed (cells_in _ made))
+
+  -- ---- executions
+
+  module _ (mac : H → List ℕ → List ℕ → List ℕ) (answers : P → CandidateRecord → ℕ → ℕ → Type 0) where
+    few_extras : (limit : ℕ) (first : AgentRecord H P) (s : Stream) (log : List (Logged P)) (last : AgentRecord H P) (t : Stream) → IsFresh first → FormsFew mac answers limit first s log
+        → Run mac answers first s log last t → surplus last ≤ limit
+    few_extras limit first s [] last t (creds, tie, is) few (same, drawn) =
+        subst (λ (a : AgentRecord H P). surplus a ≤ limit) (sym same) (subst (λ (a : AgentRecord H P). surplus a ≤ limit) (sym is) (omega arith))
+    few_extras limit first s (x ∷ before) last t is_fresh few (mid, u, led, number, given, step) =
+        by (steps mac answers mid last u t x.entry (runs_sound mac answers (path_theorem mac answers) first mid s u before is_fresh led) x.call step)
+        (few_extras limit first s before mid u is_fresh (λ b m a y p. few b m a y (later_point mac answers first s x before b m y a p)) led)
+        (few before mid last x (record { rest = []; split = refl; at = u; led = led; number = number; given = given; following = t; step = step })) where
+          by : Stays x.call mid last → surplus mid ≤ limit → (may_form x.call ≡ true → mid.max_pairs ≤ limit) → surplus last ≤ limit
+          by (inl fewer) was few_at = omega (arith, fewer, was)
+          by (inr (forms, formed)) was few_at =
+              let most = few_at forms in
+              let all : length (cells last.pairs) ≡ length last.pairs = length-map last.pairs cell_of in
+              let some = extras-length (own_at last.local) (cells last.pairs) in
+              omega (arith, formed, most, all, some)
+
+    -- requests add pairs only at local candidates that no response brought
+    pub few_pairs : (limit : ℕ) (first : AgentRecord H P) (s : Stream) (log : List (Logged P)) (last : AgentRecord H P) (t : Stream) → IsFresh first → FormsFew mac answers limit first s log
+        → Run mac answers first s log last t → length last.pairs ≤ limit + count_by is_own last.local * length last.remote
+    few_pairs limit first s log last t is_fresh few run =
+        let le = few_extras limit first s log last t is_fresh few run in
+        let sound : IsSound last = runs_sound mac answers (path_theorem mac answers) first last s t log is_fresh run in
+        let k = pairs-in-grid (own_at last.local) last.pairs (length last.local) (length last.remote) sound.placed in
+        let grid : owned (own_at last.local) (length last.local) * length last.remote ≡ count_by is_own last.local * length last.remote =
+        ap (λ (m : ℕ). m * length last.remote) (owned-count last.local) in
+        along (length last.pairs) (surplus last) (owned (own_at last.local) (length last.local) * length last.remote) (count_by is_own last.local * length last.remote) limit k le grid where
+          along : (a r g h k : ℕ) → a ≤ r + g → r ≤ k → g ≡ h → a ≤ k + h
+          along a r g h k p q e = omega (arith, p, q, e)
+
+    pub limits_pairs : LimitsPairs {H = H} mac answers
+    limits_pairs first s log is_fresh limit few before mid after x point =
+        let few_own : count_by is_own after.local * length after.remote ≤ length after.local * length after.remote = mul-le-mul_right (length after.remote) (count-most is_own after.local) in
+        let most : length after.pairs ≤ limit + count_by is_own after.local * length after.remote =
+        few_pairs limit first s (x ∷ before) after point.following is_fresh
+        (λ b m a y p. few b m a y (deeper mac answers first s log (x ∷ before) point.rest b m y a point.split p))
+        (run_to mac answers first s log before mid x after point) in
+        omega (arith, most, few_own)

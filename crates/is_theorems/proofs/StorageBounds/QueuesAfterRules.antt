@@ -1,0 +1,239 @@
+-- How the rules change the queues of packets and events.
+use Rattle.std.proofs.Common.{◌≡◌, ℕ, ◌+◌, ◌≤◌, ◌&&◌, Bool, true, false, not, List, [], ◌∷◌, ◌++◌, length, count_by, Option, Some, None, refl, sym, subst, ap, ◌∙◌, arith, cond, if◌then◌else◌}
+use Rattle.std.specs.Prelude.{MatchOption}
+use Rattle.std.specs.List.{list_any}
+use Rattle.std.proofs.lemmas.List.{length-append}
+use Rattle.std.proofs.lemmas.List.Sums.{sum_by-append, sum_by-cons}
+use Rattle.rand_core.specs.Stream.{Stream}
+use Rattle.is_proto.specs.Lists as role
+use Rattle.is_proto.specs.Packets.{Packet}
+use Rattle.is_candidate.specs.Candidates.{candidate_at}
+use Rattle.is_pair.specs.Multiset.{is_valid_at}
+use Rattle.is_pair.specs.Pairs.{PairRecord}
+use Rattle.is_stun.specs.Message.{Message}
+use Rattle.is_rules.specs.declared.credentials.IceCreds.{IceCreds}
+use Rattle.is_rules.specs.declared.emitted.Emitted.{Emitted}
+use Rattle.is_rules.specs.declared.emitted.Issued.{Issued}
+use Rattle.is_rules.specs.declared.emitted.Path.{Path}
+use Rattle.is_rules.specs.declared.event.IceAgentEvent.{IceAgentEvent}
+use Rattle.is_rules.specs.declared.event.IceAgentEvent.TheVariants.{IceRestart, IceConnectionStateChange, NominatedSend}
+use Rattle.is_rules.specs.declared.event.IceConnectionState.{IceConnectionState}
+use Rattle.is_rules.specs.declared.event.IceConnectionState.TheVariants.{New}
+use Rattle.is_rules.specs.declared.places.RemotePlace.{RemotePlace}
+use Rattle.is_rules.specs.declared.places.RemotePlace.TheVariants.{Known, Barred, Unknown, Vacant, Full}
+use Rattle.is_rules.specs.declared.roles.Conflict.{Conflict}
+use Rattle.is_rules.specs.declared.roles.Conflict.TheVariants.{Absent, Send487, SwitchRole}
+use Rattle.is_rules.specs.Agent.{AgentRecord}
+use Rattle.is_rules.specs.Answers.{is_role_conflict, TakesSuccess, TakesFailure, LeavesRole}
+use Rattle.is_rules.specs.Checking.{MayCheck, ChecksTop, all_asked}
+use Rattle.is_rules.specs.Forming.{Combination, FormsAll, formed, with_pair}
+use Rattle.is_rules.specs.Nominating.{Nominates, NominatesWhere, nominated_emitted, with_selection}
+use Rattle.is_rules.specs.Places.{local_place}
+use Rattle.is_rules.specs.Request.{RequestRecord}
+use Rattle.is_rules.specs.Roles.{conflict_of, switched}
+use Rattle.is_rules.specs.Serving.{is_misled, names_another, pair_served, request_counted, with_sender, with_sender_at, Drops, Queues, RecordsAndResponds, FindsOrAddsPair, AddsUnknownSender, CountsAndServes, ResolvesRoleConflictBy, ResolvesRoleConflict, Serves}
+use Rattle.is_rules.specs.States.{evaluated, has_nominated, has_possible, next_state, same_state, with_state}
+use Rattle.is_rules.specs.Timeouts.{RemovesExpired, MaintainsPairs, at_timeout, expired_gone, is_expired, start_emitted, timeout_begun}
+use Rattle.is_theorems.proofs.RuleEffects.UnchangedSettings.{either}
+use Rattle.is_theorems.specs.Waiting.{is_discovery, discovery_count, other_count}
+
+-- ---- queues
+
+-- the queues that are polled, and the limit
+pub record Lines : Type 0 where
+  pub limit : Option ℕ
+  pub packets : List Packet
+  pub events : List IceAgentEvent
+
+-- at most this many packets more, and at most this many events other than `DiscoveredRecv`
+pub record Grows (p k : ℕ) (old new : Lines) : Type 0 where
+  pub limit : new.limit ≡ old.limit
+  pub packets : length new.packets ≤ length old.packets + p
+  pub others : other_count new.events ≤ other_count old.events + k
+  pub discoveries : discovery_count new.events ≤ discovery_count old.events
+
+pub count-more : (test : IceAgentEvent → Bool) (events : List IceAgentEvent) (e : IceAgentEvent) → count_by test (events ++ e ∷ []) ≡ count_by test events + cond (test e) 1 0
+count-more test events e =
+    let both = sum_by-append (λ (x : IceAgentEvent). cond (test x) 1 0) events (e ∷ []) in
+    let one = sum_by-cons (λ (x : IceAgentEvent). cond (test x) 1 0) e [] in
+    omega (arith, both, one)
+
+pub counts-all : (events : List IceAgentEvent) → discovery_count events + other_count events ≡ length events
+counts-all [] = refl
+counts-all (e ∷ rest) = by (is_discovery e) refl (counts-all rest) where
+  by : (b : Bool) → is_discovery e ≡ b → discovery_count rest + other_count rest ≡ length rest → discovery_count (e ∷ rest) + other_count (e ∷ rest) ≡ length (e ∷ rest)
+  by true is rest_is =
+      let one : discovery_count (e ∷ rest) ≡ 1 + discovery_count rest = sum_by-cons (λ x. cond (is_discovery x) 1 0) e rest ∙ ap (λ t. cond t 1 0 + discovery_count rest) is in
+      let none : other_count (e ∷ rest) ≡ 0 + other_count rest = sum_by-cons (λ x. cond (not (is_discovery x)) 1 0) e rest ∙ ap (λ t. cond (not t) 1 0 + other_count rest) is in
+      omega (arith, one, none, rest_is)
+  by false is rest_is =
+      let none : discovery_count (e ∷ rest) ≡ 0 + discovery_count rest = sum_by-cons (λ x. cond (is_discovery x) 1 0) e rest ∙ ap (λ t. cond t 1 0 + discovery_count rest) is in
+      let one : other_count (e ∷ rest) ≡ 1 + other_count rest = sum_by-cons (λ x. cond (not (is_discovery x)) 1 0) e rest ∙ ap (λ t. cond (not t) 1 0 + other_count rest) is in
+      omega (arith, one, none, rest_is)
+
+pub alike : (old new : Lines) → new ≡ old → Grows 0 0 old new
+alike old new is = subst (λ l. Grows 0 0 old l) (sym is) (record { limit = refl; packets = omega arith; others = omega arith; discoveries = omega arith })
+
+pub onward : (p k q m : ℕ) (a b c : Lines) → Grows p k a b → Grows q m b c → Grows (p + q) (k + m) a c
+onward p k q m a b c f g =
+    let f1 = f.packets in let f2 = f.others in let f3 = f.discoveries in
+    let g1 = g.packets in let g2 = g.others in let g3 = g.discoveries in
+    record { limit = g.limit ∙ f.limit; packets = omega (arith, f1, g1); others = omega (arith, f2, g2); discoveries = omega (arith, f3, g3) }
+
+pub up : (p k q m : ℕ) (a b : Lines) → p ≤ q → k ≤ m → Grows p k a b → Grows q m a b
+up p k q m a b one two f =
+    let f1 = f.packets in let f2 = f.others in let f3 = f.discoveries in
+    record { limit = f.limit; packets = omega (arith, f1, one); others = omega (arith, f2, two); discoveries = omega (arith, f3) }
+
+pub one-event : (old : Lines) (e : IceAgentEvent) → is_discovery e ≡ false → Grows 0 1 old (record old { events = old.events ++ e ∷ [] })
+one-event old e is =
+    let others : other_count (old.events ++ e ∷ []) ≡ other_count old.events + 1 = count-more (λ x. not (is_discovery x)) old.events e ∙ ap (λ t. other_count old.events + cond (not t) 1 0) is in
+    let none : discovery_count (old.events ++ e ∷ []) ≡ discovery_count old.events + 0 = count-more is_discovery old.events e ∙ ap (λ t. discovery_count old.events + cond t 1 0) is in
+    record { limit = refl; packets = omega arith; others = omega (arith, others); discoveries = omega (arith, none) }
+
+one-packet : (old : Lines) (p : Packet) → Grows 1 0 old (record old { packets = old.packets ++ p ∷ [] })
+one-packet old p =
+    let long : length (old.packets ++ p ∷ []) ≡ length old.packets + 1 = length-append old.packets (p ∷ []) in
+    record { limit = refl; packets = omega (arith, long); others = omega arith; discoveries = omega arith }
+
+-- an event, or none
+may-event : (b : Bool) (old : Lines) (e : IceAgentEvent) → is_discovery e ≡ false → Grows 0 1 old (record old { events = if b then old.events else old.events ++ e ∷ [] })
+may-event true old e is = up 0 0 0 1 old old (omega arith) (omega arith) (alike old old refl)
+may-event false old e is = one-event old e is
+
+unless-event : (b : Bool) (old : Lines) (e : IceAgentEvent) → is_discovery e ≡ false → Grows 0 1 old (record old { events = if b then old.events ++ e ∷ [] else old.events })
+unless-event true old e is = one-event old e is
+unless-event false old e is = up 0 0 0 1 old old (omega arith) (omega arith) (alike old old refl)
+
+module _ {H P : Type 0} where
+  abbrev pub lines_of : AgentRecord H P → Lines
+  lines_of a = record { limit = a.max_discovered; packets = a.packets; events = a.events }
+
+  abbrev pub Adds : ℕ → ℕ → AgentRecord H P → AgentRecord H P → Type 0
+  Adds p k old new = Grows p k (lines_of old) (lines_of new)
+
+  pub same : (old new : AgentRecord H P) → lines_of new ≡ lines_of old → Adds 0 0 old new
+  same old new is = alike (lines_of old) (lines_of new) is
+
+  -- what is equal to a state that a rule makes
+  pub as-made : (p k : ℕ) (old needed new : AgentRecord H P) → new ≡ needed → Adds p k old needed → Adds p k old new
+  as-made p k old needed new is h = subst (λ (a : AgentRecord H P). Adds p k old a) (sym is) h
+
+  pub kept : (old new : AgentRecord H P) → new ≡ old → Adds 0 0 old new
+  kept old new is = same old new (ap (λ (a : AgentRecord H P). lines_of a) is)
+
+  pub more : (p k q m : ℕ) (a b c : AgentRecord H P) → Adds p k a b → Adds q m b c → Adds (p + q) (k + m) a c
+  more p k q m a b c f g = onward p k q m (lines_of a) (lines_of b) (lines_of c) f g
+
+  pub most : (p k q m : ℕ) (a b : AgentRecord H P) → p ≤ q → k ≤ m → Adds p k a b → Adds q m a b
+  most p k q m a b one two f = up p k q m (lines_of a) (lines_of b) one two f
+
+  -- ---- states and nomination
+
+  pub state_adds : (state : IceConnectionState) (a : AgentRecord H P) → Adds 0 1 a (with_state state a)
+  state_adds state a = may-event (same_state a.state state) (lines_of a) (IceConnectionStateChange state) refl
+
+  evaluated_adds : (now : ℕ) (a : AgentRecord H P) → Adds 0 1 a (evaluated now a)
+  evaluated_adds now a = state_adds (next_state a.state (has_nominated a) (has_possible now a) a.lite) a
+
+  emitted_adds : (path : Option Path) (a : AgentRecord H P) → Adds 0 1 a (nominated_emitted path a)
+  emitted_adds None a = most 0 0 0 1 a a (omega arith) (omega arith) (same a a refl)
+  emitted_adds (Some path) a = one-event (lines_of a) (NominatedSend path.proto path.source path.destination) refl
+
+  nominates_adds : (old new : AgentRecord H P) (path : Option Path) → Nominates old path new → Adds 0 1 old new
+  nominates_adds old new path (chosen, names, made) = as-made 0 1 old (nominated_emitted path (with_selection chosen old)) new made (emitted_adds path (with_selection chosen old))
+
+  where_adds : (b : Bool) (old new : AgentRecord H P) (path : Option Path) → NominatesWhere b old path new → Adds 0 1 old new
+  where_adds true old new path h = nominates_adds old new path h
+  where_adds false old new path h = most 0 0 0 1 old new (omega arith) (omega arith) (kept old new h.1)
+
+  removes_expired_adds : (now : ℕ) (old new : AgentRecord H P) (path : Option Path) → RemovesExpired now old path new → Adds 0 2 old new
+  removes_expired_adds now old new path h = either (list_any (is_expired now old) old.pairs) h
+      (λ _ k. as-made 0 2 old (evaluated now k.0) new k.2
+      (more 0 1 0 1 old k.0 (evaluated now k.0) (nominates_adds (expired_gone now old) k.0 path k.1) (evaluated_adds now k.0)))
+      (λ _ k. most 0 0 0 2 old new (omega arith) (omega arith) (kept old new k.1))
+
+  -- ---- checks and timeouts
+
+  check_adds : (mac : H → List ℕ → List ℕ → List ℕ) (now : ℕ) (remote : Option IceCreds) (old new : AgentRecord H P) (s t : Stream) (issued : Option Issued)
+      → MayCheck mac now remote old s issued new t → Adds 1 0 old new
+  check_adds mac now None old new s t issued (is, made, drawn) = most 0 0 1 0 old new (omega arith) (omega arith) (kept old new made)
+  check_adds mac now (Some remote) old new s t issued h = either old.lite h
+      (λ _ k. most 0 0 1 0 old new (omega arith) (omega arith) (same old new (ap (λ (a : AgentRecord H P). lines_of a) k.1)))
+      (λ _ k. next k.0 k.2) where
+        next : (top : Option PairRecord) → ChecksTop mac now remote top (all_asked now old) s issued new t → Adds 1 0 old new
+        next None (is, made, drawn) = most 0 0 1 0 old new (omega arith) (omega arith) (same old new (ap (λ (a : AgentRecord H P). lines_of a) made))
+        next (Some p) (id, drawn, values, is, made) = as-made 1 0 old _ new made (one-packet (lines_of old) _)
+
+  pub begun_adds : (now : ℕ) (a : AgentRecord H P) → Adds 0 2 a (timeout_begun now a)
+  begun_adds now a =
+      more 0 1 0 1 a (start_emitted a) (evaluated now (start_emitted a))
+      (unless-event (same_state a.state New) (lines_of a) (IceRestart a.local_creds) refl) (evaluated_adds now (start_emitted a))
+
+  pub maintains_adds : (mac : H → List ℕ → List ℕ → List ℕ) (now : ℕ) (old new : AgentRecord H P) (s t : Stream) (emitted : Emitted) → MaintainsPairs mac now old s emitted new t → Adds 1 3 old new
+  maintains_adds mac now old new s t emitted (first, second, issued, named, kept, nominating, giving, checking, is) =
+      more 0 3 1 0 old kept new
+      (more 0 1 0 2 old named kept (nominates_adds (at_timeout now old) named first nominating) (removes_expired_adds now named kept second giving))
+      (check_adds mac now kept.remote_creds kept new s t issued checking)
+
+  -- ---- responses
+
+  pub success_adds : (now : ℕ) (old new : AgentRecord H P) (via : Path) (m : Message) (emitted : Emitted) → TakesSuccess now old via m emitted new → Adds 0 2 old new
+  success_adds now old new via m emitted (recorded, (i, p, after, found, keeps, took, made), (path, mid, nominates, is, done)) =
+      as-made 0 2 old (evaluated now mid) new done
+      (more 0 1 0 1 old mid (evaluated now mid)
+      (more 0 0 0 1 old recorded mid (same old recorded (ap (λ (a : AgentRecord H P). lines_of a) made)) (nominates_adds recorded mid path nominates))
+      (evaluated_adds now mid))
+
+  pub failure_adds : (old new : AgentRecord H P) (via : Path) (m : Message) (emitted : Emitted) → TakesFailure old via m emitted new → Adds 0 0 old new
+  failure_adds old new via m emitted h = either (is_role_conflict m) h (λ _ k. gives k) (λ _ k. kept old new k.1) where
+    gives : LeavesRole old via m emitted new → Adds 0 0 old new
+    gives (p, c, has, on, keeps, id_is, h) = either (role.same c.controlling old.controlling) h
+        (λ _ k. same old new (ap (λ (a : AgentRecord H P). lines_of a) k.1)) (λ _ k. kept old new k.1)
+
+  pub forms_adds : (old new : AgentRecord H P) (all : List Combination) → FormsAll old all new → Adds 0 0 old new
+  forms_adds old new all (f, forms, made) = same old new (ap (λ (a : AgentRecord H P). lines_of a) made)
+
+  -- ---- requests: at most one response, and one selected path
+
+  module _ (mac : H → List ℕ → List ℕ → List ℕ) (q : RequestRecord) where
+    none : (s new : AgentRecord H P) → Adds 0 0 s new → Adds 1 1 s new
+    none s new h = most 0 0 1 1 s new (omega arith) (omega arith) h
+
+    pair : (l r number : ℕ) (s new : AgentRecord H P) (emitted : Emitted) → RecordsAndResponds mac q l r number s emitted new → Adds 1 1 s new
+    pair l r number s new emitted (path, mid, nominates, (values, is, made)) =
+        more 0 1 1 0 s mid new
+        (where_adds (s.controlling && is_valid_at number s.pairs) (pair_served q number s) mid path nominates)
+        (as-made 1 0 mid _ new made (one-packet (lines_of mid) _))
+
+    takes : (l r : ℕ) (number : Option ℕ) (s new : AgentRecord H P) (emitted : Emitted) → FindsOrAddsPair mac q l r number s emitted new → Adds 1 1 s new
+    takes l r (Some number) s new emitted h = pair l r number s new emitted h
+    takes l r None s new emitted h = either (candidate_at s.local l).discarded h
+        (λ _ k. none s new (kept s new k.1))
+        (λ _ k. pair l r s.next_number (with_pair (formed s l r) s) new emitted k.1)
+
+    joins : (l : ℕ) (place : RemotePlace) (s new : AgentRecord H P) (emitted : Emitted) → AddsUnknownSender mac q l place s emitted new → Adds 1 1 s new
+    joins l (Known r) s new emitted (number, between, h) = takes l r number s new emitted h
+    joins l Barred s new emitted h = none s new (kept s new h.1)
+    joins l Full s new emitted h = none s new (kept s new h.1)
+    joins l Unknown s new emitted (number, between, h) = takes l (length s.remote) number (with_sender q s) new emitted h
+    joins l (Vacant r) s new emitted (number, between, h) = takes l r number (with_sender_at r q s) new emitted h
+
+    admitted : (l : ℕ) (s new : AgentRecord H P) (emitted : Emitted) → CountsAndServes mac q l s emitted new → Adds 1 1 s new
+    admitted l s new emitted h = either (is_misled s.controlling q) h (λ _ k. none s new (kept s new k.1)) (λ _ k. joins l k.0 (request_counted s) new emitted k.2)
+
+    resolves : (conflict : Conflict) (l : ℕ) (s new : AgentRecord H P) (emitted : Emitted) → ResolvesRoleConflictBy mac conflict q l s emitted new → Adds 1 1 s new
+    resolves Absent l s new emitted h = admitted l s new emitted h
+    resolves Send487 l s new emitted (values, is, made) = most 1 0 1 1 s new (omega arith) (omega arith) (as-made 1 0 s _ new made (one-packet (lines_of s) _))
+    resolves SwitchRole l s new emitted h = admitted l (switched s) new emitted h
+
+    here : (place : Option ℕ) (s new : AgentRecord H P) (emitted : Emitted) → MatchOption place (Drops s emitted new) (λ l. ResolvesRoleConflict mac q l s emitted new) → Adds 1 1 s new
+    here None s new emitted h = none s new (kept s new h.1)
+    here (Some l) s new emitted h = resolves (conflict_of s q) l s new emitted h
+
+    pub serves_adds : (s new : AgentRecord H P) (emitted : Emitted) → Serves mac q s emitted new → Adds 1 1 s new
+    serves_adds s new emitted h = either (names_another s q) h (λ _ k. none s new (kept s new k.1)) (λ _ k. here (local_place s.local q) s new emitted k)
+
+    pub requested_adds : (remote : Option IceCreds) (s new : AgentRecord H P) (emitted : Emitted) → MatchOption remote (Queues q s emitted new) (λ _. Serves mac q s emitted new) → Adds 1 1 s new
+    requested_adds None s new emitted h = none s new (same s new (ap (λ (a : AgentRecord H P). lines_of a) h.1))
+    requested_adds (Some peer) s new emitted h = serves_adds s new emitted h

@@ -1,0 +1,250 @@
+-- Forming pairs leaves a pair as it is, unless a new pair may replace it or there may be too many pairs.
+use Rattle.std.proofs.Common.{◌≡◌, ℕ, ◌+◌, ◌<◌, ◌≤◌, ◌&&◌, ◌||◌, Bool, true, false, not, nat_lt, nat_le, List, [], ◌∷◌, ◌++◌, length, filter, count_by, position, Option, Some, None, Ok, Err, inl, inr, ◌⊎◌, refl, ap, sym, ◌∙◌, subst, arith, if◌then◌else◌}
+use Rattle.std.proofs.lemmas.Bool.{eqb-true}
+use Rattle.std.proofs.lemmas.Bool.Decides.{nat_tests}
+use Rattle.std.proofs.lemmas.List.Sums.{length-filter, sum_by-cons}
+use Rattle.std.specs.Prelude.{MatchBool}
+use Rattle.std.specs.List.{list_any}
+use Rattle.is_proto.specs.declared.error.IceError.{IceError}
+use Rattle.is_proto.specs.declared.error.IceError.TheVariants.{PriorityTooHigh}
+use Rattle.is_proto.specs.Lists.{Has}
+use Rattle.is_candidate.specs.Candidates.{CandidateRecord, candidate_at}
+use Rattle.is_candidate.specs.Equality.{is_same_place}
+use Rattle.is_candidate.specs.Priorities.{candidate_priority}
+use Rattle.is_pair.proofs.DueTimes.CountOfDuePairs.{thinner}
+use Rattle.is_pair.specs.Multiset.{is_numbered, without, EvictsInTurn, IsLeast}
+use Rattle.is_pair.specs.Pairs.{PairRecord, taking_over}
+use Rattle.is_rules.specs.Agent.{AgentRecord}
+use Rattle.is_rules.specs.Discarding.{is_local_at, local_discarded}
+use Rattle.is_rules.specs.Each.{Each}
+use Rattle.is_rules.specs.Forming.{SidesRecord, Formed, Combination, combined_priority, is_redundant, pair_of, local_combinations, remote_combinations, sides_of, formed_of, Tries, FormsAll}
+use Rattle.is_rules.specs.Local.{as_own, appended, comes_again, enabled, enabled_again, is_too_high, is_unwanted, preferred, AddsLocal, EnrolsAt, EntersAgain, EntersNew, IsNotAdded}
+use Rattle.is_rules.specs.Owed.{one_if}
+use Rattle.is_rules.specs.Remote.{as_remote, is_ignored, is_placeholder, place_or_end, with_remote, AddsRemote}
+use Rattle.is_theorems.specs.Removing.{is_replaced_by, ranks_with, combines_with, MayBeRemoved, MayEndByAppending, MayEndByRemote, MayEndByStoring, MayEndByEnrolling, MayEndByLocal}
+use Rattle.is_rules.specs.Sound.{IsSound}
+use Rattle.is_theorems.proofs.RuleEffects.UnchangedSettings.{either}
+use Rattle.is_theorems.proofs.RuleEffects.EarlierAndNewPairs.{Has-filter, Has-push, rising-filter, rising-push}
+use Rattle.is_rules.proofs.PairLists.RisingNumbers.{AreRising, AllBelow, below-each, rising-each}
+use Rattle.is_theorems.proofs.RuleEffects.SelectedPaths.{one_pair}
+use Rattle.is_theorems.proofs.DuePairs.AfterNominationAndRemoval.{Has-kept}
+
+-- ---- lists
+
+has-front : {X : Type 0} (xs ys : List X) (x : X) → Has xs x → Has (xs ++ ys) x
+has-front [] ys x has = absurd has
+has-front (y ∷ xs) ys x (inl e) = inl e
+has-front (y ∷ xs) ys x (inr has) = inr (has-front xs ys x has)
+
+count-head : {X : Type 0} (t : X → Bool) (x : X) (xs : List X) → count_by t (x ∷ xs) ≡ one_if (t x) + count_by t xs
+count-head t x xs = sum_by-cons (λ y. if t y then 1 else 0) x xs ∙ ap (λ k. k + count_by t xs) (one (t x)) where
+  one : (b : Bool) → (if b then 1 else 0) ≡ one_if b
+  one true = refl
+  one false = refl
+
+count-push : {X : Type 0} (t : X → Bool) (xs : List X) (x : X) → count_by t (xs ++ x ∷ []) ≡ count_by t xs + one_if (t x)
+count-push t [] x = let h : count_by t (x ∷ []) ≡ one_if (t x) + 0 = count-head t x [] in omega (arith, h)
+count-push t (y ∷ ys) x =
+    let k : count_by t (ys ++ x ∷ []) ≡ count_by t ys + one_if (t x) = count-push t ys x in
+    let l : count_by t (y ∷ (ys ++ x ∷ [])) ≡ one_if (t y) + count_by t (ys ++ x ∷ []) = count-head t y (ys ++ x ∷ []) in
+    let r : count_by t (y ∷ ys) ≡ one_if (t y) + count_by t ys = count-head t y ys in
+    omega (arith, k, l, r)
+
+count-thinner : {X : Type 0} (t keep : X → Bool) (xs : List X) → count_by t (filter keep xs) ≤ count_by t xs
+count-thinner t keep xs =
+    let le : length (filter t (filter keep xs)) ≤ length (filter t xs) = thinner t keep xs in
+    let a : length (filter t (filter keep xs)) ≡ count_by t (filter keep xs) = length-filter t (filter keep xs) in
+    let b : length (filter t xs) ≡ count_by t xs = length-filter t xs in
+    omega (arith, le, a, b)
+
+count-all : {X : Type 0} (t : X → Bool) (xs : List X) → ((x : X) → Has xs x → t x ≡ true) → count_by t xs ≡ length xs
+count-all t [] each = refl
+count-all t (x ∷ xs) each =
+    let k : count_by t xs ≡ length xs = count-all t xs (λ y has. each y (inr has)) in
+    let h : count_by t (x ∷ xs) ≡ one_if (t x) + count_by t xs = count-head t x xs in
+    let one : one_if (t x) ≡ 1 = ap one_if (each x (inl refl)) in
+    omega (arith, k, h, one)
+
+any-here : {X : Type 0} (t : X → Bool) (x : X) (xs : List X) → t x ≡ true → list_any t (x ∷ xs) ≡ true
+any-here t x xs is = rw (is) refl
+
+any-later : {X : Type 0} (t : X → Bool) (x : X) (xs : List X) → list_any t xs ≡ true → list_any t (x ∷ xs) ≡ true
+any-later t x xs is = elim (t x) as (λ b. (b || list_any t xs) ≡ true) [ true ↦ refl | false ↦ is ]
+
+le-is : (n m : ℕ) → n ≤ m → nat_le n m ≡ true
+le-is n m h = grind (arith, nat_tests, h)
+
+taken-over : (lite : Bool) (found p : PairRecord) → ((taking_over lite found p).number ≡ p.number) × ((taking_over lite found p).priority ≡ p.priority)
+taken-over true found p = (refl, refl)
+taken-over false found p = (refl, refl)
+
+no-place : {A : Type 0} (place : ℕ) → Some place ≡ None → A
+no-place place h = absurd (cc)
+
+no-error : {A R : Type 0} (x : A) (error : IceError) → Ok x ≡ Err error → R
+no-error x error h = absurd (cc)
+
+-- ---- the pair while combinations are tried
+
+module _ (p : PairRecord) where
+  record There (pairs : List PairRecord) (next_number : ℕ) : Type 0 where
+    rising : AreRising pairs
+    below : AllBelow next_number pairs
+    has : Has pairs p
+
+  -- a pair with the next number is added after some of the pairs
+  pushed : (pairs rest : List PairRecord) (n : ℕ) (q : PairRecord) → There pairs n → ((r : PairRecord) → Has rest r → Has pairs r) → AreRising rest → Has rest p → q.number ≡ n
+      → There (rest ++ q ∷ []) (n + 1)
+  pushed pairs rest n q k among rising has number = record {
+    rising = rising-push rest q rising (λ r there. subst (λ m. r.number < m) (sym number) (k.below r (among r there)));
+    below = λ r there. below-by r (elim (Has-push rest q r there) [ inl was ↦ inl (k.below r (among r was)) | inr now ↦ inr (ap (λ (x : PairRecord). x.number) (sym now) ∙ number) ]);
+    has = has-front rest (q ∷ []) p has;
+  } where
+    below-by : (r : PairRecord) → (r.number < n) ⊎ (r.number ≡ n) → r.number < n + 1
+    below-by r (inl lt) = omega (arith, lt)
+    below-by r (inr is) = omega (arith, is)
+
+  -- some pairs are removed, and not this one
+  thinned : (pairs : List PairRecord) (n : ℕ) (keep : PairRecord → Bool) → There pairs n → keep p ≡ true → There (filter keep pairs) n
+  thinned pairs n keep k is = record {
+    rising = rising-filter keep pairs k.rising;
+    below = λ r there. k.below r (Has-filter keep pairs r there);
+    has = Has-kept keep pairs p k.has is;
+  }
+
+  same-number : (pairs : List PairRecord) (n : ℕ) (q : PairRecord) → There pairs n → Has pairs q → is_numbered q.number p ≡ true → q ≡ p
+  same-number pairs n q k has is = one_pair pairs q p k.rising has k.has (sym (eqb-true p.number q.number is))
+
+  abbrev ranked : List PairRecord → ℕ
+  ranked pairs = count_by (ranks_with p) pairs
+
+  module _ (s : SidesRecord) where
+    -- after one combination
+    abbrev Leaves : Combination → Formed → Formed → Type 0
+    Leaves at old new = There new.pairs new.next_number × (ranked new.pairs ≤ ranked old.pairs + one_if (combines_with s p at))
+
+    pushes : (at : Combination) (old : Formed) (rest : List PairRecord) (q : PairRecord) → There old.pairs old.next_number → ((r : PairRecord) → Has rest r → Has old.pairs r) → AreRising rest → Has rest p
+        → ranked rest ≤ ranked old.pairs → q.number ≡ old.next_number → q.priority ≡ combined_priority s at → (new : Formed)
+        → new.pairs ≡ rest ++ q ∷ [] → new.next_number ≡ old.next_number + 1 → Leaves at old new
+    pushes at old rest q k among rising has fewer number priority new pairs_are next_is = (
+      subst (λ n. There new.pairs n) (sym next_is) (subst (λ ps. There ps (old.next_number + 1)) (sym pairs_are) (pushed old.pairs rest old.next_number q k among rising has number)),
+      (let count : ranked (rest ++ q ∷ []) ≡ ranked rest + one_if (ranks_with p q) = count-push (ranks_with p) rest q in
+          let one : one_if (ranks_with p q) ≡ one_if (combines_with s p at) = ap (λ n. one_if (nat_le p.priority n)) priority in
+          let all : ranked new.pairs ≡ ranked (rest ++ q ∷ []) = ap (λ ps. ranked ps) pairs_are in
+          omega (arith, count, one, all, fewer)),
+    )
+
+    tries : (at : Combination) (old new : Formed) → There old.pairs old.next_number → Tries s at old new → Leaves at old new ⊎ (is_replaced_by s p at ≡ true)
+    tries at old new k (None, none, made) =
+        inl (pushes at old old.pairs (pair_of s at old.next_number) k (λ r there. there) k.rising k.has (omega arith) refl refl new (ap (λ (f : Formed). f.pairs) made) (ap (λ (f : Formed). f.next_number) made))
+    tries at old new k (Some found, (has, redundant, greatest), made) = by (nat_lt found.priority (combined_priority s at)) refl made where
+      own : PairRecord
+      own = pair_of s at old.next_number
+
+      after : Formed
+      after = record { pairs = without (is_numbered found.number) old.pairs ++ taking_over s.lite found own ∷ []; next_number = old.next_number + 1 }
+
+      replaced : nat_lt found.priority (combined_priority s at) ≡ true → new ≡ after → (b : Bool) → is_numbered found.number p ≡ b → Leaves at old new ⊎ (is_replaced_by s p at ≡ true)
+      replaced greater is true same =
+          let one : found ≡ p = same-number old.pairs old.next_number found k has same in
+          inr (subst (λ (x : PairRecord). is_replaced_by s x at ≡ true) one (rw (redundant) greater))
+      replaced greater is false other =
+          let kept = thinned old.pairs old.next_number (λ q. not (is_numbered found.number q)) k (ap not other) in
+          let rest = taken-over s.lite found own in
+          inl (pushes at old (without (is_numbered found.number) old.pairs) (taking_over s.lite found own) k (λ r there. Has-filter (λ q. not (is_numbered found.number q)) old.pairs r there) kept.rising kept.has
+          (count-thinner (ranks_with p) (λ q. not (is_numbered found.number q)) old.pairs) rest.0 rest.1 new (ap (λ (f : Formed). f.pairs) is) (ap (λ (f : Formed). f.next_number) is))
+
+      by : (b : Bool) → nat_lt found.priority (combined_priority s at) ≡ b → new ≡ (if b then after else old) → Leaves at old new ⊎ (is_replaced_by s p at ≡ true)
+      by true greater is = replaced greater is (is_numbered found.number p) refl
+      by false smaller is = inl (subst (λ (f : Formed). There f.pairs f.next_number × (ranked f.pairs ≤ ranked old.pairs + one_if (combines_with s p at))) (sym is) (k, omega arith))
+
+    -- after all of them
+    tries-each : (all : List Combination) (old new : Formed) → There old.pairs old.next_number → Each (Tries s) all old new
+        → (There new.pairs new.next_number × (ranked new.pairs ≤ ranked old.pairs + count_by (combines_with s p) all)) ⊎ (list_any (is_replaced_by s p) all ≡ true)
+    tries-each [] old new k same = inl (subst (λ (f : Formed). There f.pairs f.next_number × (ranked f.pairs ≤ ranked old.pairs + 0)) (sym same) (k, omega arith))
+    tries-each (at ∷ all) old new k (mid, one, others) = elim (tries at old mid k one) [
+      | inr gone ↦ inr (any-here (is_replaced_by s p) at all gone)
+      | inl (there, count) ↦ elim (tries-each all mid new there others) [
+        | inr gone ↦ inr (any-later (is_replaced_by s p) at all gone)
+        | inl (still, more) ↦
+            inl (
+              still,
+              (let head : count_by (combines_with s p) (at ∷ all) ≡ one_if (combines_with s p at) + count_by (combines_with s p) all = count-head (combines_with s p) at all in
+                  omega (arith, count, more, head)),
+            )
+      ]
+    ]
+
+  -- ---- eviction
+
+  evicts : (limit n : ℕ) (gone pairs new : List PairRecord) → There pairs n → EvictsInTurn limit gone pairs new → Has new p ⊎ (limit < ranked pairs)
+  evicts limit n [] pairs new k (within, same) = inl (subst (λ ps. Has ps p) (sym same) k.has)
+  evicts limit n (q ∷ gone) pairs new k (over, least, others) =
+      by (λ other. evicts limit n gone (without (is_numbered q.number) pairs) new (thinned pairs n (λ r. not (is_numbered q.number r)) k (ap not other)) others) (is_numbered q.number p) refl where
+        by : (is_numbered q.number p ≡ false → Has new p ⊎ (limit < ranked (without (is_numbered q.number) pairs))) → (b : Bool) → is_numbered q.number p ≡ b → Has new p ⊎ (limit < ranked pairs)
+        by later true same =
+            let one : q ≡ p = same-number pairs n q k least.0 same in
+            let all : ranked pairs ≡ length pairs = count-all (ranks_with p) pairs (λ r has. le-is p.priority r.priority (subst (λ (x : PairRecord). x.priority ≤ r.priority) one (least.1 r has))) in
+            inr (omega (arith, all, over))
+        by later false other = elim (later other) [
+          | inl has ↦ inl has
+          | inr more ↦ inr (let fewer : ranked (without (is_numbered q.number) pairs) ≤ ranked pairs = count-thinner (ranks_with p) (λ r. not (is_numbered q.number r)) pairs in omega (arith, more, fewer))
+        ]
+
+-- ---- forming
+
+module _ {H P : Type 0} where
+  forms : (old new : AgentRecord H P) (all : List Combination) (p : PairRecord) → There p old.pairs old.next_number → FormsAll old all new → Has new.pairs p ⊎ MayBeRemoved old all p
+  forms old new all p k (f, (mid, each, (gone, drops), next_is), made) = elim (tries-each p (sides_of old) all (formed_of old) mid k each) [
+    | inr replaced ↦ inr (inl replaced)
+    | inl (there, count) ↦ elim (evicts p old.max_pairs mid.next_number gone mid.pairs f.pairs there drops) [
+      | inl has ↦ inl (subst (λ (a : AgentRecord H P). Has a.pairs p) (sym made) has)
+      | inr over ↦ inr (inr (omega (arith, over, count)))
+    ]
+  ]
+
+  there-now : (old : AgentRecord H P) (p : PairRecord) → IsSound old → Has old.pairs p → There p old.pairs old.next_number
+  there-now old p sound has = record { rising = rising-each old.pairs sound.rising; below = below-each old.next_number old.pairs sound.below; has = has }
+
+  -- ---- the calls
+
+  pub remote-leaves : (old new : AgentRecord H P) (c : CandidateRecord) (p : PairRecord) → IsSound old → Has old.pairs p → AddsRemote old c (Ok tt) new → Has new.pairs p ⊎ MayEndByRemote old c p
+  remote-leaves old new c p sound has h = either (is_ignored old c) h
+      (λ _ same. inl (subst (λ (a : AgentRecord H P). Has a.pairs p) (sym same) has))
+      (λ not_ignored k. (
+      let place = position (is_placeholder (as_remote c)) old.remote in
+      elim (forms (with_remote (as_remote c) place old) new (remote_combinations (as_remote c) (place_or_end place old.remote) old.local) p (there-now old p sound has) k.1) [
+        | inl x ↦ inl x
+        | inr ends ↦ inr (not_ignored, ends)
+      ]))
+
+  enrolment-leaves : (old new : AgentRecord H P) (c : CandidateRecord) (at : Option ℕ) (place : ℕ) (p : PairRecord) → IsSound old → Has old.pairs p → EnrolsAt old c at (Ok (Some place)) new
+      → Has new.pairs p ⊎ MayEndByEnrolling old c at p
+  enrolment-leaves old new c None place p sound has h = forms (appended (as_own old c) old) new (local_combinations (as_own old c) (length old.local) old.remote) p (there-now old p sound has) h.2
+  enrolment-leaves old new c (Some k) place p sound has h = by (comes_again c (candidate_at old.local k)) h where
+    now : There p old.pairs old.next_number
+    now = there-now old p sound has
+
+    superseded : FormsAll (appended (as_own old c) (local_discarded k old)) (local_combinations (as_own old c) (length old.local) old.remote) new → (b : Bool) → is_local_at k p ≡ b
+        → Has new.pairs p ⊎ ((p.local ≡ k) ⊎ MayEndByAppending old c (local_discarded k old) p)
+    superseded f true is = inr (inl (eqb-true p.local k is))
+    superseded f false other =
+        elim (forms (appended (as_own old c) (local_discarded k old)) new (local_combinations (as_own old c) (length old.local) old.remote) p
+        (thinned p old.pairs old.next_number (λ q. not (is_local_at k q)) now (ap not other)) f) [ inl x ↦ inl x | inr ends ↦ inr (inr ends) ]
+
+    by : (b : Bool) → MatchBool b (EntersAgain old k (Ok (Some place)) new)
+        (MatchBool (nat_lt (candidate_priority c) (candidate_priority (candidate_at old.local k))) (IsNotAdded old (Ok (Some place)) new) (EntersNew old c (local_discarded k old) (Ok (Some place)) new))
+        → Has new.pairs p ⊎ MatchBool b (MayBeRemoved (enabled_again k old) (local_combinations (enabled (candidate_at old.local k)) k old.remote) p)
+        ((p.local ≡ k) ⊎ MayEndByAppending old c (local_discarded k old) p)
+    by true again = forms (enabled_again k old) new (local_combinations (enabled (candidate_at old.local k)) k old.remote) p now again.2
+    by false other = either (nat_lt (candidate_priority c) (candidate_priority (candidate_at old.local k))) other
+        (λ _ n. no-place place n.0)
+        (λ _ n. superseded n.2 (is_local_at k p) refl)
+
+  pub local-leaves : (answers : P → CandidateRecord → ℕ → ℕ → Type 0) (old new : AgentRecord H P) (c : CandidateRecord) (place : ℕ) (p : PairRecord) → IsSound old → Has old.pairs p
+      → AddsLocal answers old c (Ok (Some place)) new → Has new.pairs p ⊎ MayEndByLocal answers old c p
+  local-leaves answers old new c place p sound has h = either (is_too_high c) h
+      (λ _ k. no-error (Some place) PriorityTooHigh k.0)
+      (λ _ k. either (is_unwanted old c) k
+      (λ _ n. no-place place n.0)
+      (λ _ n. elim (enrolment-leaves old new (preferred n.0 c) (position (is_same_place (preferred n.0 c)) old.local) place p sound has n.2) [ inl x ↦ inl x | inr ends ↦ inr (n.0, n.1, ends) ]))

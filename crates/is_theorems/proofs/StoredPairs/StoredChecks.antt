@@ -1,0 +1,248 @@
+-- A `handle_timeout` call that sends a check stores it.
+use Rattle.std.proofs.Common.{◌≡◌, ℕ, ◌+◌, ◌-◌, ◌<◌, ◌≤◌, ◌==◌, Bool, true, List, [], ◌∷◌, ◌++◌, length, drop, bytes_eq, Option, Some, None, Result, Ok, Err, inl, inr, refl, ap, sym, ◌∙◌, subst, arith, if◌then◌else◌}
+use Rattle.std.specs.Prelude.{MatchOption}
+use Rattle.std.specs.List.{list_any}
+use Rattle.std.specs.declared.net.socket_addr.SocketAddr.{SocketAddr}
+use Rattle.std.specs.declared.net.socket_addr.SocketAddr.TheVariants.{V4, V6}
+use Rattle.std.specs.Net.Addr.{ipv4_octets, ipv6_segments}
+use Rattle.std.specs.Net.Socket.{v4_ip, v4_port, v6_ip, v6_port, v6_flowinfo, v6_scope_id}
+use Rattle.std.proofs.lemmas.Bool.{eq-eqb}
+use Rattle.std.proofs.lemmas.List.{length-append, drop-append-le}
+use Rattle.std.proofs.lemmas.Slice.Eq.{bytes_eq-Decides}
+use Rattle.rand_core.specs.Stream.{Stream}
+use Rattle.is_proto.specs.Lists.{Has}
+use Rattle.is_proto.specs.declared.error.IceError.{IceError}
+use Rattle.is_candidate.specs.Addresses.{same_address}
+use Rattle.is_candidate.specs.Candidates.{CandidateRecord, candidate_at}
+use Rattle.is_pair.specs.Multiset.{change_at, change_pair}
+use Rattle.is_pair.specs.Checks.{Check, has_id, is_kept}
+use Rattle.is_pair.specs.Due.{IsNextDue}
+use Rattle.is_pair.specs.Pairs.{PairRecord, check_of, checked}
+use Rattle.is_stun.specs.declared.header.Class.{Class}
+use Rattle.is_stun.specs.declared.header.Class.TheVariants as class
+use Rattle.is_stun.specs.Theorems.{IsPut}
+use Rattle.is_stun.specs.Writing.{written}
+use Rattle.is_rules.specs.declared.credentials.IceCreds.{IceCreds}
+use Rattle.is_rules.specs.declared.places.RemotePlace.{RemotePlace}
+use Rattle.is_rules.specs.declared.places.RemotePlace.TheVariants.{Known, Barred, Unknown, Vacant, Full}
+use Rattle.is_rules.specs.declared.roles.Conflict.{Conflict}
+use Rattle.is_rules.specs.declared.roles.Conflict.TheVariants.{Absent, Send487, SwitchRole}
+use Rattle.is_rules.specs.declared.emitted.Issued as code
+use Rattle.is_rules.specs.declared.emitted.Path.{Path}
+use Rattle.is_rules.specs.declared.emitted.Emitted.{Emitted}
+use Rattle.is_rules.specs.Agent.{AgentRecord}
+use Rattle.is_rules.specs.Answers.{goes_back, keeps_check_on}
+use Rattle.is_rules.specs.Checking.{all_asked, check_message, check_sent, ChecksPair, ChecksTop, MayCheck}
+use Rattle.is_theorems.specs.Delivery.{ChecksAreKept}
+use Rattle.is_rules.specs.Forming.{formed, with_pair}
+use Rattle.is_rules.specs.Issuing.{via_out}
+use Rattle.is_rules.specs.Places.{local_place}
+use Rattle.is_rules.specs.Queue.{request_at, first_taken}
+use Rattle.is_rules.specs.Request.{RequestRecord}
+use Rattle.is_rules.specs.Roles.{conflict_of, switched}
+use Rattle.is_rules.specs.Sending.{path_of}
+use Rattle.is_rules.specs.Serving.{is_misled, names_another, request_counted, with_sender, with_sender_at, Drops, RecordsAndResponds, FindsOrAddsPair, AddsUnknownSender, CountsAndServes, ResolvesRoleConflictBy, ResolvesRoleConflict, Serves}
+use Rattle.is_rules.specs.Steps.{Entry, HandleTimeout, Step}
+use Rattle.is_rules.specs.Timeouts.{timeout_begun, MaintainsPairs, ServesQueued, TimesOut}
+use Rattle.is_rules.specs.Emitted.{issued_only, issued_as, reversed}
+use Rattle.is_theorems.proofs.CallEffects.PathAndTradeEffects.{path_theorem}
+use Rattle.is_theorems.proofs.RuleEffects.UnchangedSettings.{either}
+use Rattle.is_theorems.proofs.BasicLemmas.UsernamesAndFirstMatches.{any_has}
+use Rattle.is_theorems.proofs.CallEffects.ServedRequests.{Has-mapped}
+use Rattle.is_theorems.proofs.RuleEffects.SelectedPaths.{some_is}
+
+pub bytes_same : (a : List ℕ) → bytes_eq a a ≡ true
+bytes_same a = (bytes_eq-Decides a a).1 refl
+
+pub number_same : (n : ℕ) → (n == n) ≡ true
+number_same n = eq-eqb n n refl
+
+-- an address equals itself
+pub same_self : (a : SocketAddr) → same_address a a ≡ true
+same_self (V4 a) = rw (bytes_same (ipv4_octets (v4_ip a)), number_same (v4_port a)) refl
+same_self (V6 a) = rw (bytes_same (ipv6_segments (v6_ip a)), number_same (v6_port a), number_same (v6_flowinfo a), number_same (v6_scope_id a)) refl
+
+pub back_again : (via : Path) → goes_back (reversed via) via ≡ true
+back_again via = rw (same_self via.destination, same_self via.source) refl
+
+-- the last one is among the last n, if n is not 0
+Has-last : (cs : List Check) (c : Check) → Has (cs ++ c ∷ []) c
+Has-last [] c = inl refl
+Has-last (x ∷ cs) c = inr (Has-last cs c)
+
+pub Has-rear : (cs ds : List Check) (c : Check) → Has ds c → Has (cs ++ ds) c
+Has-rear [] ds c h = h
+Has-rear (x ∷ cs) ds c h = inr (Has-rear cs ds c h)
+
+among_last : (n : ℕ) (cs : List Check) (c : Check) → 0 < n → Has (drop (length (cs ++ c ∷ []) - n) (cs ++ c ∷ [])) c
+among_last n cs c some =
+    let long : length (cs ++ c ∷ []) ≡ length cs + 1 = length-append cs (c ∷ []) in
+    let k = length (cs ++ c ∷ []) - n in
+    let within : k ≤ length cs = omega (arith, long, some) in
+    subst (λ l. Has l c) (sym (drop-append-le k cs (c ∷ []) within)) (Has-rear (drop k cs) (c ∷ []) c (inl refl))
+
+emitted_as : (via path : Path) (i j : List ℕ) → Some (issued_as via class.Request i) ≡ Some (issued_as path class.Request j) → (via ≡ path) × (i ≡ j)
+emitted_as via path i j h =
+    let same : issued_as via class.Request i ≡ issued_as path class.Request j = some_is _ _ h in
+    (ap (λ (x : code.Issued). x.path) same, ap (λ (x : code.Issued). x.id.0) same)
+
+-- the pair that was checked stores the check
+keeps_now : (now : ℕ) (kept : ℕ) (p : PairRecord) (id : List ℕ) (controlling : Bool) → 0 < kept
+    → is_kept id (drop (length (p.checks ++ check_of now controlling id p ∷ []) - kept) (p.checks ++ check_of now controlling id p ∷ [])) ≡ true
+keeps_now now kept p id controlling some =
+    any_has (has_id id) (drop (length (p.checks ++ check_of now controlling id p ∷ []) - kept) (p.checks ++ check_of now controlling id p ∷ []))
+    (check_of now controlling id p) (among_last kept p.checks (check_of now controlling id p) some) (bytes_same id)
+
+module _ {H P : Type 0} (mac : H → List ℕ → List ℕ → List ℕ) (answers : P → CandidateRecord → ℕ → ℕ → Type 0) where
+  -- ---- serving issues no check
+
+  module _ (q : RequestRecord) where
+    abbrev NoCheck : Emitted → Type 0
+    NoCheck emitted = (via : Path) (id : List ℕ) → emitted.issued ≡ Some (issued_as via class.Request id) → ⊥
+
+    dropped : (s new : AgentRecord H P) (emitted : Emitted) → Drops s emitted new → NoCheck emitted
+    dropped s new emitted (is, kept) via id out = let no : None ≡ Some (issued_as via class.Request id) = sym (ap (λ (t : Emitted). t.issued) is) ∙ out in cc
+
+    other_class : (c : Class) (path via : Path) (i id : List ℕ) → Some (issued_as path c i) ≡ Some (issued_as via class.Request id) → c ≡ class.Request
+    other_class c path via i id h = ap (λ (x : code.Issued). x.class) (some_is _ _ h)
+
+    at_pair : (l r number : ℕ) (s new : AgentRecord H P) (emitted : Emitted) → RecordsAndResponds mac q l r number s emitted new → NoCheck emitted
+    at_pair l r number s new emitted (path, mid, nominates, (values, is, made)) via id out =
+        let wrong : class.Success ≡ class.Request = other_class _ _ via _ id (sym (ap (λ (t : Emitted). t.issued) is) ∙ out) in cc
+
+    takes_at : (l r : ℕ) (number : Option ℕ) (s new : AgentRecord H P) (emitted : Emitted) → FindsOrAddsPair mac q l r number s emitted new → NoCheck emitted
+    takes_at l r (Some number) s new emitted h = at_pair l r number s new emitted h
+    takes_at l r None s new emitted h = either (candidate_at s.local l).discarded h (λ _ k. dropped s new emitted k) (λ _ k. at_pair l r s.next_number (with_pair (formed s l r) s) new emitted k.1)
+
+    joins_at : (l : ℕ) (place : RemotePlace) (s new : AgentRecord H P) (emitted : Emitted) → AddsUnknownSender mac q l place s emitted new → NoCheck emitted
+    joins_at l (Known r) s new emitted (number, between, h) = takes_at l r number s new emitted h
+    joins_at l Barred s new emitted h = dropped s new emitted h
+    joins_at l Unknown s new emitted (number, between, h) = takes_at l _ number (with_sender q s) new emitted h
+    joins_at l (Vacant r) s new emitted (number, between, h) = takes_at l r number (with_sender_at r q s) new emitted h
+    joins_at l Full s new emitted h = dropped s new emitted h
+
+    admits : (l : ℕ) (s new : AgentRecord H P) (emitted : Emitted) → CountsAndServes mac q l s emitted new → NoCheck emitted
+    admits l s new emitted h = either (is_misled s.controlling q) h (λ _ k. dropped s new emitted k) (λ _ k. joins_at l k.0 (request_counted s) new emitted k.2)
+
+    conflict_sent : (emitted : Emitted) → emitted ≡ issued_only (reversed q.path) class.Failure q.id → NoCheck emitted
+    conflict_sent emitted is via id out =
+        let wrong : class.Failure ≡ class.Request = other_class class.Failure (reversed q.path) via q.id id (sym (ap (λ (t : Emitted). t.issued) is) ∙ out) in cc
+
+    resolves_by : (conflict : Conflict) (l : ℕ) (s new : AgentRecord H P) (emitted : Emitted) → ResolvesRoleConflictBy mac conflict q l s emitted new → NoCheck emitted
+    resolves_by Absent l s new emitted h = admits l s new emitted h
+    resolves_by Send487 l s new emitted (values, is, made) = conflict_sent emitted is
+    resolves_by SwitchRole l s new emitted h = admits l (switched s) new emitted h
+
+    here : (place : Option ℕ) (s new : AgentRecord H P) (emitted : Emitted) → MatchOption place (Drops s emitted new) (λ l. ResolvesRoleConflict mac q l s emitted new) → NoCheck emitted
+    here None s new emitted h = dropped s new emitted h
+    here (Some l) s new emitted h = resolves_by (conflict_of s q) l s new emitted h
+
+    serves : (s new : AgentRecord H P) (emitted : Emitted) → Serves mac q s emitted new → NoCheck emitted
+    serves s new emitted h = either (names_another s q) h (λ _ k. dropped s new emitted k) (λ _ k. here (local_place s.local q) s new emitted k)
+
+  -- ---- the check that is sent
+
+  checked_pair : (now : ℕ) (remote : IceCreds) (p : PairRecord) (old sent : AgentRecord H P) (s t : Stream) (issued : Option code.Issued) (via : Path) (id : List ℕ)
+      → Has old.pairs p → 0 < sent.timing.max_retransmits → issued ≡ Some (issued_as via class.Request id)
+      → ChecksPair mac now remote p old s issued sent t → list_any (keeps_check_on sent (reversed via) id) sent.pairs ≡ true
+  checked_pair now remote p old sent s t issued via id has some out (own, drawn, values, is, made) =
+      let same = emitted_as via (path_of old p) id own (sym out ∙ is) in
+      let after : PairRecord = checked now old.timing old.controlling own p in
+      let some_old : 0 < old.timing.max_retransmits = subst (λ (a : AgentRecord H P). 0 < a.timing.max_retransmits) made some in
+      let own_change : change_at p.number (checked now old.timing old.controlling own) p ≡ after =
+      ap (λ b. if b then after else p) (number_same p.number) in
+      let persists : Has (change_pair p.number (checked now old.timing old.controlling own) old.pairs) after =
+      subst (λ (x : PairRecord). Has (change_pair p.number (checked now old.timing old.controlling own) old.pairs) x) own_change
+      (Has-mapped (change_at p.number (checked now old.timing old.controlling own)) old.pairs p has) in
+      let passes : keeps_check_on old (reversed (path_of old p)) own after ≡ true =
+      rw (keeps_now now old.timing.max_retransmits p own old.controlling some_old, back_again (path_of old p)) refl in
+      let there : list_any (keeps_check_on (check_sent mac now remote p own old) (reversed (path_of old p)) own) (check_sent mac now remote p own old).pairs ≡ true =
+      any_has (keeps_check_on old (reversed (path_of old p)) own) (change_pair p.number (checked now old.timing old.controlling own) old.pairs) after persists passes in
+      subst (λ (a : AgentRecord H P). list_any (keeps_check_on a (reversed via) id) a.pairs ≡ true) (sym made)
+      (subst (λ w. list_any (keeps_check_on (check_sent mac now remote p own old) (reversed w) id) (check_sent mac now remote p own old).pairs ≡ true) (sym same.0)
+      (subst (λ i. list_any (keeps_check_on (check_sent mac now remote p own old) (reversed (path_of old p)) i) (check_sent mac now remote p own old).pairs ≡ true) (sym same.1) there))
+
+  none_out : {A : Type 0} (issued : Option code.Issued) (via : Path) (id : List ℕ) → issued ≡ None → issued ≡ Some (issued_as via class.Request id) → A
+  none_out issued via id none out = absurd (let no : None ≡ Some (issued_as via class.Request id) = sym none ∙ out in cc)
+
+  may_check : (now : ℕ) (remote : Option IceCreds) (old sent : AgentRecord H P) (s t : Stream) (issued : Option code.Issued) (via : Path) (id : List ℕ)
+      → 0 < sent.timing.max_retransmits → issued ≡ Some (issued_as via class.Request id)
+      → MayCheck mac now remote old s issued sent t → list_any (keeps_check_on sent (reversed via) id) sent.pairs ≡ true
+  may_check now None old sent s t issued via id some out h = none_out issued via id h.0 out
+  may_check now (Some remote) old sent s t issued via id some out h = either old.lite h
+      (λ _ k. none_out issued via id k.0 out)
+      (λ _ k. next k.0 k.1 k.2) where
+        next : (top : Option PairRecord) → IsNextDue now old.timing (all_asked now old).pairs top → ChecksTop mac now remote top (all_asked now old) s issued sent t
+            → list_any (keeps_check_on sent (reversed via) id) sent.pairs ≡ true
+        next None due h = none_out issued via id h.0 out
+        next (Some p) due h = checked_pair now remote p (all_asked now old) sent s t issued via id due.0.0 some out h
+
+  pub checks-are-kept : ChecksAreKept mac answers
+  checks-are-kept a sent s t now check id e sound step sends =
+      let some : 0 < sent.timing.max_retransmits = (path_theorem mac answers a sent s t (HandleTimeout now) e sound tt step).1.checks in
+      by some step.0 step.1 (ap (λ (x : Entry). x.emitted) step.2) step.3 where
+        Kept : Type 0
+        Kept = list_any (keeps_check_on sent (reversed (via_out check)) id) sent.pairs ≡ true
+
+        timeout : (some : 0 < sent.timing.max_retransmits) (emitted : Emitted) → e.emitted ≡ emitted → (o : Option RequestRecord)
+            → MatchOption o (MaintainsPairs mac now (timeout_begun now a) s emitted sent t) (λ q. ServesQueued mac q (timeout_begun now a) s emitted sent t) → Kept
+        timeout some emitted is None (first, second, issued, named, kept, nominating, giving, checking, emitted_is) =
+            may_check now kept.remote_creds kept sent s t issued (via_out check) id some
+            (sym (ap (λ (x : Emitted). x.issued) emitted_is) ∙ sym (ap (λ (x : Emitted). x.issued) is) ∙ sends.emitted) checking
+        timeout some emitted is (Some q) (serving, drawn) =
+            absurd (serves q (first_taken (timeout_begun now a)) sent emitted serving (via_out check) id (sym (ap (λ (x : Emitted). x.issued) is) ∙ sends.emitted))
+
+        by : (some : 0 < sent.timing.max_retransmits) (r : Result (Unit {0}) IceError) (emitted : Emitted) → e.emitted ≡ emitted → TimesOut mac now a s r emitted sent t → Kept
+        by some (Ok done) emitted is h = timeout some emitted is (request_at now a) h
+        by some (Err error) emitted is h =
+            none_out e.emitted.issued (via_out check) id (ap (λ (x : Emitted). x.issued) (is ∙ h.1)) sends.emitted
+
+  -- its contents
+  pub record Checks (now : ℕ) (via : Path) (id : List ℕ) (sent : AgentRecord H P) : Type 0 where
+    pub old : AgentRecord H P
+    pub remote : IceCreds
+    pub pair : PairRecord
+    pub has : Has old.pairs pair
+    pub known : old.remote_creds ≡ Some remote
+    pub path : path_of old pair ≡ via
+    pub put : IsPut (written (mac old.provider) (Some remote.pass) (check_message old remote pair id)) (check_message old remote pair id)
+    pub made : sent ≡ check_sent mac now remote pair id old
+
+  pub checks-as : (a sent : AgentRecord H P) (s t : Stream) (now : ℕ) (via : Path) (id : List ℕ) (e : Entry) → e.emitted.issued ≡ Some (issued_as via class.Request id)
+      → Step mac answers a s (HandleTimeout now) e sent t → Checks now via id sent
+  checks-as a sent s t now via id e out step = by step.0 step.1 (ap (λ (x : Entry). x.emitted) step.2) step.3 where
+    pair_checked : (remote : IceCreds) (p : PairRecord) (old : AgentRecord H P) (issued : Option code.Issued) → Has old.pairs p → old.remote_creds ≡ Some remote
+        → issued ≡ Some (issued_as via class.Request id) → ChecksPair mac now remote p old s issued sent t → Checks now via id sent
+    pair_checked remote p old issued has known emitted (own, drawn, put, is, made) =
+        let same = emitted_as via (path_of old p) id own (sym emitted ∙ is) in
+        record {
+          old = old;
+          remote = remote;
+          pair = p;
+          has = has;
+          known = known;
+          path = sym same.0;
+          put = subst (λ i. IsPut (written (mac old.provider) (Some remote.pass) (check_message old remote p i)) (check_message old remote p i)) (sym same.1) put;
+          made = made ∙ ap (λ i. check_sent mac now remote p i old) (sym same.1);
+        }
+
+    checked : (remote : Option IceCreds) (old : AgentRecord H P) (issued : Option code.Issued) → old.remote_creds ≡ remote → issued ≡ Some (issued_as via class.Request id)
+        → MayCheck mac now remote old s issued sent t → Checks now via id sent
+    checked None old issued known emitted h = none_out issued via id h.0 emitted
+    checked (Some remote) old issued known emitted h = either old.lite h
+        (λ _ k. none_out issued via id k.0 emitted)
+        (λ _ k. next k.0 k.1 k.2) where
+          next : (top : Option PairRecord) → IsNextDue now old.timing (all_asked now old).pairs top → ChecksTop mac now remote top (all_asked now old) s issued sent t → Checks now via id sent
+          next None due k = none_out issued via id k.0 emitted
+          next (Some p) due k = pair_checked remote p (all_asked now old) issued due.0.0 known emitted k
+
+    timeout : (emitted : Emitted) → e.emitted ≡ emitted → (o : Option RequestRecord)
+        → MatchOption o (MaintainsPairs mac now (timeout_begun now a) s emitted sent t) (λ q. ServesQueued mac q (timeout_begun now a) s emitted sent t) → Checks now via id sent
+    timeout emitted is None (first, second, issued, named, kept, nominating, giving, checking, emitted_is) =
+        checked kept.remote_creds kept issued refl (sym (ap (λ (x : Emitted). x.issued) emitted_is) ∙ sym (ap (λ (x : Emitted). x.issued) is) ∙ out) checking
+    timeout emitted is (Some q) (serving, drawn) =
+        absurd (serves q (first_taken (timeout_begun now a)) sent emitted serving via id (sym (ap (λ (x : Emitted). x.issued) is) ∙ out))
+
+    by : (r : Result (Unit {0}) IceError) (emitted : Emitted) → e.emitted ≡ emitted → TimesOut mac now a s r emitted sent t → Checks now via id sent
+    by (Ok done) emitted is h = timeout emitted is (request_at now a) h
+    by (Err error) emitted is h = none_out e.emitted.issued via id (ap (λ (x : Emitted). x.issued) (is ∙ h.1)) out

@@ -1,0 +1,360 @@
+-- Each step leaves each pair its pending transactions, except for steps that remove pairs. A check that is sent is appended
+-- to them.
+use Rattle.std.proofs.Common.{◌≡◌, ℕ, zero, suc, ◌-◌, ◌&&◌, ◌||◌, Bool, true, false, not, List, [], ◌∷◌, ◌++◌, length, map, drop, Option, Some, None, inl, inr, ◌⊎◌, refl, ap, sym, ◌∙◌, subst, if◌then◌else◌}
+use Rattle.std.proofs.lemmas.Bool.{eqb-true}
+use Rattle.std.proofs.lemmas.List.{map-append, drop-map, length-map}
+use Rattle.std.specs.Prelude.{MatchOption, slice_get, slice_set}
+use Rattle.std.specs.List.{list_any}
+use Rattle.rand_core.specs.Stream.{Stream}
+use Rattle.is_proto.specs.Lists.{Has, same}
+use Rattle.is_candidate.specs.Candidates.{candidate_at}
+use Rattle.is_pair.specs.Checks.{Check, answered_at, last_checks}
+use Rattle.is_pair.specs.Pairs.{PairRecord, TakesAnswer, is_nominated, with_request, validated, nominated, check_of, checked, heard, heard_at}
+use Rattle.is_pair.specs.Due as due
+use Rattle.is_pair.specs.Multiset.{is_numbered, change_at, is_valid_at}
+use Rattle.is_stun.specs.declared.header.Class.{Class}
+use Rattle.is_stun.specs.declared.header.Class.TheVariants as class
+use Rattle.is_stun.specs.declared.timing.StunTiming.{StunTiming}
+use Rattle.is_stun.specs.Message.{Message}
+use Rattle.is_rules.specs.declared.credentials.IceCreds.{IceCreds}
+use Rattle.is_rules.specs.declared.places.RemotePlace.{RemotePlace}
+use Rattle.is_rules.specs.declared.places.RemotePlace.TheVariants.{Known, Barred, Unknown, Vacant, Full}
+use Rattle.is_rules.specs.declared.roles.Conflict.{Conflict}
+use Rattle.is_rules.specs.declared.roles.Conflict.TheVariants.{Absent, Send487, SwitchRole}
+use Rattle.is_rules.specs.declared.emitted.Issued.{Issued}
+use Rattle.is_rules.specs.declared.emitted.Path.{Path}
+use Rattle.is_rules.specs.declared.emitted.Emitted.{Emitted}
+use Rattle.is_rules.specs.Request.{RequestRecord, request_in}
+use Rattle.is_rules.specs.Agent.{AgentRecord}
+use Rattle.is_rules.specs.Places.{local_place}
+use Rattle.is_rules.specs.Forming.{formed, with_pair}
+use Rattle.is_rules.specs.Nominating.{nominated_by_self, Nominates, followed, remains, selection_of}
+use Rattle.is_rules.specs.Roles.{conflict_of, switched, switched_sides, with_priority_in}
+use Rattle.is_rules.specs.Serving.{served, is_misled, names_another, pair_served, request_counted, with_sender, with_sender_at, validated_by_peer, Drops, Queues, RecordsAndResponds, FindsOrAddsPair, AddsUnknownSender, CountsAndServes, ResolvesRoleConflictBy, ResolvesRoleConflict, Serves}
+use Rattle.is_rules.specs.Answers.{is_role_conflict, TakesSuccess, LeavesRole, TakesFailure}
+use Rattle.is_rules.specs.Accepting.{Takes}
+use Rattle.is_rules.specs.Checking.{all_asked, check_sent, ChecksTop, MayCheck}
+use Rattle.is_rules.specs.Emitted.{issued_as}
+use Rattle.is_rules.specs.Timeouts.{at_timeout, is_expired, expired_gone, RemovesExpired, MaintainsPairs}
+use Rattle.is_rules.specs.States.{evaluated}
+use Rattle.is_theorems.proofs.RuleEffects.UnchangedSettings.{either}
+use Rattle.is_theorems.proofs.RuleEffects.NominatedPairs.{SelectsPath, selects_path}
+use Rattle.is_theorems.proofs.CallEffects.ServedRequests.{Has-mapped}
+use Rattle.is_theorems.proofs.RuleEffects.SelectedPaths.{some_is}
+use Rattle.is_theorems.proofs.DuePairs.AfterNominationAndRemoval.{Base, Has-kept, nominates-thins, gives-up-thins}
+use Rattle.is_theorems.proofs.StoredPairs.StoredChecks.{number_same}
+use Rattle.is_theorems.specs.Pending.{as_sent, sent_of}
+use Rattle.is_rules.specs.Sending.{path_of}
+
+-- ---- lists
+
+-- the same pair, with the same checks, answered or not
+abbrev pub Same : PairRecord → PairRecord → Type 0
+Same o q = (q.number ≡ o.number) × (sent_of q ≡ sent_of o)
+
+same-on : (o p q : PairRecord) → Same o p → Same p q → Same o q
+same-on o p q a b = (b.0 ∙ a.0, b.1 ∙ a.1)
+
+-- the pair is there
+abbrev pub Persists : PairRecord → List PairRecord → Type 0
+Persists o ps = (q : PairRecord) × Has ps q × Same o q
+
+-- each of them does
+abbrev pub Keeps : List PairRecord → List PairRecord → Type 0
+Keeps xs ys = (p : PairRecord) → Has xs p → Persists p ys
+
+pub keeps-self : (xs : List PairRecord) → Keeps xs xs
+keeps-self xs p has = (p, has, (refl, refl))
+
+keeps-on : (xs ys zs : List PairRecord) → Keeps xs ys → Keeps ys zs → Keeps xs zs
+keeps-on xs ys zs a b p has = let k = a p has in let l = b k.0 k.1 in (l.0, l.1, same-on p k.0 l.0 k.2 l.2)
+
+pub keeps-map : (f : PairRecord → PairRecord) (xs : List PairRecord) → ((p : PairRecord) → Same p (f p)) → Keeps xs (map f xs)
+keeps-map f xs kept p has = (f p, Has-mapped f xs p has, kept p)
+
+Has-front : (xs ys : List PairRecord) (x : PairRecord) → Has xs x → Has (xs ++ ys) x
+Has-front [] ys x has = absurd has
+Has-front (y ∷ xs) ys x (inl e) = inl e
+Has-front (y ∷ xs) ys x (inr has) = inr (Has-front xs ys x has)
+
+keeps-push : (xs ys : List PairRecord) → Keeps xs (xs ++ ys)
+keeps-push xs ys p has = (p, Has-front xs ys p has, (refl, refl))
+
+keeps-set : (xs : List PairRecord) (i : ℕ) (p after : PairRecord) → slice_get xs i ≡ Some p → Same p after → Keeps xs (slice_set xs i after)
+keeps-set [] i p after at same q has = absurd has
+keeps-set (x ∷ xs) zero p after at same q (inl e) = (after, inl refl, subst (λ (y : PairRecord). Same y after) (sym (some_is x p at) ∙ e) same)
+keeps-set (x ∷ xs) zero p after at same q (inr has) = (q, inr has, (refl, refl))
+keeps-set (x ∷ xs) (suc i) p after at same q (inl e) = (q, inl e, (refl, refl))
+keeps-set (x ∷ xs) (suc i) p after at same q (inr has) = let k = keeps-set xs i p after at same q has in (k.0, inr k.1, k.2)
+
+-- a response leaves what was sent
+sent-set : (now : ℕ) (xs : List Check) (i : ℕ) (c : Check) → slice_get xs i ≡ Some c → map as_sent (slice_set xs i (answered_at now c)) ≡ map as_sent xs
+sent-set now [] i c at = cc
+sent-set now (x ∷ xs) zero c at = ap (λ (y : Check). as_sent y ∷ map as_sent xs) (sym (some_is x c at))
+sent-set now (x ∷ xs) (suc i) c at = ap (λ ys. as_sent x ∷ ys) (sent-set now xs i c at)
+
+answer-same : (p q : PairRecord) (now : ℕ) (id : List ℕ) → TakesAnswer p now id q → Same p q
+answer-same p q now id (place, c, (at, own), is) = subst (λ (x : PairRecord). Same p x) (sym is) (refl, sent-set now p.checks place c at)
+
+-- ---- pairs
+
+if-same : (b : Bool) (x y : PairRecord) → Same y x → Same y (if b then x else y)
+if-same true x y kept = kept
+if-same false x y kept = (refl, refl)
+
+nominated-same : (lite : Bool) (p : PairRecord) → Same p (nominated lite p)
+nominated-same true p = (refl, refl)
+nominated-same false p = (refl, refl)
+
+served-same : (c l : Bool) (q : RequestRecord) (p : PairRecord) → Same p (served c l q p)
+served-same c l q p =
+    let w : PairRecord = with_request q.time p in
+    let v : PairRecord = validated_by_peer c l w in
+    let first : Same p w = (refl, refl) in
+    let second : Same w v = if-same (l && not c) (validated w) w (refl, refl) in
+    let third : Same v (served c l q p) = if-same (not c && q.use_candidate && not (is_nominated v)) (nominated l v) v (nominated-same l v) in
+    same-on p w (served c l q p) first (same-on w v (served c l q p) second third)
+
+heard-same : (now : ℕ) (at : Option ℕ) (p : PairRecord) → Same p (heard_at now at p)
+heard-same now None p = (refl, refl)
+heard-same now (Some at) p = (refl, refl)
+
+self-same : (c l : Bool) (n : ℕ) (p : PairRecord) → Same p (change_at n (nominated_by_self c l) p)
+self-same c l n p =
+    if-same (is_numbered n p) (nominated_by_self c l p) p
+    (if-same (not (is_nominated p) && (c || l)) (nominated l p) p (nominated-same l p))
+
+self-due : (c l : Bool) (n : ℕ) (p : PairRecord) (lite : Bool) (now : ℕ) (t : StunTiming)
+    → due.is_pair_expired lite now t (change_at n (nominated_by_self c l) p) ≡ due.is_pair_expired lite now t p
+self-due c l n p lite now t = apart (is_numbered n p) (not (is_nominated p) && (c || l)) l where
+  apart : (a b l : Bool) → due.is_pair_expired lite now t (if a then (if b then nominated l p else p) else p) ≡ due.is_pair_expired lite now t p
+  apart true true true = refl
+  apart true true false = refl
+  apart true false l = refl
+  apart false b l = refl
+
+-- the last checks, as they were sent
+pub sent-last : (kept : ℕ) (p : PairRecord) (c : Check) → as_sent c ≡ c → map as_sent (last_checks kept (p.checks ++ c ∷ [])) ≡ last_checks kept (sent_of p ++ c ∷ [])
+sent-last kept p c own =
+    let xs = p.checks ++ c ∷ [] in
+    let all : map as_sent xs ≡ sent_of p ++ c ∷ [] = map-append as_sent p.checks (c ∷ []) ∙ ap (λ (y : Check). sent_of p ++ y ∷ []) own in
+    sym (drop-map as_sent (length xs - kept) xs)
+    ∙ (ap (λ n. drop (n - kept) (map as_sent xs)) (sym (length-map xs as_sent)) ∙ ap (λ ys. last_checks kept ys) all)
+
+module _ {H P : Type 0} where
+  abbrev pub Keep : AgentRecord H P → AgentRecord H P → Type 0
+  Keep old new = Keeps old.pairs new.pairs
+
+  pub keep-same : (old new : AgentRecord H P) → new ≡ old → Keep old new
+  keep-same old new made = subst (λ (a : AgentRecord H P). Keeps old.pairs a.pairs) (sym made) (keeps-self old.pairs)
+
+  -- as this abstract state stores them
+  pub keep-as : (old needed new : AgentRecord H P) → Keep old needed → new ≡ needed → Keep old new
+  keep-as old needed new h made = subst (λ (a : AgentRecord H P). Keeps old.pairs a.pairs) (sym made) h
+
+  -- ---- nomination, and removed pairs
+
+  -- the pair is there, and `is_expired` has the same value for it
+  abbrev Left : ℕ → AgentRecord H P → PairRecord → AgentRecord H P → Type 0
+  Left now old p new =
+      (q : PairRecord) × Has new.pairs q × Same p q × (due.is_pair_expired old.lite now old.timing q ≡ due.is_pair_expired old.lite now old.timing p)
+
+  nominates-leaves : (now : ℕ) (old new : AgentRecord H P) (path : Option Path) → Nominates old path new → (p : PairRecord) → Has old.pairs p → Left now old p new
+  nominates-leaves now old new path h p has = from (selects_path old new path h) where
+    as-it-was : new ≡ old → Left now old p new
+    as-it-was made = subst (λ (a : AgentRecord H P). Left now old p a) (sym made) (p, has, (refl, refl), refl)
+
+    from : SelectsPath old path new → Left now old p new
+    from (None, greatest, (is, made)) = as-it-was made
+    from (Some top, greatest, k) = either (remains (followed old) top (selection_of old)) k
+        (λ _ l. as-it-was l.1)
+        (λ _ l. subst (λ (a : AgentRecord H P). Left now old p a) (sym l.1) (
+          change_at top.number (nominated_by_self old.controlling old.lite) p,
+          Has-mapped (change_at top.number (nominated_by_self old.controlling old.lite)) old.pairs p has,
+          self-same old.controlling old.lite top.number p,
+          self-due old.controlling old.lite top.number p old.lite now old.timing,
+        ))
+
+  keep-nominates : (old new : AgentRecord H P) (path : Option Path) → Nominates old path new → Keep old new
+  keep-nominates old new path h p has = let k = nominates-leaves 0 old new path h p has in (k.0, k.1, k.2)
+
+  gives-up-leaves : (now : ℕ) (old new : AgentRecord H P) (path : Option Path) → RemovesExpired now old path new → (p : PairRecord) → Has old.pairs p
+      → Persists p new.pairs ⊎ (is_expired now old p ≡ true)
+  gives-up-leaves now old new path h p has = either (list_any (is_expired now old) old.pairs) h
+      (λ _ k. by (is_expired now old p) refl k)
+      (λ _ k. inl (keep-same old new k.1 p has)) where
+        by : (b : Bool) → is_expired now old p ≡ b → (mid : AgentRecord H P) × Nominates (expired_gone now old) path mid × (new ≡ evaluated now mid)
+            → Persists p new.pairs ⊎ (is_expired now old p ≡ true)
+        by true is k = inr is
+        by false is (mid, nominates, made) =
+            let k = keep-nominates (expired_gone now old) mid path nominates p (Has-kept (λ q. not (is_expired now old q)) old.pairs p has (ap not is)) in
+            inl (subst (λ (a : AgentRecord H P). Persists p a.pairs) (sym made) k)
+
+  module _ (mac : H → List ℕ → List ℕ → List ℕ) where
+    -- ---- `handle_timeout` calls
+
+    -- the pair with the number stores one more check, which is sent on the path of that pair
+    abbrev pub Sends : ℕ → PairRecord → Option Issued → AgentRecord H P → Type 0
+    Sends kept p issued new =
+        (q : PairRecord) × Has new.pairs q × (q.number ≡ p.number)
+        × ((c : Check) × (sent_of q ≡ last_checks kept (sent_of p ++ c ∷ []))
+        × ((r : PairRecord) × Has new.pairs r × (r.number ≡ p.number) × (issued ≡ Some (issued_as (path_of new r) class.Request c.id))))
+
+    -- the same for the pair that it was before
+    sends-on : (m n : ℕ) (p q : PairRecord) (issued out : Option Issued) (new : AgentRecord H P) → Same p q → m ≡ n → out ≡ issued → Sends m q issued new → Sends n p out new
+    sends-on m n p q issued out new same limit emitted (x, has, number, (c, sent, (r, there, one, is))) = (
+      x,
+      has,
+      number ∙ same.0,
+      (
+        c,
+        sent ∙ (ap (λ cs. last_checks m (cs ++ c ∷ [])) same.1 ∙ ap (λ k. last_checks k (sent_of p ++ c ∷ [])) limit),
+        (r, there, one ∙ same.0, emitted ∙ is),
+      ),
+    )
+
+    checks : (now : ℕ) (remote : Option IceCreds) (old new : AgentRecord H P) (s t : Stream) (issued : Option Issued) → MayCheck mac now remote old s issued new t
+        → (p : PairRecord) → Has old.pairs p → Persists p new.pairs ⊎ Sends old.timing.max_retransmits p issued new
+    checks now None old new s t issued (is, made, drawn) p has = inl (keep-same old new made p has)
+    checks now (Some peer) old new s t issued h p has = either old.lite h
+        (λ _ k. inl (keep-as old _ new (keeps-map (heard now) old.pairs (λ q. heard-same now q.last_request q)) k.1 p has))
+        (λ _ k. next k.0 k.1 k.2) where
+          all : AgentRecord H P
+          all = all_asked now old
+
+          first : PairRecord
+          first = due.asked now old.timing p
+
+          there : Has all.pairs first
+          there = Has-mapped (due.asked now old.timing) old.pairs p has
+
+          next : (top : Option PairRecord) → due.IsNextDue now old.timing all.pairs top → ChecksTop mac now peer top all s issued new t
+              → Persists p new.pairs ⊎ Sends old.timing.max_retransmits p issued new
+          next None due_is (is, made, drawn) = inl (subst (λ (a : AgentRecord H P). Persists p a.pairs) (sym made) (first, there, (refl, refl)))
+          next (Some top) due_is (id, drawn, put, is, made) = subst (λ (a : AgentRecord H P). Persists p a.pairs ⊎ Sends old.timing.max_retransmits p issued a) (sym made)
+              (by (is_numbered top.number first) refl) where
+                change : PairRecord → PairRecord
+                change = checked now old.timing old.controlling id
+
+                sent : AgentRecord H P
+                sent = check_sent mac now peer top id all
+
+                by : (b : Bool) → is_numbered top.number first ≡ b → Persists p sent.pairs ⊎ Sends old.timing.max_retransmits p issued sent
+                by false apart = inl (
+                  first,
+                  subst (λ (x : PairRecord). Has sent.pairs x) (ap (λ b. if b then change first else first) apart) (Has-mapped (change_at top.number change) all.pairs first there),
+                  (refl, refl),
+                )
+                by true here = inr (
+                  change first,
+                  subst (λ (x : PairRecord). Has sent.pairs x) (ap (λ b. if b then change first else first) here) (Has-mapped (change_at top.number change) all.pairs first there),
+                  refl,
+                  (
+                    check_of now old.controlling id first,
+                    sent-last old.timing.max_retransmits first (check_of now old.controlling id first) refl,
+                    (
+                      change top,
+                      subst (λ (x : PairRecord). Has sent.pairs x) (ap (λ b. if b then change top else top) (number_same top.number)) (Has-mapped (change_at top.number change) all.pairs top due_is.0.0),
+                      sym (eqb-true first.number top.number here),
+                      is,
+                    ),
+                  ),
+                )
+
+    pub maintains_pairs : (now : ℕ) (old new : AgentRecord H P) (s t : Stream) (emitted : Emitted) → MaintainsPairs mac now old s emitted new t → (p : PairRecord) → Has old.pairs p
+        → Persists p new.pairs ⊎ (Sends old.timing.max_retransmits p emitted.issued new ⊎ (is_expired now old p ≡ true))
+    maintains_pairs now old new s t emitted (first, second, issued, named, kept, nominating, giving, checking, is) p has =
+        let n = nominates-leaves now (at_timeout now old) named first nominating p has in
+        let base = (nominates-thins 0 (at_timeout now old) named first nominating).0 in
+        let further = (gives-up-thins 0 now named kept second giving).0 in
+        let timing : kept.timing ≡ old.timing = ap (λ (b : Base). b.timing) further ∙ ap (λ (b : Base). b.timing) base in
+        elim (gives-up-leaves now named kept second giving n.0 n.1) [
+          | inl k ↦
+              elim (checks now kept.remote_creds kept new s t issued checking k.0 k.1) [
+                | inl l ↦ inl (l.0, l.1, same-on p k.0 l.0 (same-on p n.0 k.0 n.2 k.2) l.2)
+                | inr l ↦ inr (inl (sends-on kept.timing.max_retransmits old.timing.max_retransmits p k.0 issued emitted.issued new (same-on p n.0 k.0 n.2 k.2) (ap (λ (x : StunTiming). x.max_retransmits) timing) (ap (λ (x : Emitted). x.issued) is) l))
+              ]
+          | inr gone ↦
+              inr (inr (sym n.3
+              ∙ (sym (ap (λ (b : Base). due.is_pair_expired b.lite now b.timing n.0) base) ∙ gone)))
+        ]
+
+    -- ---- requests
+
+    module _ (q : RequestRecord) where
+      pair : (l r number : ℕ) (s new : AgentRecord H P) (emitted : Emitted) → RecordsAndResponds mac q l r number s emitted new → Keep s new
+      pair l r number s new emitted (path, mid, nominates, (values, is, made)) =
+          keep-as s _ new
+          (keeps-on s.pairs (pair_served q number s).pairs mid.pairs
+          (keeps-map (change_at number (served s.controlling s.lite q)) s.pairs
+          (λ p. if-same (is_numbered number p) (served s.controlling s.lite q p) p (served-same s.controlling s.lite q p)))
+          (either (s.controlling && is_valid_at number s.pairs) nominates
+          (λ _ k. keep-nominates (pair_served q number s) mid path k)
+          (λ _ k. keep-same (pair_served q number s) mid k.1))) made
+
+      takes : (l r : ℕ) (number : Option ℕ) (s new : AgentRecord H P) (emitted : Emitted) → FindsOrAddsPair mac q l r number s emitted new → Keep s new
+      takes l r (Some number) s new emitted h = pair l r number s new emitted h
+      takes l r None s new emitted h = either (candidate_at s.local l).discarded h
+          (λ _ k. keep-same s new k.1)
+          (λ _ k. keeps-on s.pairs (s.pairs ++ formed s l r ∷ []) new.pairs (keeps-push s.pairs (formed s l r ∷ []))
+          (pair l r s.next_number (with_pair (formed s l r) s) new emitted k.1))
+
+      joins : (l : ℕ) (place : RemotePlace) (s new : AgentRecord H P) (emitted : Emitted) → AddsUnknownSender mac q l place s emitted new → Keep s new
+      joins l (Known r) s new emitted (number, between, h) = takes l r number s new emitted h
+      joins l Barred s new emitted h = keep-same s new h.1
+      joins l Unknown s new emitted (number, between, h) = takes l _ number (with_sender q s) new emitted h
+      joins l (Vacant r) s new emitted (number, between, h) = takes l r number (with_sender_at r q s) new emitted h
+      joins l Full s new emitted h = keep-same s new h.1
+
+      admitted : (l : ℕ) (s new : AgentRecord H P) (emitted : Emitted) → CountsAndServes mac q l s emitted new → Keep s new
+      admitted l s new emitted h = either (is_misled s.controlling q) h
+          (λ _ k. keep-same s new k.1)
+          (λ _ k. joins l k.0 (request_counted s) new emitted k.2)
+
+      keep-switched : (s : AgentRecord H P) → Keep s (switched s)
+      keep-switched s = keeps-map (with_priority_in (switched_sides s)) s.pairs (λ p. (refl, refl))
+
+      resolves : (conflict : Conflict) (l : ℕ) (s new : AgentRecord H P) (emitted : Emitted) → ResolvesRoleConflictBy mac conflict q l s emitted new → Keep s new
+      resolves Absent l s new emitted h = admitted l s new emitted h
+      resolves Send487 l s new emitted (values, is, made) = keep-as s _ new (keeps-self s.pairs) made
+      resolves SwitchRole l s new emitted h = keeps-on s.pairs (switched s).pairs new.pairs (keep-switched s) (admitted l (switched s) new emitted h)
+
+      here : (place : Option ℕ) (s new : AgentRecord H P) (emitted : Emitted) → MatchOption place (Drops s emitted new) (λ l. ResolvesRoleConflict mac q l s emitted new) → Keep s new
+      here None s new emitted h = keep-same s new h.1
+      here (Some l) s new emitted h = resolves (conflict_of s q) l s new emitted h
+
+      pub keep-serves : (s new : AgentRecord H P) (emitted : Emitted) → Serves mac q s emitted new → Keep s new
+      keep-serves s new emitted h = either (names_another s q) h
+          (λ _ k. keep-same s new k.1)
+          (λ _ k. here (local_place s.local q) s new emitted k)
+
+      requested : (remote : Option IceCreds) (s new : AgentRecord H P) (emitted : Emitted) → MatchOption remote (Queues q s emitted new) (λ _. Serves mac q s emitted new) → Keep s new
+      requested None s new emitted h = keep-as s _ new (keeps-self s.pairs) h.1
+      requested (Some peer) s new emitted h = keep-serves s new emitted h
+
+    -- ---- responses
+
+    success : (now : ℕ) (old new : AgentRecord H P) (via : Path) (m : Message) (emitted : Emitted) → TakesSuccess now old via m emitted new → Keep old new
+    success now old new via m emitted (recorded, (place, p, after, at, keeps, (k, c, is_at, is), made), (path, mid, nominates, emitted_is, done)) =
+        keep-as old (evaluated now mid) new
+        (keeps-on old.pairs recorded.pairs mid.pairs
+        (keep-as old _ recorded (keeps-set old.pairs place p after at (answer-same p after now m.id (k, c, is_at, is))) made)
+        (keep-nominates recorded mid path nominates)) done
+
+    failure : (old new : AgentRecord H P) (via : Path) (m : Message) (emitted : Emitted) → TakesFailure old via m emitted new → Keep old new
+    failure old new via m emitted h = either (is_role_conflict m) h
+        (λ _ k. expired k)
+        (λ _ k. keep-same old new k.1) where
+          expired : LeavesRole old via m emitted new → Keep old new
+          expired (p, c, has, keeps, kept, is, acts) = either (same c.controlling old.controlling) acts
+              (λ _ k. keep-as old (switched old) new (keeps-map (with_priority_in (switched_sides old)) old.pairs (λ p. (refl, refl))) k.1)
+              (λ _ k. keep-same old new k.1)
+
+    -- ---- packets
+
+    pub by-class : (c : Class) (now : ℕ) (old mid : AgentRecord H P) (via : Path) (m : Message) (emitted : Emitted) → Takes mac c now old via m emitted mid → Keep old mid
+    by-class class.Request now old mid via m emitted h = requested (request_in now via m) old.remote_creds old mid emitted h
+    by-class class.Success now old mid via m emitted h = success now old mid via m emitted h
+    by-class class.Failure now old mid via m emitted h = failure old mid via m emitted h
+    by-class class.Indication now old mid via m emitted h = absurd h
+    by-class class.Unknown now old mid via m emitted h = absurd h

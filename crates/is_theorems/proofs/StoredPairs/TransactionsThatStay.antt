@@ -1,0 +1,442 @@
+-- A check stays stored over each call, and over a per-agent execution, until its pair is removed or has sent as many
+-- later checks as are stored. So its exchange succeeds later, too.
+use Rattle.std.proofs.Common.{◌≡◌, ℕ, suc, ◌+◌, ◌-◌, ◌<◌, ◌≤◌, ◌==◌, ◌&&◌, Bool, true, false, not, List, [], ◌∷◌, ◌++◌, length, map, drop, Option, Some, None, Result, Ok, Err, inl, inr, ◌⊎◌, refl, ap, sym, ◌∙◌, subst, arith, append_assoc, if◌then◌else◌}
+use Rattle.std.specs.Prelude.{MatchOption, nat_lt}
+use Rattle.std.proofs.lemmas.Bool.{eqb-true, ltb-true, ltb-false}
+use Rattle.std.proofs.lemmas.List.{length-append, drop-append-le}
+use Rattle.rand_core.specs.Stream.{Stream}
+use Rattle.is_proto.specs.Lists.{Has}
+use Rattle.is_proto.specs.declared.error.IceError.{IceError}
+use Rattle.is_candidate.specs.Candidates.{CandidateRecord, candidate_at}
+use Rattle.is_candidate.specs.Priorities.{candidate_priority}
+use Rattle.is_pair.specs.Due.{asked}
+use Rattle.is_pair.specs.Checks.{Check, has_id, last_checks}
+use Rattle.is_pair.specs.Pairs.{PairRecord, undue, is_valid, check_of, checked}
+use Rattle.is_stun.specs.declared.header.Class.TheVariants as class
+use Rattle.is_rules.specs.Agent.{AgentRecord}
+use Rattle.is_rules.specs.Accepting.{discovered_emitted}
+use Rattle.is_rules.specs.Discarding.{is_local_at, is_remote_at, place_to_discard, local_discarded, remote_discarded, InvalidatesAt}
+use Rattle.is_rules.specs.declared.emitted.Path.{Path}
+use Rattle.is_rules.specs.declared.emitted.Emitted.{Emitted}
+use Rattle.is_rules.specs.Effects.{PathEffect}
+use Rattle.is_rules.specs.Local.{comes_again, is_too_high, is_unwanted, preferred, AddsLocal, EnrolsAt}
+use Rattle.is_rules.specs.Queue.{request_at, first_taken}
+use Rattle.is_rules.specs.Request.{RequestRecord}
+use Rattle.is_rules.specs.Sending.{path_of}
+use Rattle.is_rules.specs.Settings.{with_rtos}
+use Rattle.is_rules.specs.Sound.{IsSound}
+use Rattle.is_theorems.specs.Staying.{IsOfDiscarded, MayEnd}
+use Rattle.is_rules.specs.Emitted.{issued_as}
+use Rattle.is_theorems.specs.Pending.{as_sent, sent_of, is_check_on, checks_on, SendsLater, Follows, Pends, PendsAfter, EndsOf, KeepsAlong, IsValidBy, PairsKeepChecks, ChecksPend, ChecksPendAlong, ExchangesSucceedLater}
+use Rattle.std.specs.Prelude.{bytes_eq}
+use Rattle.std.specs.List.{list_any}
+use Rattle.is_proto.specs.Packets.{Packet}
+use Rattle.is_candidate.specs.Addresses.{protocol_number}
+use Rattle.is_pair.specs.Multiset.{change_at, keeps_check}
+use Rattle.is_rules.specs.Answers.{goes_back, keeps_check_on}
+use Rattle.is_theorems.specs.AskedCourses.{EndsAlong}
+use Rattle.is_rules.specs.Checking.{check_sent}
+use Rattle.is_rules.specs.declared.emitted.Issued.{Issued}
+use Rattle.is_theorems.specs.Carried.{CarriedAreServed, CarriedAreAccepted, CarriedSucceedLater}
+use Rattle.is_theorems.specs.Delivery as delivery
+use Rattle.is_theorems.specs.Delivery.{IsTaken}
+use Rattle.is_theorems.specs.Exchange.{Course}
+use Rattle.is_rules.specs.Issuing.{via_out}
+use Rattle.is_rules.specs.Points.{AnswersAreValid}
+use Rattle.is_theorems.proofs.BasicLemmas.EqualAddresses.{both}
+use Rattle.is_theorems.proofs.StoredPairs.StoredChecks.{Checks, checks-as, back_again, bytes_same, same_self, number_same, Has-rear}
+use Rattle.is_theorems.proofs.RuleEffects.ChangedPairs.{Has-map}
+use Rattle.is_theorems.proofs.BasicLemmas.UsernamesAndFirstMatches.{any_has}
+use Rattle.is_theorems.proofs.CallEffects.ServedRequests.{Has-mapped}
+use Rattle.is_theorems.proofs.StoredPairs.TransactionsOverPackets.{sound-course}
+use Rattle.is_rules.specs.Steps.{Call, SetMtu, SetControlTieBreaker, SetMaxCandidatePairs, SetMaxDiscovered, SetIceLite, SetRenomination, SetTimingAdvance, SetInitialStunRto, SetMaxStunRto, SetMaxStunRetransmits, SetLiteTimeout, SetLocalPreference, SetControlling, SetLocalCredentials, SetRemoteCredentials, SkipPairIds, AddLocalCandidate, AddRemoteCandidate, InvalidateCandidate, RestartIce, RecreateCandidatePairs, ReceivePacket, HandleTimeout, PollTransmit, PollTimeout, PollEvent, Done, Flag, Entry, Receives, Step}
+use Rattle.is_rules.specs.Timeouts.{timeout_begun, MaintainsPairs, ServesQueued}
+use Rattle.is_theorems.proofs.CallEffects.PathAndTradeEffects.{path_theorem}
+use Rattle.is_theorems.proofs.CallEffects.AddedCandidates.{by_waking}
+use Rattle.is_theorems.proofs.RuleEffects.UnchangedSettings.{either}
+use Rattle.is_theorems.proofs.CallEffects.FailedCallsAndNewAgents.{mtu_kept, local_kept, remote_kept, restart_kept, recreation_kept, enrolment_kept, storing_kept}
+use Rattle.is_theorems.proofs.StoredPairs.PairsAfterForming.{local-leaves, remote-leaves}
+use Rattle.is_rules.proofs.PairLists.RisingNumbers.{below-each, rising-each}
+use Rattle.is_theorems.proofs.StoredPairs.TransactionsAfterRules.{Persists, Keeps, Keep, Sends, keeps-self, keeps-map, keep-same, keep-as, by-class, keep-serves, maintains_pairs, sent-last}
+use Rattle.is_theorems.proofs.RuleEffects.SelectedPaths.{one_pair}
+use Rattle.is_theorems.proofs.DuePairs.AfterNominationAndRemoval.{Has-kept}
+
+keeps-if : (b : Bool) (xs ys : List PairRecord) → Keeps xs ys → Keeps xs (if b then xs else ys)
+keeps-if true xs ys k = keeps-self xs
+keeps-if false xs ys k = k
+
+not-found : {A : Type 0} (place : ℕ) → None ≡ Some place → A
+not-found place h = absurd (cc)
+
+is-rejected : {A : Type 0} (r : Result (Option ℕ) IceError) (error : IceError) → r ≡ Ok None → r ≡ Err error → A
+is-rejected (Ok x) error is wrong = absurd (cc)
+is-rejected (Err e) error is wrong = absurd (cc)
+
+-- a check that is sent on the path is counted
+pub is-on : (path : Path) (issued : Option Issued) (id : List ℕ) → issued ≡ Some (issued_as path class.Request id) → is_check_on path issued ≡ true
+is-on path issued id out = ap (λ o. is_check_on path o) out ∙ rw (number_same (protocol_number path.proto), same_self path.source, same_self path.destination) refl
+
+module _ {H P : Type 0} where
+  -- ---- a candidate is not added, or is
+
+  none-entered : (answers : P → CandidateRecord → ℕ → ℕ → Type 0) (old new : AgentRecord H P) (c : CandidateRecord) → AddsLocal answers old c (Ok None) new → new ≡ old
+  none-entered answers old new c h = either (is_too_high c) h
+      (λ _ k. is-rejected (Ok None) _ refl k.0)
+      (λ _ k. either (is_unwanted old c) k
+      (λ _ l. l.1)
+      (λ _ l. enrols (preferred l.0 c) _ l.2)) where
+        enrols : (c : CandidateRecord) (at : Option ℕ) → EnrolsAt old c at (Ok None) new → new ≡ old
+        enrols c None h = not-found _ h.0
+        enrols c (Some place) h = either (comes_again c (candidate_at old.local place)) h
+            (λ _ k. not-found _ k.0)
+            (λ _ k. either (nat_lt (candidate_priority c) (candidate_priority (candidate_at old.local place))) k
+            (λ _ l. l.1)
+            (λ _ l. not-found _ l.0))
+
+  -- ---- a candidate is discarded
+
+  module _ (old new : AgentRecord H P) (c : CandidateRecord) (p : PairRecord) (has : Has old.pairs p) where
+    of-local : (place : ℕ) → place_to_discard c old.local ≡ Some place → new ≡ local_discarded place old → Persists p new.pairs ⊎ IsOfDiscarded old c p
+    of-local place at made = by (is_local_at place p) refl where
+      by : (b : Bool) → is_local_at place p ≡ b → Persists p new.pairs ⊎ IsOfDiscarded old c p
+      by true is = inr (inl (at ∙ ap Some (sym (eqb-true p.local place is))))
+      by false is = inl (subst (λ (a : AgentRecord H P). Persists p a.pairs) (sym made) (p, Has-kept (λ q. not (is_local_at place q)) old.pairs p has (ap not is), (refl, refl)))
+
+    of-remote : (place : ℕ) → place_to_discard c old.local ≡ None → place_to_discard c old.remote ≡ Some place → new ≡ remote_discarded place old
+        → Persists p new.pairs ⊎ IsOfDiscarded old c p
+    of-remote place none at made = by (is_remote_at place p) refl where
+      by : (b : Bool) → is_remote_at place p ≡ b → Persists p new.pairs ⊎ IsOfDiscarded old c p
+      by true is = inr (inr (none, at ∙ ap Some (sym (eqb-true p.remote place is))))
+      by false is = inl (subst (λ (a : AgentRecord H P). Persists p a.pairs) (sym made) (p, Has-kept (λ q. not (is_remote_at place q)) old.pairs p has (ap not is), (refl, refl)))
+
+    discards : (l r : Option ℕ) (found : Bool) → place_to_discard c old.local ≡ l → place_to_discard c old.remote ≡ r → InvalidatesAt l r old found new
+        → Persists p new.pairs ⊎ ((found ≡ true) × IsOfDiscarded old c p)
+    discards (Some place) r found l_is r_is h = elim (of-local place l_is h.1) [ inl k ↦ inl k | inr gone ↦ inr (h.0, gone) ]
+    discards None (Some place) found l_is r_is h = elim (of-remote place l_is r_is h.1) [ inl k ↦ inl k | inr gone ↦ inr (h.0, gone) ]
+    discards None None found l_is r_is h = inl (keep-same old new h.1 p has)
+
+  module _ (mac : H → List ℕ → List ℕ → List ℕ) (answers : P → CandidateRecord → ℕ → ℕ → Type 0) where
+    module _ (old new : AgentRecord H P) (s t : Stream) (e : Entry) (p : PairRecord) (sound : IsSound old) (has : Has old.pairs p) where
+      -- ---- each call
+
+      kept : Keep old new → Persists p new.pairs
+      kept k = k p has
+
+      as-it-was : new ≡ old → Persists p new.pairs
+      as-it-was made = kept (keep-same old new made)
+
+      becomes : (needed : AgentRecord H P) → Keep old needed → new ≡ needed → Persists p new.pairs
+      becomes needed k made = kept (keep-as old needed new k made)
+
+      packet : (now : ℕ) (via : Path) (bytes : List ℕ) → Receives mac answers now old via bytes e new → Persists p new.pairs
+      packet now via bytes (inl (fault, has_fault, is, made)) = as-it-was made
+      packet now via bytes (inr (m, reads, (Ok true, emitted, is, (accepted, (mid, takes, made))))) = becomes (discovered_emitted via mid) (by-class mac m.class now old mid via m emitted takes) made
+      packet now via bytes (inr (m, reads, (Ok false, emitted, is, (no_one, nothing, made)))) = as-it-was made
+      packet now via bytes (inr (m, reads, (Err error, emitted, is, (may, nothing, made)))) = as-it-was made
+
+      -- it is there with its checks, stores one more, or may be removed
+      abbrev Lasts : Call P → Type 0
+      Lasts call = Persists p new.pairs ⊎ (Sends mac old.timing.max_retransmits p e.emitted.issued new ⊎ MayEnd answers old call e p)
+
+      timeout-by : (now : ℕ) (emitted : Emitted) (o : Option RequestRecord) → request_at now old ≡ o → e.answer ≡ Done → e.emitted ≡ emitted
+          → MatchOption o (MaintainsPairs mac now (timeout_begun now old) s emitted new t) (λ q. ServesQueued mac q (timeout_begun now old) s emitted new t) → Lasts (HandleTimeout now)
+      timeout-by now emitted None none is_done says h = elim (maintains_pairs mac now (timeout_begun now old) new s t emitted h p has) [
+        | inl persists ↦ inl persists
+        | inr more ↦
+            inr (elim more [
+              | inl sends ↦ inl (subst (λ (x : Emitted). Sends mac old.timing.max_retransmits p x.issued new) (sym says) sends)
+              | inr gone ↦ inr (is_done, none, gone)
+            ])
+      ]
+      timeout-by now emitted (Some q) is is_done says (h, drawn) = inl (kept (keep-serves mac q (first_taken (timeout_begun now old)) new emitted h))
+
+      lasts : (call : Call P) → Step mac answers old s call e new t → Lasts call
+      lasts (SetMtu target warn) (Ok _, is, h, drawn) = inl (becomes _ (keeps-self old.pairs) h.1)
+      lasts (SetMtu target warn) (Err error, is, h, drawn) = inl (as-it-was (mtu_kept old new target warn error h))
+      lasts (SetControlTieBreaker tie) (is, made, drawn) = inl (becomes _ (keeps-self old.pairs) made)
+      lasts (SetMaxCandidatePairs n) (is, made, drawn) = inl (becomes _ (keeps-self old.pairs) made)
+      lasts (SetMaxDiscovered n) (is, made, drawn) = inl (becomes _ (keeps-self old.pairs) made)
+      lasts (SetIceLite lite) (is, made, drawn) = inl (becomes _ (keeps-self old.pairs) made)
+      lasts (SetRenomination on) (is, made, drawn) = inl (becomes _ (keeps-self old.pairs) made)
+      lasts (SetTimingAdvance by) (is, made, drawn) = inl (becomes _ (keeps-self old.pairs) made)
+      lasts (SetInitialStunRto rto) (is, made, drawn) =
+          inl (becomes (with_rtos rto old.timing.max_rto.0 old)
+          (keeps-if (old.timing.initial_rto.0 == rto && old.timing.max_rto.0 == old.timing.max_rto.0) old.pairs (map undue old.pairs) (keeps-map undue old.pairs (λ q. (refl, refl)))) made)
+      lasts (SetMaxStunRto rto) (is, made, drawn) =
+          inl (becomes (with_rtos old.timing.initial_rto.0 rto old)
+          (keeps-if (old.timing.initial_rto.0 == old.timing.initial_rto.0 && old.timing.max_rto.0 == rto) old.pairs (map undue old.pairs) (keeps-map undue old.pairs (λ q. (refl, refl)))) made)
+      lasts (SetMaxStunRetransmits n) h = either (n == 0) h
+          (λ _ k. inl (as-it-was k.1))
+          (λ _ k. inl (becomes _ (keeps-self old.pairs) k.1))
+      lasts (SetLiteTimeout by) (is, made, drawn) = inl (becomes _ (keeps-self old.pairs) made)
+      lasts (SetLocalPreference object) (is, made, drawn) = inl (becomes _ (keeps-self old.pairs) made)
+      lasts (SetControlling controlling) (is, made, drawn) = inl (becomes _ (keeps-self old.pairs) made)
+      lasts (SetLocalCredentials creds) (Ok _, is, h, drawn) = inl (becomes _ (keeps-self old.pairs) h.1)
+      lasts (SetLocalCredentials creds) (Err error, is, h, drawn) = inl (as-it-was (local_kept old new creds error h))
+      lasts (SetRemoteCredentials creds) (Ok _, is, h, drawn) = inl (becomes _ (keeps-self old.pairs) h.1)
+      lasts (SetRemoteCredentials creds) (Err error, is, h, drawn) = inl (as-it-was (remote_kept old new creds error h))
+      lasts (SkipPairIds n) (is, made, drawn) = inl (becomes _ (keeps-self old.pairs) made)
+      lasts (AddLocalCandidate c) (Ok (Some place), is, h, drawn) = elim (local-leaves answers old new c place p sound has h) [
+        | inl there ↦ inl (p, there, (refl, refl))
+        | inr ends ↦ inr (inr (ap (λ (x : Entry). x.answer) is, ends))
+      ]
+      lasts (AddLocalCandidate c) (Ok None, is, h, drawn) = inl (as-it-was (none-entered answers old new c h))
+      lasts (AddLocalCandidate c) (Err error, is, h, drawn) = inl (as-it-was (enrolment_kept answers old new c error h))
+      lasts (AddRemoteCandidate c) (Ok _, is, h, drawn) = elim (remote-leaves old new c p sound has h) [
+        | inl there ↦ inl (p, there, (refl, refl))
+        | inr ends ↦ inr (inr (ap (λ (x : Entry). x.answer) is, ends))
+      ]
+      lasts (AddRemoteCandidate c) (Err error, is, h, drawn) = inl (as-it-was (storing_kept old new c error h))
+      lasts (InvalidateCandidate c) (found, is, h, drawn) =
+          elim (discards old new c p has (place_to_discard c old.local) (place_to_discard c old.remote) found refl refl h) [
+            | inl k ↦ inl k
+            | inr gone ↦ inr (inr (ap (λ (x : Entry). x.answer) is ∙ ap Flag gone.0, gone.1))
+          ]
+      lasts (RestartIce creds keep) (Ok _, is, h, drawn) = inr (inr (ap (λ (x : Entry). x.answer) is))
+      lasts (RestartIce creds keep) (Err error, is, h, drawn) = inl (as-it-was (restart_kept old new creds keep error h))
+      lasts RecreateCandidatePairs (Ok _, is, h, drawn) = inr (inr (ap (λ (x : Entry). x.answer) is))
+      lasts RecreateCandidatePairs (Err error, is, h, drawn) = inl (as-it-was (recreation_kept old new error h))
+      lasts (ReceivePacket now via bytes) (h, drawn) = inl (packet now via bytes h)
+      lasts (HandleTimeout now) (Ok _, emitted, is, h) = timeout-by now emitted (request_at now old) refl (ap (λ (x : Entry). x.answer) is) (ap (λ (x : Entry). x.emitted) is) h
+      lasts (HandleTimeout now) (Err error, emitted, is, (may, nothing, made, drawn)) = inl (as-it-was made)
+      lasts PollTransmit (given, is, (polled, made), drawn) = inl (becomes _ (keeps-self old.pairs) made)
+      lasts PollTimeout (deadline, is, h, drawn) =
+          inl (by_waking old new deadline h (λ made. as-it-was made)
+          (λ at made. becomes _ (keeps-map (asked at old.timing) old.pairs (λ q. (refl, refl))) made))
+      lasts PollEvent (given, is, (polled, made), drawn) = inl (becomes _ (keeps-self old.pairs) made)
+
+    -- ---- the step
+
+    -- the pair of the number is on its path
+    on-path : (old new : AgentRecord H P) (call : Call P) (e : Entry) (p q : PairRecord) → IsSound old → PathEffect mac old call e new → Has old.pairs p → Has new.pairs q
+        → q.number ≡ p.number → path_of new q ≡ path_of old p
+    on-path old new call e p q sound f has there number = elim (f.numbers q there) [
+      | inl (o, o_there, o_number, path, valid, nominated) ↦
+          (let one : o ≡ p = one_pair old.pairs o p (rising-each old.pairs sound.rising) o_there has (o_number ∙ number) in
+          subst (λ (x : PairRecord). path_of new q ≡ path_of old x) one (sym path))
+      | inr fresh ↦
+          (let lt : p.number < old.next_number = below-each old.next_number old.pairs sound.below p has in
+          let le : old.next_number ≤ q.number = fresh.0 in
+          absurd (let no : ⊥ = omega (arith, lt, le, number) in no))
+    ]
+
+    pub pairs-keep-checks : PairsKeepChecks {H = H} {P = P} mac answers
+    pairs-keep-checks old new s t call e p sound given step has = by (lasts old new s t e p sound has call step) where
+      effect : PathEffect mac old call e new
+      effect = (path_theorem mac answers old new s t call e sound given step).0
+
+      path-of : (q : PairRecord) → Has new.pairs q → q.number ≡ p.number → path_of new q ≡ path_of old p
+      path-of q there number = on-path old new call e p q sound effect has there number
+
+      sent : Sends mac old.timing.max_retransmits p e.emitted.issued new → Follows old e p new
+      sent (q, there, number, (c, checks, (r, r_there, r_number, is))) = record {
+        pair = q;
+        there = there;
+        number = number;
+        path = path-of q there number;
+        checks = inr (c, is ∙ ap (λ via. Some (issued_as via class.Request c.id)) (path-of r r_there r_number), search (checks));
+      }
+
+      by : Persists p new.pairs ⊎ (Sends mac old.timing.max_retransmits p e.emitted.issued new ⊎ MayEnd answers old call e p) → Follows old e p new ⊎ MayEnd answers old call e p
+      by (inl (q, there, (number, checks))) = inl (record { pair = q; there = there; number = number; path = path-of q there number; checks = inl checks })
+      by (inr (inl sends)) = inl (sent sends)
+      by (inr (inr ends)) = inr ends
+
+    -- after one more check the last ones still contain this one
+    kept-following : (kept later : ℕ) (before following : List Check) (check c : Check) → length following ≡ later → suc later < kept
+        → (front : List Check) × (last_checks kept ((before ++ check ∷ following) ++ c ∷ []) ≡ front ++ check ∷ (following ++ c ∷ []))
+    kept-following kept later before following check c count lt =
+        let rear = check ∷ (following ++ c ∷ []) in
+        let joined : (before ++ check ∷ following) ++ c ∷ [] ≡ before ++ rear = append_assoc before (check ∷ following) (c ∷ []) in
+        let long : length (before ++ rear) ≡ length before + length rear = length-append before rear in
+        let more : length (following ++ c ∷ []) ≡ length following + 1 = length-append following (c ∷ []) in
+        let within : length (before ++ rear) - kept ≤ length before = omega (arith, long, more, count, lt) in
+        (drop (length (before ++ rear) - kept) before, ap (λ ys. last_checks kept ys) joined ∙ drop-append-le (length (before ++ rear) - kept) before rear within)
+
+    pub checks-pend : ChecksPend {H = H} {P = P} mac answers
+    checks-pend old new s t call e number path check later sound given step k = elim (pairs-keep-checks old new s t call e k.pair sound given step k.there) [
+      | inl f ↦ by f f.checks
+      | inr ends ↦ inr (inr (k.pair, k.there, k.numbered, k.on, ends))
+    ] where
+      stays : (f : Follows old e k.pair new) (before following : List Check) (n : ℕ) → sent_of f.pair ≡ before ++ check ∷ following → length following ≡ n → Pends new number path check n
+      stays f before following n split count = record {
+        pair = f.pair;
+        there = f.there;
+        numbered = f.number ∙ k.numbered;
+        on = f.path ∙ k.on;
+        before = before;
+        following = following;
+        split = split;
+        count = count;
+      }
+
+      room : (b : Bool) → nat_lt (suc later) old.timing.max_retransmits ≡ b → (suc later < old.timing.max_retransmits) ⊎ (old.timing.max_retransmits ≤ suc later)
+      room true is = inl (ltb-true (suc later) old.timing.max_retransmits is)
+      room false is = inr (ltb-false (suc later) old.timing.max_retransmits is)
+
+      by : (f : Follows old e k.pair new) → (sent_of f.pair ≡ sent_of k.pair) ⊎ SendsLater old e k.pair f.pair
+          → Pends new number path check later ⊎ (PendsAfter old e number path check later new ⊎ EndsOf answers old call e number path)
+      by f (inl same) = inl (stays f k.before k.following later (same ∙ k.split) k.count)
+      by f (inr (c, out, sent)) = inr (inl (
+        c.id,
+        out ∙ ap (λ via. Some (issued_as via class.Request c.id)) k.on,
+        elim (room (nat_lt (suc later) old.timing.max_retransmits) refl) [
+          | inl lt ↦
+              (let m = kept-following old.timing.max_retransmits later k.before k.following check c k.count lt in
+              let count : length (k.following ++ c ∷ []) ≡ suc later = length-append k.following (c ∷ []) ∙ (let own = k.count in omega (arith, own)) in
+              inl (stays f m.0 (k.following ++ c ∷ []) (suc later) (sent ∙ (ap (λ cs. last_checks old.timing.max_retransmits (cs ++ c ∷ [])) k.split ∙ m.1)) count))
+          | inr ge ↦ inr (omega (arith, ge))
+        ],
+      ))
+
+    -- ---- a per-agent execution
+
+    fewer : (b : Bool) (n : ℕ) → n ≤ (if b then suc n else n)
+    fewer true n = omega arith
+    fewer false n = omega arith
+
+    pub checks-pend-along : ChecksPendAlong {H = H} {P = P} mac answers
+    checks-pend-along old new [] number path check later limit sound is keeps k lt =
+        inl (later, omega arith, subst (λ (a : AgentRecord H P). Pends a number path check later) (sym is) k)
+    checks-pend-along old new (x ∷ rest) number path check later limit sound (mid, s, t, based, step, more) (enough, keeps) k lt =
+        by (λ n l room. checks-pend-along mid new rest number path check n limit (path_theorem mac answers old mid s t x.0 x.1 sound based step).1 more keeps l room)
+        (checks-pend old mid s t x.0 x.1 number path check later sound based step k) where
+          Goal : Type 0
+          Goal = ((n : ℕ) × (n ≤ later + checks_on path (x ∷ rest)) × Pends new number path check n) ⊎ EndsAlong mac answers (x ∷ rest) old new (mid, s, t, based, step, more) path
+
+          -- the statement for the remaining calls
+          Onward : Type 0
+          Onward = (n : ℕ) → Pends mid number path check n → n + checks_on path rest < limit
+              → ((m : ℕ) × (m ≤ n + checks_on path rest) × Pends new number path check m) ⊎ EndsAlong mac answers rest mid new more path
+
+          less : checks_on path rest ≤ checks_on path (x ∷ rest)
+          less = fewer (is_check_on path x.1.emitted.issued) (checks_on path rest)
+
+          from : Onward → (n : ℕ) → n + checks_on path rest ≤ later + checks_on path (x ∷ rest) → Pends mid number path check n → Goal
+          from onward n within l = elim (onward n l (omega (arith, within, lt))) [
+            | inl (m, le, still) ↦ inl (m, omega (arith, le, within), still)
+            | inr ends ↦ inr (inr ends)
+          ]
+
+          by : Onward → Pends mid number path check later ⊎ (PendsAfter old x.1 number path check later mid ⊎ EndsOf answers old x.0 x.1 number path) → Goal
+          by onward (inl l) = from onward later (let f = less in omega (arith, f)) l
+          by onward (inr (inl (id, out, holds))) =
+              let one : checks_on path (x ∷ rest) ≡ suc (checks_on path rest) =
+              ap (λ b. if b then suc (checks_on path rest) else checks_on path rest) (is-on path x.1.emitted.issued id out) in
+              elim holds [
+                | inl l ↦ from onward (suc later) (omega (arith, one)) l
+                | inr full ↦ absurd (let none : ⊥ = omega (arith, one, full, enough, lt) in none)
+              ]
+          by onward (inr (inr (p, has, own, path_is, ends))) =
+              inr (inl (p, has, (ap (λ (w : Path). w.source) path_is, ap (λ (w : Path). w.destination) path_is), ends))
+
+    -- ---- exchanges
+
+    -- the check that is sent is pending
+    pends-now : (now : ℕ) (via : Path) (id : List ℕ) (sent : AgentRecord H P) → 0 < sent.timing.max_retransmits → (k : Checks mac answers now via id sent)
+        → Pends sent k.pair.number via (check_of now k.old.controlling id k.pair) 0
+    pends-now now via id sent some k = subst (λ (a : AgentRecord H P). Pends a k.pair.number via c 0) (sym k.made) (record {
+      pair = after;
+      there = subst (λ (x : PairRecord). Has needed.pairs x) (ap (λ b. if b then after else k.pair) (number_same k.pair.number))
+          (Has-mapped (change_at k.pair.number (checked now k.old.timing k.old.controlling id)) k.old.pairs k.pair k.has);
+      numbered = refl;
+      on = k.path;
+      before = drop (length (sent_of k.pair ++ c ∷ []) - kept) (sent_of k.pair);
+      following = [];
+      split = sent-last kept k.pair c refl ∙ drop-append-le (length (sent_of k.pair ++ c ∷ []) - kept) (sent_of k.pair) (c ∷ []) within;
+      count = refl;
+    }) where
+      needed : AgentRecord H P
+      needed = check_sent mac now k.remote k.pair id k.old
+
+      kept : ℕ
+      kept = k.old.timing.max_retransmits
+
+      c : Check
+      c = check_of now k.old.controlling id k.pair
+
+      after : PairRecord
+      after = checked now k.old.timing k.old.controlling id k.pair
+
+      positive : 0 < kept
+      positive = subst (λ (a : AgentRecord H P). 0 < a.timing.max_retransmits) k.made some
+
+      within : length (sent_of k.pair ++ c ∷ []) - kept ≤ length (sent_of k.pair)
+      within = let long : length (sent_of k.pair ++ c ∷ []) ≡ length (sent_of k.pair) + 1 = length-append (sent_of k.pair) (c ∷ []) in let more = positive in omega (arith, long, more)
+
+    -- and is stored while it is pending
+    pends-kept : (a : AgentRecord H P) (number : ℕ) (path via : Path) (check : Check) (later : ℕ) → goes_back via path ≡ true → Pends a number path check later
+        → list_any (keeps_check_on a via check.id) a.pairs ≡ true
+    pends-kept a number path via check later back k =
+        let has : Has (sent_of k.pair) check = subst (λ cs. Has cs check) (sym k.split) (Has-rear k.before (check ∷ k.following) check (inl refl)) in
+        let o = Has-map as_sent k.pair.checks check has in
+        let own : has_id check.id o.0 ≡ true = ap (λ (x : Check). bytes_eq x.id check.id) o.2 ∙ bytes_same check.id in
+        let kept : keeps_check check.id k.pair ≡ true = any_has (has_id check.id) k.pair.checks o.0 o.1 own in
+        any_has (keeps_check_on a via check.id) a.pairs k.pair k.there
+        (ap (λ b. b && goes_back via (path_of a k.pair)) kept ∙ (ap (λ w. goes_back via w) k.on ∙ back))
+
+    -- the check that was sent is still stored, or such a pair may have been removed
+    pub still-kept : (a sent mid : AgentRecord H P) (s t : Stream) (now limit : ℕ) (check answer : Packet) (id : List ℕ) (timeout : Entry) (xs : List (Call P × Entry)) → IsSound a
+        → Step mac answers a s (HandleTimeout now) timeout sent t → delivery.Sends a timeout class.Request id check sent → (course : Course mac answers xs sent mid)
+        → KeepsAlong mac answers limit xs sent mid course → checks_on (via_out check) xs < limit → goes_back (via_out answer) (via_out check) ≡ true
+        → (list_any (keeps_check_on mid (via_out answer) id) mid.pairs ≡ true) ⊎ EndsAlong mac answers xs sent mid course (via_out check)
+    still-kept a sent mid s t now limit check answer id timeout xs sound_a step sends course keeps few returns =
+        let sound_sent = (path_theorem mac answers a sent s t (HandleTimeout now) timeout sound_a tt step).1 in
+        let k = checks-as mac answers a sent s t now (via_out check) id timeout sends.emitted step in
+        let c : Check = check_of now k.old.controlling id k.pair in
+        elim (checks-pend-along sent mid xs k.pair.number (via_out check) c 0 limit sound_sent course keeps (pends-now now (via_out check) id sent sound_sent.checks k) (omega (arith, few))) [
+          | inl (n, le, still) ↦ inl (pends-kept mid k.pair.number (via_out check) (via_out answer) c n returns still)
+          | inr ends ↦ inr ends
+        ]
+
+    pub carried-succeed-later : CarriedAreServed {H = H} {P = P} mac answers → CarriedAreAccepted {H = H} {P = P} mac answers → CarriedSucceedLater {H = H} {P = P} mac answers
+    carried-succeed-later served_law accepted_law a sent b served s t now at check came id timeout handed sound_a sound_b step sends know apart unaltered reached delivered =
+        let sound_sent = (path_theorem mac answers a sent s t (HandleTimeout now) timeout sound_a tt step).1 in
+        let served_is = served_law a sent b served check came id at handed sound_a sound_b know apart reached
+        (record { call = HandleTimeout now; entry = timeout; before = s; following = t; step = step; sends = sends }) unaltered delivered in
+        let reply : Packet = served_is.1.0 in (
+          served_is.0,
+          (
+            reply,
+            served_is.1.1,
+            served_is.1.2,
+            λ mid taken answer xs back limit returned course keeps few known unaltered_back returns got.
+                elim (still-kept a sent mid s t now limit check answer id timeout xs sound_a step sends course keeps few (search returns)) [
+                  | inl still ↦
+                      (let is_taken = accepted_law mid taken b served reply answer id back returned sound_b known
+                      (record {
+                        call = ReceivePacket at (via_out came) came.contents;
+                        entry = handed;
+                        before = delivered.before;
+                        following = delivered.following;
+                        step = delivered.step;
+                        sends = served_is.1.2;
+                      })
+                      unaltered_back still got in
+                      let sound_mid = sound-course mac answers xs sent mid sound_sent course in
+                      let effect = (path_theorem mac answers mid taken got.before got.following (ReceivePacket back (via_out answer) answer.contents) returned sound_mid tt got.step).0 in
+                      inl (is_taken, valid-by taken answer back returned is_taken effect.taken))
+                  | inr ends ↦ inr ends
+                ],
+          ),
+        ) where
+          valid-by : (taken : AgentRecord H P) (answer : Packet) (back : ℕ) (returned : Entry) → IsTaken {H = H} {P = P} mac answers answer back returned class.Success
+              → AnswersAreValid (ReceivePacket back (via_out answer) answer.contents) returned taken → IsValidBy mac answers taken (via_out answer)
+          valid-by taken answer back returned (m, brings, class_is) valid = found (valid back (via_out answer) m brings class_is) where
+            found : (p : PairRecord) × Has taken.pairs p × (keeps_check_on taken (via_out answer) m.id p ≡ true) × (is_valid p ≡ true) → IsValidBy mac answers taken (via_out answer)
+            found (p, has, keeps, is) = (p, has, (both (keeps_check m.id p) (goes_back (via_out answer) (path_of taken p)) keeps).1, is)
+
+    -- the network of today is the one that rewrites nothing
+    pub exchanges-succeed-later : CarriedSucceedLater {H = H} {P = P} mac answers → ExchangesSucceedLater {H = H} {P = P} mac answers
+    exchanges-succeed-later law a sent b served s t now at check id timeout handed sound_a sound_b step sends know apart reached delivered =
+        let k = law a sent b served s t now at check check id timeout handed sound_a sound_b step sends know apart refl reached delivered in (
+          k.0,
+          (
+            k.1.0,
+            k.1.1,
+            k.1.2,
+            λ mid taken xs back limit returned course keeps few known got.
+                k.1.3 mid taken k.1.0 xs back limit returned course keeps few known refl
+                (subst (λ w. goes_back w (via_out check) ≡ true) (sym k.1.1) (back_again (via_out check))) got,
+          ),
+        )

@@ -1,0 +1,3 @@
+-- Worked examples of the rules.
+pub mod ExampleAgents
+pub mod ExampleTransitions

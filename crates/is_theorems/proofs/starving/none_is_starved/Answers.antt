@@ -1,0 +1,5 @@
+use Rattle.is_theorems.proofs.PollingRounds.LimitedPairsAndRequests.{none-starves}
+use Rattle.is_theorems.proofs.starving.none_is_starved.Goals as goal
+
+pub returns : goal.returns
+returns g c = none-starves _ _ c.pairs_are_reached.ensures

@@ -1,0 +1,88 @@
+-- The log of an execution, newest entry first, and its properties: which paths were answered, which the peer nominated, and which
+-- responses were sent. Nothing here names an abstract state.
+use Rattle.std.specs.Prelude.{◌≡◌, ℕ, ◌⊎◌, Bool, true, false, List, [], ◌∷◌, ◌++◌, Option, Some, None, if◌then◌else◌}
+use Rattle.std.specs.Option.{option_or}
+use Rattle.is_stun.specs.declared.header.Class.TheVariants as class
+use Rattle.is_stun.specs.declared.header.Method.TheVariants.{Binding}
+use Rattle.is_stun.specs.Integrity.{IsSignedBy}
+use Rattle.is_stun.specs.Message.{Message}
+use Rattle.is_rules.specs.declared.credentials.IceCreds.{IceCreds}
+use Rattle.is_rules.specs.declared.emitted.Path.{Path}
+use Rattle.is_rules.specs.Steps.{Entry}
+use Rattle.is_rules.specs.Emitted.{issued_as, reversed}
+use Rattle.is_rules.specs.Answers.{goes_back}
+use Rattle.is_rules.specs.Steps.{Call}
+use Rattle.is_rules.specs.Brought.{Brings}
+use Rattle.is_rules.specs.Owed.{Transaction, request_of, reply_of}
+use Rattle.is_rules.specs.Effects.{lite_set_by, remote_after, clears, last_of}
+
+-- a log entry: the call, its recorded result, and the number of the entry
+pub record Logged (P : Type 0) : Type 0 where
+  pub number : ℕ
+  pub call : Call P
+  pub entry : Entry
+
+-- ---- what the log says
+
+abbrev pub clears_at : {P : Type 0} → Logged P → Bool
+clears_at x = clears x.call x.entry.answer
+
+-- the remote credentials that the log set last
+abbrev pub remote_of : {P : Type 0} → List (Logged P) → Option IceCreds
+remote_of [] = None
+remote_of (x ∷ before) = remote_after x.call x.entry.answer (remote_of before)
+
+-- The agent is never set to lite.
+abbrev pub NeverLite : {P : Type 0} → List (Logged P) → Type 0
+NeverLite [] = Unit {0}
+NeverLite (x ∷ before) = (lite_set_by x.call false ≡ false) × NeverLite before
+
+-- A Binding request with this ID was sent on the path since the last clear.
+abbrev pub IsSent : {P : Type 0} → List (Logged P) → Path → List ℕ → Type 0
+IsSent [] path id = ⊥
+IsSent (x ∷ before) path id =
+    (x.entry.emitted.issued ≡ Some (issued_as path class.Request id)) ⊎ ((clears_at x ≡ false) × IsSent before path id)
+
+-- the path that was selected last since the last clear
+abbrev pub last_selected : {P : Type 0} → List (Logged P) → Option Path
+last_selected [] = None
+last_selected (x ∷ before) = option_or (last_of x.entry.emitted.selected_paths) (if clears_at x then None else last_selected before)
+
+-- The transactions of the accepted Binding requests of a log, and those of its responses.
+abbrev pub requests : {P : Type 0} → List (Logged P) → List Transaction
+requests [] = []
+requests (x ∷ before) = request_of x.call x.entry.answer ++ requests before
+
+abbrev pub replies : {P : Type 0} → List (Logged P) → List Transaction
+replies [] = []
+replies (x ∷ before) = reply_of x.entry.emitted.issued ++ replies before
+
+-- ---- answered paths, and paths that the peer nominated
+
+module _ {H P : Type 0} (mac : H → List ℕ → List ℕ → List ℕ) (provider : H) where
+  -- This entry accepted a Binding success response. It was signed with the remote password of that time, and has the ID of a
+  -- check that was sent on the path since the last clear. It was received on the reverse path.
+  abbrev pub AnswersAt : Logged P → List (Logged P) → Path → Type 0
+  AnswersAt x before path =
+      (at : ℕ) × (by : Path) × (m : Message) × (peer : IceCreds)
+      × Brings x.call x.entry at by m × (m.method ≡ Binding) × (m.class ≡ class.Success) × (remote_of before ≡ Some peer)
+      × IsSignedBy (mac provider) m peer.pass × IsSent before path m.id × (goes_back by path ≡ true)
+
+  -- Such an entry is in the log, and no later entry is a clear.
+  abbrev pub Answered : List (Logged P) → Path → Type 0
+  Answered [] path = ⊥
+  Answered (x ∷ before) path = AnswersAt x before path ⊎ ((clears_at x ≡ false) × Answered before path)
+
+  -- The path, which this entry selects, is answered at this entry or before it.
+  abbrev pub IsAnsweredBy : Logged P → List (Logged P) → Path → Type 0
+  IsAnsweredBy x before path = AnswersAt x before path ⊎ Answered before path
+
+-- This entry accepted a Binding request with USE-CANDIDATE. It was received on the reverse path.
+abbrev pub AsksAt : {P : Type 0} → Logged P → Path → Type 0
+AsksAt x path =
+    (at : ℕ) × (by : Path) × (m : Message) × Brings x.call x.entry at by m × (m.method ≡ Binding) × (m.class ≡ class.Request)
+    × (m.attributes.use_candidate ≡ true) × (reversed by ≡ path)
+
+abbrev pub NominatedByPeer : {P : Type 0} → List (Logged P) → Path → Type 0
+NominatedByPeer [] path = ⊥
+NominatedByPeer (x ∷ before) path = AsksAt x path ⊎ NominatedByPeer before path

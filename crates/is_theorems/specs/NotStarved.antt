@@ -1,0 +1,72 @@
+-- With limits on pairs and on what packets bring, a pair that is due is checked within a number of rounds that depends on nothing
+-- that the agent receives in them.
+use Rattle.std.specs.Prelude.{◌≡◌, ℕ, ◌+◌, ◌*◌, ◌≤◌, ◌⊎◌, Bool, true, false, List, length, count_by, Some}
+use Rattle.rand_core.specs.Stream.{Stream}
+use Rattle.is_proto.specs.Lists.{Has}
+use Rattle.is_candidate.specs.Candidates.{CandidateRecord}
+use Rattle.is_pair.specs.Pairs.{PairRecord}
+use Rattle.is_rules.specs.Agent.{AgentRecord}
+use Rattle.is_theorems.specs.Asked.{IsAnsweredIn}
+use Rattle.is_theorems.specs.Bounds.{FormsFew, IsLimited, gathered_count, pair_bound, signal_count}
+use Rattle.is_theorems.specs.Logs.{Logged}
+use Rattle.is_theorems.specs.Reached.{ChecksIn, IsInLine, IsPassing, is_in_round}
+use Rattle.is_theorems.specs.Rounds.{LoggedRound, Part, began_at, entries_of}
+use Rattle.is_theorems.specs.Runs.{IsFresh}
+use Rattle.is_rules.specs.Sending.{path_of}
+use Rattle.is_rules.specs.Steps.{Call, AddLocalCandidate, AddRemoteCandidate, HandleTimeout}
+
+-- ---- segments in which no candidate is added
+
+-- Packets, timeouts, polls, and settings that change neither pairs nor the timing of their checks.
+abbrev pub is_steady : {P : Type 0} → Call P → Bool
+is_steady (AddLocalCandidate c) = false
+is_steady (AddRemoteCandidate c) = false
+is_steady (HandleTimeout now) = true
+is_steady call = is_in_round call
+
+abbrev pub AreSteady : {P : Type 0} → List (Logged P) → Type 0
+AreSteady part = (x : Logged _) → Has part x → is_steady x.call ≡ true
+
+abbrev pub is_timeout : {P : Type 0} → Call P → Bool
+is_timeout (HandleTimeout now) = true
+is_timeout _ = false
+
+abbrev pub timeout_count : {P : Type 0} → List (Logged P) → ℕ
+timeout_count part = count_by (λ (x : Logged _). is_timeout x.call) part
+
+module _ {H P : Type 0} where
+  -- The rounds suffice for a pair that is due by the time `by` when they begin, whatever pairs requests add in them. For at most n
+  -- pairs and m retransmits, m at least 2, k rounds suffice if k is at least (3n - 1) * m / (m - 1).
+  pub record SufficeSteady (bound by : ℕ) (start : AgentRecord H P) (rounds : List (LoggedRound P)) (p : PairRecord) : Type 0 where
+    pub at : ℕ
+    pub began : began_at rounds ≡ Some at
+    pub line : IsInLine at by start p
+    pub passing : (r : LoggedRound P) → Has rounds r → IsPassing by r
+    pub steady : AreSteady (entries_of rounds)
+    pub enough : 3 * bound * start.timing.max_retransmits + length rounds ≤ (length rounds + 1) * start.timing.max_retransmits
+
+  module _ (mac : H → List ℕ → List ℕ → List ℕ) (answers : P → CandidateRecord → ℕ → ℕ → Type 0) where
+    -- A pair is removed after timeout only after m checks, and a `handle_timeout` call sends one check. So in a segment with k of
+    -- these calls, requests add at most k / m pairs, and one for each pair that exists afterwards.
+    abbrev pub RequestsAddFewIn : AgentRecord H P → Stream → List (Logged P) → Type 0
+    RequestsAddFewIn first s log =
+        (before part : List (Logged P)) (start last : AgentRecord H P) → Part mac answers first s log before start part last
+        → start.lite ≡ false → AreSteady part
+        → last.next_number * start.timing.max_retransmits
+        ≤ (start.next_number + length last.pairs) * start.timing.max_retransmits + timeout_count part
+
+    abbrev pub RequestsAddFew : Type 0
+    RequestsAddFew = (first : AgentRecord H P) (s : Stream) (log : List (Logged P)) → IsFresh first → RequestsAddFewIn first s log
+
+    -- Then a check is sent on the pair's path in one of the rounds, unless a success response is received on it in one of them. The
+    -- bound depends on the caller only.
+    abbrev pub SteadyRoundsReach : AgentRecord H P → Stream → List (Logged P) → Type 0
+    SteadyRoundsReach first s log =
+        (most limit : ℕ) → IsLimited mac answers most first s log → FormsFew mac answers limit first s log
+        → (before : List (Logged P)) (start last : AgentRecord H P) (rounds : List (LoggedRound P)) (p : PairRecord) (by : ℕ)
+        → Part mac answers first s log before start (entries_of rounds) last
+        → SufficeSteady (pair_bound limit most (gathered_count before) (signal_count before)) by start rounds p
+        → ChecksIn rounds (path_of start p) ⊎ IsAnsweredIn (entries_of rounds) (path_of start p)
+
+    abbrev pub NoneIsStarved : Type 0
+    NoneIsStarved = (first : AgentRecord H P) (s : Stream) (log : List (Logged P)) → IsFresh first → SteadyRoundsReach first s log

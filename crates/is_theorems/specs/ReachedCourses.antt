@@ -1,0 +1,67 @@
+-- How soon a pair that is due is checked, for an agent that may share its random source: in an execution, as in a log. For a
+-- controlling agent without a valid pair the bound is smaller.
+use Rattle.std.specs.Prelude.{◌≡◌, ℕ, true, ◌+◌, ◌*◌, ◌<◌, ◌≤◌, ◌⊎◌, List, [], ◌∷◌, length, Some}
+use Rattle.rand_core.specs.Stream.{Stream}
+use Rattle.is_proto.specs.Lists.{Has}
+use Rattle.is_proto.specs.Times.{MAX}
+use Rattle.is_candidate.specs.Candidates.{CandidateRecord}
+use Rattle.is_pair.specs.Pairs.{PairRecord}
+use Rattle.is_pair.specs.Turns.{due_by}
+use Rattle.is_stun.specs.declared.header.Class.TheVariants as class
+use Rattle.is_rules.specs.declared.emitted.Path.{Path}
+use Rattle.is_rules.specs.Agent.{AgentRecord}
+use Rattle.is_theorems.specs.AskedCourses.{IsAnsweredAlong}
+use Rattle.is_theorems.specs.Courses.{CourseRound, SelectsAmong, CourseRounds}
+use Rattle.is_theorems.specs.Exchange.{AreBetween, Course}
+use Rattle.is_theorems.specs.Progress.{Awaits, IsUnanswered}
+use Rattle.is_theorems.specs.Reached.{IsInLine}
+use Rattle.is_theorems.specs.Runs.{IsFresh}
+use Rattle.is_rules.specs.Sending.{path_of}
+use Rattle.is_rules.specs.Steps.{Call, Entry, HandleTimeout, Done, Step}
+use Rattle.is_rules.specs.Emitted.{issued_as}
+
+-- a round whose `handle_timeout` call is later than `by` and returns Ok, and has only packets and polls after it
+pub record IsPassed {P : Type 0} (by : ℕ) (r : CourseRound P) : Type 0 where
+  pub done : r.timeout.answer ≡ Done
+  pub late : by < r.now
+  pub early : r.now < MAX
+  pub between : AreBetween r.following
+
+-- The `handle_timeout` call of one of the rounds sends a check on the path.
+abbrev pub ChecksAmong : {P : Type 0} → List (CourseRound P) → Path → Type 0
+ChecksAmong rounds path =
+    (r : CourseRound _) × (id : List ℕ) × Has rounds r × (r.timeout.emitted.issued ≡ Some (issued_as path class.Request id))
+
+-- In one of the rounds an accepted success response is received on the reverse path.
+abbrev pub IsAnsweredAmong : {P : Type 0} → List (CourseRound P) → Path → Type 0
+IsAnsweredAmong rounds path = (r : CourseRound _) × Has rounds r × IsAnsweredAlong r.following path
+
+module _ {H P : Type 0} (mac : H → List ℕ → List ℕ → List ℕ) (answers : P → CandidateRecord → ℕ → ℕ → Type 0) where
+  -- one round after another, in either role
+  abbrev pub PassRounds : List (CourseRound P) → AgentRecord H P → AgentRecord H P → Type 0
+  PassRounds [] old new = new ≡ old
+  PassRounds (r ∷ later) old new =
+      (mid next : AgentRecord H P) × (s t : Stream) × Step mac answers old s (HandleTimeout r.now) r.timeout mid t
+      × Course mac answers r.following mid next × PassRounds later next new
+
+  -- An execution starts with a newly created agent. One of n pairs waits for its check, and at least 2n - 1 rounds follow, and
+  -- one more for each pair that is added in them. Then a check is sent on the pair's path in one of them, unless a success
+  -- response is received on the path in one of them. This holds in either role, whatever the agent receives and nominates.
+  abbrev pub CoursesReach : Type 0
+  CoursesReach =
+      (first start last : AgentRecord H P) (xs : List (Call P × Entry)) (r : CourseRound P) (rounds : List (CourseRound P)) (p : PairRecord) (by : ℕ)
+      → IsFresh first → Course mac answers xs first start → IsInLine r.now by start p → PassRounds (r ∷ rounds) start last
+      → ((x : CourseRound P) → Has (r ∷ rounds) x → IsPassed by x)
+      → 2 * length start.pairs + last.next_number ≤ length (r ∷ rounds) + 1 + start.next_number
+      → ChecksAmong (r ∷ rounds) (path_of start p) ⊎ IsAnsweredAmong (r ∷ rounds) (path_of start p)
+
+  -- An execution starts with a newly created agent. At the start of the rounds no pair is valid, and n pairs are due by an
+  -- earlier time `by`, with due times computed at the time of the first round. At least n rounds follow, in which the agent is
+  -- controlling. Then a check is sent on the path of each of these pairs in one of the rounds, unless a path is selected in one.
+  abbrev pub CoursesCheck : Type 0
+  CoursesCheck =
+      (first start last : AgentRecord H P) (xs : List (Call P × Entry)) (r : CourseRound P) (rounds : List (CourseRound P)) (p : PairRecord) (by : ℕ)
+      → IsFresh first → Course mac answers xs first start → start.controlling ≡ true → Awaits r.now by start p → IsUnanswered start p
+      → CourseRounds mac answers (r ∷ rounds) start last → ((x : CourseRound P) → Has (r ∷ rounds) x → IsPassed by x)
+      → length (due_by by r.now start.timing start.pairs) ≤ length (r ∷ rounds)
+      → ChecksAmong (r ∷ rounds) (path_of start p) ⊎ SelectsAmong (r ∷ rounds)

@@ -1,0 +1,34 @@
+-- How a call changes the event queue.
+use Rattle.std.specs.Prelude.{◌≡◌, ℕ, List, [], ◌∷◌, ◌++◌, Option, ◌⊎◌}
+use Rattle.rand_core.specs.Stream.{Stream}
+use Rattle.is_candidate.specs.Candidates.{CandidateRecord}
+use Rattle.is_rules.specs.declared.credentials.IceCreds.{IceCreds}
+use Rattle.is_rules.specs.declared.event.IceAgentEvent.{IceAgentEvent}
+use Rattle.is_rules.specs.declared.event.IceAgentEvent.TheVariants.{IceRestart, IceConnectionStateChange}
+use Rattle.is_rules.specs.declared.event.IceConnectionState.TheVariants.{Checking}
+use Rattle.is_rules.specs.Agent.{AgentRecord}
+use Rattle.is_rules.specs.Polls.{IsPolled}
+use Rattle.is_rules.specs.Steps.{Call, RestartIce, PollEvent, Answer, Done, Happened, Entry, quiet, Step}
+use Rattle.is_rules.specs.Issuing.{QueuesPackets}
+
+-- Elements are appended at the end.
+abbrev pub Extends : {X : Type 0} → List X → List X → Type 0
+Extends old new = (more : List _) × (new ≡ old ++ more)
+
+-- An ICE restart that succeeds leaves only its own events: `IceRestart`, and the state change if there is one.
+abbrev pub Begins : Answer → IceCreds → List IceAgentEvent → List IceAgentEvent → Type 0
+Begins Done creds old new = (new ≡ IceRestart creds ∷ []) ⊎ (new ≡ IceRestart creds ∷ IceConnectionStateChange Checking ∷ [])
+Begins _ creds old new = new ≡ old
+
+-- `poll_event` removes the first event. Any other call except an ICE restart appends.
+abbrev pub Reports : {P : Type 0} → Call P → Entry → List IceAgentEvent → List IceAgentEvent → Type 0
+Reports PollEvent e old new = (given : Option IceAgentEvent) × (e ≡ quiet (Happened given)) × IsPolled old given new
+Reports (RestartIce creds keep) e old new = Begins e.answer creds old new
+Reports _ e old new = Extends old new
+
+module _ {H P : Type 0} (mac : H → List ℕ → List ℕ → List ℕ) (answers : P → CandidateRecord → ℕ → ℕ → Type 0) where
+  -- The theorem: packets and events are polled in the order in which they were issued, in any state of the agent.
+  abbrev pub QueuesTheorem : Type 0
+  QueuesTheorem =
+      (old new : AgentRecord H P) (s t : Stream) (call : Call P) (e : Entry)
+      → Step mac answers old s call e new t → QueuesPackets call e old.packets new.packets × Reports call e old.events new.events

@@ -1,0 +1,77 @@
+//! How soon a pair is checked, also if candidates are added meanwhile, or if it is due at the first timeout.
+
+ghost use Rattle.is_theorems.specs.BoundedRounds.{LimitsReach};
+ghost use Rattle.is_theorems.specs.FirstChecks.{CoursesCheckFromDue};
+ghost use Rattle.is_theorems.specs.FirstTimeouts.{OpenCoursesReach, PairsAreReachedFromDue, CoursesReachFromDue};
+ghost use Rattle.is_theorems.specs.Reached.{PairsAreReached};
+ghost use Rattle.is_theorems.specs.ReachedCourses.{CoursesReach, CoursesCheck};
+
+use crate::selecting::successes_select;
+use is_candidate::LocalPreference;
+use is_proto::Sha1HmacProvider;
+
+/// From a newly created agent: one of n pairs is due. Then a check is sent on its path in one of 2n - 1 rounds, and one more for
+/// each pair that is added in them, unless a success response is received on the path in one of them, or a candidate that is added in
+/// them may remove a pair of the path. Any candidates may be added in the rounds. This holds in either role,
+/// whatever the agent receives and nominates.
+pub fn pairs_are_reached<H: Sha1HmacProvider, P: LocalPreference>()
+    ensures { PairsAreReached H.mac P.answers }
+{}
+
+/// With limits on pairs and on what packets bring, n pairs at most: a check is sent on the path of a pair that is due in one of
+/// 2n - 1 rounds, and one more for each pair that is added in them, whatever the agent receives and received before.
+pub fn limits_reach<H: Sha1HmacProvider, P: LocalPreference>()
+    ensures { LimitsReach H.mac P.answers }
+{
+    pairs_are_reached::<H, P>();
+}
+
+/// The same of an agent that shares its random source.
+pub fn courses_reach<H: Sha1HmacProvider, P: LocalPreference>()
+    ensures { CoursesReach H.mac P.answers }
+{}
+
+/// A controlling agent, which may share its random source, has no valid pair, and n pairs are due. Then a check is sent on the path
+/// of each of them in one of n rounds, unless a path is selected in one of them.
+pub fn courses_check<H: Sha1HmacProvider, P: LocalPreference>()
+    ensures { CoursesCheck H.mac P.answers }
+{}
+
+/// From a newly created agent, which may share its random source: one of n pairs is due. Then a check is sent on its path in one of
+/// 2n - 1 rounds, and one more for each pair that is added in them, unless a success response is received on the path in one of
+/// them, or a candidate that is added in them may remove a pair of the path.
+pub fn open_courses_reach<H: Sha1HmacProvider, P: LocalPreference>()
+    ensures { OpenCoursesReach H.mac P.answers }
+{
+    pairs_are_reached::<H, P>();
+}
+
+/// From a newly created agent: a pair is due by a `handle_timeout` call. Then a check is sent on its path in this call's round, or in
+/// one of 2m - 1 later ones, and one more for each pair that is added in these. If the pair is the only one, the call's round
+/// suffices. The exceptions are that a success response is received on the path in one of these rounds, or that a candidate that is
+/// added in them may remove a pair of the path. Here m is the number of pairs when the second call comes.
+pub fn reached_from_due<H: Sha1HmacProvider, P: LocalPreference>()
+    ensures { PairsAreReachedFromDue H.mac P.answers }
+{
+    pairs_are_reached::<H, P>();
+}
+
+/// The same of an agent that shares its random source. If the pair is due before the first call, 2n - 1 rounds suffice, the first
+/// included, and one more for each pair that is added in them. Here n is the number of pairs when the first call comes.
+pub fn courses_reach_from_due<H: Sha1HmacProvider, P: LocalPreference>()
+    ensures { CoursesReachFromDue H.mac P.answers }
+{
+    open_courses_reach::<H, P>();
+    reached_from_due::<H, P>();
+}
+
+/// A controlling agent, which may share its random source, has no valid pair, and one is due by a `handle_timeout` call. Then a check
+/// is sent on its path in one of n rounds, unless a path is selected in one of them. Here n is the number of pairs that are due by
+/// then, if the call is later. If it is not, n is 1 for a single pair, and otherwise one more than the number of pairs that are due
+/// by then when the second call comes.
+pub fn courses_check_from_due<H: Sha1HmacProvider, P: LocalPreference>()
+    ensures { CoursesCheckFromDue H.mac P.answers }
+{
+    courses_check::<H, P>();
+    successes_select::<H, P>();
+}

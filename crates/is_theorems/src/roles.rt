@@ -1,0 +1,28 @@
+//! Roles: the external view of a new agent, and how a conflict of two agents ends.
+
+ghost use Rattle.is_theorems.specs.Carried.{CarriedSettle};
+ghost use Rattle.is_theorems.specs.Conflicts.{ConflictsSettle};
+ghost use Rattle.is_theorems.specs.RoleView.{FreshIsNew};
+
+use crate::exchanging::checks_are_answered;
+use is_candidate::LocalPreference;
+use is_proto::Sha1HmacProvider;
+use is_stun::theorems::{checks_fit, replies_fit, written_is_read};
+
+/// A newly created agent has the external view of a new agent.
+pub fn fresh_is_new<H: Sha1HmacProvider, P: LocalPreference>()
+    ensures { FreshIsNew H P }
+{}
+
+/// One check resolves a role conflict: it is delivered to the other agent, which has the sender's role. Either that agent has the
+/// smaller tie-breaker and takes the other role, or its 487, delivered at any time while the transaction is pending, makes the sender
+/// take it.
+pub fn conflicts_settle<H: Sha1HmacProvider, P: LocalPreference>()
+    ensures same { ConflictsSettle H.mac P.answers }
+    ensures carried { CarriedSettle H.mac P.answers }
+{
+    written_is_read();
+    checks_fit();
+    replies_fit();
+    checks_are_answered::<H, P>();
+}

@@ -1,0 +1,56 @@
+//! Within how many rounds an agent selects a path, also if candidates are added meanwhile.
+
+ghost use Rattle.is_theorems.specs.Courses.{CoursesSelect};
+ghost use Rattle.is_theorems.specs.DueRounds.{AnsweredDueRoundsSelect};
+ghost use Rattle.is_theorems.specs.OpenRounds.{AnsweredOpenRoundsSelect};
+ghost use Rattle.is_theorems.specs.Progress.{AnsweredSelect};
+ghost use Rattle.is_theorems.specs.Reached.{AskedRoundsSelect};
+ghost use Rattle.is_theorems.specs.Rounds.{AnsweredRoundsSelect};
+
+use crate::reaching::{pairs_are_reached, reached_from_due};
+use is_candidate::LocalPreference;
+use is_proto::Sha1HmacProvider;
+
+/// A controlling agent selects a path within as many rounds as there are pairs that are due no later than one whose checks are
+/// answered in their rounds.
+pub fn answered_select<H: Sha1HmacProvider, P: LocalPreference>()
+    ensures { AnsweredSelect H.mac P.answers }
+{}
+
+/// From a newly created agent: at a `handle_timeout` call of the log n pairs are due by an earlier time. The call begins n rounds
+/// in which the checks of one of these pairs are answered, while the agent is controlling. Then a path is selected in one of the
+/// rounds.
+pub fn answered_rounds_select<H: Sha1HmacProvider, P: LocalPreference>()
+    ensures { AnsweredRoundsSelect H.mac P.answers }
+{}
+
+/// The same of an agent that shares its random source: a controlling agent selects a path in one of n rounds in which the checks
+/// of one of n pairs are answered.
+pub fn courses_select<H: Sha1HmacProvider, P: LocalPreference>()
+    ensures { CoursesSelect H.mac P.answers }
+{}
+
+/// In such rounds the checks on the pair's path are answered, and the peer nominates the path to a controlled agent. Then a path
+/// is selected by the end of the next `handle_timeout` call that serves no early request, if only one pair uses this path's
+/// addresses and no pair that does may have been removed.
+pub fn asked_rounds_select<H: Sha1HmacProvider, P: LocalPreference>()
+    ensures { AskedRoundsSelect H.mac P.answers }
+{}
+
+/// From a newly created agent: no pair of a controlling agent is valid, and one is due. Then a path is selected in one of the rounds
+/// that follow, if they suffice and the checks of this pair are answered in them, unless a candidate that is added in them may remove
+/// a pair of the path.
+pub fn open_rounds_select<H: Sha1HmacProvider, P: LocalPreference>()
+    ensures { AnsweredOpenRoundsSelect H.mac P.answers }
+{
+    answered_rounds_select::<H, P>();
+    pairs_are_reached::<H, P>();
+}
+
+/// The same for a pair that is due by the first timeout of the rounds, and maybe not before it: one round suffices for a single pair,
+/// otherwise 2m - 1 later ones for m pairs when the second timeout comes, and one more for each pair that is added in these.
+pub fn due_rounds_select<H: Sha1HmacProvider, P: LocalPreference>()
+    ensures { AnsweredDueRoundsSelect H.mac P.answers }
+{
+    reached_from_due::<H, P>();
+}

@@ -1,0 +1,69 @@
+//! Which path is selected, and after what.
+
+ghost use Rattle.is_theorems.specs.Asked.{AskedAreSelected};
+ghost use Rattle.is_theorems.specs.AskedCourses.{SuccessesSelect, AcceptedNominationsAreSelected};
+ghost use Rattle.is_theorems.specs.Progress.{AnswersSelect, TimeoutsSelect};
+ghost use Rattle.is_theorems.specs.Runs.{SelectedAreAnswered, SelectedAreNominatedByPeer, PointsAreTop, TakersAreValid, AskedAreNominated};
+
+use is_candidate::LocalPreference;
+use is_proto::Sha1HmacProvider;
+
+/// From a newly created agent that is never lite: each selected path got an authentic success response to a check that was sent
+/// since the last clear.
+pub fn selected_are_answered<H: Sha1HmacProvider, P: LocalPreference>()
+    ensures { SelectedAreAnswered H.mac P.answers }
+{}
+
+/// Each path that was selected while the agent was controlled since the last clear was nominated by an accepted request with
+/// USE-CANDIDATE.
+pub fn selected_are_nominated_by_peer<H: Sha1HmacProvider, P: LocalPreference>()
+    ensures { SelectedAreNominatedByPeer H.mac P.answers }
+{}
+
+/// At each nomination point at which a pair is eligible, the path that was selected last is that of one with the greatest stored
+/// priority. With renomination a controlled agent selects the pair that was nominated last instead, once it is eligible.
+pub fn points_are_top<H: Sha1HmacProvider, P: LocalPreference>()
+    ensures { PointsAreTop H.mac P.answers }
+{}
+
+/// After an accepted success response a pair with its pending transaction, on its path, is valid.
+pub fn takers_are_valid<H: Sha1HmacProvider, P: LocalPreference>()
+    ensures { TakersAreValid H.mac P.answers }
+{}
+
+/// If a request with USE-CANDIDATE gets a success response, and the agent is controlled, a pair on the response's path is
+/// nominated.
+pub fn asked_are_nominated<H: Sha1HmacProvider, P: LocalPreference>()
+    ensures { AskedAreNominated H.mac P.answers }
+{}
+
+/// After an accepted success response a controlling agent has selected a path.
+pub fn answers_select<H: Sha1HmacProvider, P: LocalPreference>()
+    ensures { AnswersSelect H.mac P.answers }
+{}
+
+/// After each `handle_timeout` call that serves no early request, a path is selected if a pair is valid and nominated.
+pub fn timeouts_select<H: Sha1HmacProvider, P: LocalPreference>()
+    ensures { TimeoutsSelect H.mac P.answers }
+{}
+
+/// A controlling agent, which may share its random source, selects a path by its first accepted success response, and the one that it
+/// selected last is that of an eligible pair of greatest priority.
+pub fn successes_select<H: Sha1HmacProvider, P: LocalPreference>()
+    ensures { SuccessesSelect H.mac P.answers }
+{}
+
+/// From a newly created agent: the peer nominated a path to a controlled agent, and a success response was received on it, in
+/// either order. Then a path is selected by the end of the next `handle_timeout` call that serves no early request, if only one
+/// pair uses this path's addresses and no pair that does may have been removed.
+pub fn asked_are_selected<H: Sha1HmacProvider, P: LocalPreference>()
+    ensures { AskedAreSelected H.mac P.answers }
+{}
+
+/// A controlled agent, which may share its random source, accepted the nomination of a path and received a success response on
+/// it. Then a path is selected by the end of the next `handle_timeout` call that serves no early request, and the one that was
+/// selected last is that of an eligible pair of greatest priority, if only one pair uses this path's addresses and no pair that does
+/// may have been removed.
+pub fn accepted_nominations_are_selected<H: Sha1HmacProvider, P: LocalPreference>()
+    ensures { AcceptedNominationsAreSelected H.mac P.answers }
+{}

@@ -1,0 +1,44 @@
+//! Progress: each timeout is of use; starvation freedom, whatever the agent receives.
+
+ghost use Rattle.is_theorems.specs.NotStarved.{RequestsAddFew, NoneIsStarved};
+ghost use Rattle.is_theorems.specs.Progress.{TimeoutsAreOfUse, NoPairIsStarved};
+ghost use Rattle.is_theorems.specs.Rounds.{TurnsAreOfUse};
+
+use crate::reaching::pairs_are_reached;
+use is_candidate::LocalPreference;
+use is_proto::Sha1HmacProvider;
+
+/// Every timeout of an agent that has a pair to check makes progress: a check is sent, a pair is removed, or there are fewer
+/// early requests.
+pub fn timeouts_are_of_use<H: Sha1HmacProvider, P: LocalPreference>()
+    ensures { TimeoutsAreOfUse P H.mac }
+{}
+
+/// From a newly created agent: if `poll_timeout` is called while no packet is queued, a `handle_timeout` call at the time that it
+/// returns, or later, makes progress: a check is sent, a pair is removed, or there are fewer early requests. Any polls may come
+/// between.
+pub fn turns_are_of_use<H: Sha1HmacProvider, P: LocalPreference>()
+    ensures { TurnsAreOfUse H.mac P.answers }
+{}
+
+/// Starvation freedom: a pair is checked, or removed after timeout, within as many polling cycles as there are pairs that are due
+/// no later than it.
+pub fn no_pair_is_starved<H: Sha1HmacProvider, P: LocalPreference>()
+    ensures { NoPairIsStarved P H.mac }
+{}
+
+/// From a newly created agent that is not lite: in a segment with k `handle_timeout` calls, in which the caller adds no candidate and
+/// removes no pair, requests add at most k / m pairs, and one for each pair that exists afterwards. Here m is the number of
+/// retransmits.
+pub fn requests_add_few<H: Sha1HmacProvider, P: LocalPreference>()
+    ensures { RequestsAddFew H.mac P.answers }
+{}
+
+/// With limits on pairs and on what packets bring, n pairs at most: a check is sent on the path of a pair that is due in one of
+/// (3n - 1) * m / (m - 1) rounds, whatever the agent receives in them and received before, unless a success response is received
+/// on the path in one of them. No candidate is added in the rounds.
+pub fn none_is_starved<H: Sha1HmacProvider, P: LocalPreference>()
+    ensures { NoneIsStarved H.mac P.answers }
+{
+    pairs_are_reached::<H, P>();
+}

@@ -1,0 +1,45 @@
+//! How soon a pair is checked in nanoseconds, if the caller is punctual.
+
+ghost use Rattle.is_theorems.specs.InTime.{CoursesCheckInTime, CoursesReachInTime, NextComesInTime, RoundsComeInTime};
+ghost use Rattle.is_theorems.specs.Pacing.{PacingIsSet};
+
+use crate::reaching::{courses_check_from_due, courses_reach_from_due};
+use crate::selecting::successes_select;
+use is_candidate::LocalPreference;
+use is_proto::Sha1HmacProvider;
+
+/// Whatever is called and received, only `set_timing_advance` changes the pacing interval.
+pub fn pacing_is_set<H: Sha1HmacProvider, P: LocalPreference>()
+    ensures { PacingIsSet H.mac P.answers }
+{}
+
+/// From a newly created agent, which may share its random source: a pair is due by a `handle_timeout` call, and the caller is punctual:
+/// it makes the next one at most δ after a time that `poll_timeout` returned between them. Then this comes at most one pacing interval
+/// and δ after the first, unless this one sends a check on the pair's path, a success response is received on the path between them,
+/// or a candidate that is added between them may remove a pair of the path.
+pub fn next_comes_in_time<H: Sha1HmacProvider, P: LocalPreference>()
+    ensures { NextComesInTime H.mac P.answers }
+{}
+
+/// The same of any rounds: the kth one after the first begins at most k times that later than it, or the pair's path is reached.
+pub fn rounds_come_in_time<H: Sha1HmacProvider, P: LocalPreference>()
+    ensures { RoundsComeInTime H.mac P.answers }
+{}
+
+/// If k rounds after the first suffice as in `courses_reach_from_due`, a check is sent on the pair's path at most k times one pacing
+/// interval and δ after the first `handle_timeout` call, with the exceptions of that theorem. So k is 0 for a single pair, and 2m - 1 for m
+/// pairs when the second call comes, and one more for each pair that is added after it.
+pub fn courses_reach_in_time<H: Sha1HmacProvider, P: LocalPreference>()
+    ensures { CoursesReachInTime H.mac P.answers }
+{
+    courses_reach_from_due::<H, P>();
+}
+
+/// The same of a controlling agent without a valid pair, for the k rounds after the first of `courses_check_from_due`: for n due pairs
+/// n - 1, or n if the pair is due at the first call and not before it.
+pub fn courses_check_in_time<H: Sha1HmacProvider, P: LocalPreference>()
+    ensures { CoursesCheckInTime H.mac P.answers }
+{
+    courses_check_from_due::<H, P>();
+    successes_select::<H, P>();
+}

@@ -1,0 +1,97 @@
+"""Reads the mutants: those of CI in crates/CRATE/must-fail/*.edit, and the files mutants/bodies/CRATE.txt and
+mutants/specifications/CRATE.txt. docs/TESTING.md describes the format."""
+import collections, functools, pathlib, sys
+
+here = pathlib.Path(__file__).resolve().parent
+top = here.parent
+
+# rules: the guarantees that it breaks, as docs/PROMISES.md has them, or the beginnings of these. changes: pairs of an old and a new text.
+Mutant = collections.namedtuple("Mutant", "name crate kind place rules theorem file changes")
+
+KINDS = ("ci", "bodies", "specifications")
+
+
+def stop(path, number, why):
+    sys.exit(f"{path.relative_to(top)}:{number}: {why}")
+
+
+def parse(path, crate, kind):
+    """The mutants of a file, of which an edit of CI has one."""
+    found, rule, theorem = [], [], None
+    if kind == "ci":
+        found.append(Mutant(path.stem.rpartition(".")[2], crate, kind, (path, 1), [], None, [None], []))
+    old = None
+    for number, line in enumerate(path.read_text().split("\n"), 1):
+        key, text = line[:5], line[5:]
+        if line.startswith("## ") and kind != "ci":
+            rule, theorem = [line[3:]], None
+        elif line.startswith("# rule: "):
+            found[-1].rules.append(line[8:])
+        elif not line.strip() or line.startswith("#"):
+            continue
+        elif line.startswith("theorem: ") and kind == "specifications":
+            theorem = line[9:]
+        elif line.startswith("mutant: ") and kind != "ci":
+            found.append(Mutant(line[8:], crate, kind, (path, number), [*rule], theorem, [None], []))
+        elif line.startswith("file: ") and found and found[-1].file == [None]:
+            found[-1].file[0] = line[6:]
+        elif key == "old: " and found and old is None:
+            old = text
+        elif line.startswith("new:") and old is not None:
+            found[-1].changes.append((old, text))
+            old = None
+        else:
+            stop(path, number, "this line is not of the format, or it is in the wrong place")
+    return [finished(mutant) for mutant in found]
+
+
+def finished(mutant):
+    """The mutant with its file as one name, or the end of the script if a part of it is missing."""
+    lacking = [part for part, has in (("file:", mutant.file[0]), ("old: and new:", mutant.changes), ("rule", mutant.rules),
+                                      ("theorem:", mutant.theorem or mutant.kind != "specifications")) if not has]
+    if lacking:
+        stop(*mutant.place, f"{mutant.name} has no {' and no '.join(lacking)}")
+    return mutant._replace(file=mutant.file[0])
+
+
+def paths(kind, crate):
+    """The files that have the mutants of this kind."""
+    if kind == "ci":
+        return sorted((top / "crates" / crate / "must-fail").glob("*.edit"))
+    return [path for path in [here / kind / f"{crate}.txt"] if path.exists()]
+
+
+def mutants(kind, crate):
+    return [mutant for path in paths(kind, crate) for mutant in parse(path, crate, kind)]
+
+
+def crates():
+    return sorted(path.name for path in (top / "crates").iterdir() if (path / "src").is_dir())
+
+
+def everything():
+    return [mutant for crate in crates() for kind in KINDS for mutant in mutants(kind, crate)]
+
+
+@functools.cache
+def text_of(crate, file):
+    path = top / "crates" / crate / file
+    return path.read_text() if path.exists() else ""
+
+
+def stale(mutant):
+    """Why the mutant can't be applied to the crate as it is, one line for each change."""
+    for old, _ in mutant.changes:
+        count = text_of(mutant.crate, mutant.file).count(old)
+        if count != 1:
+            yield f"its text is {count} times in crates/{mutant.crate}/{mutant.file}: {old.strip()[:100]}"
+
+
+def same_names(found):
+    """A line for each name that two mutants of a crate have."""
+    places = collections.defaultdict(list)
+    for mutant in found:
+        places[mutant.crate, mutant.name].append(mutant.place)
+    for (crate, name), where in sorted(places.items()):
+        if len(where) > 1:
+            yield f"{crate}: {len(where)} mutants are called {name}"

@@ -1,0 +1,173 @@
+"""Judges mutants of function bodies on copies of their crate: as many in one check as there are functions.
+
+A pass puts one mutant of each function into a copy and checks that once. The verdict on a mutant is one of these:
+
+  killed         a goal of its own function is unproved: the prover reports it, or a stored proof searches and finds none
+  SURVIVED       its own function was proved
+  INCONCLUSIVE   a stored proof of the function has an error of another kind: it does not fit the body, which says nothing of
+                 the contract
+  not checked    the function was not checked, for example because one that it calls is not proved; it is tried again in the
+                 next pass, without the mutants that were killed, and is NOT CHECKED at the end
+
+What earlier checks stored in out/ is copied too, so that a pass checks only what a mutant affects."""
+import collections, os, pathlib, re, subprocess, sys, tempfile, time
+
+from catalog import text_of
+from common import copy_crate, copy_lower, messages
+
+FUNCTION = re.compile(r"\s*(?:pub(?:\([^)]*\))?\s+)?(?:(?:const|unsafe|extern(?:\s+\"[^\"]*\")?)\s+)*fn\s+(\w+)")
+IMPL = re.compile(r"\s*impl\b(?:<[^{]*?>)?\s+(?:.*\sfor\s+)?(\w+)")
+# The words of an unproved goal: as a note at the code, in a function's line, in an error of its stored proof.
+NOTED = "it is not proved that "
+UNPROVED = "did not prove `"
+UNFOUND = "no proof of `"
+
+Change = collections.namedtuple("Change", "start end new line")
+# lines: those of the function that it changes. owner: the type of its impl.
+Edit = collections.namedtuple("Edit", "name file function owner lines changes")
+
+
+def first_line(lines, head):
+    """The first line of the function whose `fn` is in this line: that of its attributes, to which notes on it point."""
+    while lines[head - 2].lstrip().startswith("#["):
+        head -= 1
+    return head
+
+
+def located(mutant):
+    """The places of its changes."""
+    text = text_of(mutant.crate, mutant.file)
+    for old, new in mutant.changes:
+        start = text.index(old)
+        yield Change(start, start + len(old), new, text.count("\n", 0, start) + 1)
+
+
+def edit_of(mutant):
+    """The edit that it is, of the one function that it changes; or why it is none."""
+    changes = list(located(mutant))
+    lines = text_of(mutant.crate, mutant.file).split("\n")
+    heads = [i for i, line in enumerate(lines, 1) if FUNCTION.match(line)]
+    homes = {max((h for h in heads if h <= change.line), default=None) for change in changes}
+    if len(homes) != 1 or None in homes:
+        return None, "it does not change exactly one function"
+    head = homes.pop()
+    following = min((h for h in heads if h > head), default=len(lines) + 1)
+    own = range(first_line(lines, head), first_line(lines, following))
+    owner = None
+    if lines[head - 1].startswith(" "):
+        owner = next((IMPL.match(line)[1] for line in reversed(lines[:head]) if IMPL.match(line)), None)
+    return Edit(mutant.name, mutant.file, FUNCTION.match(lines[head - 1])[1], owner, own, changes), None
+
+
+def check(crate, edits, folder):
+    """The output of a check of a copy with these edits."""
+    copy_crate(crate, folder, "rlib")
+    changes = collections.defaultdict(list)
+    for edit in edits:
+        changes[edit.file] += edit.changes
+    for file, found in changes.items():
+        path = folder / "crates" / crate / file
+        text = path.read_text()
+        for change in sorted(found, reverse=True):
+            text = text[: change.start] + change.new + text[change.end :]
+        path.write_text(text)
+    jobs = ["--jobs", os.environ["MUTANT_JOBS"]] if "MUTANT_JOBS" in os.environ else []
+    command = ["rt", "check", "--allow-holes", *jobs]
+    ran = subprocess.run(command, cwd=folder / "crates" / crate, capture_output=True, text=True)
+    return ran.stdout + ran.stderr
+
+
+def verdicts(said):
+    """What the line of each function says, with its unproved goals; and the errors of its stored proofs."""
+    told, open_goals = {}, []
+    answers = collections.defaultdict(list)
+    for line in messages(said):
+        goal = re.match(rf"note: (?:\./)?(src/\S+?):(\d+):\d+: ({NOTED}.*)", line)
+        error = re.match(r"(?:\./)?proofs/(\S+)/\w+\.antt:\d+:\d+: error: (.*)", line)
+        function = re.match(r"fn (\S+): (.*)", line)
+        if goal:
+            open_goals.append((goal[1], int(goal[2]), goal[3]))
+        elif error:
+            answers[error[1].replace("/", "::")].append(error[2])
+        elif function:
+            told[function[1]] = (function[2], open_goals)
+            open_goals = []
+    return told, answers
+
+
+def judged(edit, crate, told, answers):
+    """The verdict on an edit, by what was reported of its own function, and the words; no verdict if nothing was."""
+    for _, goals in told.values():
+        here = [goal for goal in goals if goal[0] == edit.file and goal[1] in edit.lines]
+        if here:
+            return "killed", here[0][2]
+    named = [path for path in told if path.split("::")[-1] == edit.function]
+    if edit.owner:
+        home = [path for path in named if any(part.startswith(edit.owner) for part in path.split("::")[:-1])]
+    else:
+        module = edit.file.removeprefix("src/").removesuffix(".rt").replace("/", "::")
+        home = [path for path in named if path == f"{crate}::{module}::{edit.function}"]
+    found = home or named
+    if found and all(told[path][0].startswith("no holes") for path in found):
+        return "SURVIVED", f"{', '.join(found)}: proved"
+    if len(found) != 1:
+        return None, "nothing was reported of it"
+    line = told[found[0]][0]
+    own = answers.get(found[0][len(crate) + 2 :], [])
+    open_answers = [error for error in own if UNFOUND in error]
+    if UNPROVED in line or open_answers:
+        return "killed", open_answers[0] if open_answers else line
+    if own:
+        return "INCONCLUSIVE", "a stored proof does not fit: " + own[0]
+    return None, line
+
+
+def pass_over(number, crate, edits, folder):
+    """A pass: the verdict on each edit of which something was reported."""
+    start = time.monotonic()
+    said = check(crate, edits, folder)
+    told, answers = verdicts(said)
+    if not told:
+        print("\n".join(line for line in said.split("\n") if "error" in line)[:3000] or said[-3000:])
+        sys.exit(f"pass {number}: the copy did not reach the prover")
+    found = {}
+    for edit in edits:
+        verdict, why = judged(edit, crate, told, answers)
+        if verdict:
+            found[edit.name] = verdict
+        print(f"pass {number}: {edit.name}: {verdict or 'not checked'}: {why[:160]}")
+    print(f"pass {number}: {len(edits)} edits, {time.monotonic() - start:.0f} s", flush=True)
+    return found
+
+
+def passes(crate, left):
+    """The verdict on each edit, and how many passes it took."""
+    verdict, number = {}, 0
+    with tempfile.TemporaryDirectory(prefix="mutants-") as folder:
+        copy_lower(crate, pathlib.Path(folder))
+        while left:
+            number += 1
+            taken = {}
+            for edit in left:
+                taken.setdefault((edit.file, edit.lines), edit)
+            verdict.update(pass_over(number, crate, list(taken.values()), pathlib.Path(folder)))
+            rest = [edit for edit in left if edit.name not in verdict]
+            if len(rest) == len(left):
+                verdict.update((edit.name, "NOT CHECKED") for edit in rest)
+                break
+            left = rest
+    return verdict, number
+
+
+def judge(crate, mutants):
+    """Prints the verdicts; whether each mutant was killed."""
+    edits = []
+    for mutant in mutants:
+        edit, why = edit_of(mutant)
+        if not edit:
+            sys.exit(f"{mutant.name}: {why}")
+        edits.append(edit)
+    verdict, number = passes(crate, edits)
+    failed = [f"{found}: {name}" for name, found in sorted(verdict.items()) if found != "killed"]
+    print("\n".join([f"{len(edits) - len(failed)} of {len(edits)} killed, {number} passes", *failed]))
+    return not failed
