@@ -17,9 +17,10 @@
  *
  * c/examples/peer.c is a complete program over UDP sockets.
  *
- * Return codes. A call returns IS_ICE_OK; or IS_ICE_NOTHING if there was nothing to do or to return; or an error below
- * 0. A call that fails leaves the agent unchanged and can be repeated, also after IS_ICE_OUT_OF_MEMORY. Any call on an
- * agent may return IS_ICE_NO_AGENT if the is_ice_agent holds none; the comments below do not repeat this.
+ * Return codes. A call returns IS_ICE_OK; or a code above 0 if there was nothing to do or to return, as IS_ICE_NOTHING;
+ * or an error below 0. A call that fails leaves the agent unchanged and can be repeated, also after
+ * IS_ICE_OUT_OF_MEMORY (is_ice_poll_transmit names an exception). Any call on an agent may return IS_ICE_NO_AGENT if
+ * the is_ice_agent holds none; the comments below do not repeat this.
  *
  * Ownership. An agent is on the heap. An is_ice_agent refers to it, and the caller stores the is_ice_agent anywhere: in
  * a local variable, a struct or an array. Zero it before is_ice_agent_new, as by `is_ice_agent agent = {0};`.
@@ -76,6 +77,8 @@ extern "C" {
 enum {
     IS_ICE_OK = 0,                     /* done; of a poll: something was returned; of a packet: it was accepted */
     IS_ICE_NOTHING = 1,                /* nothing to return; packet not accepted; candidate not added or not found */
+    IS_ICE_OTHER_COMPONENT = 2,        /* the remote candidate was ignored: it is of another component than 1 */
+    IS_ICE_OTHER_UFRAG = 3,            /* the remote candidate was ignored: of another username fragment than the peer's */
     IS_ICE_NO_AGENT = -1,              /* the is_ice_agent holds no agent */
     IS_ICE_HAS_AGENT = -2,             /* the is_ice_agent holds one already */
     IS_ICE_NOT_UTF8 = -3,              /* a text is not UTF-8 */
@@ -100,6 +103,8 @@ static inline const char *is_ice_code_text(int32_t code)
     switch (code) {
     case IS_ICE_OK: return "done";
     case IS_ICE_NOTHING: return "nothing";
+    case IS_ICE_OTHER_COMPONENT: return "candidate of another component";
+    case IS_ICE_OTHER_UFRAG: return "candidate of another username fragment";
     case IS_ICE_NO_AGENT: return "no agent";
     case IS_ICE_HAS_AGENT: return "there is an agent already";
     case IS_ICE_NOT_UTF8: return "text is not UTF-8";
@@ -122,7 +127,7 @@ static inline const char *is_ice_code_text(int32_t code)
 
 /* is_ice_version - returns the version of the library's interface. It equals IS_ICE_VERSION if this header belongs to
  * the library. It increases with each change of a name, an argument, a struct or a code. Does not allocate. */
-#define IS_ICE_VERSION 3
+#define IS_ICE_VERSION 4
 uint32_t is_ice_version(void);
 
 /* ---- types */
@@ -145,8 +150,9 @@ typedef struct is_ice_address {
     uint32_t scope;    /* scope ID of family 6 */
 } is_ice_address;
 
-/* Kinds of candidates that a caller gathers (RFC 8445, section 5.1.1). */
-enum { IS_ICE_HOST = 0, IS_ICE_SERVER_REFLEXIVE = 1, IS_ICE_RELAYED = 2 };
+/* Kinds of candidates (RFC 8445, section 5.1.1). A caller gathers none that is peer-reflexive: only is_ice_fields has
+ * that kind. */
+enum { IS_ICE_HOST = 0, IS_ICE_SERVER_REFLEXIVE = 1, IS_ICE_RELAYED = 2, IS_ICE_PEER_REFLEXIVE = 3 };
 
 /* TCP types: which side opens the connection of a TCP candidate (RFC 6544, section 4.5). */
 enum { IS_ICE_TCP_UNSTATED = 0, IS_ICE_TCP_ACTIVE = 1, IS_ICE_TCP_PASSIVE = 2, IS_ICE_TCP_SO = 3 };
@@ -161,6 +167,23 @@ typedef struct is_ice_candidate {
     uint8_t protocol;
     uint8_t tcptype;        /* IS_ICE_TCP_UNSTATED over UDP */
 } is_ice_candidate;
+
+/* The fields of a candidate. Its foundation and its username fragment are parts of the text that the same call writes. */
+typedef struct is_ice_fields {
+    is_ice_address address;   /* its transport address */
+    is_ice_address local;     /* of the local socket; 0.0.0.0 or [::], port 0, if it is the other agent's and no host */
+    is_ice_address related;   /* its related address, raddr and rport; all zero if it has none */
+    size_t foundation_length; /* the foundation begins at byte IS_ICE_FOUNDATION_START of the text */
+    size_t ufrag_length;      /* the username fragment is the end of the text; 0: it has none */
+    uint32_t priority;
+    uint16_t component;
+    uint8_t kind;
+    uint8_t protocol;
+    uint8_t tcptype;
+} is_ice_fields;
+
+/* Where the foundation begins in the text of a candidate: after "candidate:". */
+enum { IS_ICE_FOUNDATION_START = 10 };
 
 /* A packet to send: one STUN message, whose bytes are in the caller's buffer. */
 typedef struct is_ice_packet {
@@ -183,7 +206,8 @@ enum {
 enum {
     IS_ICE_RESTARTED = 1,       /* a session starts or restarts; is_ice_local_ufrag and _pass return its credentials */
     IS_ICE_STATE_CHANGED = 2,   /* the state changed to `state` */
-    IS_ICE_DISCOVERED_RECV = 3, /* the first authentic packet from `source` over `protocol` since the last restart */
+    IS_ICE_DISCOVERED_RECV = 3, /* the first authentic packet from `source` over `protocol` since the last restart, among
+                                 * the sources that are remembered: see is_ice_set_max_discovered */
     IS_ICE_NOMINATED_SEND = 4   /* send media from `source` to `destination` over `protocol` until the next of these */
 };
 
@@ -215,11 +239,14 @@ typedef struct is_ice_agent_stats {
     uint64_t nomination_send_count; /* IS_ICE_NOMINATED_SEND events */
 } is_ice_agent_stats;
 
-/* Figures of the selected pair: the pair of the last IS_ICE_NOMINATED_SEND. */
+/* The selected pair, that of the last IS_ICE_NOMINATED_SEND: the path of that event, and figures of the pair. */
 typedef struct is_ice_nominated_pair {
-    uint64_t total_rtt; /* the sum of the round-trip times of its checks */
-    uint64_t responses; /* the number of responses to its checks */
-    uint64_t rtt;       /* the last round-trip time, if has_rtt */
+    is_ice_address source;      /* send media from here: the base of its local candidate, or a relayed address */
+    is_ice_address destination; /* to here: the address of its remote candidate */
+    uint64_t total_rtt;         /* the sum of the round-trip times of its checks */
+    uint64_t responses;         /* the number of responses to its checks */
+    uint64_t rtt;               /* the last round-trip time, if has_rtt; else 0 */
+    uint8_t protocol;           /* send media over this protocol */
     bool has_rtt;
 } is_ice_nominated_pair;
 
@@ -230,7 +257,9 @@ enum {
     IS_ICE_PAIR_SUCCEEDED = 2    /* the pair is valid */
 };
 
-/* A candidate pair, with its figures since it was formed. */
+/* A candidate pair, with its figures since it was formed. A time or duration that is not there is 0. Under lite a pair
+ * without any check of the other agent counts one from the call on that is_ice_set_lite_timeout describes, and a pair
+ * takes over the checks of a pair that it replaces. */
 typedef struct is_ice_pair {
     size_t local;           /* the index of its local candidate: see is_ice_local_candidate */
     size_t remote;          /* the index of its remote candidate: see is_ice_remote_candidate */
@@ -285,6 +314,10 @@ IS_ICE_CALL int32_t is_ice_make_credentials(
  * drawn once for the agent: if both agents claim one role, it decides which of them switches. After IS_ICE_OK the
  * is_ice_agent refers to heap memory, until is_ice_agent_free.
  *
+ * A username fragment has letters, digits, '+' and '/' (RFC 8839, section 5.4), which this call and the others that set
+ * credentials do not check. Under an empty one, or one with white space, is_ice_add_remote does not take the text that
+ * is_ice_local_candidate returns.
+ *
  * IS_ICE_OK. IS_ICE_HAS_AGENT: there is one, which stays. IS_ICE_NOT_UTF8. IS_ICE_CREDENTIALS_TOO_LONG.
  * IS_ICE_OUT_OF_MEMORY. */
 IS_ICE_CALL int32_t is_ice_agent_new(
@@ -317,18 +350,19 @@ IS_ICE_QUIET_CALL int32_t is_ice_set_lite(is_ice_agent *agent, bool lite);
 IS_ICE_QUIET_CALL int32_t is_ice_set_renomination(is_ice_agent *agent, bool enabled);
 
 /* is_ice_set_lite_timeout - sets how long a lite agent keeps a pair after the last check of the other agent on it. A
- * pair without any counts as checked at its first is_ice_handle_timeout call. With 0 the next such call after a check
- * removes the pair. Against Firefox set 30 s: it still sends checks after a cut of 20 s, and does not nominate again
- * what was removed. Chromium sends none after 15 s without a response. A full agent does not use it. IS_ICE_OK.
- * Value: 15 s. */
+ * pair without any counts as checked at its first is_ice_handle_timeout call after is_ice_set_remote_credentials that
+ * serves no early request. With 0 the next call after a check removes the pair. Against Firefox set 30 s: it still sends
+ * checks after a cut of 20 s, and does not nominate again what was removed. Chromium sends none after 15 s without a
+ * response. A full agent does not use it. IS_ICE_OK. Value: 15 s. */
 IS_ICE_QUIET_CALL int32_t is_ice_set_lite_timeout(is_ice_agent *agent, uint64_t nanoseconds);
 
 /* is_ice_set_tie_breaker - sets the number that decides role conflicts: the greater one keeps its role. IS_ICE_OK.
  * Value: that of is_ice_agent_new. */
 IS_ICE_QUIET_CALL int32_t is_ice_set_tie_breaker(is_ice_agent *agent, uint64_t tie_breaker);
 
-/* is_ice_set_max_pairs - limits the number of pairs. It takes effect when pairs are next formed; pairs of the lowest
- * priority are removed. IS_ICE_OK. Value: 100. */
+/* is_ice_set_max_pairs - limits how many pairs are left when a candidate is added or pairs are formed again: those of
+ * the lowest priority are removed then. A request of the other agent adds its pair without regard to this limit, which
+ * counts the pair when pairs are next formed. IS_ICE_OK. Value: 100. */
 IS_ICE_QUIET_CALL int32_t is_ice_set_max_pairs(is_ice_agent *agent, size_t limit);
 
 /* No limit: see is_ice_set_max_discovered. */
@@ -365,14 +399,14 @@ IS_ICE_QUIET_CALL int32_t is_ice_set_timing_advance(is_ice_agent *agent, uint64_
 IS_ICE_QUIET_CALL int32_t is_ice_set_initial_rto(is_ice_agent *agent, uint64_t nanoseconds);
 
 /* is_ice_set_max_rto - sets the longest time from one check of a pair until the next one is due. A pair that works is
- * checked at this interval, which keeps consent (RFC 7675). IS_ICE_OK. Value: 3 s. */
+ * checked at this interval, which keeps consent (RFC 7675). IS_ICE_OK. Value: 2.9 s. */
 IS_ICE_QUIET_CALL int32_t is_ice_set_max_rto(is_ice_agent *agent, uint64_t nanoseconds);
 
 /* is_ice_set_max_retransmits - sets after how many checks in a row without a response a pair is removed. It is not
  * removed while the last of them may still be answered in time, nor within 15 s of a check of the other agent on it.
- * With the default values that is at most 24.5 s after its last answered check. A browser gives it up after 30 s
- * (RFC 7675), and does not nominate it again: against browsers set 11, and 2.9 s by is_ice_set_max_rto, for 29.6 s.
- * IS_ICE_OK. IS_ICE_BAD_LIMIT: the limit is 0. Value: 9. */
+ * With the default values that is at most 29.6 s after its last answered check: within the 30 s of RFC 7675, after which
+ * a browser gives it up and does not nominate it again. With 9, and 3 s by is_ice_set_max_rto, it is 24.5 s.
+ * IS_ICE_OK. IS_ICE_BAD_LIMIT: the limit is 0. Value: 11. */
 IS_ICE_CALL int32_t is_ice_set_max_retransmits(is_ice_agent *agent, size_t limit);
 
 /* is_ice_set_mtu - stores how long a packet may be, and the length to warn about; is_ice_status returns both.
@@ -404,7 +438,8 @@ IS_ICE_CALL int32_t is_ice_set_local_credentials(
     is_ice_agent *agent, const uint8_t *ufrag, size_t ufrag_length, const uint8_t *pass, size_t pass_length);
 
 /* is_ice_set_remote_credentials - sets the other agent's credentials, from signaling. Before this call no check is
- * sent, and the last 100 early requests of the other agent are stored; they are served after it.
+ * sent, and the last 100 early requests of the other agent are stored. After it each is_ice_handle_timeout call serves
+ * one of them, the oldest first. One that is as old as the ice_timeout of is_ice_status, or older, is dropped instead.
  *
  * IS_ICE_OK. IS_ICE_NOT_UTF8. IS_ICE_CREDENTIALS_TOO_LONG. IS_ICE_OUT_OF_MEMORY. */
 IS_ICE_CALL int32_t is_ice_set_remote_credentials(
@@ -421,36 +456,38 @@ IS_ICE_CALL int32_t is_ice_set_remote_credentials(
  * redundant, or the agent is lite and it is not a host candidate; *index is the index of the first local candidate that
  * has its address, base and protocol, or IS_ICE_NO_INDEX. After an error *index is unchanged. IS_ICE_BAD_ADDRESS: an
  * unknown family, kind, protocol or TCP type, or a TCP type over UDP. IS_ICE_BAD_CANDIDATE: an address that no candidate
- * may have, or address and base of two IP versions (is_ice_candidate_refusal says which). IS_ICE_PRIORITY_TOO_HIGH.
- * IS_ICE_PAIR_IDS_EXHAUSTED. IS_ICE_OUT_OF_MEMORY. */
+ * may have, or a server-reflexive candidate whose base has another IP version (is_ice_candidate_refusal says which).
+ * IS_ICE_PRIORITY_TOO_HIGH. IS_ICE_PAIR_IDS_EXHAUSTED. IS_ICE_OUT_OF_MEMORY. */
 IS_ICE_CALL int32_t is_ice_add_local(is_ice_agent *agent, const is_ice_candidate *candidate, size_t *index);
 
 /* is_ice_add_remote - adds a candidate of the other agent, by its text, and forms its pairs.
  *
  * The text is the candidate attribute of RFC 8839 without "a=" and without a line end, as in "candidate:1 1 udp
- * 2130706175 10.0.0.2 2000 typ host". The call ignores a candidate of a component other than 1, one of another username
- * fragment than the other agent's, and one that equals the remote candidate of a pair.
+ * 2130706175 10.0.0.2 2000 typ host". The call ignores a candidate of a component other than 1, and one that equals the
+ * remote candidate of a pair. It also ignores one of another username fragment than the other agent's: it may be from
+ * before an ICE restart.
  *
  * Browsers hide host addresses in mDNS names, as in "candidate:.. 3f2b8c1e.local 2000 typ host", which fail with
- * IS_ICE_BAD_CANDIDATE. Resolve the name by mDNS and put the address in its place, or leave the candidate out: the
- * agent discovers the address as a peer-reflexive candidate, if a check of the other agent arrives.
+ * IS_ICE_BAD_CANDIDATE. Resolve the name of is_ice_line_name by mDNS and call is_ice_line_with_address, or leave the
+ * candidate out: the agent discovers the address as a peer-reflexive candidate, if a check of the other agent arrives.
  *
- * IS_ICE_OK: added; *index is its index, at which is_ice_remote_candidate returns its text. IS_ICE_NOTHING: ignored;
- * *index is the index of the first remote candidate that equals it in address, base, protocol, kind and related address,
- * or IS_ICE_NO_INDEX. After an error *index is unchanged. IS_ICE_NOT_UTF8. IS_ICE_BAD_CANDIDATE: it is not a candidate
+ * IS_ICE_OK: added; *index is its index, at which is_ice_remote_candidate returns its text. IS_ICE_NOTHING: a pair has an
+ * equal one; *index is the index of the first remote candidate that equals it in address, base, protocol, kind and related
+ * address, or IS_ICE_NO_INDEX. IS_ICE_OTHER_COMPONENT, IS_ICE_OTHER_UFRAG: ignored for that; *index is IS_ICE_NO_INDEX.
+ * After an error *index is unchanged. IS_ICE_NOT_UTF8. IS_ICE_BAD_CANDIDATE: it is not a candidate
  * (is_ice_line_refusal says why). IS_ICE_PAIR_IDS_EXHAUSTED. IS_ICE_OUT_OF_MEMORY. */
 IS_ICE_CALL int32_t is_ice_add_remote(is_ice_agent *agent, const uint8_t *line, size_t length, size_t *index);
 
 /* is_ice_invalidate_local - removes a candidate and its pairs, as when an interface is gone: the local candidate that
- * equals this one, else the remote one.
+ * equals this one, else the remote one. Of several that are equal it looks at the first one only.
  *
- * IS_ICE_OK: removed. IS_ICE_NOTHING: there is none. IS_ICE_BAD_ADDRESS, IS_ICE_BAD_CANDIDATE: see is_ice_add_local.
- * IS_ICE_OUT_OF_MEMORY. */
+ * IS_ICE_OK: removed. IS_ICE_NOTHING: there is none, or the first one was removed before. IS_ICE_BAD_ADDRESS,
+ * IS_ICE_BAD_CANDIDATE: see is_ice_add_local. IS_ICE_OUT_OF_MEMORY. */
 IS_ICE_CALL int32_t is_ice_invalidate_local(is_ice_agent *agent, const is_ice_candidate *candidate);
 
 /* is_ice_invalidate - removes a candidate in the same way, by its text.
  *
- * IS_ICE_OK: removed. IS_ICE_NOTHING: there is none. IS_ICE_NOT_UTF8, IS_ICE_BAD_CANDIDATE: see is_ice_add_remote.
+ * IS_ICE_OK, IS_ICE_NOTHING: see is_ice_invalidate_local. IS_ICE_NOT_UTF8, IS_ICE_BAD_CANDIDATE: see is_ice_add_remote.
  * IS_ICE_OUT_OF_MEMORY. */
 IS_ICE_CALL int32_t is_ice_invalidate(is_ice_agent *agent, const uint8_t *line, size_t length);
 
@@ -465,6 +502,15 @@ IS_ICE_CALL int32_t is_ice_local_candidate(
     is_ice_agent *agent, size_t index, uint8_t *buffer, size_t size, size_t *length);
 IS_ICE_CALL int32_t is_ice_remote_candidate(
     is_ice_agent *agent, size_t index, uint8_t *buffer, size_t size, size_t *length);
+
+/* is_ice_local_fields, is_ice_remote_fields - return the same text and the fields of the candidate.
+ *
+ * IS_ICE_OK. IS_ICE_NOTHING: the index is past the last one. IS_ICE_BUFFER_TOO_SHORT. IS_ICE_OUT_OF_MEMORY. *fields is
+ * unchanged, except after the first of these; the buffer and *length are as after is_ice_local_candidate. */
+IS_ICE_CALL int32_t is_ice_local_fields(
+    is_ice_agent *agent, size_t index, uint8_t *buffer, size_t size, size_t *length, is_ice_fields *fields);
+IS_ICE_CALL int32_t is_ice_remote_fields(
+    is_ice_agent *agent, size_t index, uint8_t *buffer, size_t size, size_t *length, is_ice_fields *fields);
 
 /* is_ice_line_refusal - says why a text is not a candidate: "TEXT: FAULT".
  *
@@ -493,11 +539,45 @@ IS_ICE_CALL int32_t is_ice_candidate_refusal(
 IS_ICE_CALL int32_t is_ice_candidate_line(
     const is_ice_candidate *candidate, uint8_t *buffer, size_t size, size_t *length);
 
+/* is_ice_line_fields - reads the text of a candidate as is_ice_add_remote does, and returns its fields and its text as
+ * the library prints it: with single spaces and without unknown extensions. So a program sees the candidate that the
+ * agent uses, and reads no text itself.
+ *
+ * IS_ICE_OK. IS_ICE_NOT_UTF8. IS_ICE_BAD_CANDIDATE. IS_ICE_BUFFER_TOO_SHORT. IS_ICE_OUT_OF_MEMORY. After an error
+ * *fields is unchanged. */
+IS_ICE_CALL int32_t is_ice_line_fields(
+    const uint8_t *line, size_t line_length, uint8_t *buffer, size_t size, size_t *length, is_ice_fields *fields);
+
+/* is_ice_candidate_fields - returns the text of is_ice_candidate_line and the fields of the candidate.
+ *
+ * IS_ICE_OK. IS_ICE_BAD_ADDRESS, IS_ICE_BAD_CANDIDATE: see is_ice_add_local. IS_ICE_BUFFER_TOO_SHORT.
+ * IS_ICE_OUT_OF_MEMORY. After an error *fields is unchanged. */
+IS_ICE_CALL int32_t is_ice_candidate_fields(
+    const is_ice_candidate *candidate, uint8_t *buffer, size_t size, size_t *length, is_ice_fields *fields);
+
+/* is_ice_line_name - returns the mDNS name that the text of a candidate has in place of its address: its fifth word, if
+ * that ends with ".local" in any case. The rest of the text is not checked. Does not allocate.
+ *
+ * IS_ICE_OK. IS_ICE_NOTHING: it has none. IS_ICE_NOT_UTF8. IS_ICE_BUFFER_TOO_SHORT. */
+IS_ICE_CALL int32_t is_ice_line_name(
+    const uint8_t *line, size_t line_length, uint8_t *buffer, size_t size, size_t *length);
+
+/* is_ice_line_with_address - returns the text of a candidate with this IP address in place of its fifth word, the name
+ * or the address. The port stays that of the text: port, flow and scope of `address` are not read.
+ *
+ * IS_ICE_OK. IS_ICE_NOT_UTF8. IS_ICE_BAD_ADDRESS: an unknown family. IS_ICE_BAD_CANDIDATE: then it is not a candidate.
+ * IS_ICE_BUFFER_TOO_SHORT. IS_ICE_OUT_OF_MEMORY. */
+IS_ICE_CALL int32_t is_ice_line_with_address(
+    const uint8_t *line, size_t line_length, const is_ice_address *address, uint8_t *buffer, size_t size,
+    size_t *length);
+
 /* is_ice_line_with_ufrag - returns the text of a candidate again, with this username fragment in place of its own: so
  * that is_ice_add_remote can leave out candidates of an earlier session. The fragment has letters, digits, '+' and '/'
- * (RFC 8839, section 5.4), which the call does not check. Unknown extensions are left out.
+ * (RFC 8839, section 5.4). The call checks that it is one word: not empty, and without white space (Unicode's
+ * White_Space). So is_ice_add_remote reads this fragment from the text. Unknown extensions are left out.
  *
- * IS_ICE_OK. IS_ICE_NOT_UTF8. IS_ICE_BAD_CANDIDATE. IS_ICE_BUFFER_TOO_SHORT. IS_ICE_OUT_OF_MEMORY. */
+ * IS_ICE_OK. IS_ICE_NOT_UTF8. IS_ICE_BAD_CANDIDATE: not a candidate, or the fragment is not one word.
+ * IS_ICE_BUFFER_TOO_SHORT. IS_ICE_OUT_OF_MEMORY. */
 IS_ICE_CALL int32_t is_ice_line_with_ufrag(
     const uint8_t *line, size_t line_length, const uint8_t *ufrag, size_t ufrag_length, uint8_t *buffer, size_t size,
     size_t *length);
@@ -511,11 +591,13 @@ IS_ICE_CALL int32_t is_ice_line_to_json(
     const uint8_t *line, size_t line_length, uint8_t *buffer, size_t size, size_t *length);
 
 /* is_ice_line_from_json - returns the text of the candidate in such JSON, for is_ice_add_remote. A usernameFragment that
- * is a string replaces that of the candidate. Other members are not read: with several media sections, compare sdpMid
- * or sdpMLineIndex yourself. The end of candidates, which has an empty `candidate`, is IS_ICE_BAD_CANDIDATE.
+ * is a string replaces that of the candidate, and has to be one word, as in is_ice_line_with_ufrag. Other members are
+ * not read: with several media sections, compare sdpMid or sdpMLineIndex yourself. The end of candidates, which has an
+ * empty `candidate`, is IS_ICE_BAD_CANDIDATE.
  *
- * IS_ICE_OK. IS_ICE_NOT_UTF8. IS_ICE_BAD_CANDIDATE: not JSON, no object, without a candidate, or with one that is not
- * one (is_ice_json_refusal says which). IS_ICE_BUFFER_TOO_SHORT. IS_ICE_OUT_OF_MEMORY. */
+ * IS_ICE_OK. IS_ICE_NOT_UTF8. IS_ICE_BAD_CANDIDATE: not JSON, no object, without a candidate, with one that is not one,
+ * or a username fragment that is not one word (is_ice_json_refusal says which). IS_ICE_BUFFER_TOO_SHORT.
+ * IS_ICE_OUT_OF_MEMORY. */
 IS_ICE_CALL int32_t is_ice_line_from_json(
     const uint8_t *json, size_t json_length, uint8_t *buffer, size_t size, size_t *length);
 
@@ -557,7 +639,8 @@ IS_ICE_CALL int32_t is_ice_handle_timeout(
  *
  * IS_ICE_OK: accepted. IS_ICE_NOTHING: a STUN message that is not for this agent. IS_ICE_UNPARSED: not a STUN message,
  * as media, or a Binding request or success response without an attribute that ICE requires. The response of a STUN
- * server is one: it has no MESSAGE-INTEGRITY. The first byte of STUN is below 4 (RFC 7983).
+ * server is one: it has no MESSAGE-INTEGRITY. The first byte of a STUN message is below 4 (RFC 7983). The call knows
+ * STUN by the magic cookie, and does not look at the two top bits of that byte.
  * IS_ICE_BAD_ADDRESS: an unknown family or protocol. IS_ICE_PAIR_IDS_EXHAUSTED. IS_ICE_OUT_OF_MEMORY. */
 IS_ICE_CALL int32_t is_ice_handle_packet(
     is_ice_agent *agent, uint64_t now, uint8_t protocol, const is_ice_address *source,
@@ -583,7 +666,8 @@ IS_ICE_CALL int32_t is_ice_accepts_message(is_ice_agent *agent, const uint8_t *b
  *
  * Call it before packets are polled. While a packet or an early request is queued, the time is one Ta after the last
  * is_ice_handle_timeout call, and at that call a controlled agent selects its pair. After packets were polled, it is
- * the time of the next check. Does not allocate.
+ * the time of the next check. A packet for which the buffer was too short does not count as queued here. Does not
+ * allocate.
  *
  * IS_ICE_OK: *at is the time. IS_ICE_NOTHING: is_ice_handle_timeout was not called yet; *at is unchanged. */
 IS_ICE_CALL int32_t is_ice_poll_timeout(is_ice_agent *agent, uint64_t *at);
@@ -592,8 +676,8 @@ IS_ICE_CALL int32_t is_ice_poll_timeout(is_ice_agent *agent, uint64_t *at);
  * the buffer, whose rest is unchanged; *packet has their length, the addresses and the protocol. Does not allocate.
  *
  * IS_ICE_OK: a packet. IS_ICE_NOTHING: there is none; buffer and *packet are unchanged. IS_ICE_BUFFER_TOO_SHORT: the
- * packet stays the next one, the buffer is unchanged, and packet->length is the required length. No packet is longer
- * than 588 bytes. */
+ * packet stays the next one, the buffer is unchanged, and packet->length is the required length; is_ice_poll_timeout no
+ * longer counts it as queued. No packet is longer than 588 bytes. */
 IS_ICE_CALL int32_t is_ice_poll_transmit(is_ice_agent *agent, uint8_t *buffer, size_t size, is_ice_packet *packet);
 
 /* is_ice_poll_event - returns the next event and removes it from the agent. Does not allocate.
@@ -625,7 +709,8 @@ IS_ICE_CALL int32_t is_ice_status(is_ice_agent *agent, is_ice_agent_status *stat
 /* is_ice_stats - returns the counters since the last restart. IS_ICE_OK. */
 IS_ICE_CALL int32_t is_ice_stats(is_ice_agent *agent, is_ice_agent_stats *stats);
 
-/* is_ice_nominated - returns figures of the selected pair.
+/* is_ice_nominated - returns the selected pair: the path of the last IS_ICE_NOMINATED_SEND, and figures of the pair. The
+ * path is the same whether or not that event was polled.
  *
  * IS_ICE_OK. IS_ICE_NOTHING: no pair was selected, or it was removed; *nominated is unchanged. */
 IS_ICE_CALL int32_t is_ice_nominated(is_ice_agent *agent, is_ice_nominated_pair *nominated);
@@ -642,8 +727,8 @@ IS_ICE_CALL int32_t is_ice_pair_at(is_ice_agent *agent, size_t index, is_ice_pai
 /* is_ice_find_pair - returns a pair whose remote candidate equals the candidate of this text in address, base, protocol,
  * kind and related address: one of the greatest priority. This query allocates.
  *
- * IS_ICE_OK. After the others *pair is unchanged. IS_ICE_NOTHING: there is none. IS_ICE_NOT_UTF8. IS_ICE_BAD_CANDIDATE.
- * IS_ICE_OUT_OF_MEMORY. */
+ * IS_ICE_OK. After any other code, IS_ICE_NO_AGENT too, *pair is unchanged. IS_ICE_NOTHING: there is none.
+ * IS_ICE_NOT_UTF8. IS_ICE_BAD_CANDIDATE. IS_ICE_OUT_OF_MEMORY. */
 IS_ICE_CALL int32_t is_ice_find_pair(is_ice_agent *agent, const uint8_t *line, size_t length, is_ice_pair *pair);
 
 /* is_ice_has_viable_remote - returns whether there is a valid pair whose remote candidate has this address. A pair
@@ -740,7 +825,8 @@ typedef struct is_ice_stun_number {
 } is_ice_stun_number;
 
 /* A message, except its texts. Each attribute is the last one of its type before MESSAGE-INTEGRITY. An address that the
- * message does not have is of family 0. If all but method, class and ID is zero, the message has no attributes. */
+ * message does not have is of family 0; if is_ice_stun_read wrote it, all of it is zero. If all but method, class and ID
+ * is zero, the message has no attributes. */
 typedef struct is_ice_stun_message {
     is_ice_stun_number priority;       /* PRIORITY (RFC 8445, section 16.1) */
     is_ice_stun_number controlled;     /* the tie-breaker of ICE-CONTROLLED */
@@ -763,8 +849,29 @@ typedef struct is_ice_stun_message {
 
 /* is_ice_stun_read - reads a message of any method and class. Nothing is verified, and no attribute is required.
  *
+ * The two top bits of a message, which are 0 (RFC 8489, section 5), are not looked at.
+ *
  * IS_ICE_OK. IS_ICE_UNPARSED: not a STUN message, or one with a malformed attribute; *message is unchanged. */
 IS_ICE_CALL int32_t is_ice_stun_read(const uint8_t *bytes, size_t length, is_ice_stun_message *message);
+
+/* is_ice_stun_read_strict - reads a message as is_ice_handle_packet does. A Binding request must have PRIORITY,
+ * MESSAGE-INTEGRITY and a USERNAME with a colon and something after it; a Binding success response must have
+ * XOR-MAPPED-ADDRESS and MESSAGE-INTEGRITY. Nothing is verified.
+ *
+ * IS_ICE_OK. IS_ICE_UNPARSED: not a STUN message, or one with a malformed attribute, or without one that ICE requires;
+ * *message is unchanged. */
+IS_ICE_CALL int32_t is_ice_stun_read_strict(const uint8_t *bytes, size_t length, is_ice_stun_message *message);
+
+/* is_ice_stun_username - returns the USERNAME of a message, and in *receiver the length of its part before the first
+ * colon. In a Binding request that part is the receiver's username fragment, and what follows the colon is the sender's
+ * (RFC 8445, section 7.2.2). So one socket serves many agents: look the receiver up in a table of their username
+ * fragments, and pass the datagram to that agent only.
+ *
+ * IS_ICE_OK. IS_ICE_NOTHING: no USERNAME, or one with nothing after its first colon. IS_ICE_UNPARSED: not a STUN
+ * message, or one with a malformed attribute. After these two the buffer, *length and *receiver are unchanged.
+ * IS_ICE_BUFFER_TOO_SHORT: *receiver is written too. 513 bytes are long enough for any USERNAME. */
+IS_ICE_CALL int32_t is_ice_stun_username(
+    const uint8_t *bytes, size_t bytes_length, uint8_t *buffer, size_t size, size_t *length, size_t *receiver);
 
 /* is_ice_stun_verify - returns whether the message has a MESSAGE-INTEGRITY that is the HMAC-SHA1 of the message under
  * this key (RFC 8489, section 14.5). For ICE the key of a request is the receiver's password, and that of its response
@@ -824,11 +931,12 @@ IS_ICE_CALL int32_t is_ice_stun_write(
 IS_ICE_SIZE(is_ice_agent, 16);
 IS_ICE_SIZE(is_ice_address, 28);
 IS_ICE_SIZE(is_ice_candidate, 60);
+IS_ICE_SIZE(is_ice_fields, 120);
 IS_ICE_SIZE(is_ice_packet, 72);
 IS_ICE_SIZE(is_ice_event, 68);
 IS_ICE_SIZE(is_ice_agent_status, 32);
 IS_ICE_SIZE(is_ice_agent_stats, 40);
-IS_ICE_SIZE(is_ice_nominated_pair, 32);
+IS_ICE_SIZE(is_ice_nominated_pair, 88);
 IS_ICE_SIZE(is_ice_pair, 96);
 IS_ICE_SIZE(is_ice_kind_preferences, 8);
 IS_ICE_SIZE(is_ice_preference_table, 16);

@@ -370,9 +370,6 @@ static void begin_agent(struct session *s, const struct options *o)
     int32_t code = signal_begin(&s->agent);
     if (code == IS_ICE_OK) code = is_ice_set_controlling(&s->agent, o->controlling);
     if (code == IS_ICE_OK) code = is_ice_set_lite(&s->agent, o->lite);
-    /* gives a path up just before the 30 s of RFC 7675 are over, as browsers do */
-    if (code == IS_ICE_OK) code = is_ice_set_max_rto(&s->agent, UINT64_C(2900000000));
-    if (code == IS_ICE_OK) code = is_ice_set_max_retransmits(&s->agent, 11);
     if (code == IS_ICE_OK) code = is_ice_set_lite_timeout(&s->agent, 30 * SECOND);
     for (size_t i = 0; i < s->net.count && code >= 0; i++) {
         size_t added;

@@ -36,8 +36,9 @@ static void offsets(void)
     AT(is_ice_agent_stats, bind_request_sent, 0), AT(is_ice_agent_stats, bind_success_recv, 8);
     AT(is_ice_agent_stats, bind_request_recv, 16), AT(is_ice_agent_stats, discovered_recv_count, 24);
     AT(is_ice_agent_stats, nomination_send_count, 32);
-    AT(is_ice_nominated_pair, total_rtt, 0), AT(is_ice_nominated_pair, responses, 8);
-    AT(is_ice_nominated_pair, rtt, 16), AT(is_ice_nominated_pair, has_rtt, 24);
+    AT(is_ice_nominated_pair, source, 0), AT(is_ice_nominated_pair, destination, 28);
+    AT(is_ice_nominated_pair, total_rtt, 56), AT(is_ice_nominated_pair, responses, 64), AT(is_ice_nominated_pair, rtt, 72);
+    AT(is_ice_nominated_pair, protocol, 80), AT(is_ice_nominated_pair, has_rtt, 81);
     AT(is_ice_pair, local, 0), AT(is_ice_pair, remote, 8), AT(is_ice_pair, priority, 16), AT(is_ice_pair, checks_sent, 24);
     AT(is_ice_pair, requests_received, 32), AT(is_ice_pair, responses, 40);
     AT(is_ice_pair, total_rtt, 48), AT(is_ice_pair, rtt, 56), AT(is_ice_pair, last_request, 64), AT(is_ice_pair, due, 72);
@@ -64,7 +65,7 @@ static void settings(void)
     memset(&s, 0xaa, sizeof s);
     HOLD(is_ice_status(&agent, &s) == IS_ICE_OK);
     HOLD(s.state == IS_ICE_NEW && !s.controlling && !s.lite);
-    HOLD(s.mtu == 1150 && s.mtu_warn == 1280 && s.ice_timeout == UINT64_C(21500000000));
+    HOLD(s.mtu == 1150 && s.mtu_warn == 1280 && s.ice_timeout == UINT64_C(26700000000));
     HOLD(is_ice_set_controlling(&agent, true) == IS_ICE_OK && is_ice_set_mtu(&agent, 600, 700) == IS_ICE_OK);
     HOLD(is_ice_set_max_retransmits(&agent, 2) == IS_ICE_OK && is_ice_set_max_rto(&agent, 400000000) == IS_ICE_OK);
     HOLD(is_ice_status(&agent, &s) == IS_ICE_OK);
@@ -170,7 +171,8 @@ static void session(void)
     HOLD(stats.bind_request_recv == 0 && stats.discovered_recv_count == 1 && stats.nomination_send_count == 1);
     HOLD(is_ice_stats(&b, &stats) == IS_ICE_OK && stats.bind_request_sent == 0 && stats.bind_request_recv == 1);
     memset(&path, 0xaa, sizeof path);
-    HOLD(is_ice_nominated(&a, &path) == IS_ICE_OK && path.responses == 1);
+    HOLD(is_ice_nominated(&a, &path) == IS_ICE_OK && path.responses == 1 && path.protocol == IS_ICE_UDP);
+    HOLD(same(&path.source, &at_a) && same(&path.destination, &at_b));
     HOLD(path.total_rtt == 30000000 && path.rtt == 30000000 && path.has_rtt);
     memset(&pair, 0xaa, sizeof pair);
     HOLD(is_ice_pair_count(&a, &count) == IS_ICE_OK && count == 1 && is_ice_pair_at(&a, 1, &pair) == IS_ICE_NOTHING);

@@ -1,4 +1,4 @@
-/* What the programs share that play a hostile peer and measure what it costs: flood.c and mapped.c. */
+/* What the programs share that measure what calls cost: flood.c and mapped.c, which play a hostile peer, demux.c and stack.c. */
 #ifndef MEASURING_H
 #define MEASURING_H
 

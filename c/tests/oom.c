@@ -116,9 +116,9 @@ static void introduce(struct story *s)
     QUIET(IS_ICE_OK, is_ice_set_max_discovered(&s->b, 32));
     QUIET(IS_ICE_OK, is_ice_set_timing_advance(&s->b, 50000000));
     QUIET(IS_ICE_OK, is_ice_set_initial_rto(&s->b, 250000000));
-    QUIET(IS_ICE_OK, is_ice_set_max_rto(&s->b, UINT64_C(3000000000)));
+    QUIET(IS_ICE_OK, is_ice_set_max_rto(&s->b, UINT64_C(2900000000)));
     QUIET(IS_ICE_OK, is_ice_set_lite_timeout(&s->b, UINT64_C(15000000000)));
-    QUIET(IS_ICE_OK, is_ice_set_max_retransmits(&s->b, 9));
+    QUIET(IS_ICE_OK, is_ice_set_max_retransmits(&s->b, 11));
     QUIET(IS_ICE_OK, is_ice_set_mtu(&s->b, 1150, 1280));
     QUIET(IS_ICE_OK, is_ice_skip_pair_ids(&s->b, 0));
     QUIET(IS_ICE_OK, is_ice_set_local_preference(&s->b, 1));
@@ -168,16 +168,18 @@ static void write_messages(void)
     is_ice_stun_texts texts;
     is_ice_stun_result result;
     uint8_t bytes[128], text[16];
-    size_t length;
+    size_t length, written, receiver;
     memset(&message, 0, sizeof message);
     memset(&texts, 0, sizeof texts);
     QUIET(IS_ICE_OK, is_ice_stun_request(&id, bytes, sizeof bytes, &length));
     QUIET(IS_ICE_NOTHING, is_ice_stun_response(&id, bytes, length, &result));
     QUIET(IS_ICE_OK, is_ice_stun_read(bytes, length, &message));
-    message.has_integrity = true;
+    message.has_integrity = message.priority.is_set = true;
     texts.username.length = 3, texts.username.is_set = true;
     QUIET(IS_ICE_OK, is_ice_stun_write(&message, &texts, TEXT("a:b"), TEXT("key"), bytes, sizeof bytes, &length));
     QUIET(IS_ICE_OK, is_ice_stun_verify(bytes, length, TEXT("key")));
+    QUIET(IS_ICE_OK, is_ice_stun_read_strict(bytes, length, &message));
+    QUIET(IS_ICE_OK, is_ice_stun_username(bytes, length, text, sizeof text, &written, &receiver));
     QUIET(IS_ICE_OK, is_ice_stun_text(IS_ICE_STUN_USERNAME, bytes, length, text, sizeof text, &length));
 }
 

@@ -296,6 +296,42 @@ static void refuses_what_is_no_message(void)
     texts = none, texts.realm = whole(1), HOLD(refused(&good, &texts, "\xff") == IS_ICE_NOT_UTF8);
 }
 
+/* The strict reading is that of is_ice_handle_packet: the samples of RFC 5769 have what ICE requires, the response of a server has not. */
+static void reads_strictly(void)
+{
+    uint8_t bytes[128];
+    is_ice_stun_message m, same;
+    memset(&m, 0xaa, sizeof m);
+    memset(&same, 0xaa, sizeof same);
+    HOLD(is_ice_stun_read_strict(bytes, unhex(plain_hex, bytes), &m) == IS_ICE_UNPARSED && memcmp(&m, &same, sizeof m) == 0);
+    HOLD(is_ice_stun_read(bytes, unhex(plain_hex, bytes), &m) == IS_ICE_OK && m.cls == IS_ICE_STUN_SUCCESS);
+    HOLD(is_ice_stun_read_strict(bytes, unhex(failed_hex, bytes), &m) == IS_ICE_OK && m.cls == IS_ICE_STUN_FAILURE);
+    HOLD(is_ice_stun_read_strict(bytes, unhex(v4_hex, bytes), &m) == IS_ICE_OK && m.mapped.family == 4 && m.mapped.port == 32853);
+    HOLD(!m.priority.is_set && m.priority.value == 0 && m.peer.family == 0 && m.peer.port == 0 && m.relayed.family == 0);
+    HOLD(is_ice_stun_read_strict(bytes, unhex(request_hex, bytes), &m) == IS_ICE_OK && m.cls == IS_ICE_STUN_REQUEST);
+    HOLD(m.priority.is_set && m.priority.value == 0x6e0001ff && !m.error_code.is_set && m.error_code.value == 0 && m.mapped.family == 0);
+    HOLD(is_ice_stun_read_strict(bytes, 7, &m) == IS_ICE_UNPARSED);
+}
+
+/* "evtj:h6vY": evtj is the receiver of the request of RFC 5769, h6vY its sender. */
+static void names_receiver_and_sender(void)
+{
+    uint8_t bytes[128], name[16];
+    size_t length = 77, receiver = 77, size = unhex(request_hex, bytes);
+    memset(name, 0xaa, sizeof name);
+    HOLD(is_ice_stun_username(bytes, size, name, 8, &length, &receiver) == IS_ICE_BUFFER_TOO_SHORT);
+    HOLD(length == 9 && receiver == 4 && name[0] == 0xaa);
+    HOLD(is_ice_stun_username(bytes, size, name, sizeof name, &length, &receiver) == IS_ICE_OK && length == 9 && receiver == 4);
+    HOLD(memcmp(name, "evtj:h6vY", 9) == 0 && name[9] == 0xaa);
+    bytes[64] = 0xff; /* the first byte of the USERNAME */
+    HOLD(is_ice_stun_username(bytes, size, name, sizeof name, &length, &receiver) == IS_ICE_UNPARSED);
+    bytes[64] = 'e', bytes[68] = '.'; /* without the colon */
+    HOLD(is_ice_stun_username(bytes, size, name, sizeof name, &length, &receiver) == IS_ICE_NOTHING);
+    size = unhex(v4_hex, bytes);
+    HOLD(is_ice_stun_username(bytes, size, name, sizeof name, &length, &receiver) == IS_ICE_NOTHING);
+    HOLD(length == 9 && receiver == 4 && memcmp(name, "evtj:h6vY", 9) == 0);
+}
+
 int main(void)
 {
     offsets();
@@ -306,5 +342,7 @@ int main(void)
     writes_a_request();
     reads_responses();
     reads_any_message();
+    reads_strictly();
+    names_receiver_and_sender();
     return 0;
 }

@@ -1,14 +1,14 @@
 -- Where an added candidate is listed: its index among the candidates that are not discarded.
-use Rattle.std.specs.Prelude.{◌≡◌, ℕ, ◌&&◌, Bool, List, take, count_by, position, Option, Some, None, option_map, Result, Ok, Err, if◌then◌else◌}
+use Rattle.std.specs.Prelude.{◌≡◌, ℕ, ◌==◌, ◌&&◌, Bool, not, List, take, count_by, position, Option, Some, None, option_map, Result, Ok, Err, if◌then◌else◌}
 use Rattle.is_proto.specs.declared.error.IceError.{IceError}
 use Rattle.is_candidate.specs.Candidates.{CandidateRecord}
 use Rattle.is_candidate.specs.Equality.{is_same_place, is_equivalent}
 use Rattle.is_agent.specs.declared.added.Addition.{Addition}
-use Rattle.is_agent.specs.declared.added.Addition.TheVariants.{Added, Known, Ignored}
+use Rattle.is_agent.specs.declared.added.Addition.TheVariants.{Added, Known, Ignored, OtherComponent, OtherUfrag}
 use Rattle.is_rules.specs.Agent.{AgentRecord}
 use Rattle.is_rules.specs.Forming.{is_alive}
 use Rattle.is_rules.specs.Local.{AddsLocal}
-use Rattle.is_rules.specs.Remote.{AddsRemote, is_ignored, is_placeholder, place_or_end}
+use Rattle.is_rules.specs.Remote.{AddsRemote, is_ignored, has_other_ufrag, is_placeholder, place_or_end}
 
 -- how many listed candidates come before the one at this place
 abbrev pub listed_index : List CandidateRecord → ℕ → ℕ
@@ -39,10 +39,17 @@ module _ {H P : Type 0} where
   AddsLocalListed answers old c result new =
       (place : Result (Option ℕ) IceError) × AddsLocal answers old c place new × (result ≡ reported (local_addition c old.local new.local) place)
 
+  -- why a remote candidate is ignored: for its component, for its username fragment, or for a pair whose remote candidate equals it
+  abbrev pub ignored_addition : AgentRecord H P → CandidateRecord → Addition
+  ignored_addition old c =
+      if not (c.component == 1) then OtherComponent
+      else if has_other_ufrag old.remote_creds c.ufrag then OtherUfrag
+      else not_added (first_listed (is_equivalent c) old.remote)
+
   -- A remote candidate takes the place of the one that a request from its address added, else the last one.
   abbrev pub remote_addition : AgentRecord H P → CandidateRecord → Addition
   remote_addition old c =
-      if is_ignored old c then not_added (first_listed (is_equivalent c) old.remote)
+      if is_ignored old c then ignored_addition old c
       else Added (listed_index old.remote (place_or_end (position (is_placeholder c) old.remote) old.remote))
 
   -- `add_remote_listed`

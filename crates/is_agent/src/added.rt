@@ -3,12 +3,12 @@
 ghost use Rattle.std.specs.Prelude.{◌≡◌, ◌&&◌, position, take};
 ghost use Rattle.is_candidate.specs.Equality.{is_same_place, is_equivalent};
 ghost use Rattle.is_rules.specs.Forming.{is_alive};
-ghost use Rattle.is_agent.specs.Added.{listed_index, first_listed, not_added, AddsLocalListed, AddsRemoteListed};
+ghost use Rattle.is_agent.specs.Added.{listed_index, first_listed, not_added, ignored_addition, AddsLocalListed, AddsRemoteListed};
 ghost use Rattle.is_agent.specs.View.{record_of};
 
 use crate::agent::Agent;
 use is_candidate::candidate::equality::{is_equivalent, is_same_place};
-use is_candidate::candidate::internals::is_discarded;
+use is_candidate::candidate::internals::{component, is_discarded};
 use is_candidate::{Candidate, LocalPreference};
 use is_proto::{IceError, Sha1HmacProvider};
 use is_rules::remote::place_or_end;
@@ -22,6 +22,10 @@ pub enum Addition {
     Known(usize),
     /// It was not added, and none equals it.
     Ignored,
+    /// It was ignored, since it is of another component than 1.
+    OtherComponent,
+    /// It was ignored, since its username fragment is not the peer's.
+    OtherUfrag,
 }
 
 fn not_added(equal: Option<usize>) -> Addition
@@ -122,8 +126,24 @@ pub fn add_local_listed<H: Sha1HmacProvider + Drop, P: LocalPreference>(
     }
 }
 
-/// Adds a remote candidate like `add_remote_candidate`, and returns the index at which it is listed. A candidate that is not
-/// added equals one with the same address, base, protocol, kind and related address.
+/// Why the remote candidate is ignored.
+fn ignored_addition<H: Sha1HmacProvider + Drop, P: LocalPreference>(
+    agent: &Agent<H, P>,
+    candidate: &Candidate,
+) -> Addition
+    ensures { result ≡ ignored_addition (record_of agent.now) candidate.now }
+{
+    if component(candidate) != 1 {
+        Addition::OtherComponent
+    } else if agent.has_other_ufrag(candidate) {
+        Addition::OtherUfrag
+    } else {
+        not_added(first_equal(&agent.remote, candidate))
+    }
+}
+
+/// Adds a remote candidate like `add_remote_candidate`, and returns the index at which it is listed, or why it is ignored. One that
+/// is ignored for a pair of its own equals one with the same address, base, protocol, kind and related address.
 pub fn add_remote_listed<H: Sha1HmacProvider + Drop, P: LocalPreference>(
     agent: &mut Agent<H, P>,
     candidate: Candidate,
@@ -131,7 +151,7 @@ pub fn add_remote_listed<H: Sha1HmacProvider + Drop, P: LocalPreference>(
     ensures { AddsRemoteListed (record_of agent.old) candidate result (record_of agent.new) }
 {
     if agent.is_ignored(&candidate) {
-        return Ok(not_added(first_equal(&agent.remote, &candidate)));
+        return Ok(ignored_addition(agent, &candidate));
     }
     let place = agent.place_for(&candidate);
     let index = listed_index(&agent.remote, place_or_end(place, &agent.remote));

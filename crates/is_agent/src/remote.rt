@@ -18,7 +18,7 @@ use is_rules::remote::{Equivalent, as_remote, place_of_placeholder, place_or_end
 use is_rules::sides::Sides;
 
 impl<H: Sha1HmacProvider + Drop, P: LocalPreference> Agent<H, P> {
-    fn has_other_ufrag(&self, candidate: &Candidate) -> bool
+    pub(crate) fn has_other_ufrag(&self, candidate: &Candidate) -> bool
         ensures { result ≡ has_other_ufrag (record_of self.now).remote_creds candidate.now.ufrag }
     {
         match (&self.remote_creds, candidate.ufrag()) {

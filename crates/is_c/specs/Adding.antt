@@ -5,10 +5,10 @@ use Rattle.is_proto.specs.declared.error.IceError.{IceError}
 use Rattle.is_candidate.specs.Candidates.{CandidateRecord}
 use Rattle.is_agent.specs.Added.{AddsLocalListed, AddsRemoteListed}
 use Rattle.is_agent.specs.declared.added.Addition.{Addition}
-use Rattle.is_agent.specs.declared.added.Addition.TheVariants.{Added, Known, Ignored}
+use Rattle.is_agent.specs.declared.added.Addition.TheVariants.{Added, Known, Ignored, OtherComponent, OtherUfrag}
 use Rattle.is_c.specs.declared.candidate.LocalCandidate.{LocalCandidate}
 use Rattle.is_c.specs.Candidates.{Made, MakesCandidate, ReadsBytes}
-use Rattle.is_c.specs.Codes.{OK, NOTHING, BAD_ADDRESS, NOT_UTF8, code_of}
+use Rattle.is_c.specs.Codes.{OK, NOTHING, OTHER_COMPONENT, OTHER_UFRAG, BAD_ADDRESS, NOT_UTF8, code_of}
 use Rattle.is_c.specs.Held.{Held, HomeRecord, Rejects}
 use Rattle.is_c.specs.Preferences.{answers}
 
@@ -16,11 +16,25 @@ use Rattle.is_c.specs.Preferences.{answers}
 abbrev pub NO_INDEX : ℕ
 NO_INDEX = MAX
 
+-- the index at which the candidate of an addition is listed
+abbrev pub addition_index : Addition → ℕ
+addition_index (Added index) = index
+addition_index (Known index) = index
+addition_index Ignored = NO_INDEX
+addition_index OtherComponent = NO_INDEX
+addition_index OtherUfrag = NO_INDEX
+
+-- its code: whether it was added, or why it was ignored
+abbrev pub addition_code : Addition → ℤ
+addition_code (Added index) = OK
+addition_code (Known index) = NOTHING
+addition_code Ignored = NOTHING
+addition_code OtherComponent = OTHER_COMPONENT
+addition_code OtherUfrag = OTHER_UFRAG
+
 -- the code and the index of an addition; an error leaves the index as it was
 abbrev pub PutsAddition : Result Addition IceError → ℕ → ℤ → ℕ → Type 0
-PutsAddition (Ok (Added index)) before code after = (code ≡ OK) × (after ≡ index)
-PutsAddition (Ok (Known index)) before code after = (code ≡ NOTHING) × (after ≡ index)
-PutsAddition (Ok Ignored) before code after = (code ≡ NOTHING) × (after ≡ NO_INDEX)
+PutsAddition (Ok addition) before code after = (code ≡ addition_code addition) × (after ≡ addition_index addition)
 PutsAddition (Err e) before code after = (code ≡ code_of e) × (after ≡ before)
 
 -- the library's call, if there is a candidate

@@ -1,18 +1,20 @@
 -- Candidate JSON in the caller's buffer.
-use Rattle.std.specs.Prelude.{◌≡◌, ◌⊎◌, ℕ, List, Some, None, MatchOption, Ok, Err, ℤ}
+use Rattle.std.specs.Prelude.{◌⊎◌, ℕ, List, Some, None, MatchOption, Result, Ok, Err, ℤ}
 use Rattle.std.specs.Str.{IsUtf8}
 use Rattle.serde_json.specs.Written.{compact_text}
+use Rattle.is_proto.specs.declared.error.IceError.{IceError}
 use Rattle.is_candidate.specs.Candidates.{CandidateRecord}
 use Rattle.is_candidate.specs.Infos.{info_of, ReadsInfoText}
 use Rattle.is_c.specs.Candidates.{Made, ReadsBytes}
 use Rattle.is_c.specs.Codes.{NOT_UTF8, OUT_OF_MEMORY, code_of}
-use Rattle.is_c.specs.Lines.{PutsMade}
+use Rattle.is_c.specs.Lines.{KeepsWord, PutsMade}
 use Rattle.is_c.specs.Rejections.{ReturnsWhy}
 use Rattle.is_c.specs.Texts.{Puts, PutsNone}
 
--- the candidate of a JSON text, if the bytes are UTF-8
+-- the candidate of a JSON text, if the bytes are UTF-8 and its username fragment, if it has one, is one word
 abbrev pub ReadsInfoBytes : List ℕ → Made → Type 0
-ReadsInfoBytes json made = MatchOption made (¬ IsUtf8 json) (λ r. ReadsInfoText json r)
+ReadsInfoBytes json made =
+    MatchOption made (¬ IsUtf8 json) (λ r. (read : Result CandidateRecord IceError) × ReadsInfoText json read × KeepsWord read r)
 
 -- the object of the candidate, as JSON without white space
 abbrev pub PutsInfo : CandidateRecord → List ℕ → ℕ → ℤ → List ℕ → ℕ → Type 0

@@ -19,11 +19,15 @@ pub mod Accepting
 pub mod Events
 pub mod Questions
 pub mod StunRead
+pub mod StunNames
 pub mod StunClient
 pub mod StunMessage
 pub mod StunTexts
 pub mod StunWrite
 pub mod StunFill
 pub mod Pairs
+pub mod Selected
 pub mod Lines
+pub mod Fields
+pub mod Mdns
 pub mod Infos

@@ -1,5 +1,5 @@
 -- Candidates that no agent has: their text, their username fragment and their default local preference.
-use Rattle.std.specs.Prelude.{◌≡◌, ◌⊎◌, ℕ, List, Some, None, MatchOption, Result, Ok, Err, ℤ}
+use Rattle.std.specs.Prelude.{◌≡◌, ◌⊎◌, ℕ, List, Some, None, MatchOption, IfSome, Result, Ok, Err, IsErrAnd, codes, ℤ}
 use Rattle.std.specs.Str.{IsUtf8}
 use Rattle.is_proto.specs.declared.error.IceError.{IceError}
 use Rattle.is_proto.specs.declared.error.IceError.TheVariants.{OutOfMemory}
@@ -7,6 +7,8 @@ use Rattle.is_candidate.specs.Candidates.{CandidateRecord}
 use Rattle.is_candidate.specs.Faults.{ReadsLine}
 use Rattle.is_candidate.specs.Infos.{with_ufrag}
 use Rattle.is_candidate.specs.Preferences.{default_preference}
+use Rattle.is_candidate.specs.Rejections.{RejectsWith}
+use Rattle.is_candidate.specs.Words.{IsWord}
 use Rattle.is_c.specs.declared.candidate.LocalCandidate.{LocalCandidate}
 use Rattle.is_c.specs.Candidates.{Made, MakesCandidate, ReadsBytes}
 use Rattle.is_c.specs.Codes.{OK, BAD_ADDRESS, NOT_UTF8, code_of}
@@ -24,15 +26,25 @@ abbrev pub ReturnsGiven : LocalCandidate → List ℕ → ℕ → ℤ → List �
 ReturnsGiven c before was code after count =
     (made : Made) × MakesCandidate c made × PutsMade BAD_ADDRESS made before was code after count
 
+-- the username fragment, if there is one, is one word: then the printed text round-trips
+abbrev pub HasWordUfrag : CandidateRecord → Type 0
+HasWordUfrag c = IfSome c.ufrag IsWord
+
+-- the candidate, if that holds
+abbrev pub KeepsWord : Result CandidateRecord IceError → Result CandidateRecord IceError → Type 0
+KeepsWord (Err e) r = r ≡ Err e
+KeepsWord (Ok c) r =
+    (HasWordUfrag c × (r ≡ Ok c)) ⊎ (¬ HasWordUfrag c × IsErrAnd r (RejectsWith (codes "username fragment is not one word")))
+
 -- the candidate with this username fragment
 abbrev pub NamesAs : List ℕ → CandidateRecord → Result CandidateRecord IceError → Type 0
 NamesAs ufrag c r = (r ≡ Err OutOfMemory) ⊎ (r ≡ Ok (with_ufrag (Some ufrag) c))
 
 abbrev pub NamesRead : List ℕ → Result CandidateRecord IceError → Result CandidateRecord IceError → Type 0
 NamesRead ufrag (Err e) r = r ≡ Err e
-NamesRead ufrag (Ok c) r = NamesAs ufrag c r
+NamesRead ufrag (Ok c) r = (named : Result CandidateRecord IceError) × NamesAs ufrag c named × KeepsWord named r
 
--- the candidate of a candidate attribute, with this username fragment, if both are UTF-8
+-- the candidate of a candidate attribute, with this username fragment if that is one word, if both are UTF-8
 abbrev pub NamesBytes : List ℕ → List ℕ → Made → Type 0
 NamesBytes line ufrag made =
     MatchOption made

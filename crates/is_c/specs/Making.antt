@@ -6,12 +6,12 @@ use Rattle.is_rules.specs.Fitting.{are_too_long}
 use Rattle.is_c.specs.Codes.{OK, HAS_AGENT, OUT_OF_MEMORY, CREDENTIALS_TOO_LONG}
 use Rattle.is_c.specs.Credentials.{MakesCreds}
 use Rattle.is_c.specs.Held.{HomeRecord}
-use Rattle.is_c.specs.Limits.{DISCOVERED_LIMIT}
+use Rattle.is_c.specs.Limits.{DISCOVERED_LIMIT, new_timing}
 
--- a newly created agent, with the limit on candidates that packets bring
+-- a newly created agent, with the limit on candidates that packets bring, and with its timing
 abbrev pub fresh_home : IceCreds → ℕ → HomeRecord
 fresh_home creds tie_breaker = record {
-  agent = record (fresh (record {}) creds tie_breaker) { max_discovered = Some DISCOVERED_LIMIT };
+  agent = record (fresh (record {}) creds tie_breaker) { max_discovered = Some DISCOVERED_LIMIT; timing = new_timing };
   waiting = None;
 }
 

@@ -17,9 +17,9 @@ check_number Waiting = pos 0
 check_number InProgress = pos 1
 check_number Succeeded = pos 2
 
--- a time or duration that may be missing
+-- a time or duration, which is 0 if it is missing
 abbrev pub IsTime : Option ℕ → Bool → ℕ → Type 0
-IsTime None has time = has ≡ false
+IsTime None has time = (has ≡ false) × (time ≡ 0)
 IsTime (Some t) has time = (has ≡ true) × (time ≡ t)
 
 -- what C gets of a pair: its candidates by the indices at which they are listed

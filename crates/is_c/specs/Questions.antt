@@ -1,11 +1,10 @@
 -- What C can query of an agent, which is unchanged.
-use Rattle.std.specs.Prelude.{◌≡◌, ℕ, true, false, List, Option, Some, None, MatchOption, slice_get, unwrap_or, ◌⊎◌, ℤ}
+use Rattle.std.specs.Prelude.{◌≡◌, ℕ, List, Option, Some, None, MatchOption, slice_get, ◌⊎◌, ℤ}
 use Rattle.is_candidate.specs.Candidates.{CandidateRecord}
 use Rattle.is_candidate.specs.Sdp.{sdp_text}
 use Rattle.is_rules.specs.declared.event.IceAgentStats.{IceAgentStats}
-use Rattle.is_rules.specs.Questions.{live, has_viable_remote, ice_timeout, nominated_rtt, nominated_total_rtt, nominated_responses}
+use Rattle.is_rules.specs.Questions.{live, has_viable_remote, ice_timeout}
 use Rattle.is_rules.specs.declared.credentials.IceCreds.{IceCreds}
-use Rattle.is_c.specs.declared.questions.Nominated.{Nominated}
 use Rattle.is_c.specs.declared.questions.Stats.{Stats}
 use Rattle.is_c.specs.declared.questions.Status.{Status}
 use Rattle.is_c.specs.declared.address.Address.{Address}
@@ -36,19 +35,6 @@ stats_of s = record {
 
 abbrev pub ReturnsStats : Stats → HomeRecord → ℤ → HomeRecord → Type 0
 ReturnsStats stats old code new = (code ≡ OK) × (stats_of stats ≡ old.agent.stats) × (new ≡ old)
-
--- `is_ice_nominated`: the figures of the pair that was selected last, if it still exists
-abbrev pub IsRtt : Option ℕ → Nominated → Type 0
-IsRtt None n = n.has_rtt ≡ false
-IsRtt (Some time) n = (n.has_rtt ≡ true) × (n.rtt ≡ time)
-
-abbrev pub ReturnsNominated : Nominated → Nominated → HomeRecord → ℤ → HomeRecord → Type 0
-ReturnsNominated before after old code new =
-    MatchOption (nominated_total_rtt old.agent)
-    ((code ≡ NOTHING) × (after ≡ before))
-    (λ total. (code ≡ OK) × (after.total_rtt ≡ total) × (after.responses ≡ unwrap_or (nominated_responses old.agent) 0)
-    × IsRtt (nominated_rtt old.agent) after)
-    × (new ≡ old)
 
 -- the candidate attribute of a candidate, in the caller's buffer
 abbrev pub PutsLine : Option CandidateRecord → List ℕ → ℕ → ℤ → List ℕ → ℕ → Type 0

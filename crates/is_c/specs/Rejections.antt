@@ -1,5 +1,5 @@
 -- The error messages of invalid candidates, in the caller's buffer.
-use Rattle.std.specs.Prelude.{◌≡◌, ℕ, List, Option, Some, None, MatchOption, Result, Ok, Err, ℤ, string_bytes}
+use Rattle.std.specs.Prelude.{ℕ, List, Option, Some, None, MatchOption, Result, Ok, Err, ℤ, string_bytes}
 use Rattle.is_proto.specs.declared.error.IceError.{IceError}
 use Rattle.is_proto.specs.declared.error.IceError.TheVariants as errors
 use Rattle.is_candidate.specs.Candidates.{CandidateRecord}

@@ -1,11 +1,13 @@
 -- A STUN message as a flat struct for C.
-use Rattle.std.specs.Prelude.{◌≡◌, ◌↔◌, ℕ, Bool, true, false, List, Option, Some, None, option_map, is_some, IsTrue, ℤ}
+use Rattle.std.specs.Prelude.{◌≡◌, ◌↔◌, ℕ, Bool, true, false, List, Option, Some, None, option_map, is_some, replicate, IsTrue, ℤ}
+use Rattle.std.specs.declared.net.socket_addr.SocketAddr.{SocketAddr}
 use Rattle.is_proto.specs.Hmac.{hmac_sha1}
 use Rattle.is_stun.specs.declared.header.Class.{Class}
 use Rattle.is_stun.specs.declared.header.Class.TheVariants as classes
 use Rattle.is_stun.specs.Header.{method_bits}
 use Rattle.is_stun.specs.Integrity.{IsSignedBy}
 use Rattle.is_stun.specs.Message.{Message}
+use Rattle.is_c.specs.declared.address.Address.{Address}
 use Rattle.is_c.specs.declared.stun_message.Message.{Message as Flat}
 use Rattle.is_c.specs.declared.stun_message.Number.{Number}
 use Rattle.is_c.specs.Addresses.{socket_of}
@@ -26,23 +28,37 @@ number_if false n = None
 abbrev pub number_in : Number → Option ℕ
 number_in n = number_if n.is_set n.value
 
--- each field, and none that the message does not have
+-- the number that the message has, and 0 if it has none
+abbrev pub number_of : Option ℕ → Number
+number_of None = record { value = 0; is_set = false }
+number_of (Some n) = record { value = n; is_set = true }
+
+-- an address that is not there: family 0, and all else zero
+abbrev pub no_address : Address
+no_address = record { family = 0; bytes = replicate 16 0; port = 0; flow = 0; scope = 0 }
+
+-- the address that the message has, and family 0 if it has none
+abbrev pub IsAddress : Option SocketAddr → Address → Type 0
+IsAddress None a = a ≡ no_address
+IsAddress (Some at) a = socket_of a ≡ Some at
+
+-- each field; what the message does not have is zero
 pub record IsFlat (m : Message) (f : Flat) : Type 0 where
   pub method : f.method ≡ method_bits m.method
   pub class : f.class ≡ class_number m.class
   pub id : f.id.bytes ≡ m.id
-  pub priority : number_in f.priority ≡ m.attributes.priority
+  pub priority : f.priority ≡ number_of m.attributes.priority
   pub use_candidate : f.use_candidate ≡ m.attributes.use_candidate
-  pub controlled : number_in f.controlled ≡ m.attributes.ice_controlled
-  pub controlling : number_in f.controlling ≡ m.attributes.ice_controlling
-  pub error_code : number_in f.error_code ≡ option_map (λ e. e.0) m.attributes.error_code
-  pub lifetime : number_in f.lifetime ≡ m.attributes.lifetime
-  pub channel_number : number_in f.channel_number ≡ m.attributes.channel_number
-  pub network_id : number_in f.network_id ≡ option_map (λ c. c.0) m.attributes.network_cost
-  pub network_cost : number_in f.network_cost ≡ option_map (λ c. c.1) m.attributes.network_cost
-  pub mapped : socket_of f.mapped ≡ m.attributes.xor_mapped_address
-  pub peer : socket_of f.peer ≡ m.attributes.xor_peer_address
-  pub relayed : socket_of f.relayed ≡ m.attributes.xor_relayed_address
+  pub controlled : f.controlled ≡ number_of m.attributes.ice_controlled
+  pub controlling : f.controlling ≡ number_of m.attributes.ice_controlling
+  pub error_code : f.error_code ≡ number_of (option_map (λ e. e.0) m.attributes.error_code)
+  pub lifetime : f.lifetime ≡ number_of m.attributes.lifetime
+  pub channel_number : f.channel_number ≡ number_of m.attributes.channel_number
+  pub network_id : f.network_id ≡ number_of (option_map (λ c. c.0) m.attributes.network_cost)
+  pub network_cost : f.network_cost ≡ number_of (option_map (λ c. c.1) m.attributes.network_cost)
+  pub mapped : IsAddress m.attributes.xor_mapped_address f.mapped
+  pub peer : IsAddress m.attributes.xor_peer_address f.peer
+  pub relayed : IsAddress m.attributes.xor_relayed_address f.relayed
   pub has_integrity : f.has_integrity ≡ is_some m.integrity
   pub has_fingerprint : f.has_fingerprint ≡ is_some m.attributes.fingerprint
 

@@ -2,6 +2,7 @@
 use Rattle.std.specs.Prelude.{◌≡◌, ◌⊎◌, ◌==◌, ℕ, List, Option, Some, None, option_map, if◌then◌else◌, ℤ}
 use Rattle.is_proto.specs.declared.error.StunError.{StunError}
 use Rattle.is_stun.specs.Form.{ReadsAny, FailsAnyBy}
+use Rattle.is_stun.specs.Reading.{Reads, FailsBy}
 use Rattle.is_stun.specs.Message.{AttributesRecord, Message}
 use Rattle.is_stun.specs.Numbers.{USERNAME, ERROR_CODE, DATA, REALM, NONCE, SOFTWARE}
 use Rattle.is_c.specs.Codes.{NOTHING, UNPARSED}
@@ -12,6 +13,12 @@ abbrev pub ReturnsMessage : List ℕ → (Message → ℤ → Type 0) → Type 0
 ReturnsMessage bytes P Same code =
     ((e : StunError) × FailsAnyBy bytes e × (code ≡ UNPARSED) × Same)
     ⊎ ((m : Message) × ReadsAny bytes m × P m code)
+
+-- the same of a message that has what ICE requires of it: the reading of `is_ice_handle_packet`
+abbrev pub ReturnsStrict : List ℕ → (Message → ℤ → Type 0) → Type 0 → ℤ → Type 0
+ReturnsStrict bytes P Same code =
+    ((e : StunError) × FailsBy bytes e × (code ≡ UNPARSED) × Same)
+    ⊎ ((m : Message) × Reads bytes m × P m code)
 
 -- the text of the attribute of this type
 abbrev pub text_of : ℕ → AttributesRecord → Option (List ℕ)

@@ -2,7 +2,7 @@
 
 ghost use Rattle.std.specs.Prelude.{◌≡◌, None};
 ghost use Rattle.is_rules.specs.Discarding.{Invalidates};
-ghost use Rattle.is_c.specs.Adding.{PutsAddition, AddsGiven, AddsRead};
+ghost use Rattle.is_c.specs.Adding.{addition_index, addition_code, PutsAddition, AddsGiven, AddsRead};
 ghost use Rattle.is_c.specs.Codes.{found_code};
 ghost use Rattle.is_c.specs.Held.{held_by, At};
 ghost use Rattle.is_c.specs.Given.{CallsGiven, CallsRead};
@@ -18,22 +18,35 @@ use std::alloc::Global;
 /// The index of no candidate.
 pub const NO_INDEX: usize = usize::MAX;
 
+/// The index at which an addition is listed, or `NO_INDEX`.
+fn addition_index(addition: Addition) -> usize
+    ensures { result ≡ addition_index addition }
+{
+    match addition {
+        Addition::Added(at) | Addition::Known(at) => at,
+        Addition::Ignored | Addition::OtherComponent | Addition::OtherUfrag => NO_INDEX,
+    }
+}
+
+fn addition_code(addition: Addition) -> i32
+    ensures { result ≡ addition_code addition }
+{
+    match addition {
+        Addition::Added(_) => codes::OK,
+        Addition::Known(_) | Addition::Ignored => codes::NOTHING,
+        Addition::OtherComponent => codes::OTHER_COMPONENT,
+        Addition::OtherUfrag => codes::OTHER_UFRAG,
+    }
+}
+
 /// Returns the code of an addition, and writes its index. An error leaves the index unchanged.
 fn put_addition(outcome: Result<Addition, IceError>, index: &mut usize) -> i32
     ensures { PutsAddition outcome index.old result index.new }
 {
     match outcome {
-        Ok(Addition::Added(at)) => {
-            *index = at;
-            codes::OK
-        }
-        Ok(Addition::Known(at)) => {
-            *index = at;
-            codes::NOTHING
-        }
-        Ok(Addition::Ignored) => {
-            *index = NO_INDEX;
-            codes::NOTHING
+        Ok(addition) => {
+            *index = addition_index(addition);
+            addition_code(addition)
         }
         Err(error) => codes::code_of(&error),
     }
@@ -61,7 +74,8 @@ pub extern "C" fn is_ice_add_local(
     }
 }
 
-/// Adds a remote candidate, by its candidate attribute, and writes the index at which it is listed, in the same way.
+/// Adds a remote candidate, by its candidate attribute, and writes the index at which it is listed, in the same way. Its code says why
+/// one is ignored.
 #[unsafe(no_mangle)]
 pub extern "C" fn is_ice_add_remote(
     alloc: Global,

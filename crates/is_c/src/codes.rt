@@ -9,6 +9,10 @@ use is_proto::IceError;
 pub const OK: i32 = 0;
 /// Nothing to return; the packet was not accepted; the candidate was not added, or the agent does not have it.
 pub const NOTHING: i32 = 1;
+/// The remote candidate was ignored: it is of another component than 1.
+pub const OTHER_COMPONENT: i32 = 2;
+/// The remote candidate was ignored: it is of another username fragment than the peer's.
+pub const OTHER_UFRAG: i32 = 3;
 /// The slot holds no agent.
 pub const NO_AGENT: i32 = -1;
 /// The slot holds an agent already.

@@ -3,7 +3,7 @@ ghost use Rattle.is_c.specs.Infos.{ReadsInfoBytes, PutsInfo, ReturnsInfo, Return
 
 use crate::candidate::line_candidate;
 use crate::codes;
-use crate::lines::put_made;
+use crate::lines::{put_made, with_word};
 use crate::rejections::put_rejection;
 use crate::text::put;
 use is_candidate::{Candidate, JsonScratch};
@@ -36,14 +36,15 @@ pub extern "C" fn is_ice_line_to_json(
     }
 }
 
-/// The candidate of a JSON text, if the bytes are UTF-8.
+/// The candidate of a JSON text, if the bytes are UTF-8 and its username fragment, if it has one, is one word.
 fn info_candidate(alloc: Global, json: &[u8]) -> Option<Result<Candidate, IceError>>
     ensures { ReadsInfoBytes json.now result }
 {
     match std::str::from_utf8(json) {
         Ok(text) => {
             let mut scratch = JsonScratch::new(alloc);
-            Some(Candidate::from_json_str(alloc, text, &mut scratch))
+            let read = Candidate::from_json_str(alloc, text, &mut scratch);
+            Some(with_word(alloc, read))
         }
         Err(_) => None,
     }

@@ -1,9 +1,18 @@
 //! Candidates that no agent has: their text, their username fragment and their default local preference.
-ghost use Rattle.is_c.specs.Lines.{NamesAs, NamesBytes, PutsMade, ReturnsGiven, ReturnsNamed, PutsPreference, PrefersGiven, PrefersRead};
+ghost use Rattle.std.specs.Prelude.{◌≡◌, ◌↔◌, ℕ, List, Option, codes, IsTrue};
+ghost use Rattle.is_candidate.specs.Candidates.{CandidateRecord};
+ghost use Rattle.is_candidate.specs.Infos.{with_ufrag};
+ghost use Rattle.is_candidate.specs.Lines.{IsLineOf};
+ghost use Rattle.is_candidate.specs.Rejections.{RejectsWith};
+ghost use Rattle.is_candidate.specs.RoundTrips.{LineRoundTrips};
+ghost use Rattle.is_candidate.specs.Words.{IsWord};
+ghost use Rattle.is_c.specs.Lines.{HasWordUfrag, KeepsWord, NamesAs, NamesBytes, PutsMade, ReturnsGiven, ReturnsNamed, PutsPreference, PrefersGiven};
+ghost use Rattle.is_c.specs.Lines.{PrefersRead};
 
 use crate::candidate::{LocalCandidate, line_candidate, local_candidate};
 use crate::codes;
 use crate::questions::put_line;
+use is_candidate::candidate::round_trip::printed_line_round_trips;
 use is_candidate::{Candidate, default_local_preference};
 use is_proto::IceError;
 use std::alloc::Global;
@@ -40,6 +49,48 @@ pub extern "C" fn is_ice_candidate_line(
     put_made(alloc, &made, codes::BAD_ADDRESS, buffer, length)
 }
 
+// ---- a username fragment is one word, so that the attribute round-trips
+
+/// Whether the text has a character, and no white space.
+fn is_word(text: &str) -> bool
+    ensures { IsTrue result ↔ IsWord text.now }
+{
+    !text.is_empty() && !text.contains(char::is_whitespace)
+}
+
+/// The error for a username fragment that is not one word, or `OutOfMemory` if there is no memory for its message.
+fn no_word(alloc: Global) -> IceError
+    ensures { RejectsWith (codes "username fragment is not one word") result }
+{
+    match String::from_str(alloc, "username fragment is not one word") {
+        Ok(message) => IceError::BadCandidate(message),
+        Err(_) => IceError::OutOfMemory,
+    }
+}
+
+/// The candidate, if its username fragment is one word or it has none.
+pub(crate) fn with_word(
+    alloc: Global,
+    read: Result<Candidate, IceError>,
+) -> Result<Candidate, IceError>
+    ensures { KeepsWord read result }
+{
+    let candidate = read?;
+    match candidate.ufrag() {
+        Some(ufrag) if !is_word(ufrag) => Err(no_word(alloc)),
+        _ => Ok(candidate),
+    }
+}
+
+/// What is written of the candidate of a candidate attribute round-trips, if its username fragment, or the one in its place, is
+/// one word.
+pub fn kept_line_round_trips(candidate: &Candidate)
+    ensures { (text : List ℕ) (read : CandidateRecord) (ufrag : Option (List ℕ)) → IsLineOf text read
+        → candidate.now ≡ with_ufrag ufrag read → HasWordUfrag candidate.now → LineRoundTrips candidate.now }
+{
+    printed_line_round_trips(candidate);
+}
+
 fn name(alloc: Global, mut candidate: Candidate, ufrag: &str) -> Result<Candidate, IceError>
     ensures { NamesAs ufrag.now candidate result }
 {
@@ -47,7 +98,7 @@ fn name(alloc: Global, mut candidate: Candidate, ufrag: &str) -> Result<Candidat
     Ok(candidate)
 }
 
-/// The candidate of a candidate attribute with this username fragment, if both are UTF-8.
+/// The candidate of a candidate attribute with this username fragment, if both are UTF-8 and the fragment is one word.
 fn named(alloc: Global, line: &[u8], ufrag: &[u8]) -> Option<Result<Candidate, IceError>>
     ensures { NamesBytes line.now ufrag.now result }
 {
@@ -55,7 +106,7 @@ fn named(alloc: Global, line: &[u8], ufrag: &[u8]) -> Option<Result<Candidate, I
         return None;
     };
     match line_candidate(alloc, line)? {
-        Ok(candidate) => Some(name(alloc, candidate, ufrag)),
+        Ok(candidate) => Some(with_word(alloc, name(alloc, candidate, ufrag))),
         Err(error) => Some(Err(error)),
     }
 }

@@ -5,13 +5,14 @@ ghost use Rattle.is_rules.specs.Fitting.{are_too_long};
 ghost use Rattle.is_c.specs.Codes.{OUT_OF_MEMORY, CREDENTIALS_TOO_LONG};
 ghost use Rattle.is_c.specs.Making.{fresh_home, MakesAt};
 ghost use Rattle.is_c.specs.Held.{home_of, held_by};
-ghost use Rattle.is_c.specs.Limits.{DISCOVERED_LIMIT};
+ghost use Rattle.is_c.specs.Limits.{DISCOVERED_LIMIT, MAX_RTO, RETRANSMITS};
 
 use crate::codes;
 use crate::credentials::creds_of;
 use crate::home::Home;
 use crate::slot::Slot;
 use is_agent::{Agent, IceCreds};
+use is_proto::Duration;
 use std::alloc::Global;
 
 /// How many candidates received packets may bring of each side, until another limit is set.
@@ -19,6 +20,21 @@ fn discovered_limit() -> usize
     ensures { result ≡ DISCOVERED_LIMIT }
 {
     32
+}
+
+/// The longest RTO of a new agent.
+fn max_rto() -> Duration
+    ensures { result.0 ≡ MAX_RTO }
+{
+    Duration(2_900_000_000)
+}
+
+/// After how many checks without a response a new agent removes a pair. A path is removed 29.6 s after its last answered
+/// check: within the 30 s of RFC 7675, section 5.1.
+fn retransmits() -> usize
+    ensures { result ≡ RETRANSMITS }
+{
+    11
 }
 
 fn boxed_agent(alloc: Global, creds: IceCreds, tie_breaker: u64) -> Result<Box<Home>, i32>
@@ -30,6 +46,8 @@ fn boxed_agent(alloc: Global, creds: IceCreds, tie_breaker: u64) -> Result<Box<H
         Err(error) => return Err(codes::code_of(&error)),
     };
     agent.set_max_discovered(Some(discovered_limit()));
+    agent.set_max_stun_rto(max_rto());
+    agent.set_max_stun_retransmits(retransmits());
     let waiting = None;
     match Box::new(alloc, Home { agent, waiting }) {
         Ok(home) => Ok(home),
@@ -75,7 +93,7 @@ pub extern "C" fn is_ice_agent_free(alloc: Global, slot: &mut Slot)
 /// The version of this interface. The header has the same number.
 #[unsafe(no_mangle)]
 pub extern "C" fn is_ice_version() -> u32
-    ensures { result ≡ 3 }
+    ensures { result ≡ 4 }
 {
-    3
+    4
 }

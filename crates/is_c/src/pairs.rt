@@ -1,6 +1,6 @@
 //! Candidate pairs, listed.
 
-ghost use Rattle.std.specs.Prelude.{◌≡◌};
+ghost use Rattle.std.specs.Prelude.{◌≡◌, None};
 ghost use Rattle.std.specs.Option.{option_copied};
 ghost use Rattle.is_agent.specs.View.{record_of};
 ghost use Rattle.is_c.specs.Held.{held_by, At};
@@ -138,7 +138,8 @@ pub extern "C" fn is_ice_find_pair(
     line: &[u8],
     pair: &mut Pair,
 ) -> i32
-    ensures { At (ReturnsFound line.now pair.old pair.new) (held_by slot.old) result (held_by slot.new) }
+    ensures found { At (ReturnsFound line.now pair.old pair.new) (held_by slot.old) result (held_by slot.new) }
+    ensures without { held_by slot.old ≡ None → pair.new ≡ pair.old }
 {
     let Some(home) = slot.home() else {
         return codes::NO_AGENT;

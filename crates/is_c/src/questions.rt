@@ -1,20 +1,25 @@
 //! What the caller may query, without a change of the agent.
 
-ghost use Rattle.std.specs.Prelude.{◌≡◌, slice_get};
+ghost use Rattle.std.specs.Prelude.{◌≡◌, None, slice_get};
 ghost use Rattle.std.specs.Option.{option_copied};
-ghost use Rattle.is_rules.specs.Questions.{live};
+ghost use Rattle.is_pair.specs.Pairs.{PairRecord};
+ghost use Rattle.is_rules.specs.Questions.{live, nominated_pair};
+ghost use Rattle.is_agent.specs.Added.{listed_index};
 ghost use Rattle.is_agent.specs.View.{record_of};
 ghost use Rattle.is_c.specs.Held.{held_by, At};
-ghost use Rattle.is_c.specs.Questions.{IsStatus, ReturnsStatus, stats_of, ReturnsStats, ReturnsNominated, PutsLine, ReturnsLine};
+ghost use Rattle.is_c.specs.Questions.{IsStatus, ReturnsStatus, stats_of, ReturnsStats, PutsLine, ReturnsLine};
 ghost use Rattle.is_c.specs.Questions.{ReturnsRemote, ReturnsViable};
+ghost use Rattle.is_c.specs.Selected.{candidate_of, IsNominated, IsNominatedIn, ReturnsNominated};
 
-use crate::address::{Address, socket_of};
+use crate::address::{Address, address_of, number_of, socket_of};
 use crate::codes;
 use crate::events::state_number;
 use crate::home::Home;
 use crate::slot::Slot;
 use crate::text::put;
 use is_candidate::Candidate;
+use is_candidate::candidate::internals::base;
+use is_pair::pair::CandidatePair;
 use std::alloc::Global;
 
 /// The agent's settings and its connection state.
@@ -42,15 +47,21 @@ pub struct Stats {
     pub nomination_send_count: u64,
 }
 
-/// Figures of the pair that was selected last. Times are in nanoseconds.
+/// The pair that was selected last: its path and its figures. Times are in nanoseconds.
 #[repr(C)]
 #[derive(Clone, Copy)]
 pub struct Nominated {
+    /// Media is sent from here, as the last `NominatedSend` says,
+    pub source: Address,
+    /// to here,
+    pub destination: Address,
     /// The sum over all answered checks.
     pub total_rtt: u64,
     pub responses: u64,
     /// Of the last answered check, if there is one.
     pub rtt: u64,
+    /// and over this protocol.
+    pub protocol: u8,
     pub has_rtt: bool,
 }
 
@@ -105,28 +116,63 @@ pub extern "C" fn is_ice_stats(alloc: Global, slot: &mut Slot, figures: &mut Sta
     codes::OK
 }
 
-/// Writes the figures of the pair that was selected last.
-#[unsafe(no_mangle)]
-pub extern "C" fn is_ice_nominated(alloc: Global, slot: &mut Slot, figures: &mut Nominated) -> i32
-    ensures { At (ReturnsNominated figures.old figures.new) (held_by slot.old) result (held_by slot.new) }
+/// The pair that was selected last, if it still exists.
+fn selected_pair(home: &Home) -> Option<&CandidatePair>
+    ensures { option_copied result ≡ nominated_pair (record_of home.now.agent) }
 {
-    let Some(home) = slot.home() else {
-        return codes::NO_AGENT;
-    };
-    let Some(total) = home.agent.nominated_pair_total_rtt() else {
-        return codes::NOTHING;
-    };
-    let rtt = home.agent.nominated_pair_rtt();
-    *figures = Nominated {
-        total_rtt: total.0,
-        responses: home.agent.nominated_pair_responses_received().unwrap_or(0),
+    for index in 0..home.agent.candidate_pair_count() {
+        let pair = home.agent.candidate_pair(index)?;
+        if home.agent.is_selected_pair(pair) {
+            return Some(pair);
+        }
+    }
+    None
+}
+
+/// The pair as C gets it: its path is that of its candidates, from the local one's base to the remote one's address.
+fn reported_nominated(pair: &CandidatePair, local: &Candidate, remote: &Candidate) -> Nominated
+    ensures { IsNominated pair.now local.now remote.now result }
+{
+    let rtt = pair.last_successful_rtt();
+    Nominated {
+        source: address_of(base(local)),
+        destination: address_of(remote.addr()),
+        total_rtt: pair.total_round_trip_time().0,
+        responses: pair.responses_received(),
         rtt: match rtt {
             Some(time) => time.0,
             None => 0,
         },
+        protocol: number_of(local.proto()),
         has_rtt: rtt.is_some(),
+    }
+}
+
+fn selected(home: &Home) -> Option<Nominated>
+    ensures { IsNominatedIn (record_of home.now.agent) (nominated_pair (record_of home.now.agent)) result }
+{
+    let pair = selected_pair(home)?;
+    let local = local_at(home, home.agent.local_candidate_index(pair))?;
+    let remote = remote_at(home, home.agent.remote_candidate_index(pair))?;
+    Some(reported_nominated(pair, local, remote))
+}
+
+/// Writes the pair that was selected last: the path of the last `NominatedSend`, and the pair's figures.
+#[unsafe(no_mangle)]
+pub extern "C" fn is_ice_nominated(alloc: Global, slot: &mut Slot, figures: &mut Nominated) -> i32
+    ensures selected { At (ReturnsNominated figures.old figures.new) (held_by slot.old) result (held_by slot.new) }
+    ensures without { held_by slot.old ≡ None → figures.new ≡ figures.old }
+{
+    let Some(home) = slot.home() else {
+        return codes::NO_AGENT;
     };
-    codes::OK
+    match selected(home) {
+        Some(found) => {
+            *figures = found;
+            codes::OK
+        }
+        None => codes::NOTHING,
+    }
 }
 
 // ---- candidates
@@ -149,13 +195,13 @@ pub(crate) fn put_line(
     }
 }
 
-fn local_at(home: &Home, index: usize) -> Option<&Candidate>
+pub(crate) fn local_at(home: &Home, index: usize) -> Option<&Candidate>
     ensures { option_copied result ≡ slice_get (live (record_of home.now.agent).local) index }
 {
     home.agent.local_candidates().nth(index)
 }
 
-fn remote_at(home: &Home, index: usize) -> Option<&Candidate>
+pub(crate) fn remote_at(home: &Home, index: usize) -> Option<&Candidate>
     ensures { option_copied result ≡ slice_get (live (record_of home.now.agent).remote) index }
 {
     home.agent.remote_candidates().nth(index)

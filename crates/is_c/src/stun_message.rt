@@ -5,9 +5,8 @@ ghost use Rattle.std.specs.Option.{option_map};
 ghost use Rattle.is_proto.specs.Hmac.{hmac_sha1};
 ghost use Rattle.is_stun.specs.Header.{method_bits};
 ghost use Rattle.is_stun.specs.MessageView.{message_view};
-ghost use Rattle.is_c.specs.Addresses.{socket_of};
-ghost use Rattle.is_c.specs.StunMessage.{class_number, number_in, IsFlat, IsFlatOf, AnswersSigned};
-ghost use Rattle.is_c.specs.StunRead.{ReturnsMessage};
+ghost use Rattle.is_c.specs.StunMessage.{class_number, number_of, IsAddress, IsFlat, IsFlatOf, AnswersSigned};
+ghost use Rattle.is_c.specs.StunRead.{ReturnsMessage, ReturnsStrict};
 
 use crate::address::{Address, address_of};
 use crate::codes;
@@ -16,7 +15,7 @@ use is_proto::DefaultSha1HmacProvider;
 use is_stun::stun::{Class, Method, StunMessage};
 use std::net::SocketAddr;
 
-/// A number that a message may have.
+/// A number that a message may have: 0 if it is not set.
 #[repr(C)]
 #[derive(Clone, Copy)]
 pub struct Number {
@@ -24,7 +23,7 @@ pub struct Number {
     pub is_set: bool,
 }
 
-/// A message, except its texts and the values of MESSAGE-INTEGRITY and FINGERPRINT. An address that it does not have is of family 0.
+/// A message, except its texts and the values of MESSAGE-INTEGRITY and FINGERPRINT. An address that it does not have is zero.
 #[repr(C)]
 #[derive(Clone, Copy)]
 pub struct Message {
@@ -53,7 +52,7 @@ pub struct Message {
 }
 
 fn number_of(value: Option<u64>) -> Number
-    ensures { number_in result ≡ value }
+    ensures { result ≡ number_of value }
 {
     match value {
         Some(value) => Number {
@@ -68,7 +67,7 @@ fn number_of(value: Option<u64>) -> Number
 }
 
 fn number32_of(value: Option<u32>) -> Number
-    ensures { number_in result ≡ value }
+    ensures { result ≡ number_of value }
 {
     match value {
         Some(value) => number_of(Some(u64::from(value))),
@@ -77,7 +76,7 @@ fn number32_of(value: Option<u32>) -> Number
 }
 
 fn number16_of(value: Option<u16>) -> Number
-    ensures { number_in result ≡ value }
+    ensures { result ≡ number_of value }
 {
     match value {
         Some(value) => number_of(Some(u64::from(value))),
@@ -85,9 +84,9 @@ fn number16_of(value: Option<u16>) -> Number
     }
 }
 
-/// The address, or one of family 0.
-fn address_if(address: Option<SocketAddr>) -> Address
-    ensures { socket_of result ≡ address }
+/// The address, or zero.
+pub(crate) fn address_if(address: Option<SocketAddr>) -> Address
+    ensures { IsAddress address result }
 {
     match address {
         Some(address) => address_of(address),
@@ -181,6 +180,20 @@ pub extern "C" fn is_ice_stun_read(bytes: &[u8], message: &mut Message) -> i32
     match StunMessage::parse_any(bytes) {
         Ok(found) => {
             *message = flat(&found);
+            codes::OK
+        }
+        Err(_) => codes::UNPARSED,
+    }
+}
+
+/// Reads a message as `is_ice_handle_packet` does: a Binding request or success response has the attributes that ICE requires.
+#[unsafe(no_mangle)]
+pub extern "C" fn is_ice_stun_read_strict(bytes: &[u8], message: &mut Message) -> i32
+    ensures { ReturnsStrict bytes.now (λ m code. IsFlatOf m code message.new) (message.new ≡ message.old) result }
+{
+    match StunMessage::parse(bytes) {
+        Ok(read) => {
+            *message = flat(&read);
             codes::OK
         }
         Err(_) => codes::UNPARSED,

@@ -1,5 +1,8 @@
 //! The exports as C calls them, in stories that the library's own tests have too.
 
+mod fields;
+mod selected;
+mod stun;
 mod texts;
 
 use crate::accepting::{is_ice_accepts_message, is_ice_accepts_packet};
@@ -363,7 +366,13 @@ fn an_added_candidate_has_its_index(rt: HostRuntime) {
     assert!(rt; index == 0);
     let other = b"candidate:1 2 udp 2130706175 10.0.0.4 2000 typ host";
     let ignored = is_ice_add_remote(alloc, &mut slot, other, &mut index);
-    assert!(rt; ignored == codes::NOTHING);
+    assert!(rt; ignored == codes::OTHER_COMPONENT);
+    assert!(rt; index == NO_INDEX);
+    let met = is_ice_set_remote_credentials(alloc, &mut slot, b"BBBB", b"QQQQ");
+    assert!(rt; met == codes::OK);
+    let old = b"candidate:1 1 udp 2130706175 10.0.0.4 2000 typ host ufrag CCCC";
+    let ignored = is_ice_add_remote(alloc, &mut slot, old, &mut index);
+    assert!(rt; ignored == codes::OTHER_UFRAG);
     assert!(rt; index == NO_INDEX);
     let cut = is_ice_add_remote(alloc, &mut slot, &second[..9], &mut index);
     assert!(rt; cut == codes::BAD_CANDIDATE);

@@ -1,0 +1,11 @@
+-- Whose request a message is: USERNAME has the username fragments of its receiver and of its sender (RFC 8445, section 7.2.2).
+use Rattle.std.specs.Prelude.{◌≡◌, ℕ, List, length, Option, Some, ℤ}
+use Rattle.is_c.specs.Codes.{NOTHING}
+use Rattle.is_c.specs.Texts.{Puts}
+
+-- the text in the caller's buffer, and the length of its first part; neither if the text has no two parts
+abbrev pub PutsName : Option (List ℕ) → Option (List ℕ × List ℕ) → List ℕ → ℕ → ℕ → ℤ → List ℕ → ℕ → ℕ → Type 0
+PutsName (Some name) (Some parts) before count receiver code after new_count new_receiver =
+    Puts name before code after new_count × (new_receiver ≡ length parts.0)
+PutsName _ _ before count receiver code after new_count new_receiver =
+    (code ≡ NOTHING) × (after ≡ before) × (new_count ≡ count) × (new_receiver ≡ receiver)
