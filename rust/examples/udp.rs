@@ -3,7 +3,6 @@
 use is::stun::{StunMessage, StunPacket};
 use is::{Candidate, IceAgent, IceAgentEvent, IceCreds, Protocol};
 use std::error::Error;
-use std::io::ErrorKind;
 use std::net::{SocketAddr, UdpSocket};
 use std::time::{Duration, Instant};
 
@@ -11,7 +10,7 @@ struct Side {
     agent: IceAgent,
     socket: UdpSocket,
     local: SocketAddr,
-    /// When to call `handle_timeout` next.
+    /// When to call `handle_timeout` next: the earliest that `poll_timeout` returned since its last call.
     timeout: Option<Instant>,
     /// The destination of media, once a path is selected.
     peer: Option<SocketAddr>,
@@ -24,7 +23,7 @@ impl Side {
         let local = socket.local_addr()?;
         let mut agent = IceAgent::new(creds);
         agent.set_controlling(controlling);
-        agent.set_remote_credentials(peer);
+        agent.try_set_remote_credentials(peer)?; // the peer's texts may be anything
         Ok(Side { agent, socket, local, timeout: Some(Instant::now()), peer: None })
     }
 
@@ -34,35 +33,38 @@ impl Side {
         Ok(self.agent.add_local_candidate(host).ok_or("redundant candidate")?.to_sdp_string())
     }
 
+    /// Sends a datagram. One that the system does not send is lost like one on the network, and does not end the loop: as the
+    /// response to a request that somebody replays from port 0.
+    fn send(&self, bytes: &[u8], destination: SocketAddr) {
+        let _ = self.socket.send_to(bytes, destination);
+    }
+
     /// One iteration of the loop. Returns media that arrived.
     fn turn(&mut self) -> Result<Option<Vec<u8>>, Box<dyn Error>> {
         let (mut buffer, mut media, mut called) = ([0; 1500], None, false);
         let now = Instant::now();
-        // 1. A datagram arrived.
-        match self.socket.recv_from(&mut buffer) {
-            Ok((length, source)) => {
-                if let Ok(message) = StunMessage::parse(&buffer[..length]) {
-                    let packet = StunPacket { proto: Protocol::Udp, source, destination: self.local, message };
-                    called = self.agent.handle_packet(now, packet);
-                } else if Some(source) == self.peer || self.agent.has_viable_remote_candidate(source) {
-                    media = Some(buffer[..length].to_vec());
-                }
+        // 1. A datagram arrived. If not, the error is "would block", or that of an earlier datagram.
+        if let Ok((length, source)) = self.socket.recv_from(&mut buffer) {
+            if let Ok(message) = StunMessage::parse(&buffer[..length]) {
+                let packet = StunPacket { proto: Protocol::Udp, source, destination: self.local, message };
+                called = self.agent.try_handle_packet(now, packet)?;
+            } else if Some(source) == self.peer || self.agent.has_viable_remote_candidate(source) {
+                media = Some(buffer[..length].to_vec());
             }
-            Err(error) if error.kind() == ErrorKind::WouldBlock => {}
-            Err(error) => return Err(error.into()),
         }
         // 2. The timeout expired.
         if self.timeout.is_some_and(|at| at <= now) {
-            self.agent.handle_timeout(now);
+            self.agent.try_handle_timeout(now)?;
+            self.timeout = None;
             called = true;
         }
         if called {
-            // 3. The next timeout, before packets are polled.
-            self.timeout = self.agent.poll_timeout();
-            // 4. Packets. This side has only one socket, so packet.source is its address. A packet that the system does not send, as
-            // a response to a request that somebody replays from port 0, is lost like one on the network.
+            // 3. The next timeout, before packets are polled. It is kept until it expires: a later call may return a later one, and a
+            // controlled agent selects its path at the first.
+            self.timeout = self.timeout.into_iter().chain(self.agent.poll_timeout()).min();
+            // 4. Packets. This side has only one socket, so packet.source is its address.
             while let Some(packet) = self.agent.poll_transmit() {
-                let _ = self.socket.send_to(&packet.contents, packet.destination);
+                self.send(&packet.contents, packet.destination);
             }
             // 5. Events.
             while let Some(event) = self.agent.poll_event() {
@@ -89,7 +91,7 @@ fn main() -> Result<(), Box<dyn Error>> {
             return Ok(());
         }
         if let (Some(peer), Some(_)) = (a.peer, b.peer) {
-            a.socket.send_to(b"hello", peer)?;
+            a.send(b"hello", peer);
         }
         std::thread::sleep(Duration::from_millis(1));
     }

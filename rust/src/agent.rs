@@ -1,8 +1,9 @@
 //! The agent.
 
-use crate::candidate::{Candidate, Gathered, unnamed};
-use crate::creds::{IceCreds, Random};
-use crate::event::{IceAgentEvent, IceAgentStats, IceConnectionState, Transmit};
+use crate::candidate::Candidate;
+use crate::creds::IceCreds;
+use crate::error::{CallError, found, or_panic};
+use crate::event::{IceAgentEvent, IceAgentStats, IceConnectionState, SelectedPath, Transmit};
 use crate::ffi;
 use crate::pair::CandidatePair;
 use crate::proto::{Protocol, address_of, socket_of};
@@ -12,17 +13,13 @@ use std::fmt;
 use std::net::SocketAddr;
 use std::time::{Duration, Instant};
 
-/// A path that stops responding is removed 29.6 s after the last check that got a response: within the 30 s of RFC 7675, section 5.1,
-/// which is when a browser gives it up too. The original's 3 s and 9 checks end it after 24.5 s.
-const MAX_RTO: Duration = Duration::from_millis(2900);
-
-/// See [`MAX_RTO`].
-const MAX_RETRANSMITS: usize = 11;
-
 /// The first instant on the agent's clock: late enough for what the agent subtracts.
 const BEGINNING: Duration = Duration::from_secs(60);
 
 /// One side of a connection: a state machine without sockets, threads or clocks.
+///
+/// Each call that can fail has two forms, as `handle_packet` and `try_handle_packet`. The first is that of the original, and panics if it
+/// fails; the second returns the error, and leaves the agent unchanged then.
 ///
 /// It may move between threads:
 ///
@@ -41,23 +38,12 @@ const BEGINNING: Duration = Duration::from_secs(60);
 pub struct IceAgent {
     /// Queries take `&self`, although each call of the library borrows the agent mutably.
     held: RefCell<Box<ffi::Agent>>,
-    random: Random,
     first: Option<Instant>,
+    /// The credentials are in the library too: these are what `local_credentials` and `remote_credentials` return references to.
     pub(crate) local: IceCreds,
     pub(crate) remote: Option<IceCreds>,
-    gathered: Vec<(String, Gathered)>,
+    /// What `add_local_candidate` returns a reference to.
     added: Option<Candidate>,
-    buffer: Vec<u8>,
-}
-
-/// Whether a call returned `OK`, and not `NOTHING`.
-///
-/// # Panics
-///
-/// If it returned an error.
-fn yes(what: &str, code: i32) -> bool {
-    assert!(code >= ffi::OK, "{what}: {}", ffi::text_of(code));
-    code == ffi::OK
 }
 
 pub(crate) fn nanoseconds(duration: Duration) -> u64 {
@@ -69,37 +55,39 @@ pub(crate) fn nanoseconds(duration: Duration) -> u64 {
 impl IceAgent {
     /// Creates a controlled agent with a random tie-breaker.
     ///
-    /// A path that stops responding is removed 29.6 s after the last check that got a response, within the 30 s of RFC 7675. In the
-    /// original that is after 24.5 s: `set_max_stun_rto(Duration::from_secs(3))` and `set_max_stun_retransmits(9)` bring it back.
-    ///
     /// # Panics
     ///
-    /// If its username fragment is longer than 507 bytes, if out of memory, or if the system has no random bytes.
+    /// If its username fragment is longer than 507 bytes, if out of memory, or if the system has no random bytes. `try_new` returns an
+    /// error then.
+    #[track_caller]
     pub fn new(local_credentials: IceCreds) -> IceAgent {
-        let mut random = Random::new();
-        let tie_breaker = u64::from_ne_bytes(random.draw());
-        let agent = ffi::Agent::new(&local_credentials.ufrag, &local_credentials.pass, tie_breaker);
-        let mut agent = IceAgent {
-            held: RefCell::new(agent.unwrap_or_else(|code| panic!("an agent: {}", ffi::text_of(code)))),
-            random,
-            first: None,
-            local: local_credentials,
-            remote: None,
-            gathered: Vec::new(),
-            added: None,
-            buffer: vec![0; 1500],
-        };
-        agent.set_max_stun_rto(MAX_RTO);
-        agent.set_max_stun_retransmits(MAX_RETRANSMITS);
-        agent
+        or_panic(IceAgent::try_new(local_credentials))
+    }
+
+    /// As `new`.
+    ///
+    /// # Errors
+    ///
+    /// [`CallError::CredentialsTooLong`], [`CallError::OutOfMemory`], [`CallError::NoRandomBytes`].
+    pub fn try_new(local_credentials: IceCreds) -> Result<IceAgent, CallError> {
+        let tie_breaker = u64::from_ne_bytes(ffi::random().ok_or(CallError::NoRandomBytes)?);
+        let agent = ffi::Agent::new(&local_credentials.ufrag, &local_credentials.pass, tie_breaker).map_err(CallError::of)?;
+        Ok(IceAgent { held: RefCell::new(agent), first: None, local: local_credentials, remote: None, added: None })
     }
 
     fn ask<R>(&self, call: impl FnOnce(&mut ffi::Agent) -> R) -> R {
         call(&mut self.held.borrow_mut())
     }
 
-    pub(crate) fn tell(&mut self, what: &str, call: impl FnOnce(&mut ffi::Agent) -> i32) -> bool {
-        yes(what, call(self.held.get_mut()))
+    /// Whether a call returned `OK`, and not `NOTHING`; or its error.
+    pub(crate) fn tell(&mut self, call: impl FnOnce(&mut ffi::Agent) -> i32) -> Result<bool, CallError> {
+        found(call(self.held.get_mut()))
+    }
+
+    /// Makes a call that always returns `OK`.
+    pub(crate) fn set(&mut self, call: impl FnOnce(&mut ffi::Agent) -> i32) {
+        let code = call(self.held.get_mut());
+        debug_assert_eq!(code, ffi::OK);
     }
 }
 
@@ -114,62 +102,120 @@ impl fmt::Debug for IceAgent {
 
 impl IceAgent {
     /// The local candidates, without those that were removed.
-    pub fn local_candidates(&self) -> impl Iterator<Item = Candidate> + Clone + '_ {
-        let text = |index| ffi::text(|buffer, length| self.ask(|agent| agent.local_candidate(index, buffer, length)));
-        let listed: Vec<_> = listed(text).into_iter().map(|line| self.known(line)).collect();
-        listed.into_iter()
-    }
-
-    /// The remote candidates, without those that were removed.
-    pub fn remote_candidates(&self) -> impl Iterator<Item = Candidate> + Clone + '_ {
-        let text = |index| ffi::text(|buffer, length| self.ask(|agent| agent.remote_candidate(index, buffer, length)));
-        let listed: Vec<_> = listed(text).into_iter().map(|line| Candidate::listed(line, None)).collect();
-        listed.into_iter()
-    }
-
-    /// The local candidate of this text, with what it was gathered as.
-    fn known(&self, line: String) -> Candidate {
-        let gathered = self.gathered.iter().find(|(known, _)| *known == unnamed(&line)).map(|(_, gathered)| *gathered);
-        Candidate::listed(line, gathered)
-    }
-
-    /// Adds a local candidate that was gathered, and returns it with the priority that the agent gives it. Returns `None` if it is
-    /// redundant, or was read from a text.
     ///
     /// # Panics
     ///
-    /// If out of memory.
+    /// If out of memory. `try_local_candidates` returns an error then.
+    #[track_caller]
+    pub fn local_candidates(&self) -> impl Iterator<Item = Candidate> + Clone + '_ {
+        or_panic(self.try_local_candidates()).into_iter()
+    }
+
+    /// As `local_candidates`.
+    ///
+    /// # Errors
+    ///
+    /// [`CallError::OutOfMemory`].
+    pub fn try_local_candidates(&self) -> Result<Vec<Candidate>, CallError> {
+        listed(|index| self.local_candidate(index))
+    }
+
+    /// The remote candidates, without those that were removed.
+    ///
+    /// # Panics
+    ///
+    /// If out of memory. `try_remote_candidates` returns an error then.
+    #[track_caller]
+    pub fn remote_candidates(&self) -> impl Iterator<Item = Candidate> + Clone + '_ {
+        or_panic(self.try_remote_candidates()).into_iter()
+    }
+
+    /// As `remote_candidates`.
+    ///
+    /// # Errors
+    ///
+    /// [`CallError::OutOfMemory`].
+    pub fn try_remote_candidates(&self) -> Result<Vec<Candidate>, CallError> {
+        let read = |index| ffi::candidate(|buffer, length, fields| self.ask(|agent| agent.remote_fields(index, buffer, length, fields)));
+        listed(|index| read(index).map(Candidate::listed_remote))
+    }
+
+    fn local_candidate(&self, index: usize) -> Result<Candidate, i32> {
+        ffi::candidate(|buffer, length, fields| self.ask(|agent| agent.local_fields(index, buffer, length, fields)))
+            .map(Candidate::listed_local)
+    }
+
+    /// Adds a local candidate that was gathered, and returns it with the priority that the agent gives it. Returns `None` if it is
+    /// redundant, was read from a text, or is peer-reflexive.
+    ///
+    /// # Panics
+    ///
+    /// If out of memory, among others: `try_add_local_candidate` returns an error then.
+    #[track_caller]
     pub fn add_local_candidate(&mut self, c: Candidate) -> Option<&Candidate> {
-        let gathered = c.gathered()?;
+        or_panic(self.try_add_local_candidate(c))
+    }
+
+    /// As `add_local_candidate`.
+    ///
+    /// # Errors
+    ///
+    /// [`CallError::OutOfMemory`]: it may have been added, and not be listed. [`CallError::PairIdsExhausted`],
+    /// [`CallError::PriorityTooHigh`].
+    pub fn try_add_local_candidate(&mut self, c: Candidate) -> Result<Option<&Candidate>, CallError> {
+        let Some(given) = c.given() else { return Ok(None) };
         let mut index = 0;
-        if !self.tell("candidate", |agent| ffi::is_ice_add_local(agent, &gathered.raw(), &mut index)) {
-            return None;
+        let is_added = self.tell(|agent| known(ffi::is_ice_add_local(agent, &given, &mut index)))?;
+        if !is_added {
+            return Ok(None);
         }
-        let text = ffi::text(|buffer, length| self.ask(|agent| agent.local_candidate(index, buffer, length)));
-        let line = text.unwrap_or_else(|code| panic!("a line: {}", ffi::text_of(code)));
-        self.gathered.push((unnamed(&line).to_owned(), gathered));
-        self.added = Some(Candidate::listed(line, Some(gathered)));
-        self.added.as_ref()
+        self.added = Some(self.local_candidate(index).map_err(CallError::of)?);
+        Ok(self.added.as_ref())
     }
 
     /// Adds a candidate of the peer.
     ///
     /// # Panics
     ///
-    /// If out of memory.
+    /// If out of memory, among others: `try_add_remote_candidate` returns an error then. What was read from a text of the peer is no
+    /// other reason.
+    #[track_caller]
     pub fn add_remote_candidate(&mut self, c: Candidate) {
-        self.tell("candidate", |agent| agent.add_remote(&c.to_sdp_string(), &mut 0));
+        or_panic(self.try_add_remote_candidate(c));
+    }
+
+    /// As `add_remote_candidate`. Returns whether it was added: a candidate of a component other than 1, of another username fragment
+    /// than the peer's, or one that equals the remote candidate of a pair, is ignored.
+    ///
+    /// # Errors
+    ///
+    /// [`CallError::OutOfMemory`], [`CallError::PairIdsExhausted`], [`CallError::BadCandidate`].
+    pub fn try_add_remote_candidate(&mut self, c: Candidate) -> Result<bool, CallError> {
+        self.tell(|agent| agent.add_remote(c.text(), &mut 0))
     }
 
     /// Removes a candidate and its pairs: a local one, else a remote one. Returns whether there was one.
     ///
+    /// A local candidate is removed by what [`IceAgent::local_candidates`] lists, or what was added. One that was read from a text has
+    /// no base, so only a host or a relayed one equals it. A local peer-reflexive candidate is not removed.
+    ///
     /// # Panics
     ///
-    /// If out of memory.
+    /// If out of memory. `try_invalidate_candidate` returns an error then.
+    #[track_caller]
     pub fn invalidate_candidate(&mut self, c: &Candidate) -> bool {
-        match c.gathered() {
-            Some(gathered) => self.tell("candidate", |agent| ffi::is_ice_invalidate_local(agent, &gathered.raw())),
-            None => self.tell("candidate", |agent| agent.invalidate(&c.to_sdp_string())),
+        or_panic(self.try_invalidate_candidate(c))
+    }
+
+    /// As `invalidate_candidate`.
+    ///
+    /// # Errors
+    ///
+    /// [`CallError::OutOfMemory`].
+    pub fn try_invalidate_candidate(&mut self, c: &Candidate) -> Result<bool, CallError> {
+        match c.given() {
+            Some(given) => self.tell(|agent| known(ffi::is_ice_invalidate_local(agent, &given))),
+            None => self.tell(|agent| agent.invalidate(c.text())),
         }
     }
 
@@ -177,29 +223,42 @@ impl IceAgent {
     ///
     /// # Panics
     ///
-    /// If out of memory.
+    /// If out of memory, among others: `try_find_pair_for_equivalent_remote_candidate` returns an error then.
+    #[track_caller]
     pub fn find_pair_for_equivalent_remote_candidate(&self, c: &Candidate) -> Option<CandidatePair> {
+        or_panic(self.try_find_pair_for_equivalent_remote_candidate(c))
+    }
+
+    /// As `find_pair_for_equivalent_remote_candidate`.
+    ///
+    /// # Errors
+    ///
+    /// [`CallError::OutOfMemory`], [`CallError::BadCandidate`].
+    pub fn try_find_pair_for_equivalent_remote_candidate(&self, c: &Candidate) -> Result<Option<CandidatePair>, CallError> {
         let mut pair = ffi::Pair::default();
-        let is_some = yes("a pair", self.ask(|agent| agent.find_pair(&c.to_sdp_string(), &mut pair)));
-        is_some.then(|| CandidatePair::of(&pair, |at| self.instant(at)))
+        let is_some = found(self.ask(|agent| agent.find_pair(c.text(), &mut pair)))?;
+        Ok(is_some.then(|| CandidatePair::of(&pair, |at| self.instant(at))))
     }
 
     /// Whether there is a valid pair whose remote candidate has this address.
     pub fn has_viable_remote_candidate(&self, addr: SocketAddr) -> bool {
-        yes("address", self.ask(|agent| ffi::is_ice_has_viable_remote(agent, &address_of(addr))))
+        self.ask(|agent| ffi::is_ice_has_viable_remote(agent, &address_of(addr))) == ffi::OK
     }
 }
 
-/// All texts, by index from 0.
-fn listed(text: impl Fn(usize) -> Result<String, i32>) -> Vec<String> {
-    let mut lines = Vec::new();
+/// The code of a call with a gathered candidate, which the library takes for none if it is peer-reflexive.
+fn known(code: i32) -> i32 {
+    if code == ffi::BAD_ADDRESS { ffi::NOTHING } else { code }
+}
+
+/// All candidates, by index from 0.
+fn listed(candidate: impl Fn(usize) -> Result<Candidate, i32>) -> Result<Vec<Candidate>, CallError> {
+    let mut all = Vec::new();
     loop {
-        match text(lines.len()) {
-            Ok(line) => lines.push(line),
-            Err(code) => {
-                yes("a line", code);
-                return lines;
-            }
+        match candidate(all.len()) {
+            Ok(candidate) => all.push(candidate),
+            Err(ffi::NOTHING) => return Ok(all),
+            Err(code) => return Err(CallError::of(code)),
         }
     }
 }
@@ -212,19 +271,41 @@ impl IceAgent {
     ///
     /// # Panics
     ///
-    /// If the username fragment is longer than 507 bytes, or if out of memory.
+    /// If the username fragment is longer than 507 bytes, or if out of memory. `try_ice_restart` returns an error then.
+    #[track_caller]
     pub fn ice_restart(&mut self, local_credentials: IceCreds, keep_local_candidates: bool) {
-        self.tell("restart", |agent| agent.restart(&local_credentials.ufrag, &local_credentials.pass, keep_local_candidates));
+        or_panic(self.try_ice_restart(local_credentials, keep_local_candidates));
+    }
+
+    /// As `ice_restart`.
+    ///
+    /// # Errors
+    ///
+    /// [`CallError::CredentialsTooLong`], [`CallError::OutOfMemory`].
+    pub fn try_ice_restart(&mut self, local_credentials: IceCreds, keep_local_candidates: bool) -> Result<(), CallError> {
+        self.tell(|agent| agent.restart(&local_credentials.ufrag, &local_credentials.pass, keep_local_candidates))?;
         self.local = local_credentials;
         self.remote = None;
-        if !keep_local_candidates {
-            self.gathered.clear();
-        }
+        Ok(())
     }
 
     /// Removes all pairs, and forms pairs of all candidates again.
+    ///
+    /// # Panics
+    ///
+    /// If out of memory, among others: `try_recreate_candidate_pairs` returns an error then.
+    #[track_caller]
     pub fn recreate_candidate_pairs(&mut self) {
-        self.tell("pairs", |agent| ffi::is_ice_recreate_pairs(agent));
+        or_panic(self.try_recreate_candidate_pairs());
+    }
+
+    /// As `recreate_candidate_pairs`.
+    ///
+    /// # Errors
+    ///
+    /// [`CallError::OutOfMemory`], [`CallError::PairIdsExhausted`].
+    pub fn try_recreate_candidate_pairs(&mut self) -> Result<(), CallError> {
+        self.tell(|agent| ffi::is_ice_recreate_pairs(agent)).map(drop)
     }
 
     /// Whether the message is for this agent, from any source.
@@ -243,11 +324,21 @@ impl IceAgent {
     ///
     /// # Panics
     ///
-    /// If out of memory.
+    /// If out of memory, among others: `try_handle_packet` returns an error then.
+    #[track_caller]
     pub fn handle_packet(&mut self, now: Instant, packet: StunPacket<'_>) -> bool {
+        or_panic(self.try_handle_packet(now, packet))
+    }
+
+    /// As `handle_packet`.
+    ///
+    /// # Errors
+    ///
+    /// [`CallError::OutOfMemory`], [`CallError::PairIdsExhausted`].
+    pub fn try_handle_packet(&mut self, now: Instant, packet: StunPacket<'_>) -> Result<bool, CallError> {
         let now = self.time(now);
         let (source, destination) = (address_of(packet.source), address_of(packet.destination));
-        self.tell("packet", |agent| match agent.handle_packet(now, packet.proto.number(), &source, &destination, packet.message.bytes()) {
+        self.tell(|agent| match agent.handle_packet(now, packet.proto.number(), &source, &destination, packet.message.bytes()) {
             ffi::UNPARSED => ffi::NOTHING,
             code => code,
         })
@@ -257,40 +348,48 @@ impl IceAgent {
     ///
     /// # Panics
     ///
-    /// If out of memory, or if the system has no random bytes.
+    /// If out of memory, or if the system has no random bytes, among others: `try_handle_timeout` returns an error then.
+    #[track_caller]
     pub fn handle_timeout(&mut self, now: Instant) {
+        or_panic(self.try_handle_timeout(now));
+    }
+
+    /// As `handle_timeout`.
+    ///
+    /// # Errors
+    ///
+    /// [`CallError::OutOfMemory`], [`CallError::NoRandomBytes`], [`CallError::PairIdsExhausted`].
+    pub fn try_handle_timeout(&mut self, now: Instant) -> Result<(), CallError> {
+        let random = ffi::random().ok_or(CallError::NoRandomBytes)?;
         let now = self.time(now);
-        let random = self.random.draw();
-        self.tell("timeout", |agent| agent.handle_timeout(now, &random));
+        self.tell(|agent| agent.handle_timeout(now, &random)).map(drop)
     }
 
     /// The next packet to send.
     pub fn poll_transmit(&mut self) -> Option<Transmit> {
         let mut packet = ffi::Packet::default();
-        let mut code = self.held.get_mut().poll_transmit(&mut self.buffer, &mut packet);
-        if code == ffi::BUFFER_TOO_SHORT {
-            self.buffer.resize(packet.length, 0);
-            code = self.held.get_mut().poll_transmit(&mut self.buffer, &mut packet);
-        }
-        yes("transmit", code).then(|| Transmit {
-            proto: Protocol::of(packet.protocol),
-            source: socket_of(&packet.source),
-            destination: socket_of(&packet.destination),
-            contents: self.buffer[..packet.length].to_vec(),
-        })
+        let agent = self.held.get_mut();
+        let contents = ffi::bytes(|buffer, length| {
+            let code = agent.poll_transmit(buffer, &mut packet);
+            *length = packet.length;
+            code
+        });
+        let (source, destination) = (socket_of(&packet.source), socket_of(&packet.destination));
+        Some(Transmit { proto: Protocol::of(packet.protocol), source, destination, contents: contents.ok()? })
     }
 
-    /// The time at which to call `handle_timeout` next. Call it before packets are polled.
+    /// The time at which to call `handle_timeout` next. Call it before packets are polled, and keep the earliest one that it returns
+    /// until `handle_timeout`, as `examples/udp.rs` does.
     pub fn poll_timeout(&mut self) -> Option<Instant> {
         let mut at = 0;
-        let is_some = self.tell("next timeout", |agent| ffi::is_ice_poll_timeout(agent, &mut at));
+        let is_some = ffi::is_ice_poll_timeout(self.held.get_mut(), &mut at) == ffi::OK;
         is_some.then(|| self.instant(at)).flatten()
     }
 
     /// The next event.
     pub fn poll_event(&mut self) -> Option<IceAgentEvent> {
         let mut event = ffi::Event::default();
-        let is_some = self.tell("event", |agent| ffi::is_ice_poll_event(agent, &mut event));
+        let is_some = ffi::is_ice_poll_event(self.held.get_mut(), &mut event) == ffi::OK;
         is_some.then(|| IceAgentEvent::of(&event, &self.local))
     }
 
@@ -308,7 +407,7 @@ impl IceAgent {
         let (first, at) = (self.first?, Duration::from_nanos(at));
         match at.checked_sub(BEGINNING) {
             Some(since) => first.checked_add(since),
-            None => first.checked_sub(BEGINNING - at),
+            None => first.checked_sub(BEGINNING.saturating_sub(at)),
         }
     }
 }
@@ -318,7 +417,7 @@ impl IceAgent {
 impl IceAgent {
     pub(crate) fn status(&self) -> ffi::Status {
         let mut status = ffi::Status::default();
-        yes("status", self.ask(|agent| ffi::is_ice_status(agent, &mut status)));
+        self.ask(|agent| ffi::is_ice_status(agent, &mut status));
         status
     }
 
@@ -330,24 +429,30 @@ impl IceAgent {
     /// Counters since the last restart.
     pub fn stats(&self) -> IceAgentStats {
         let mut stats = ffi::Stats::default();
-        yes("stats", self.ask(|agent| ffi::is_ice_stats(agent, &mut stats)));
+        self.ask(|agent| ffi::is_ice_stats(agent, &mut stats));
         IceAgentStats::of(stats)
     }
 
     /// The candidate pairs, in the order in which they were formed.
     pub fn pairs(&self) -> impl Iterator<Item = CandidatePair> + '_ {
         let mut count = 0;
-        yes("pairs", self.ask(|agent| ffi::is_ice_pair_count(agent, &mut count)));
+        self.ask(|agent| ffi::is_ice_pair_count(agent, &mut count));
         (0..count).map_while(|index| {
             let mut pair = ffi::Pair::default();
-            let is_some = yes("a pair", self.ask(|agent| ffi::is_ice_pair_at(agent, index, &mut pair)));
+            let is_some = self.ask(|agent| ffi::is_ice_pair_at(agent, index, &mut pair)) == ffi::OK;
             is_some.then(|| CandidatePair::of(&pair, |at| self.instant(at)))
         })
     }
 
     fn nominated(&self) -> Option<ffi::Nominated> {
         let mut nominated = ffi::Nominated::default();
-        yes("figures", self.ask(|agent| ffi::is_ice_nominated(agent, &mut nominated))).then_some(nominated)
+        (self.ask(|agent| ffi::is_ice_nominated(agent, &mut nominated)) == ffi::OK).then_some(nominated)
+    }
+
+    /// The path of the last [`IceAgentEvent::NominatedSend`]: where to send media from, and where to. `None` if no pair was selected, or
+    /// if the selected one was removed.
+    pub fn selected_path(&self) -> Option<SelectedPath> {
+        self.nominated().map(|nominated| SelectedPath::of(&nominated))
     }
 
     /// The last round-trip time on the selected pair.

@@ -1,6 +1,6 @@
 //! A builder of candidates whose states are types: first a protocol, then a route. Only TCP takes a TCP type.
 
-use crate::candidate::{Candidate, Gathered};
+use crate::candidate::Candidate;
 use crate::error::IceError;
 use crate::proto::{Protocol, TcpType};
 use std::marker::PhantomData;
@@ -133,6 +133,6 @@ impl<P> CandidateBuilder<HasProtocol<P>, HasRoute> {
     /// `BadCandidate` if no candidate may have the address, or if a server-reflexive one and its base have two IP versions.
     pub fn build(self) -> Result<Candidate, IceError> {
         let HasRoute { kind, addr, base } = self.route_state;
-        Candidate::gathered_as(Gathered { kind, addr, base, proto: self.protocol_state.protocol, tcptype: self.tcptype })
+        Candidate::gathered(kind, addr, base, self.protocol_state.protocol, self.tcptype)
     }
 }

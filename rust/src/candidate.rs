@@ -1,9 +1,10 @@
-//! Candidates. One that was gathered is passed to the library by its fields, any other one by its text.
+//! Candidates: what the library read or printed, kept as it is.
 
-use crate::error::IceError;
+use crate::error::{IceError, or_panic};
 use crate::ffi;
-use crate::proto::{Protocol, TcpType, address_of};
+use crate::proto::{Protocol, TcpType, address_of, socket_of};
 use std::fmt;
+use std::hash::{Hash, Hasher};
 use std::net::{IpAddr, SocketAddr};
 
 /// The kind of a candidate (RFC 8445, section 4).
@@ -19,6 +20,17 @@ pub enum CandidateKind {
     Relayed,
 }
 
+impl CandidateKind {
+    fn of(number: u8) -> CandidateKind {
+        match number {
+            0 => CandidateKind::Host,
+            1 => CandidateKind::ServerReflexive,
+            2 => CandidateKind::Relayed,
+            _ => CandidateKind::PeerReflexive,
+        }
+    }
+}
+
 impl fmt::Display for CandidateKind {
     fn fmt(&self, f: &mut fmt::Formatter<'_>) -> fmt::Result {
         f.write_str(match self {
@@ -30,33 +42,23 @@ impl fmt::Display for CandidateKind {
     }
 }
 
-/// What a candidate was gathered as: the number of its kind, its address, and its base or local address.
-#[derive(Clone, Copy, Debug, PartialEq, Eq, Hash)]
-pub(crate) struct Gathered {
-    pub(crate) kind: u8,
-    pub(crate) addr: SocketAddr,
-    pub(crate) base: SocketAddr,
-    pub(crate) proto: Protocol,
-    pub(crate) tcptype: Option<TcpType>,
-}
-
-impl Gathered {
-    pub(crate) fn raw(&self) -> ffi::Gathered {
-        ffi::Gathered {
-            address: address_of(self.addr),
-            base: address_of(self.base),
-            kind: self.kind,
-            protocol: self.proto.number(),
-            tcptype: self.tcptype.map_or(0, TcpType::number),
-        }
-    }
-}
-
 /// A candidate: a transport address at which an agent may be reached.
-#[derive(Clone, Debug, PartialEq, Eq, Hash)]
+///
+/// It is what the library read: the text as the library prints it, and the fields that the agent uses. So what a program sees of a
+/// candidate is what an agent does with it, whatever text the peer signaled. Two candidates are equal if texts and fields are.
+///
+/// ```
+/// let odd = "candidate:1 1 UDP\u{2003}2130706175   10.0.0.2 2000 typ host generation 0 ufrag EsAw\r\n";
+/// let candidate = is::Candidate::from_sdp_string(odd).unwrap();
+/// assert_eq!(candidate.addr(), "10.0.0.2:2000".parse().unwrap());
+/// assert_eq!(candidate.to_sdp_string(), "candidate:1 1 udp 2130706175 10.0.0.2 2000 typ host ufrag EsAw");
+/// ```
+#[derive(Clone)]
 pub struct Candidate {
-    gathered: Option<Gathered>,
-    line: String,
+    text: String,
+    fields: ffi::Fields,
+    /// Whether it was gathered, or an agent lists it as a local one: then an agent takes it by its fields, else by its text.
+    is_local: bool,
 }
 
 // ---- creating
@@ -79,22 +81,33 @@ impl Candidate {
 
     fn gather(kind: u8, addr: SocketAddr, base: SocketAddr, proto: impl TryInto<Protocol>) -> Result<Candidate, IceError> {
         let proto = proto.try_into().map_err(|_| IceError::BadCandidate("invalid protocol".to_owned()))?;
-        Candidate::gathered_as(Gathered { kind, addr, base, proto, tcptype: None })
+        Candidate::gathered(kind, addr, base, proto, None)
     }
 
-    pub(crate) fn gathered_as(gathered: Gathered) -> Result<Candidate, IceError> {
-        let raw = gathered.raw();
-        if let Ok(why) = ffi::text(|buffer, length| ffi::candidate_refusal(&raw, buffer, length)) {
-            return Err(IceError::BadCandidate(why));
-        }
-        let line = ffi::text(|buffer, length| ffi::candidate_line(&raw, buffer, length));
-        Ok(Candidate { gathered: Some(gathered), line: line.unwrap_or_else(|code| panic!("a line: {}", ffi::text_of(code))) })
+    /// The candidate of this kind, with the base or the local address.
+    pub(crate) fn gathered(
+        kind: u8,
+        addr: SocketAddr,
+        base: SocketAddr,
+        proto: Protocol,
+        tcptype: Option<TcpType>,
+    ) -> Result<Candidate, IceError> {
+        let given = ffi::Gathered {
+            address: address_of(addr),
+            base: address_of(base),
+            kind,
+            protocol: proto.number(),
+            tcptype: tcptype.map_or(0, TcpType::number),
+        };
+        ffi::candidate(|buffer, length, fields| ffi::candidate_fields(&given, buffer, length, fields))
+            .map(Candidate::listed_local)
+            .map_err(|code| IceError::of(code, |buffer, length| ffi::candidate_refusal(&given, buffer, length)))
     }
 
     /// Reads a candidate attribute (RFC 8839) without `a=`, as `candidate:1 1 udp 2130706175 10.0.0.2 2000 typ host`.
     ///
-    /// A candidate with an mDNS name instead of an address is an error. Resolve the name by mDNS and put the address in its place,
-    /// or leave the candidate out, as here: the agent discovers a peer-reflexive candidate from the peer's checks.
+    /// A candidate with an mDNS name instead of an address is an error: see [`Candidate::mdns_name`]. It may be left out, as here: the
+    /// agent discovers a peer-reflexive candidate from the peer's checks.
     ///
     /// ```
     /// # let mut agent = is::IceAgent::new(is::IceCreds::new());
@@ -110,11 +123,42 @@ impl Candidate {
     /// }
     /// assert_eq!(agent.remote_candidates().count(), 1);
     /// ```
+    ///
+    /// # Errors
+    ///
+    /// `BadCandidate` says why it is not a candidate.
     pub fn from_sdp_string(line: &str) -> Result<Candidate, IceError> {
-        match ffi::text(|buffer, length| ffi::line_refusal(line, buffer, length)) {
-            Ok(why) => Err(IceError::BadCandidate(why)),
-            Err(ffi::NOTHING) => Ok(Candidate { gathered: None, line: line.to_owned() }),
-            Err(code) => panic!("a line: {}", ffi::text_of(code)),
+        read(line)
+            .map(Candidate::listed_remote)
+            .map_err(|code| IceError::of(code, |buffer, length| ffi::line_refusal(line, buffer, length)))
+    }
+
+    /// The mDNS name that a candidate attribute has instead of an address, with which browsers hide the addresses of their hosts.
+    /// [`Candidate::from_mdns`] reads it once the name is resolved.
+    ///
+    /// ```
+    /// use is::Candidate;
+    ///
+    /// let signaled = "candidate:2 1 udp 2130706174 3f2b8c1e.local 2000 typ host";
+    /// assert_eq!(Candidate::mdns_name(signaled).as_deref(), Some("3f2b8c1e.local"));
+    /// let resolved = "192.0.2.7".parse().unwrap(); // by the system's resolver, or by mDNS
+    /// let candidate = Candidate::from_mdns(signaled, resolved).unwrap();
+    /// assert_eq!(candidate.addr(), "192.0.2.7:2000".parse().unwrap());
+    /// ```
+    pub fn mdns_name(line: &str) -> Option<String> {
+        ffi::text(|buffer, length| ffi::line_name(line, buffer, length)).ok()
+    }
+
+    /// Reads a candidate attribute, with this IP address in place of the one or the name that it has.
+    ///
+    /// # Errors
+    ///
+    /// `BadCandidate` if it is not a candidate with this address.
+    pub fn from_mdns(line: &str, ip: IpAddr) -> Result<Candidate, IceError> {
+        let address = address_of(SocketAddr::new(ip, 0));
+        match ffi::text(|buffer, length| ffi::line_with_address(line, &address, buffer, length)) {
+            Ok(line) => Candidate::from_sdp_string(&line),
+            Err(code) => Err(IceError::of(code, |buffer, length| ffi::line_refusal(line, buffer, length))),
         }
     }
 
@@ -129,30 +173,72 @@ impl Candidate {
     ///
     /// # Errors
     ///
-    /// `BadCandidate` says why it is not a candidate. The end of candidates, which has an empty `candidate`, is not one.
-    ///
-    /// # Panics
-    ///
-    /// If out of memory.
+    /// `BadCandidate` says why it is not a candidate. The end of candidates, which has an empty `candidate`, is not one, and neither is
+    /// one whose username fragment is empty or has white space.
     pub fn from_json(json: &str) -> Result<Candidate, IceError> {
         match ffi::text(|buffer, length| ffi::line_from_json(json, buffer, length)) {
-            Ok(line) => Ok(Candidate { gathered: None, line }),
-            Err(ffi::BAD_CANDIDATE) => {
-                let why = ffi::text(|buffer, length| ffi::json_refusal(json, buffer, length));
-                Err(IceError::BadCandidate(why.unwrap_or_else(|code| panic!("JSON: {}", ffi::text_of(code)))))
-            }
-            Err(code) => panic!("JSON: {}", ffi::text_of(code)),
+            Ok(line) => Candidate::from_sdp_string(&line),
+            Err(code) => Err(IceError::of(code, |buffer, length| ffi::json_refusal(json, buffer, length))),
         }
+    }
+
+    /// The candidate that an agent lists as a local one, or that was gathered.
+    pub(crate) fn listed_local((text, fields): (String, ffi::Fields)) -> Candidate {
+        Candidate { text, fields, is_local: true }
+    }
+
+    /// The candidate that an agent lists as a remote one, or that was read.
+    pub(crate) fn listed_remote((text, fields): (String, ffi::Fields)) -> Candidate {
+        Candidate { text, fields, is_local: false }
+    }
+}
+
+/// A text, as the library reads and prints it.
+fn read(line: &str) -> Result<(String, ffi::Fields), i32> {
+    ffi::candidate(|buffer, length, fields| ffi::line_fields(line, buffer, length, fields))
+}
+
+// ---- for the library
+
+impl Candidate {
+    /// As the library takes a candidate that was gathered; none if it was read, or is listed as a remote one.
+    pub(crate) fn given(&self) -> Option<ffi::Gathered> {
+        let ffi::Fields { address, local, kind, protocol, tcptype, .. } = self.fields;
+        self.is_local.then_some(ffi::Gathered { address, base: local, kind, protocol, tcptype })
+    }
+
+    /// As the library takes any other candidate.
+    pub(crate) fn text(&self) -> &str {
+        &self.text
+    }
+}
+
+// ---- text and fields
+
+impl Candidate {
+    /// Its text, for signaling: as the library prints it, with single spaces and without unknown extensions.
+    pub fn to_sdp_string(&self) -> String {
+        self.text.clone()
     }
 
     /// Its JSON, in which browsers signal it: `sdpMid` is null, and `sdpMLineIndex` is 0.
     ///
     /// # Panics
     ///
-    /// If out of memory.
+    /// If out of memory, or if its agent has a username fragment that is no word. `try_to_json` returns an error then.
+    #[track_caller]
     pub fn to_json(&self) -> String {
-        let json = ffi::text(|buffer, length| ffi::line_to_json(&self.line, buffer, length));
-        json.unwrap_or_else(|code| panic!("JSON: {}", ffi::text_of(code)))
+        or_panic(self.try_to_json())
+    }
+
+    /// As `to_json`.
+    ///
+    /// # Errors
+    ///
+    /// `BadCandidate`: out of memory, or its text cannot be read, since its agent has a username fragment that is no word.
+    pub fn try_to_json(&self) -> Result<String, IceError> {
+        ffi::text(|buffer, length| ffi::line_to_json(&self.text, buffer, length))
+            .map_err(|code| IceError::of(code, |buffer, length| ffi::line_refusal(&self.text, buffer, length)))
     }
 
     /// Sets the username fragment of the session that it belongs to: of `ice-char` (RFC 8839, section 5.4). An agent gives its own
@@ -160,95 +246,92 @@ impl Candidate {
     ///
     /// # Panics
     ///
-    /// If out of memory.
+    /// If the username fragment is empty or has white space, or if out of memory. `try_set_ufrag` returns an error then.
+    #[track_caller]
     pub fn set_ufrag(&mut self, ufrag: &str) {
-        let line = ffi::text(|buffer, length| ffi::line_with_ufrag(&self.line, ufrag, buffer, length));
-        self.line = line.unwrap_or_else(|code| panic!("a line: {}", ffi::text_of(code)));
+        or_panic(self.try_set_ufrag(ufrag));
     }
 
-    /// The candidate that an agent lists by this text, with what it was gathered as, if it was.
-    pub(crate) fn listed(line: String, gathered: Option<Gathered>) -> Candidate {
-        Candidate { gathered, line }
-    }
-
-    pub(crate) fn gathered(&self) -> Option<Gathered> {
-        self.gathered
-    }
-}
-
-/// The text without its username fragment, which is last.
-pub(crate) fn unnamed(line: &str) -> &str {
-    line.rfind(" ufrag ").map_or(line, |at| &line[..at])
-}
-
-// ---- fields: words of the text, which was read as a candidate
-
-impl Candidate {
-    /// Its text, for signaling.
-    pub fn to_sdp_string(&self) -> String {
-        self.line.clone()
-    }
-
-    fn word(&self, index: usize) -> &str {
-        self.line.split_ascii_whitespace().nth(index).expect("a candidate line has eight words")
-    }
-
-    /// The word after this one, among the extensions.
-    fn extension(&self, name: &str) -> Option<&str> {
-        let mut words = self.line.split_ascii_whitespace().skip(8);
-        while let Some(word) = words.next() {
-            let value = words.next();
-            if word == name {
-                return value;
-            }
-        }
-        None
+    /// As `set_ufrag`.
+    ///
+    /// # Errors
+    ///
+    /// `BadCandidate` if the username fragment is empty or has white space, or that of its agent before is no word, or if out of memory.
+    /// The candidate is unchanged then.
+    pub fn try_set_ufrag(&mut self, ufrag: &str) -> Result<(), IceError> {
+        let named = ffi::text(|buffer, length| ffi::line_with_ufrag(&self.text, ufrag, buffer, length)).and_then(|line| read(&line));
+        let (text, fields) = named.map_err(|code| match code {
+            ffi::BAD_CANDIDATE => IceError::BadCandidate("bad username fragment".to_owned()),
+            code => IceError::BadCandidate(ffi::text_of(code).to_owned()),
+        })?;
+        // A text has no base and no scope, so these stay.
+        self.fields.foundation_length = fields.foundation_length;
+        self.fields.ufrag_length = fields.ufrag_length;
+        self.text = text;
+        Ok(())
     }
 
     /// Its transport address.
     pub fn addr(&self) -> SocketAddr {
-        let ip: IpAddr = self.word(4).parse().expect("an IP address");
-        SocketAddr::new(ip, self.word(5).parse().expect("a port"))
+        socket_of(&self.fields.address)
     }
 
-    /// The address of the local socket if it was gathered, else its transport address.
+    /// The address of the local socket, if it was gathered or is a host: of a host its address, of a reflexive candidate its base.
+    /// Otherwise it is unspecified, with port 0.
     pub fn local(&self) -> SocketAddr {
-        self.gathered.map_or_else(|| self.addr(), |gathered| gathered.base)
+        socket_of(&self.fields.local)
     }
 
     /// Its priority.
     pub fn prio(&self) -> u32 {
-        self.word(3).parse().expect("a priority")
+        self.fields.priority
     }
 
     /// Its transport protocol.
     pub fn proto(&self) -> Protocol {
-        self.word(2).try_into().expect("a protocol")
+        Protocol::of(self.fields.protocol)
     }
 
     /// Its kind.
     pub fn kind(&self) -> CandidateKind {
-        match self.word(7) {
-            "host" => CandidateKind::Host,
-            "prflx" => CandidateKind::PeerReflexive,
-            "srflx" => CandidateKind::ServerReflexive,
-            _ => CandidateKind::Relayed,
-        }
+        CandidateKind::of(self.fields.kind)
     }
 
     /// Which side opens the connection of a TCP candidate.
     pub fn tcptype(&self) -> Option<TcpType> {
-        self.extension("tcptype").and_then(TcpType::of)
+        TcpType::of(self.fields.tcptype)
     }
 
     /// The username fragment of the session that it belongs to.
     pub fn ufrag(&self) -> Option<&str> {
-        self.extension("ufrag")
+        let start = self.text.len().checked_sub(self.fields.ufrag_length)?;
+        self.text.get(start..).filter(|ufrag| !ufrag.is_empty())
+    }
+}
+
+impl PartialEq for Candidate {
+    fn eq(&self, other: &Candidate) -> bool {
+        self.text == other.text && self.fields == other.fields
+    }
+}
+
+impl Eq for Candidate {}
+
+impl Hash for Candidate {
+    fn hash<H: Hasher>(&self, state: &mut H) {
+        self.text.hash(state);
+        self.fields.hash(state);
     }
 }
 
 impl fmt::Display for Candidate {
     fn fmt(&self, f: &mut fmt::Formatter<'_>) -> fmt::Result {
-        f.write_str(&self.line)
+        f.write_str(&self.text)
+    }
+}
+
+impl fmt::Debug for Candidate {
+    fn fmt(&self, f: &mut fmt::Formatter<'_>) -> fmt::Result {
+        f.debug_struct("Candidate").field("text", &self.text).field("local", &self.local()).finish_non_exhaustive()
     }
 }

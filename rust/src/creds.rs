@@ -1,11 +1,18 @@
-//! Credentials, and the system's random bytes that they are created from.
+//! Credentials.
 
+use crate::error::{CallError, found, or_panic};
 use crate::ffi;
-use std::fs::File;
-use std::io::Read;
+use std::fmt;
 
 /// The credentials of an agent. Signaling sends them to the peer.
-#[derive(Clone, Debug, PartialEq, Eq, Hash)]
+///
+/// `{:?}` prints no password, so logs may have it:
+///
+/// ```
+/// let creds = is::IceCreds { ufrag: "EsAw".to_owned(), pass: "P2uYro0UCOQ4zxjKXaWCBui1".to_owned() };
+/// assert_eq!(format!("{creds:?}"), r#"IceCreds { ufrag: "EsAw", pass: ".." }"#);
+/// ```
+#[derive(Clone, PartialEq, Eq, Hash)]
 pub struct IceCreds {
     /// The username fragment, of `a=ice-ufrag`.
     pub ufrag: String,
@@ -18,28 +25,29 @@ impl IceCreds {
     ///
     /// # Panics
     ///
-    /// If the system has no random bytes, or if out of memory.
+    /// If the system has no random bytes, or if out of memory. `try_new` returns an error then.
     #[allow(clippy::new_without_default)]
+    #[track_caller]
     pub fn new() -> IceCreds {
+        or_panic(IceCreds::try_new())
+    }
+
+    /// As `new`.
+    ///
+    /// # Errors
+    ///
+    /// [`CallError::NoRandomBytes`], [`CallError::OutOfMemory`].
+    pub fn try_new() -> Result<IceCreds, CallError> {
+        let random = ffi::random().ok_or(CallError::NoRandomBytes)?;
         let (mut ufrag, mut pass) = ([0; 16], [0; 22]);
-        let code = ffi::make_credentials(&Random::new().draw(), &mut ufrag, &mut pass);
-        assert_eq!(code, ffi::OK, "credentials: {}", ffi::text_of(code));
-        let text = |bytes: &[u8]| String::from_utf8(bytes.to_vec()).expect("texts of the library are UTF-8");
-        IceCreds { ufrag: text(&ufrag), pass: text(&pass) }
+        found(ffi::make_credentials(&random, &mut ufrag, &mut pass))?;
+        let text = |bytes: &[u8]| String::from_utf8_lossy(bytes).into_owned();
+        Ok(IceCreds { ufrag: text(&ufrag), pass: text(&pass) })
     }
 }
 
-/// The system's random source.
-pub(crate) struct Random(File);
-
-impl Random {
-    pub(crate) fn new() -> Random {
-        Random(File::open("/dev/urandom").expect("/dev/urandom"))
-    }
-
-    pub(crate) fn draw<const N: usize>(&mut self) -> [u8; N] {
-        let mut bytes = [0; N];
-        self.0.read_exact(&mut bytes).expect("random bytes");
-        bytes
+impl fmt::Debug for IceCreds {
+    fn fmt(&self, f: &mut fmt::Formatter<'_>) -> fmt::Result {
+        f.debug_struct("IceCreds").field("ufrag", &self.ufrag).field("pass", &"..").finish()
     }
 }

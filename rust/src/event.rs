@@ -108,6 +108,27 @@ impl IceAgentEvent {
     }
 }
 
+/// A path that was selected: that of the last [`IceAgentEvent::NominatedSend`].
+#[derive(Clone, Copy, Debug, PartialEq, Eq)]
+pub struct SelectedPath {
+    /// The transport protocol.
+    pub proto: Protocol,
+    /// The local address to send from.
+    pub source: SocketAddr,
+    /// The address to send to.
+    pub destination: SocketAddr,
+}
+
+impl SelectedPath {
+    pub(crate) fn of(nominated: &ffi::Nominated) -> SelectedPath {
+        SelectedPath {
+            proto: Protocol::of(nominated.protocol),
+            source: socket_of(&nominated.source),
+            destination: socket_of(&nominated.destination),
+        }
+    }
+}
+
 /// A packet to send: a STUN message.
 #[derive(Clone, Debug, PartialEq, Eq)]
 pub struct Transmit {

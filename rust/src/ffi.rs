@@ -1,4 +1,4 @@
-//! Safe functions for the library's C interface, `c/is_ice.h`: the only module with `unsafe`.
+//! Safe functions for the library's C interface, `c/is_ice.h`, and for the system's random bytes: the only module with `unsafe`.
 //!
 //! Why the calls are safe, in addition to the reason at each block:
 //! - An `Agent` is created zeroed, in a box that it never leaves, and its fields are private to this module. So it is never copied,
@@ -13,9 +13,17 @@ use std::ptr;
 
 pub(crate) const OK: i32 = 0;
 pub(crate) const NOTHING: i32 = 1;
+pub(crate) const NOT_UTF8: i32 = -3;
+pub(crate) const BAD_ADDRESS: i32 = -4;
 pub(crate) const UNPARSED: i32 = -5;
 pub(crate) const BUFFER_TOO_SHORT: i32 = -6;
+pub(crate) const OUT_OF_MEMORY: i32 = -7;
 pub(crate) const BAD_CANDIDATE: i32 = -8;
+pub(crate) const PAIR_IDS_EXHAUSTED: i32 = -9;
+pub(crate) const MTU_TOO_SMALL: i32 = -10;
+pub(crate) const CREDENTIALS_TOO_LONG: i32 = -11;
+pub(crate) const PRIORITY_TOO_HIGH: i32 = -12;
+pub(crate) const BAD_LIMIT: i32 = -13;
 
 /// The text of each code, as in `is_ice_code_text` of the header.
 pub(crate) fn text_of(code: i32) -> &'static str {
@@ -56,7 +64,7 @@ pub(crate) struct Agent {
 unsafe impl Send for Agent {}
 
 #[repr(C)]
-#[derive(Clone, Copy, Debug, Default, PartialEq, Eq)]
+#[derive(Clone, Copy, Debug, Default, PartialEq, Eq, Hash)]
 pub(crate) struct Address {
     pub(crate) family: u8,
     pub(crate) bytes: [u8; 16],
@@ -70,6 +78,21 @@ pub(crate) struct Address {
 pub(crate) struct Gathered {
     pub(crate) address: Address,
     pub(crate) base: Address,
+    pub(crate) kind: u8,
+    pub(crate) protocol: u8,
+    pub(crate) tcptype: u8,
+}
+
+#[repr(C)]
+#[derive(Clone, Copy, Default, PartialEq, Eq, Hash)]
+pub(crate) struct Fields {
+    pub(crate) address: Address,
+    pub(crate) local: Address,
+    pub(crate) related: Address,
+    pub(crate) foundation_length: usize,
+    pub(crate) ufrag_length: usize,
+    pub(crate) priority: u32,
+    pub(crate) component: u16,
     pub(crate) kind: u8,
     pub(crate) protocol: u8,
     pub(crate) tcptype: u8,
@@ -118,9 +141,12 @@ pub(crate) struct Stats {
 #[repr(C)]
 #[derive(Clone, Copy, Default)]
 pub(crate) struct Nominated {
+    pub(crate) source: Address,
+    pub(crate) destination: Address,
     pub(crate) total_rtt: u64,
     pub(crate) responses: u64,
     pub(crate) rtt: u64,
+    pub(crate) protocol: u8,
     pub(crate) has_rtt: bool,
 }
 
@@ -225,8 +251,9 @@ pub(crate) struct StunTexts {
 #[cfg(target_pointer_width = "64")]
 const _: () = {
     assert!(size_of::<Agent>() == 16 && size_of::<Address>() == 28 && size_of::<Gathered>() == 60);
+    assert!(size_of::<Fields>() == 120 && std::mem::offset_of!(Fields, foundation_length) == 88);
     assert!(size_of::<Packet>() == 72 && size_of::<Event>() == 68 && size_of::<Status>() == 32);
-    assert!(size_of::<Stats>() == 40 && size_of::<Nominated>() == 32 && size_of::<Pair>() == 96);
+    assert!(size_of::<Stats>() == 40 && size_of::<Nominated>() == 88 && size_of::<Pair>() == 96);
     assert!(size_of::<KindPreferences>() == 8 && size_of::<PreferenceTable>() == 16);
     assert!(size_of::<StunTransaction>() == 12 && size_of::<StunResult>() == 32);
     assert!(size_of::<StunNumber>() == 16 && size_of::<StunMessage>() == 232);
@@ -300,11 +327,28 @@ unsafe extern "C" {
     ) -> i32;
     fn is_ice_add_remote(agent: &mut Agent, line: *const u8, length: usize, index: &mut usize) -> i32;
     fn is_ice_invalidate(agent: &mut Agent, line: *const u8, length: usize) -> i32;
-    fn is_ice_local_candidate(agent: &mut Agent, index: usize, buffer: *mut u8, size: usize, length: &mut usize) -> i32;
-    fn is_ice_remote_candidate(agent: &mut Agent, index: usize, buffer: *mut u8, size: usize, length: &mut usize) -> i32;
+    fn is_ice_local_fields(agent: &mut Agent, index: usize, buffer: *mut u8, size: usize, length: &mut usize, fields: &mut Fields) -> i32;
+    fn is_ice_remote_fields(agent: &mut Agent, index: usize, buffer: *mut u8, size: usize, length: &mut usize, fields: &mut Fields) -> i32;
+    fn is_ice_line_fields(
+        line: *const u8,
+        line_length: usize,
+        buffer: *mut u8,
+        size: usize,
+        length: &mut usize,
+        fields: &mut Fields,
+    ) -> i32;
+    fn is_ice_candidate_fields(candidate: &Gathered, buffer: *mut u8, size: usize, length: &mut usize, fields: &mut Fields) -> i32;
+    fn is_ice_line_name(line: *const u8, line_length: usize, buffer: *mut u8, size: usize, length: &mut usize) -> i32;
+    fn is_ice_line_with_address(
+        line: *const u8,
+        line_length: usize,
+        address: &Address,
+        buffer: *mut u8,
+        size: usize,
+        length: &mut usize,
+    ) -> i32;
     fn is_ice_line_refusal(line: *const u8, line_length: usize, buffer: *mut u8, size: usize, length: &mut usize) -> i32;
     fn is_ice_candidate_refusal(candidate: &Gathered, buffer: *mut u8, size: usize, length: &mut usize) -> i32;
-    fn is_ice_candidate_line(candidate: &Gathered, buffer: *mut u8, size: usize, length: &mut usize) -> i32;
     fn is_ice_line_with_ufrag(
         line: *const u8,
         line_length: usize,
@@ -343,6 +387,15 @@ unsafe extern "C" {
     fn is_ice_stun_response(id: &StunTransaction, bytes: *const u8, length: usize, result: &mut StunResult) -> i32;
     fn is_ice_stun_text(attribute: u16, bytes: *const u8, bytes_length: usize, buffer: *mut u8, size: usize, length: &mut usize) -> i32;
     fn is_ice_stun_read(bytes: *const u8, length: usize, message: &mut StunMessage) -> i32;
+    fn is_ice_stun_read_strict(bytes: *const u8, length: usize, message: &mut StunMessage) -> i32;
+    fn is_ice_stun_username(
+        bytes: *const u8,
+        bytes_length: usize,
+        buffer: *mut u8,
+        size: usize,
+        length: &mut usize,
+        receiver: &mut usize,
+    ) -> i32;
     fn is_ice_stun_verify(bytes: *const u8, length: usize, key: *const u8, key_length: usize) -> i32;
     fn is_ice_stun_write(
         message: &StunMessage,
@@ -365,7 +418,7 @@ unsafe extern "C" {
 impl Agent {
     /// Creates an agent with these credentials.
     pub(crate) fn new(ufrag: &str, pass: &str, tie_breaker: u64) -> Result<Box<Agent>, i32> {
-        assert_eq!(is_ice_version(), 3, "is_ice.h belongs to another library");
+        assert_eq!(is_ice_version(), 4, "is_ice.h belongs to another library");
         let mut agent = Box::new(Agent { is_held: false, at: ptr::null_mut() });
         #[allow(unsafe_code)]
         // SAFETY: both texts are slices that are read. The agent is zeroed, and stays in its box.
@@ -421,19 +474,19 @@ impl Agent {
         }
     }
 
-    pub(crate) fn local_candidate(&mut self, index: usize, buffer: &mut [u8], length: &mut usize) -> i32 {
+    pub(crate) fn local_fields(&mut self, index: usize, buffer: &mut [u8], length: &mut usize, fields: &mut Fields) -> i32 {
         #[allow(unsafe_code)]
         // SAFETY: the buffer is a slice that is borrowed mutably.
         unsafe {
-            is_ice_local_candidate(self, index, buffer.as_mut_ptr(), buffer.len(), length)
+            is_ice_local_fields(self, index, buffer.as_mut_ptr(), buffer.len(), length, fields)
         }
     }
 
-    pub(crate) fn remote_candidate(&mut self, index: usize, buffer: &mut [u8], length: &mut usize) -> i32 {
+    pub(crate) fn remote_fields(&mut self, index: usize, buffer: &mut [u8], length: &mut usize, fields: &mut Fields) -> i32 {
         #[allow(unsafe_code)]
         // SAFETY: the buffer is a slice that is borrowed mutably.
         unsafe {
-            is_ice_remote_candidate(self, index, buffer.as_mut_ptr(), buffer.len(), length)
+            is_ice_remote_fields(self, index, buffer.as_mut_ptr(), buffer.len(), length, fields)
         }
     }
 
@@ -508,11 +561,35 @@ pub(crate) fn candidate_refusal(candidate: &Gathered, buffer: &mut [u8], length:
     }
 }
 
-pub(crate) fn candidate_line(candidate: &Gathered, buffer: &mut [u8], length: &mut usize) -> i32 {
+pub(crate) fn candidate_fields(candidate: &Gathered, buffer: &mut [u8], length: &mut usize, fields: &mut Fields) -> i32 {
     #[allow(unsafe_code)]
     // SAFETY: the buffer is a slice that is borrowed mutably.
     unsafe {
-        is_ice_candidate_line(candidate, buffer.as_mut_ptr(), buffer.len(), length)
+        is_ice_candidate_fields(candidate, buffer.as_mut_ptr(), buffer.len(), length, fields)
+    }
+}
+
+pub(crate) fn line_fields(line: &str, buffer: &mut [u8], length: &mut usize, fields: &mut Fields) -> i32 {
+    #[allow(unsafe_code)]
+    // SAFETY: the line is a slice that is read, the buffer one that is borrowed mutably.
+    unsafe {
+        is_ice_line_fields(line.as_ptr(), line.len(), buffer.as_mut_ptr(), buffer.len(), length, fields)
+    }
+}
+
+pub(crate) fn line_name(line: &str, buffer: &mut [u8], length: &mut usize) -> i32 {
+    #[allow(unsafe_code)]
+    // SAFETY: the line is a slice that is read, the buffer one that is borrowed mutably.
+    unsafe {
+        is_ice_line_name(line.as_ptr(), line.len(), buffer.as_mut_ptr(), buffer.len(), length)
+    }
+}
+
+pub(crate) fn line_with_address(line: &str, address: &Address, buffer: &mut [u8], length: &mut usize) -> i32 {
+    #[allow(unsafe_code)]
+    // SAFETY: the line is a slice that is read, the buffer one that is borrowed mutably.
+    unsafe {
+        is_ice_line_with_address(line.as_ptr(), line.len(), address, buffer.as_mut_ptr(), buffer.len(), length)
     }
 }
 
@@ -588,6 +665,23 @@ pub(crate) fn stun_read(bytes: &[u8], message: &mut StunMessage) -> i32 {
     }
 }
 
+pub(crate) fn stun_read_strict(bytes: &[u8], message: &mut StunMessage) -> i32 {
+    #[allow(unsafe_code)]
+    // SAFETY: the message is a slice that is read.
+    unsafe {
+        is_ice_stun_read_strict(bytes.as_ptr(), bytes.len(), message)
+    }
+}
+
+pub(crate) fn stun_username(bytes: &[u8], buffer: &mut [u8], length: &mut usize, receiver: &mut usize) -> i32 {
+    let (size, at) = (buffer.len(), buffer.as_mut_ptr());
+    #[allow(unsafe_code)]
+    // SAFETY: the message is a slice that is read, the buffer one that is borrowed mutably.
+    unsafe {
+        is_ice_stun_username(bytes.as_ptr(), bytes.len(), at, size, length, receiver)
+    }
+}
+
 pub(crate) fn stun_verify(bytes: &[u8], key: &[u8]) -> i32 {
     #[allow(unsafe_code)]
     // SAFETY: both are slices that are read.
@@ -605,18 +699,60 @@ pub(crate) fn stun_write(message: &StunMessage, texts: &StunTexts, bytes: &[u8],
     }
 }
 
-/// The text that a call writes to a buffer, which grows until it is long enough; or the call's code, if it is not `OK`.
-pub(crate) fn text(mut call: impl FnMut(&mut [u8], &mut usize) -> i32) -> Result<String, i32> {
-    let mut buffer = vec![0; 256];
-    loop {
-        let mut length = 0;
-        match call(&mut buffer, &mut length) {
-            OK => {
-                buffer.truncate(length);
-                return Ok(String::from_utf8(buffer).expect("texts of the library are UTF-8"));
-            }
-            BUFFER_TOO_SHORT => buffer.resize(length, 0),
-            code => return Err(code),
-        }
+// ---- what calls write to a buffer
+
+/// Enough for each packet of an agent and for most texts.
+const ROOM: usize = 600;
+
+/// The bytes that a call writes to a buffer, which is as long as they are at the second attempt; or the call's code, if it is not `OK`.
+pub(crate) fn bytes(mut call: impl FnMut(&mut [u8], &mut usize) -> i32) -> Result<Vec<u8>, i32> {
+    let (mut room, mut length) = ([0; ROOM], 0);
+    match call(&mut room, &mut length) {
+        OK => return Ok(room[..length].to_vec()),
+        BUFFER_TOO_SHORT => {}
+        code => return Err(code),
     }
+    let mut buffer = vec![0; length];
+    match call(&mut buffer, &mut length) {
+        OK => {
+            buffer.truncate(length);
+            Ok(buffer)
+        }
+        code => Err(code),
+    }
+}
+
+/// The text that a call writes, in the same way.
+pub(crate) fn text(call: impl FnMut(&mut [u8], &mut usize) -> i32) -> Result<String, i32> {
+    String::from_utf8(bytes(call)?).map_err(|_| NOT_UTF8)
+}
+
+/// The text and the fields of a candidate that a call writes, in the same way.
+pub(crate) fn candidate(mut call: impl FnMut(&mut [u8], &mut usize, &mut Fields) -> i32) -> Result<(String, Fields), i32> {
+    let mut fields = Fields::default();
+    let text = text(|buffer, length| call(buffer, length, &mut fields))?;
+    Ok((text, fields))
+}
+
+// ---- random bytes
+
+#[allow(unsafe_code)]
+// SAFETY: the declaration of <unistd.h> in POSIX.1-2024.
+unsafe extern "C" {
+    fn getentropy(buffer: *mut std::ffi::c_void, length: usize) -> std::ffi::c_int;
+}
+
+/// Random bytes that nobody can predict, from the system's generator; `None` if it has none.
+///
+/// It is `getentropy` of the C library, which std links anyway: std has no stable function for random bytes, and this crate has no
+/// dependencies. It needs no descriptor, as a handle of `/dev/urandom` does, so agents cannot run out of them, nothing can close it or
+/// open another file in its place, and it works without `/dev`. It keeps no state, so threads share nothing and a forked process gets
+/// other bytes.
+pub(crate) fn random<const N: usize>() -> Option<[u8; N]> {
+    const { assert!(N <= 256, "getentropy writes at most 256 bytes") };
+    let mut bytes = [0; N];
+    #[allow(unsafe_code)]
+    // SAFETY: an array that is borrowed mutably, and its length.
+    let result = unsafe { getentropy(bytes.as_mut_ptr().cast(), N) };
+    (result == 0).then_some(bytes)
 }

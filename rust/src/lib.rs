@@ -14,9 +14,10 @@
 //!
 //! Differences, in addition to those of the agent in docs/DIFFERENCES.md:
 //! - An [`IceAgent`] is `Send` and not `Sync`: it may move between threads, and threads share it in a `Mutex`.
-//! - An error that the original does not have, such as out of memory, is a panic that names it. Each method documents its panics.
+//! - An error that the original does not have, such as out of memory, is a panic that names it, as each method documents. Each of these
+//!   methods has a second form that returns a [`CallError`]: [`IceAgent::try_set_remote_credentials`], for example.
 //! - A local preference is a number or a table, [`LocalPreference`], not a callback.
-//! - HMAC-SHA1 is the proved one: there is no `with_hmac`. Random bytes are read from `/dev/urandom`.
+//! - HMAC-SHA1 is the proved one: there is no `with_hmac`. Random bytes are those of the system, by `getentropy`.
 //! - [`stun::StunMessage`]: `verify` and `to_bytes` do not call the HMAC function that they get. [`stun::StunMessage::binding_query`] writes a
 //!   Binding request without credentials.
 //! - Candidate JSON is a text, by [`Candidate::to_json`] and [`Candidate::from_json`]: there is no serde. There is no
@@ -41,8 +42,8 @@ pub use agent::IceAgent;
 pub use builder::CandidateBuilder;
 pub use candidate::{Candidate, CandidateKind};
 pub use creds::IceCreds;
-pub use error::{IceError, StunError};
-pub use event::{IceAgentEvent, IceAgentStats, IceConnectionState, Transmit};
+pub use error::{CallError, IceError, StunError};
+pub use event::{IceAgentEvent, IceAgentStats, IceConnectionState, SelectedPath, Transmit};
 pub use pair::{CandidatePair, CheckState};
-pub use preference::{KindPreferences, LocalPreference, PreferenceTable, default_local_preference};
+pub use preference::{KindPreferences, LocalPreference, PreferenceTable, default_local_preference, try_default_local_preference};
 pub use proto::{Protocol, TcpType};

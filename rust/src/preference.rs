@@ -1,6 +1,7 @@
 //! Local preferences of candidates.
 
 use crate::candidate::Candidate;
+use crate::error::{CallError, found, or_panic};
 use crate::ffi;
 
 /// Local preferences by kind, for one IP version (RFC 8445, section 5.1.2.1).
@@ -70,13 +71,23 @@ impl LocalPreference {
 ///
 /// # Panics
 ///
-/// If out of memory.
+/// If out of memory, among others: `try_default_local_preference` returns an error then.
+#[track_caller]
 pub fn default_local_preference(c: &Candidate, same_kind: usize) -> u32 {
+    or_panic(try_default_local_preference(c, same_kind))
+}
+
+/// As `default_local_preference`.
+///
+/// # Errors
+///
+/// [`CallError::OutOfMemory`], [`CallError::BadCandidate`].
+pub fn try_default_local_preference(c: &Candidate, same_kind: usize) -> Result<u32, CallError> {
     let mut preference = 0;
-    let code = match c.gathered() {
-        Some(gathered) => ffi::is_ice_candidate_preference(&gathered.raw(), same_kind, &mut preference),
-        None => ffi::line_preference(&c.to_sdp_string(), same_kind, &mut preference),
+    let of_given = c.given().map(|given| ffi::is_ice_candidate_preference(&given, same_kind, &mut preference));
+    let code = match of_given {
+        None | Some(ffi::BAD_ADDRESS) => ffi::line_preference(c.text(), same_kind, &mut preference),
+        Some(code) => code,
     };
-    assert_eq!(code, ffi::OK, "a preference: {}", ffi::text_of(code));
-    preference
+    found(code).map(|_| preference)
 }

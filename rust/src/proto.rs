@@ -83,11 +83,11 @@ impl TcpType {
         }
     }
 
-    pub(crate) fn of(word: &str) -> Option<TcpType> {
-        match word {
-            "active" => Some(TcpType::Active),
-            "passive" => Some(TcpType::Passive),
-            "so" => Some(TcpType::So),
+    pub(crate) fn of(number: u8) -> Option<TcpType> {
+        match number {
+            1 => Some(TcpType::Active),
+            2 => Some(TcpType::Passive),
+            3 => Some(TcpType::So),
             _ => None,
         }
     }

@@ -2,6 +2,7 @@
 
 use crate::agent::{IceAgent, nanoseconds};
 use crate::creds::IceCreds;
+use crate::error::{CallError, or_panic};
 use crate::ffi;
 use crate::preference::LocalPreference;
 use std::ops::RangeInclusive;
@@ -12,9 +13,19 @@ impl IceAgent {
     ///
     /// # Panics
     ///
-    /// If the first is below 588 bytes, the length of the longest connectivity check.
+    /// If the first is below 588 bytes, the length of the longest connectivity check. `try_set_mtu` returns an error then.
+    #[track_caller]
     pub fn set_mtu(&mut self, mtu: RangeInclusive<usize>) {
-        self.tell("mtu", |agent| ffi::is_ice_set_mtu(agent, *mtu.start(), *mtu.end()));
+        or_panic(self.try_set_mtu(mtu));
+    }
+
+    /// As `set_mtu`.
+    ///
+    /// # Errors
+    ///
+    /// [`CallError::MtuTooSmall`].
+    pub fn try_set_mtu(&mut self, mtu: RangeInclusive<usize>) -> Result<(), CallError> {
+        self.tell(|agent| ffi::is_ice_set_mtu(agent, *mtu.start(), *mtu.end())).map(drop)
     }
 
     /// How long a packet may be.
@@ -29,12 +40,12 @@ impl IceAgent {
 
     /// Sets the number that decides role conflicts: the agent with the greater one keeps its role.
     pub fn set_control_tie_breaker(&mut self, tie_breaker: u64) {
-        self.tell("tie-breaker", |agent| ffi::is_ice_set_tie_breaker(agent, tie_breaker));
+        self.set(|agent| ffi::is_ice_set_tie_breaker(agent, tie_breaker));
     }
 
     /// Limits the number of pairs, when pairs are next formed. Default: 100.
     pub fn set_max_candidate_pairs(&mut self, max: usize) {
-        self.tell("limit", |agent| ffi::is_ice_set_max_pairs(agent, max));
+        self.set(|agent| ffi::is_ice_set_max_pairs(agent, max));
     }
 
     /// Limits how many peer-reflexive candidates packets bring of each side, invalidated ones included: requests remote ones,
@@ -44,7 +55,7 @@ impl IceAgent {
     /// sender replaces one without a pair, or its request is dropped without a response. Known and signaled senders are always
     /// served. A response counts as ever at the limit, and its mapped address is not listed. Set the limit before the first packet.
     pub fn set_max_discovered(&mut self, max: Option<usize>) {
-        self.tell("limit", |agent| ffi::is_ice_set_max_discovered(agent, max.unwrap_or(usize::MAX)));
+        self.set(|agent| ffi::is_ice_set_max_discovered(agent, max.unwrap_or(usize::MAX)));
     }
 
     /// Whether the agent is a lite agent.
@@ -57,7 +68,7 @@ impl IceAgent {
     /// A lite agent has to be controlled, and its peer a full agent. One that stays controlling never finds a path, and no call
     /// reports it.
     pub fn set_ice_lite(&mut self, enabled: bool) {
-        self.tell("lite", |agent| ffi::is_ice_set_lite(agent, enabled));
+        self.set(|agent| ffi::is_ice_set_lite(agent, enabled));
     }
 
     /// Lets each nomination replace the ones before, so that both agents select the same path whatever priorities each has.
@@ -68,29 +79,31 @@ impl IceAgent {
     /// pair on which it received the last request with USE-CANDIDATE, once a check of its own was answered on it; until then it
     /// keeps its path. If only the controlled agent has it, its path may change at each check of the peer.
     pub fn set_renomination(&mut self, enabled: bool) {
-        self.tell("renomination", |agent| ffi::is_ice_set_renomination(agent, enabled));
+        self.set(|agent| ffi::is_ice_set_renomination(agent, enabled));
     }
 
     /// Sets the pacing interval Ta: the least time between two timeouts, each of which sends at most one packet. Default: 50 ms.
     pub fn set_timing_advance(&mut self, duration: Duration) {
-        self.tell("pacing interval", |agent| ffi::is_ice_set_timing_advance(agent, nanoseconds(duration)));
+        self.set(|agent| ffi::is_ice_set_timing_advance(agent, nanoseconds(duration)));
     }
 
     /// Sets the time from a pair's first check until the second one is due; it doubles with each further check. Default: 250 ms.
     pub fn set_initial_stun_rto(&mut self, timeout: Duration) {
-        self.tell("initial RTO", |agent| ffi::is_ice_set_initial_rto(agent, nanoseconds(timeout)));
+        self.set(|agent| ffi::is_ice_set_initial_rto(agent, nanoseconds(timeout)));
     }
 
-    /// Sets the longest time from one check of a pair until the next one is due. Default: 2.9 s; in the original 3 s.
+    /// Sets the longest time from one check of a pair until the next one is due. Default: 2.9 s; in the original 3 s. With the default
+    /// values a path that stops responding is removed 29.6 s after the last check that got a response, within the 30 s of RFC 7675,
+    /// section 5.1; with the original's after 24.5 s.
     pub fn set_max_stun_rto(&mut self, timeout: Duration) {
-        self.tell("maximal RTO", |agent| ffi::is_ice_set_max_rto(agent, nanoseconds(timeout)));
+        self.set(|agent| ffi::is_ice_set_max_rto(agent, nanoseconds(timeout)));
     }
 
     /// Sets how long a lite agent keeps a pair after the peer's last check on it. A pair without any counts as checked at its first
     /// timeout. Against Firefox set 30 s: it still sends checks after a cut of 20 s, and does not nominate again what was removed.
     /// Chromium sends none after 15 s without a response. Full agents do not use it. Default: 15 s.
     pub fn set_lite_timeout(&mut self, timeout: Duration) {
-        self.tell("lite timeout", |agent| ffi::is_ice_set_lite_timeout(agent, nanoseconds(timeout)));
+        self.set(|agent| ffi::is_ice_set_lite_timeout(agent, nanoseconds(timeout)));
     }
 
     /// Sets after how many checks in a row without a response a pair is removed. It is not removed while the last check may still
@@ -98,14 +111,24 @@ impl IceAgent {
     ///
     /// # Panics
     ///
-    /// If the limit is 0.
+    /// If the limit is 0. `try_set_max_stun_retransmits` returns an error then.
+    #[track_caller]
     pub fn set_max_stun_retransmits(&mut self, num: usize) {
-        self.tell("retransmits", |agent| ffi::is_ice_set_max_retransmits(agent, num));
+        or_panic(self.try_set_max_stun_retransmits(num));
+    }
+
+    /// As `set_max_stun_retransmits`.
+    ///
+    /// # Errors
+    ///
+    /// [`CallError::BadLimit`].
+    pub fn try_set_max_stun_retransmits(&mut self, num: usize) -> Result<(), CallError> {
+        self.tell(|agent| ffi::is_ice_set_max_retransmits(agent, num)).map(drop)
     }
 
     /// Sets the local preference of local candidates that are added later.
     pub fn set_local_preference(&mut self, p: LocalPreference) {
-        self.tell("preference", |agent| p.set(agent));
+        self.set(|agent| p.set(agent));
     }
 
     /// How long a pair's checks go on without a response, before the pair is removed.
@@ -120,7 +143,7 @@ impl IceAgent {
 
     /// Makes the agent controlling or controlled: controlling on the side that made the offer.
     pub fn set_controlling(&mut self, controlling: bool) {
-        self.tell("role", |agent| ffi::is_ice_set_controlling(agent, controlling));
+        self.set(|agent| ffi::is_ice_set_controlling(agent, controlling));
     }
 
     /// The local credentials.
@@ -132,10 +155,22 @@ impl IceAgent {
     ///
     /// # Panics
     ///
-    /// If both username fragments and a colon are longer than 508 bytes, or if out of memory.
+    /// If both username fragments and a colon are longer than 508 bytes, or if out of memory. `try_set_local_credentials` returns an
+    /// error then.
+    #[track_caller]
     pub fn set_local_credentials(&mut self, r: IceCreds) {
-        self.tell("credentials", |agent| agent.set_local_credentials(&r.ufrag, &r.pass));
+        or_panic(self.try_set_local_credentials(r));
+    }
+
+    /// As `set_local_credentials`.
+    ///
+    /// # Errors
+    ///
+    /// [`CallError::CredentialsTooLong`], [`CallError::OutOfMemory`].
+    pub fn try_set_local_credentials(&mut self, r: IceCreds) -> Result<(), CallError> {
+        self.tell(|agent| agent.set_local_credentials(&r.ufrag, &r.pass))?;
         self.local = r;
+        Ok(())
     }
 
     /// The peer's credentials.
@@ -147,9 +182,21 @@ impl IceAgent {
     ///
     /// # Panics
     ///
-    /// If both username fragments and a colon are longer than 508 bytes, or if out of memory.
+    /// If both username fragments and a colon are longer than 508 bytes, or if out of memory. The peer chooses its own: a program that
+    /// passes on what was signaled calls `try_set_remote_credentials`, which returns an error then.
+    #[track_caller]
     pub fn set_remote_credentials(&mut self, r: IceCreds) {
-        self.tell("credentials", |agent| agent.set_remote_credentials(&r.ufrag, &r.pass));
+        or_panic(self.try_set_remote_credentials(r));
+    }
+
+    /// As `set_remote_credentials`.
+    ///
+    /// # Errors
+    ///
+    /// [`CallError::CredentialsTooLong`], [`CallError::OutOfMemory`].
+    pub fn try_set_remote_credentials(&mut self, r: IceCreds) -> Result<(), CallError> {
+        self.tell(|agent| agent.set_remote_credentials(&r.ufrag, &r.pass))?;
         self.remote = Some(r);
+        Ok(())
     }
 }

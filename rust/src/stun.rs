@@ -1,19 +1,12 @@
 //! STUN messages (RFC 8489): those that a caller passes to an agent, and those of clients and servers, read and written.
 
-use crate::creds::Random;
-use crate::error::StunError;
+use crate::error::{CallError, StunError, or_panic};
 use crate::ffi;
 use crate::proto::{Protocol, socket_of};
-use crate::stun_texts::{Texts, write};
-use std::cell::RefCell;
+use crate::stun_texts::{Texts, find, write};
 use std::net::SocketAddr;
 
 pub use crate::stun_builder::Builder as StunMessageBuilder;
-
-thread_local! {
-    /// An agent without candidates, which parses messages.
-    static READER: RefCell<Box<ffi::Agent>> = RefCell::new(ffi::Agent::new("-", "-", 0).unwrap_or_else(|code| panic!("a reader: {}", ffi::text_of(code))));
-}
 
 // The types of the attributes that contain a text or data (RFC 8489, section 18.3; RFC 8656, section 18).
 const USERNAME: u16 = 0x0006;
@@ -26,6 +19,12 @@ const SOFTWARE: u16 = 0x0022;
 /// The length of a Binding request without credentials: header and FINGERPRINT.
 pub const QUERY_LENGTH: usize = 28;
 
+/// No message without DATA is longer.
+const LONGEST_MESSAGE: usize = 1228;
+
+/// No USERNAME that can be read is longer.
+const LONGEST_USERNAME: usize = 513;
+
 /// A transaction ID: 12 bytes that the client chose at random (RFC 8489, section 5).
 #[derive(Clone, Copy, Debug, PartialEq, Eq, PartialOrd, Ord, Hash)]
 pub struct TransId(pub [u8; 12]);
@@ -35,10 +34,20 @@ impl TransId {
     ///
     /// # Panics
     ///
-    /// If the system has no random bytes.
+    /// If the system has no random bytes. `try_new` returns an error then.
     #[allow(clippy::new_without_default)]
+    #[track_caller]
     pub fn new() -> TransId {
-        TransId(Random::new().draw())
+        or_panic(TransId::try_new())
+    }
+
+    /// As `new`.
+    ///
+    /// # Errors
+    ///
+    /// [`CallError::NoRandomBytes`].
+    pub fn try_new() -> Result<TransId, CallError> {
+        ffi::random().map(TransId).ok_or(CallError::NoRandomBytes)
     }
 
     pub(crate) fn raw(self) -> ffi::StunTransaction {
@@ -122,8 +131,8 @@ impl BindingResponse {
         if result.error_code == 0 {
             return Some(BindingResponse::Mapped(socket_of(&result.mapped)));
         }
-        let reason = StunMessage::parse_any(bytes).ok()?.error_code()?.1.to_owned();
-        Some(BindingResponse::Failed(result.error_code, reason))
+        let reason = ffi::text(|buffer, length| ffi::stun_text(ERROR_CODE, bytes, buffer, length));
+        Some(BindingResponse::Failed(result.error_code, reason.ok()?))
     }
 }
 
@@ -141,18 +150,19 @@ impl<'a> StunMessage<'a> {
     /// Parses a datagram, which the message borrows. An error if it is not a STUN message, as media, or lacks what ICE requires, as the
     /// response of a STUN server, which has no MESSAGE-INTEGRITY.
     pub fn parse(bytes: &'a [u8]) -> Result<StunMessage<'a>, StunError> {
-        match READER.with_borrow_mut(|reader| reader.accepts_message(bytes)) {
-            ffi::UNPARSED => Err(unparsed()),
-            _ => StunMessage::parse_any(bytes),
-        }
+        StunMessage::parsed(bytes, ffi::stun_read_strict)
     }
 
     /// Parses a message that need not have the attributes that ICE requires, as the response of a STUN server. Nothing is verified.
     pub fn parse_any(bytes: &'a [u8]) -> Result<StunMessage<'a>, StunError> {
+        StunMessage::parsed(bytes, ffi::stun_read)
+    }
+
+    fn parsed(bytes: &'a [u8], read: fn(&[u8], &mut ffi::StunMessage) -> i32) -> Result<StunMessage<'a>, StunError> {
         let mut flat = ffi::StunMessage::default();
-        match ffi::stun_read(bytes, &mut flat) {
+        match read(bytes, &mut flat) {
             ffi::OK => Ok(StunMessage { bytes, flat, texts: Texts::default() }),
-            _ => Err(unparsed()),
+            code => Err(StunError::Parse(ffi::text_of(code).to_owned())),
         }
     }
 
@@ -193,7 +203,7 @@ impl<'a> StunMessage<'a> {
     pub fn binding_query(id: TransId) -> [u8; QUERY_LENGTH] {
         let (mut bytes, mut length) = ([0; QUERY_LENGTH], 0);
         let code = ffi::stun_request(&id.raw(), &mut bytes, &mut length);
-        assert_eq!((code, length), (ffi::OK, QUERY_LENGTH), "a Binding request");
+        debug_assert_eq!((code, length), (ffi::OK, QUERY_LENGTH));
         bytes
     }
 
@@ -265,9 +275,106 @@ impl<'a> StunMessage<'a> {
         self.text(USERNAME)
     }
 
-    /// The parts of USERNAME before and after its first colon, if something follows it (RFC 8445, section 7.2.2).
+    /// The parts of USERNAME before and after its colon: in a Binding request the receiver's username fragment, and the sender's
+    /// (RFC 8445, section 7.2.2).
+    ///
+    /// By the receiver's fragment one socket serves many agents: a table leads to the agent, and no other one is asked. A response has
+    /// no USERNAME: its transaction ID is that of a check which one of the agents sent.
+    ///
+    /// ```
+    /// use is::stun::{StunMessage, StunPacket, TransId};
+    /// use is::{Candidate, IceAgent, IceCreds};
+    /// use std::collections::HashMap;
+    /// use std::time::Instant;
+    ///
+    /// /// The agents of one socket, by their username fragments, and the fragment of the agent that sent a check, by transaction ID.
+    /// struct Socket {
+    ///     agents: HashMap<String, IceAgent>,
+    ///     checks: HashMap<TransId, String>,
+    /// }
+    ///
+    /// impl Socket {
+    ///     /// Passes a datagram to the agent that it is for, if any.
+    ///     fn handle(&mut self, now: Instant, packet: StunPacket<'_>) -> bool {
+    ///         let ufrag = match packet.message.split_username() {
+    ///             Some((receiver, _)) => Some(receiver),
+    ///             None => self.checks.get(&packet.message.trans_id()).map(String::as_str),
+    ///         };
+    ///         let agent = ufrag.and_then(|ufrag| self.agents.get_mut(ufrag));
+    ///         agent.is_some_and(|agent| agent.handle_packet(now, packet))
+    ///     }
+    ///
+    ///     /// The packets that an agent sends. Remove the entry of a check when its agent is removed, or a minute later.
+    ///     fn poll(&mut self, ufrag: &str) -> Vec<is::Transmit> {
+    ///         let Some(agent) = self.agents.get_mut(ufrag) else { return Vec::new() };
+    ///         let packets: Vec<_> = std::iter::from_fn(|| agent.poll_transmit()).collect();
+    ///         for packet in &packets {
+    ///             match StunMessage::parse(&packet.contents) {
+    ///                 Ok(check) if check.is_binding_request() => _ = self.checks.insert(check.trans_id(), ufrag.to_owned()),
+    ///                 _ => {}
+    ///             }
+    ///         }
+    ///         packets
+    ///     }
+    /// }
+    /// #
+    /// # let (local, remote) = ("10.0.0.1:5000".parse().unwrap(), "10.0.0.2:5000".parse().unwrap());
+    /// # let now = Instant::now();
+    /// # let mut socket = Socket { agents: HashMap::new(), checks: HashMap::new() };
+    /// # let mut peers = Vec::new();
+    /// # for number in 0..10 {
+    /// #     let (near, far) = (IceCreds::new(), IceCreds::new());
+    /// #     let (mut agent, mut peer) = (IceAgent::new(near.clone()), IceAgent::new(far.clone()));
+    /// #     for (one, at, creds, other) in [(&mut agent, local, far, remote), (&mut peer, remote, near.clone(), local)] {
+    /// #         one.set_remote_credentials(creds);
+    /// #         one.add_local_candidate(Candidate::host(at, "udp").unwrap());
+    /// #         one.add_remote_candidate(Candidate::host(other, "udp").unwrap());
+    /// #     }
+    /// #     peer.set_controlling(true);
+    /// #     socket.agents.insert(near.ufrag.clone(), agent);
+    /// #     peers.push((peer, near.ufrag));
+    /// # }
+    /// # let packet = |sent: &is::Transmit| (sent.contents.clone(), sent.source, sent.destination);
+    /// # for (peer, ufrag) in &mut peers {
+    /// #     peer.handle_timeout(now);
+    /// #     let (check, source, destination) = packet(&peer.poll_transmit().unwrap());
+    /// #     let message = StunMessage::parse(&check).unwrap();
+    /// #     assert!(socket.handle(now, StunPacket { proto: is::Protocol::Udp, source, destination, message }));
+    /// #     assert_eq!(socket.agents[ufrag.as_str()].stats().bind_request_recv, 1);
+    /// #     socket.agents.get_mut(ufrag.as_str()).unwrap().handle_timeout(now);
+    /// #     for sent in socket.poll(ufrag) {
+    /// #         let (bytes, source, destination) = packet(&sent);
+    /// #         let message = StunMessage::parse(&bytes).unwrap();
+    /// #         peer.handle_packet(now, StunPacket { proto: is::Protocol::Udp, source, destination, message });
+    /// #     }
+    /// #     while let Some(sent) = peer.poll_transmit() {
+    /// #         let (bytes, source, destination) = packet(&sent);
+    /// #         let message = StunMessage::parse(&bytes).unwrap();
+    /// #         assert!(socket.handle(now, StunPacket { proto: is::Protocol::Udp, source, destination, message }));
+    /// #     }
+    /// #     assert_eq!(socket.agents[ufrag.as_str()].stats().bind_success_recv, 1);
+    /// # }
+    /// ```
     pub fn split_username(&self) -> Option<(&'a str, &'a str)> {
-        self.username()?.split_once(':').filter(|parts| !parts.1.is_empty())
+        if self.bytes.is_empty() {
+            return self.built_parts();
+        }
+        let (mut buffer, mut length, mut receiver) = ([0; LONGEST_USERNAME], 0, 0);
+        if ffi::stun_username(self.bytes, &mut buffer, &mut length, &mut receiver) != ffi::OK {
+            return None;
+        }
+        parts(str_of(self.borrowed(&buffer[..length])?)?, receiver)
+    }
+
+    /// The parts of the USERNAME of a built message: those of a message that has nothing else, once it is written.
+    fn built_parts(&self) -> Option<(&'a str, &'a str)> {
+        let username = self.texts.username?;
+        let named = StunMessageBuilder::new().binding().request().username(username).build(self.trans_id());
+        let mut bytes = [0; LONGEST_MESSAGE];
+        let length = named.write(None, &mut bytes).ok()?;
+        let (mut buffer, mut count, mut receiver) = ([0; LONGEST_USERNAME], 0, 0);
+        let code = ffi::stun_username(&bytes[..length], &mut buffer, &mut count, &mut receiver);
+        if code == ffi::OK { parts(username, receiver) } else { None }
     }
 
     /// XOR-MAPPED-ADDRESS (RFC 8489, section 14.2).
@@ -386,22 +493,46 @@ impl<'a> StunMessage<'a> {
 
     /// As `to_bytes`, without the function.
     pub fn write(&self, password: Option<&[u8]>, buf: &mut [u8]) -> Result<usize, StunError> {
-        write(&self.flat, &self.all_texts(), password, buf)
+        let mut bytes = Vec::new();
+        let mut span = |attribute| self.append(attribute, &mut bytes);
+        let spans = ffi::StunTexts {
+            username: span(USERNAME),
+            reason: span(ERROR_CODE),
+            data: span(DATA),
+            realm: span(REALM),
+            nonce: span(NONCE),
+            software: span(SOFTWARE),
+        };
+        write(&self.flat, &spans, &bytes, password, buf)
     }
 
-    fn all_texts(&self) -> Texts<'a> {
-        Texts {
-            username: self.username(),
-            reason: self.error_code().map(|error| error.1),
-            data: self.data(),
-            realm: self.realm(),
-            nonce: self.nonce(),
-            software: self.software(),
-        }
+    /// Appends the value of an attribute to the bytes, if the message has it, and returns where it is.
+    fn append(&self, attribute: u16, bytes: &mut Vec<u8>) -> ffi::StunSpan {
+        let start = bytes.len();
+        let is_set = match self.bytes {
+            [] => self.built_value(attribute).map(|value| bytes.extend_from_slice(value)).is_some(),
+            parsed => {
+                let mut length = 0;
+                bytes.resize(start + parsed.len(), 0);
+                let code = ffi::stun_text(attribute, parsed, &mut bytes[start..], &mut length);
+                bytes.truncate(start + length);
+                code == ffi::OK
+            }
+        };
+        ffi::StunSpan { start, length: bytes.len() - start, is_set }
     }
 
     fn text(&self, attribute: u16) -> Option<&'a str> {
-        Some(std::str::from_utf8(self.value(attribute)?).expect("texts of the library are UTF-8"))
+        str_of(self.value(attribute)?)
+    }
+
+    /// The value of an attribute.
+    fn value(&self, attribute: u16) -> Option<&'a [u8]> {
+        if self.bytes.is_empty() {
+            return self.built_value(attribute);
+        }
+        let copy = ffi::bytes(|buffer, length| ffi::stun_text(attribute, self.bytes, buffer, length)).ok()?;
+        self.borrowed(&copy)
     }
 
     fn built_value(&self, attribute: u16) -> Option<&'a [u8]> {
@@ -416,23 +547,22 @@ impl<'a> StunMessage<'a> {
         }
     }
 
-    /// The value of an attribute. The library copies it, so this returns the bytes of the message that are the same.
-    fn value(&self, attribute: u16) -> Option<&'a [u8]> {
-        if self.bytes.is_empty() {
-            return self.built_value(attribute);
-        }
-        let (mut buffer, mut length) = (vec![0; self.bytes.len()], 0);
-        if ffi::stun_text(attribute, self.bytes, &mut buffer, &mut length) != ffi::OK {
-            return None;
-        }
-        let value = &buffer[..length];
-        let at = (0..=self.bytes.len() - length).find(|at| self.bytes[*at..].starts_with(value))?;
-        Some(&self.bytes[at..at + length])
+    /// The bytes of the message that equal a copy of a value. The library returns copies, and this crate reads no attributes, so it
+    /// searches for the first ones.
+    fn borrowed(&self, copy: &[u8]) -> Option<&'a [u8]> {
+        let at = find(self.bytes, copy)?;
+        self.bytes.get(at..at + copy.len())
     }
 }
 
-fn unparsed() -> StunError {
-    StunError::Parse(ffi::text_of(ffi::UNPARSED).to_owned())
+/// A text of the library, which is UTF-8.
+fn str_of(bytes: &[u8]) -> Option<&str> {
+    std::str::from_utf8(bytes).ok()
+}
+
+/// The parts of USERNAME before and after the colon, which is at this index.
+fn parts(username: &str, colon: usize) -> Option<(&str, &str)> {
+    Some((username.get(..colon)?, username.get(colon + 1..)?))
 }
 
 fn address(address: &ffi::Address) -> Option<SocketAddr> {

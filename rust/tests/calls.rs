@@ -3,7 +3,7 @@
 mod world;
 
 use is::stun::{StunMessage, StunPacket};
-use is::{Candidate, CandidateKind, CheckState, IceAgent, IceAgentEvent, IceConnectionState, IceCreds, IceError};
+use is::{CallError, Candidate, CandidateKind, CheckState, IceAgent, IceAgentEvent, IceConnectionState, IceCreds, IceError};
 use is::{KindPreferences, LocalPreference, PreferenceTable, Protocol, StunError, TcpType};
 use std::time::{Duration, Instant};
 use world::{at, creds, host, ms};
@@ -235,18 +235,81 @@ fn some_remote_candidates_are_ignored() {
     assert_eq!(agent.remote_candidates().count(), 1);
 }
 
+/// Of each kind that is gathered, and with a scope, which no text has.
+fn gathered() -> Vec<Candidate> {
+    let (outer, inner) = (at("192.0.2.1:9"), at("10.0.0.1:1000"));
+    let scoped = at("[fe80::1%7]:1000");
+    vec![
+        host("10.0.0.1:1000"),
+        Candidate::host(scoped, "udp").unwrap(),
+        Candidate::builder().tcp().host(inner).tcptype(TcpType::Passive).build().unwrap(),
+        Candidate::server_reflexive(outer, inner, "udp").unwrap(),
+        Candidate::server_reflexive(at("[2001:db8::1]:9"), scoped, "udp").unwrap(),
+        Candidate::relayed(at("192.0.2.2:9"), inner, "udp").unwrap(),
+        Candidate::relayed(at("192.0.2.2:9"), at("[::1]:1000"), "tls").unwrap(),
+    ]
+}
+
 #[test]
-fn reflexive_and_relayed_candidates_go() {
+fn what_is_listed_is_what_was_gathered() {
     let mut agent = IceAgent::new(creds("near"));
-    let reflexive = Candidate::server_reflexive(at("192.0.2.1:9"), at("10.0.0.1:1000"), "udp").unwrap();
-    let relayed = Candidate::relayed(at("192.0.2.2:9"), at("10.0.0.1:1000"), "udp").unwrap();
-    for candidate in [&reflexive, &relayed] {
-        agent.add_local_candidate(candidate.clone()).expect("a new one");
+    for candidate in gathered() {
+        let added = agent.add_local_candidate(candidate.clone()).expect("a new one").clone();
+        assert_eq!(agent.local_candidates().last(), Some(added.clone()));
+        let said = |of: &Candidate| (of.addr(), of.local(), of.proto(), of.kind(), of.tcptype());
+        assert_eq!((said(&added), added.ufrag()), (said(&candidate), Some("near")));
     }
-    let listed: Vec<_> = agent.local_candidates().collect();
-    assert_eq!(listed.iter().map(|candidate| candidate.local()).collect::<Vec<_>>(), [at("10.0.0.1:1000"); 2]);
-    assert!(listed.iter().all(|candidate| agent.invalidate_candidate(candidate)));
+    assert_eq!(agent.local_candidates().count(), gathered().len());
+}
+
+#[test]
+fn a_local_candidate_is_removed_as_gathered_and_as_listed() {
+    for as_listed in [false, true] {
+        let mut agent = IceAgent::new(creds("near"));
+        for candidate in gathered() {
+            agent.add_local_candidate(candidate).expect("a new one");
+        }
+        let removed = if as_listed { agent.local_candidates().collect() } else { gathered() };
+        for (gone, candidate) in removed.iter().enumerate() {
+            assert!(agent.invalidate_candidate(candidate), "{candidate:?}");
+            assert_eq!(agent.local_candidates().count(), removed.len() - 1 - gone);
+            assert!(agent.local_candidates().all(|left| (left.addr(), left.proto()) != (candidate.addr(), candidate.proto())));
+            assert!(!agent.invalidate_candidate(candidate), "{candidate:?} is gone");
+        }
+    }
+}
+
+/// A text says nothing about the base.
+#[test]
+fn a_local_candidate_that_was_read_is_not_added() {
+    let mut agent = IceAgent::new(creds("near"));
+    for candidate in gathered() {
+        let read = Candidate::from_sdp_string(&candidate.to_sdp_string()).unwrap();
+        assert_eq!(agent.add_local_candidate(read), None);
+    }
+    agent.add_local_candidate(host("10.0.0.1:1000")).expect("a new one");
+    assert!(agent.invalidate_candidate(&Candidate::from_sdp_string(&host("10.0.0.1:1000").to_sdp_string()).unwrap()));
     assert_eq!(agent.local_candidates().count(), 0);
+}
+
+#[test]
+fn remote_candidates_are_removed_as_listed() {
+    let mut agent = paired();
+    for line in [
+        "candidate:2 1 udp 7 10.0.0.3 3000 typ host raddr 10.0.0.9 rport 9",
+        "candidate:3 1 udp 7 192.0.2.3 3000 typ srflx raddr 10.0.0.3 rport 3000",
+        "candidate:4 1 udp 7 192.0.2.4 3000 typ prflx",
+        "candidate:5 1 udp 7 192.0.2.5 3000 typ relay raddr 0.0.0.0 rport 0",
+    ] {
+        agent.add_remote_candidate(Candidate::from_sdp_string(line).unwrap());
+    }
+    let listed: Vec<_> = agent.remote_candidates().collect();
+    assert_eq!(listed.len(), 5);
+    for candidate in &listed {
+        assert!(agent.invalidate_candidate(candidate), "{candidate:?}");
+        assert!(!agent.remote_candidates().any(|left| left == *candidate));
+    }
+    assert_eq!((agent.remote_candidates().count(), agent.pairs().count()), (0, 0));
 }
 
 #[test]
@@ -320,7 +383,99 @@ fn requests_bring_few_candidates() {
 }
 
 #[test]
-fn an_agent_shows_no_secret() {
+fn nothing_shows_a_secret() {
     let text = format!("{:?}", paired());
     assert!(text.contains("controlling: true") && !text.contains("password"), "{text}");
+    assert_eq!(format!("{:?}", creds("near")), r#"IceCreds { ufrag: "near", pass: ".." }"#);
+    let mut agent = paired();
+    agent.handle_timeout(Instant::now());
+    let restart = agent.poll_event().expect("an event");
+    assert_eq!(restart, IceAgentEvent::IceRestart(creds("near")));
+    assert_eq!(format!("{restart:?}"), r#"IceRestart(IceCreds { ufrag: "near", pass: ".." })"#);
+}
+
+// ---- errors: what the peer signals is no panic
+
+#[test]
+fn credentials_that_are_too_long_are_an_error() {
+    let (mut agent, long) = (IceAgent::new(creds("near")), creds(&"a".repeat(600)));
+    assert_eq!(IceAgent::try_new(long.clone()).map(drop), Err(CallError::CredentialsTooLong));
+    assert_eq!(agent.try_set_remote_credentials(long.clone()), Err(CallError::CredentialsTooLong));
+    assert_eq!(agent.try_set_local_credentials(long.clone()), Err(CallError::CredentialsTooLong));
+    assert_eq!(agent.try_ice_restart(long, false), Err(CallError::CredentialsTooLong));
+    assert_eq!((agent.local_credentials(), agent.remote_credentials()), (&creds("near"), None));
+    assert_eq!(CallError::CredentialsTooLong.to_string(), "ICE credentials too long");
+    agent.try_set_remote_credentials(creds(&"a".repeat(503))).unwrap();
+    assert_eq!(agent.try_set_local_credentials(creds("nears")), Err(CallError::CredentialsTooLong));
+    assert_eq!(agent.local_credentials(), &creds("near"));
+}
+
+/// A username fragment that is no word makes texts of candidates that cannot be read, or only with another fragment.
+#[test]
+fn a_text_that_cannot_be_read_is_an_error() {
+    for ufrag in ["", " ", "\u{2003}"] {
+        let (mut agent, mut peer) = (IceAgent::new(creds(ufrag)), paired());
+        let listed = agent.add_local_candidate(host("10.0.0.1:1000")).expect("a new one").clone();
+        assert_eq!(peer.try_add_remote_candidate(listed.clone()), Err(CallError::BadCandidate));
+        assert_eq!(peer.try_find_pair_for_equivalent_remote_candidate(&listed), Err(CallError::BadCandidate));
+        assert!(matches!((listed.try_to_json(), listed.clone().try_set_ufrag("EsAw")), (Err(IceError::BadCandidate(_)), Err(_))));
+        assert!(agent.invalidate_candidate(&listed));
+    }
+    let mut agent = IceAgent::new(creds("a b"));
+    let listed = agent.add_local_candidate(host("10.0.0.1:1000")).expect("a new one").clone();
+    assert_eq!((listed.ufrag(), paired().try_add_remote_candidate(listed.clone())), (Some("a b"), Ok(false)));
+    assert_eq!(Candidate::from_json(&listed.to_json()).unwrap().ufrag(), Some("a"));
+}
+
+#[test]
+fn numbers_that_are_too_small_are_an_error() {
+    let mut agent = IceAgent::new(creds("near"));
+    assert_eq!(agent.try_set_mtu(587..=1280), Err(CallError::MtuTooSmall));
+    assert_eq!(agent.try_set_max_stun_retransmits(0), Err(CallError::BadLimit));
+    assert_eq!((agent.mtu(), agent.ice_timeout()), (1150, ms(26700)));
+    agent.try_set_mtu(588..=588).unwrap();
+    agent.try_set_max_stun_retransmits(1).unwrap();
+}
+
+#[test]
+fn each_call_returns_what_its_other_form_does() {
+    let mut agent = paired();
+    let (peer, other) = (Candidate::from_sdp_string(PEER).unwrap(), host("10.0.0.1:1001"));
+    assert_eq!(agent.try_add_remote_candidate(peer.clone()), Ok(false));
+    let third = Candidate::from_sdp_string("candidate:1 1 udp 7 10.0.0.3 3000 typ host").unwrap();
+    assert_eq!(agent.try_add_remote_candidate(third.clone()), Ok(true));
+    assert_eq!(agent.try_find_pair_for_equivalent_remote_candidate(&third), Ok(agent.find_pair_for_equivalent_remote_candidate(&third)));
+    assert_eq!(agent.try_add_local_candidate(other.clone()).unwrap().unwrap().addr(), other.addr());
+    assert_eq!(agent.try_add_local_candidate(other.clone()), Ok(None));
+    assert_eq!((agent.try_local_candidates().unwrap().len(), agent.try_remote_candidates().unwrap().len()), (2, 2));
+    assert_eq!((agent.try_invalidate_candidate(&other), agent.try_invalidate_candidate(&other)), (Ok(true), Ok(false)));
+    assert_eq!((agent.try_recreate_candidate_pairs(), agent.try_handle_timeout(Instant::now())), (Ok(()), Ok(())));
+    let (mut agent, bytes) = (addressed(), unhex(REQUEST));
+    assert_eq!(agent.try_handle_packet(Instant::now(), from_peer(&bytes)), Ok(true));
+    assert_eq!(agent.try_ice_restart(creds("near"), true), Ok(()));
+    assert_eq!(agent.try_handle_packet(Instant::now(), from_peer(&bytes)), Ok(false));
+}
+
+// ---- what the system gives
+
+/// In its own process: the descriptors of other tests would count.
+#[test]
+fn agents_hold_no_descriptors() {
+    let is_alone = std::env::args().any(|word| word == "--exact");
+    if !is_alone {
+        let name = "agents_hold_no_descriptors";
+        let ran = std::process::Command::new(std::env::current_exe().unwrap()).args(["--exact", name]).status().unwrap();
+        assert!(ran.success());
+        return;
+    }
+    let open = || std::fs::read_dir("/proc/self/fd").map_or(0, Iterator::count);
+    let before = open();
+    let agents: Vec<_> = (0..2000).map(|_| IceAgent::new(IceCreds::new())).collect();
+    assert_eq!((open(), agents.len()), (before, 2000));
+}
+
+#[test]
+fn tie_breakers_and_ids_differ() {
+    let ids: std::collections::HashSet<_> = (0..1000).map(|_| is::stun::TransId::new()).collect();
+    assert_eq!(ids.len(), 1000);
 }

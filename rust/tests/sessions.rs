@@ -2,7 +2,7 @@
 
 mod world;
 
-use is::{Candidate, IceAgentEvent, IceConnectionState, IceCreds};
+use is::{Candidate, IceAgentEvent, IceConnectionState, IceCreds, Protocol, SelectedPath};
 use std::time::Duration;
 use world::{Nat, World, at, creds, host, ms};
 
@@ -29,6 +29,7 @@ fn two_hosts_connect() {
     assert!(world.now < ms(200), "{:?}", world.now);
     assert_eq!(world.sides[0].sources(), [at(RIGHT)]);
     assert_eq!(world.left().nominated_pair_rtt(), Some(ms(20)));
+    assert_eq!(world.left().selected_path().map(|path| (path.source, path.destination)), world.sides[0].path());
 }
 
 #[test]
@@ -222,8 +223,37 @@ fn an_address_that_a_router_gives_is_discovered() {
     assert_eq!(world.sides[0].local_addresses(), [at(LEFT), at("192.0.2.9:9000")]);
     let discovered = world.left().local_candidates().last().unwrap();
     assert_eq!(discovered.kind(), is::CandidateKind::PeerReflexive);
+    assert_eq!((discovered.local(), discovered.ufrag()), (at(LEFT), Some("left")));
     let heard_of = world.right().remote_candidates().next().unwrap();
     assert_eq!((heard_of.kind(), heard_of.addr()), (is::CandidateKind::PeerReflexive, at("192.0.2.9:9000")));
+    assert_eq!(world.left().selected_path(), Some(SelectedPath { proto: Protocol::Udp, source: at(LEFT), destination: at(RIGHT) }));
+    let back = SelectedPath { proto: Protocol::Udp, source: at(RIGHT), destination: at("192.0.2.9:9000") };
+    assert_eq!(world.right().selected_path(), Some(back));
+}
+
+/// A remote peer-reflexive candidate is removed as it is listed. A local one has no path of its own: it stays, and no other candidate is
+/// taken for it.
+#[test]
+fn peer_reflexive_candidates_are_removed() {
+    let mut world = World::new();
+    world.nats.push(Nat { side: 0, inner: at(LEFT), outer: at("192.0.2.9:9000") });
+    world.add_secretly(0, host(LEFT));
+    world.add(1, host(RIGHT));
+    world.connect();
+    let heard_of = world.right().remote_candidates().next().unwrap();
+    assert!(world.sides[1].agent.invalidate_candidate(&heard_of));
+    assert_eq!((world.right().remote_candidates().count(), world.right().selected_path()), (0, None));
+    let discovered = world.left().local_candidates().last().unwrap();
+    // as it would be listed if the peer had this address too
+    let alike = "candidate:1 1 udp 7 192.0.2.9 9000 typ prflx";
+    world.sides[0].agent.add_remote_candidate(Candidate::from_sdp_string(alike).unwrap());
+    assert!(!world.sides[0].agent.invalidate_candidate(&discovered));
+    assert_eq!(world.sides[0].agent.add_local_candidate(discovered.clone()), None);
+    assert_eq!((world.left().local_candidates().count(), world.left().remote_candidates().count()), (2, 2));
+    assert_eq!(is::default_local_preference(&discovered, 0), 49150);
+    let own = world.left().local_candidates().next().unwrap();
+    assert!(world.sides[0].agent.invalidate_candidate(&own));
+    assert_eq!((world.left().local_candidates().collect::<Vec<_>>(), world.left().selected_path()), (vec![discovered], None));
 }
 
 #[test]

@@ -4,6 +4,7 @@ use is::StunError;
 use is::stun::{BindingResponse, Class, Method, QUERY_LENGTH, StunMessage, StunMessageBuilder, TransId};
 use std::io::ErrorKind;
 use std::net::SocketAddr;
+use std::time::{Duration, Instant};
 
 /// RFC 5769, sections 2.1 to 2.3.
 const REQUEST: &str = "000100582112a442b7e7a701bc34d686fa87dfae802200105354554e207465737420636c69656e74002400046e0001ff80290008932ff9b151263b36\
@@ -154,4 +155,74 @@ fn what_cannot_be_written_says_why() {
     assert_eq!(kind(binding().error_code(700, "").build(ID), 999), ErrorKind::InvalidInput);
     assert_eq!(kind(binding().software(&long).build(ID), 999), ErrorKind::InvalidInput);
     assert_eq!(kind(StunMessage::parse(&unhex("000200002112a442b7e7a701bc34d686fa87dfae")).unwrap(), 999), ErrorKind::InvalidInput);
+}
+
+// ---- whose request it is
+
+#[test]
+fn a_username_has_a_receiver_and_a_sender() {
+    let built = |username: &str| {
+        let message = StunMessageBuilder::new().binding().request().username(username).build(ID);
+        let bytes = bytes_of(message, None);
+        let read = StunMessage::parse_any(&bytes).unwrap();
+        assert_eq!((read.username(), read.split_username()), (Some(username), message.split_username()));
+        read.split_username().map(|(receiver, sender)| (receiver.to_owned(), sender.to_owned()))
+    };
+    let parts = |receiver: &str, sender: &str| Some((receiver.to_owned(), sender.to_owned()));
+    assert_eq!(built("evtj:h6vY"), parts("evtj", "h6vY"));
+    assert_eq!(built("é:\u{2003}"), parts("é", "\u{2003}"));
+    assert_eq!(built("evtj"), None);
+    assert_eq!(built(""), None);
+    let bytes = unhex(V4);
+    assert_eq!(StunMessage::parse(&bytes).unwrap().split_username(), None);
+}
+
+/// The requests and the success responses that ICE requires attributes of are told from any other message.
+#[test]
+fn what_ice_requires_is_required() {
+    let request = |builder: StunMessageBuilder<'_, _>, password| bytes_of(builder.build(ID), password);
+    let named = || StunMessageBuilder::new().binding().request().username("evtj:h6vY");
+    let whole = request(named().prio(7), Some(PASSWORD));
+    assert!(StunMessage::parse(&whole).is_ok_and(|message| message.is_signed_by(PASSWORD)));
+    for lacking in [
+        request(named().prio(7), None),
+        request(named(), Some(PASSWORD)),
+        request(StunMessageBuilder::new().binding().request().prio(7), Some(PASSWORD)),
+    ] {
+        assert!(matches!(StunMessage::parse(&lacking), Err(StunError::Parse(_))));
+        assert!(StunMessage::parse_any(&lacking).is_ok());
+    }
+    let refresh = request(StunMessageBuilder::new().refresh().request(), None);
+    assert_eq!(StunMessage::parse(&refresh).unwrap(), StunMessage::parse_any(&refresh).unwrap());
+}
+
+// ---- long messages
+
+/// DATA of half a message, after an unknown attribute that repeats its first half: a search from each byte on would compare each time
+/// until the last byte.
+#[test]
+fn reading_and_writing_take_linear_time() {
+    let mut data = vec![0; 32_000];
+    data[31_999] = 1;
+    let message = StunMessageBuilder::new().data().indication().data(&data).build(ID);
+    let mut bytes = bytes_of_any(message);
+    let attribute = [&[0xc0, 0x01, 0x7d, 0x00][..], &[0; 32_000]].concat();
+    bytes.splice(20..20, attribute);
+    let length = (bytes.len() - 20) as u16;
+    bytes[2..4].copy_from_slice(&length.to_be_bytes());
+    let read = StunMessage::parse_any(&bytes).unwrap();
+    assert_eq!(read.data(), Some(&data[..]));
+    let begun = Instant::now();
+    for _ in 0..100 {
+        assert_eq!(read.data().map(<[u8]>::len), Some(32_000));
+        assert_eq!(bytes_of_any(read).len(), 20 + 4 + 32_000 + 8);
+    }
+    assert!(begun.elapsed() < Duration::from_secs(10), "{:?}", begun.elapsed());
+}
+
+fn bytes_of_any(message: StunMessage) -> Vec<u8> {
+    let mut buffer = vec![0; 70_000];
+    let length = message.write(None, &mut buffer).unwrap();
+    buffer.truncate(length);
+    buffer
 }

@@ -70,6 +70,26 @@ fn a_fragment_is_set() {
 }
 
 #[test]
+fn a_fragment_leaves_the_base() {
+    let mut agent = IceAgent::new(creds("near"));
+    let scoped = Candidate::host(at("[fe80::1%7]:1000"), "udp").unwrap();
+    let reflexive = Candidate::server_reflexive(at("192.0.2.1:9"), at("10.0.0.1:1000"), "udp").unwrap();
+    for candidate in [scoped, reflexive] {
+        let mut named = candidate.clone();
+        named.set_ufrag("EsAw");
+        assert_eq!((named.ufrag(), named.addr(), named.local()), (Some("EsAw"), candidate.addr(), candidate.local()));
+        assert_eq!(agent.add_local_candidate(named.clone()).expect("a candidate").ufrag(), Some("near"));
+        assert!(agent.invalidate_candidate(&named));
+    }
+}
+
+#[test]
+#[should_panic(expected = "bad username fragment")]
+fn a_fragment_is_one_word() {
+    read(LINE).set_ufrag("a b");
+}
+
+#[test]
 fn a_candidate_of_another_session_is_ignored() {
     let mut agent = IceAgent::new(creds("near"));
     agent.set_remote_credentials(creds("farr"));

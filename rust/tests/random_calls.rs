@@ -1,0 +1,506 @@
+//! Sessions of random calls with random arguments, over every public function: none panics.
+//!
+//! A session is a seed. `IS_ICE_SESSIONS=100000 cargo test --release --test random_calls` runs so many, from `IS_ICE_SEED` on. A call that
+//! can fail by its arguments is called by its form that returns an error, and by its other form with arguments that it accepts.
+
+mod random;
+
+use is::stun::{BindingResponse, StunMessage, StunMessageBuilder, StunPacket, TransId};
+use is::{Candidate, IceAgent, IceAgentEvent, IceCreds, KindPreferences, LocalPreference, PreferenceTable, Protocol, TcpType};
+use is::{default_local_preference, try_default_local_preference};
+use random::Random;
+use std::hint::black_box;
+use std::net::SocketAddr;
+use std::time::{Duration, Instant};
+
+const SESSIONS: u64 = 400;
+const CALLS: usize = 60;
+
+/// No event and no credentials print it.
+const PASSWORD: &str = "secret-of-a-session-22";
+
+/// A datagram: the side that it is for, protocol, source, destination and bytes.
+type Datagram = (usize, Protocol, SocketAddr, SocketAddr, Vec<u8>);
+
+struct Session {
+    seed: u64,
+    random: Random,
+    agents: [IceAgent; 2],
+    candidates: Vec<Candidate>,
+    wire: Vec<Datagram>,
+    began: Instant,
+    now: Instant,
+    /// The packets that were accepted, and the paths that were selected.
+    seen: [usize; 2],
+}
+
+impl Drop for Session {
+    fn drop(&mut self) {
+        if std::thread::panicking() {
+            eprintln!("IS_ICE_SEED={} IS_ICE_SESSIONS=1", self.seed);
+        }
+    }
+}
+
+fn creds(ufrag: &str) -> IceCreds {
+    IceCreds { ufrag: ufrag.to_owned(), pass: PASSWORD.to_owned() }
+}
+
+/// Whether its text can be read again: not if an agent lists it whose username fragment is empty or has white space.
+fn is_named_by_a_word(c: &Candidate) -> bool {
+    let is_named = c.to_sdp_string().contains(" ufrag ");
+    c.ufrag().map_or(!is_named, |ufrag| !ufrag.contains(char::is_whitespace))
+}
+
+fn no_hmac(_: &[u8], _: &[&[u8]]) -> [u8; 20] {
+    unreachable!("HMAC-SHA1 is the library's")
+}
+
+/// Half of the calls pass time and packets, so that sessions get far.
+const GROUPS: [fn(&mut Session); 16] = [
+    Session::gather,
+    Session::read,
+    Session::use_candidate,
+    Session::use_candidate,
+    Session::set,
+    Session::ask,
+    Session::write_message,
+    Session::start_again,
+    Session::pass_time,
+    Session::pass_time,
+    Session::pass_time,
+    Session::pass_packet,
+    Session::pass_packet,
+    Session::pass_packet,
+    Session::pass_packet,
+    Session::pass_packet,
+];
+
+impl Session {
+    fn new(seed: u64) -> Session {
+        let mut random = Random(seed);
+        let mut agents = [IceAgent::new(creds("near")), IceAgent::new(creds("farr"))];
+        if !random.once_in(4) {
+            agents[0].set_controlling(true);
+            agents[0].set_remote_credentials(creds("farr"));
+            agents[1].set_remote_credentials(creds("near"));
+        }
+        if !random.once_in(4) {
+            for (side, address) in ["10.0.0.1:1000", "10.0.0.2:2000"].into_iter().enumerate() {
+                let host = Candidate::host(address.parse().unwrap(), "udp").unwrap();
+                agents[1 - side].add_remote_candidate(host.clone());
+                agents[side].add_local_candidate(host);
+            }
+        }
+        let began = Instant::now();
+        Session { seed, random, agents, candidates: Vec::new(), wire: Vec::new(), began, now: began, seen: [0; 2] }
+    }
+
+    fn run(mut self) -> [usize; 2] {
+        for _ in 0..CALLS {
+            let group = *self.random.pick(&GROUPS);
+            group(&mut self);
+        }
+        self.seen
+    }
+
+    fn side(&mut self) -> usize {
+        self.random.below(2)
+    }
+
+    /// A candidate of the session, or a new one.
+    fn any_candidate(&mut self) -> Candidate {
+        if self.candidates.is_empty() || self.random.once_in(3) {
+            let made = Candidate::host(self.random.address(), self.random.protocol());
+            return made.unwrap_or_else(|_| Candidate::host("10.0.0.1:1000".parse().unwrap(), "udp").unwrap());
+        }
+        let at = self.random.below(self.candidates.len());
+        self.candidates[at].clone()
+    }
+
+    fn keep(&mut self, made: Result<Candidate, is::IceError>) {
+        match made {
+            Ok(candidate) => {
+                self.look_at(&candidate);
+                self.candidates.push(candidate);
+            }
+            Err(why) => assert!(!why.to_string().is_empty()),
+        }
+    }
+
+    fn look_at(&mut self, c: &Candidate) {
+        black_box((c.addr(), c.local(), c.prio(), c.proto(), c.kind(), c.tcptype(), c.ufrag(), format!("{c} {c:?}")));
+        let (same_kind, read) = (self.random.number(), Candidate::from_sdp_string(&c.to_sdp_string()));
+        let (json, preference) = (c.try_to_json(), try_default_local_preference(c, same_kind));
+        if is_named_by_a_word(c) {
+            assert_eq!(read.unwrap().to_sdp_string(), c.to_sdp_string());
+            assert_eq!((json.unwrap(), preference), (c.to_json(), Ok(default_local_preference(c, same_kind))));
+        }
+    }
+
+    // ---- candidates
+
+    fn gather(&mut self) {
+        let (addr, base) = (self.random.address(), self.random.address());
+        let (proto, kind) = (self.random.protocol(), self.random.below(7));
+        let word = self.random.word(&["udp", "TCP", "sslTcp", "tls", "sctp", ""]);
+        let tcptype = *self.random.pick(&[TcpType::Active, TcpType::Passive, TcpType::So]);
+        let builder = Candidate::builder();
+        let made = match kind {
+            0 => Candidate::host(addr, proto),
+            1 => Candidate::host(addr, word.as_str()),
+            2 => Candidate::server_reflexive(addr, base, proto),
+            3 => Candidate::relayed(addr, base, proto),
+            4 => builder.udp().server_reflexive(addr, base).build(),
+            5 => match proto {
+                Protocol::SslTcp => builder.ssl_tcp().host(addr).tcptype(tcptype).build(),
+                Protocol::Tls => builder.tls().relayed(addr, base).tcptype(tcptype).build(),
+                _ => builder.tcp().server_reflexive(addr, base).tcptype(tcptype).build(),
+            },
+            _ => Candidate::host("10.0.0.1:1000".parse().unwrap(), "udp"),
+        };
+        self.keep(made);
+    }
+
+    fn read(&mut self) {
+        let (line, json, ip) = (self.random.line(), self.random.json(), self.random.ip());
+        black_box(Candidate::mdns_name(&line));
+        let made = match self.random.below(4) {
+            0 => Candidate::from_json(&json),
+            1 => Candidate::from_mdns(&line, ip),
+            2 => Candidate::from_sdp_string(&self.random.text()),
+            _ => Candidate::from_sdp_string(&line),
+        };
+        self.keep(made);
+        let (ufrag, mut named) = (self.random.text(), self.any_candidate());
+        let before = named.clone();
+        match named.try_set_ufrag(&ufrag) {
+            Ok(()) => assert_eq!(named.ufrag(), Some(ufrag.as_str())),
+            Err(_) => assert_eq!(named, before),
+        }
+        if is_named_by_a_word(&named) {
+            named.set_ufrag("EsAw");
+            assert_eq!(named.ufrag(), Some("EsAw"));
+        }
+        self.keep(Ok(named));
+    }
+
+    fn use_candidate(&mut self) {
+        let (candidate, side) = (self.any_candidate(), self.side());
+        let agent = &mut self.agents[side];
+        match self.random.below(9) {
+            0 | 1 => {
+                if let Some(added) = agent.add_local_candidate(candidate).cloned() {
+                    if let Ok(signaled) = Candidate::from_sdp_string(&added.to_sdp_string()) {
+                        self.agents[1 - side].add_remote_candidate(signaled);
+                    }
+                }
+            }
+            2 => _ = black_box(agent.try_add_local_candidate(candidate)),
+            3 if is_named_by_a_word(&candidate) => agent.add_remote_candidate(candidate),
+            3 | 4 => _ = black_box(agent.try_add_remote_candidate(candidate)),
+            5 => _ = black_box(agent.invalidate_candidate(&candidate)),
+            6 => _ = black_box(agent.try_invalidate_candidate(&candidate)),
+            7 if is_named_by_a_word(&candidate) => _ = black_box(agent.find_pair_for_equivalent_remote_candidate(&candidate)),
+            _ => _ = black_box(agent.try_find_pair_for_equivalent_remote_candidate(&candidate)),
+        }
+        let listed: Vec<_> = self.agents[side].local_candidates().chain(self.agents[side].remote_candidates()).collect();
+        if let Some(candidate) = listed.get(self.random.below(listed.len() + 1)) {
+            self.look_at(candidate);
+            self.candidates.push(candidate.clone());
+        }
+    }
+
+    // ---- settings
+
+    fn set(&mut self) {
+        let (number, duration, creds) = (self.random.number(), self.random.duration(), self.random.creds());
+        let (flag, side) = (self.random.once_in(2), self.side());
+        let table = self.table();
+        let agent = &mut self.agents[side];
+        match self.random.below(18) {
+            0 => agent.set_mtu(588..=number),
+            1 => _ = black_box(agent.try_set_mtu(number..=number)),
+            2 => agent.set_control_tie_breaker(number as u64),
+            3 => agent.set_max_candidate_pairs(number),
+            4 => agent.set_max_discovered(flag.then_some(number)),
+            5 => agent.set_ice_lite(flag),
+            6 => agent.set_renomination(flag),
+            7 => agent.set_timing_advance(duration),
+            8 => agent.set_initial_stun_rto(duration),
+            9 => agent.set_max_stun_rto(duration),
+            10 => agent.set_lite_timeout(duration),
+            11 => agent.set_max_stun_retransmits(number.max(1)),
+            12 => _ = black_box(agent.try_set_max_stun_retransmits(number)),
+            13 => agent.set_local_preference(table),
+            14 => agent.set_controlling(flag),
+            15 => _ = black_box(agent.try_set_local_credentials(creds)),
+            16 => _ = black_box(agent.try_set_remote_credentials(creds)),
+            _ => {
+                agent.set_local_credentials(self::creds("near"));
+                agent.set_remote_credentials(self::creds("farr"));
+            }
+        }
+    }
+
+    fn table(&mut self) -> LocalPreference {
+        let mut kinds = || KindPreferences {
+            host: self.random.number() as u16,
+            peer_reflexive: self.random.number() as u16,
+            server_reflexive: self.random.number() as u16,
+            relayed: self.random.number() as u16,
+        };
+        let table = PreferenceTable { v4: kinds(), v6: kinds() };
+        *self.random.pick(&[LocalPreference::ByDefault, LocalPreference::Fixed(table.v4.host), LocalPreference::ByKind(table)])
+    }
+
+    // ---- queries
+
+    fn ask(&mut self) {
+        let (side, address) = (self.side(), self.random.address());
+        let agent = &self.agents[side];
+        black_box((
+            agent.mtu(),
+            agent.mtu_warn(),
+            agent.ice_lite(),
+            agent.controlling(),
+            agent.ice_timeout(),
+            agent.state(),
+            agent.stats(),
+        ));
+        black_box((agent.state().is_connected(), agent.state().is_disconnected()));
+        black_box((agent.nominated_pair_rtt(), agent.nominated_pair_total_rtt(), agent.nominated_pair_responses_received()));
+        black_box((agent.selected_path(), agent.has_viable_remote_candidate(address), agent.pairs().count()));
+        assert_eq!(agent.local_candidates().collect::<Vec<_>>(), agent.try_local_candidates().unwrap());
+        assert_eq!(agent.remote_candidates().collect::<Vec<_>>(), agent.try_remote_candidates().unwrap());
+        for text in [format!("{agent:?}"), format!("{:?} {:?}", agent.local_credentials(), agent.remote_credentials())] {
+            assert!(!text.contains(PASSWORD), "{text}");
+        }
+    }
+
+    // ---- time and packets
+
+    fn later(&mut self) -> Instant {
+        let by = self.random.duration();
+        let near = Duration::from_millis(50);
+        self.now = match self.random.below(12) {
+            0 => self.now.checked_add(by).unwrap_or(self.began),
+            1 => self.now.checked_sub(by).unwrap_or(self.began),
+            _ => self.now.checked_add(near).unwrap_or(self.began),
+        };
+        self.now
+    }
+
+    fn pass_time(&mut self) {
+        let (now, side) = (self.later(), self.side());
+        let agent = &mut self.agents[side];
+        match self.random.below(3) {
+            0 => agent.try_handle_timeout(now).unwrap(),
+            _ => agent.handle_timeout(now),
+        }
+        self.poll(side);
+    }
+
+    fn poll(&mut self, side: usize) {
+        let agent = &mut self.agents[side];
+        black_box(agent.poll_timeout());
+        while let Some(sent) = agent.poll_transmit() {
+            assert!(sent.contents.len() <= 588 && StunMessage::parse_any(&sent.contents).is_ok());
+            self.wire.push((1 - side, sent.proto, sent.source, sent.destination, sent.contents));
+        }
+        while let Some(event) = agent.poll_event() {
+            if let IceAgentEvent::IceRestart(creds) = &event {
+                assert_eq!(creds, agent.local_credentials());
+            }
+            self.seen[1] += usize::from(matches!(event, IceAgentEvent::NominatedSend { .. }));
+            let text = format!("{event:?}");
+            assert!(!text.contains(PASSWORD), "{text}");
+        }
+    }
+
+    /// A datagram of the wire, mostly the last one: as it is, changed, or replayed from elsewhere or to itself. Or any bytes.
+    fn datagram(&mut self) -> Datagram {
+        if self.wire.is_empty() || self.random.once_in(20) {
+            let mut bytes = self.random.bytes(100);
+            bytes.splice(..0, [0, 1, 0, 80, 0x21, 0x12, 0xa4, 0x42]);
+            return (self.side(), self.random.protocol(), self.random.address(), self.random.address(), bytes);
+        }
+        let last = self.wire.len() - 1;
+        let at = if self.random.once_in(4) { self.random.below(last + 1) } else { last };
+        let (mut side, mut proto, mut source, mut destination, mut bytes) = self.wire[at].clone();
+        match self.random.below(24) {
+            0 | 1 => source = self.random.address(),
+            2 => destination = self.random.address(),
+            3 => proto = self.random.protocol(),
+            4 => {
+                let at = self.random.below(bytes.len());
+                bytes[at] ^= 1 << self.random.below(8);
+            }
+            5 => bytes.truncate(self.random.below(bytes.len())),
+            6 => side = 1 - side,
+            _ => {}
+        }
+        (side, proto, source, destination, bytes)
+    }
+
+    fn pass_packet(&mut self) {
+        let (side, proto, source, destination, bytes) = self.datagram();
+        black_box(BindingResponse::parse(TransId([1; 12]), &bytes));
+        let read = if self.random.once_in(4) { StunMessage::parse_any } else { StunMessage::parse };
+        let Ok(message) = read(&bytes) else { return };
+        look(&message, &mut self.random);
+        let (now, packet) = (self.later(), StunPacket { proto, source, destination, message });
+        let agent = &mut self.agents[side];
+        let accepts = agent.accepts_packet(&packet);
+        black_box(agent.accepts_message(&message));
+        let accepted =
+            if self.random.once_in(2) { agent.handle_packet(now, packet) } else { agent.try_handle_packet(now, packet).unwrap() };
+        assert_eq!(accepts, accepted);
+        self.seen[0] += usize::from(accepted);
+        self.poll(side);
+    }
+
+    // ---- messages
+
+    fn write_message(&mut self) {
+        let (username, realm, nonce) = (self.random.text(), self.random.text(), self.random.text());
+        let (id, address, number) =
+            (TransId(self.random.bytes(12).try_into().unwrap_or([7; 12])), self.random.address(), self.random.number());
+        let data = self.random.bytes(3000);
+        let texts = (username.as_str(), realm.as_str(), nonce.as_str(), data.as_slice());
+        let message = match self.random.below(6) {
+            0 => StunMessage::binding_request(&username, id, number % 2 == 0, number as u64, number as u32, number % 3 == 0),
+            1 => StunMessage::binding_reply(id, address),
+            2 => StunMessage::binding_role_conflict_reply(id),
+            _ => self.built(texts, id, address, number),
+        };
+        look(&message, &mut self.random);
+        let query = StunMessage::binding_query(id);
+        assert!(StunMessage::parse_any(&query).is_ok_and(|query| query.is_binding_request() && query.trans_id() == id));
+        let _ = black_box((TransId::new(), TransId::try_new()));
+        let side = self.side();
+        let packet = StunPacket { proto: Protocol::Udp, source: address, destination: address, message };
+        assert!(!self.agents[side].accepts_message(&message) && !self.agents[side].handle_packet(self.now, packet));
+    }
+
+    fn built<'a>(
+        &mut self,
+        texts: (&'a str, &'a str, &'a str, &'a [u8]),
+        id: TransId,
+        address: SocketAddr,
+        number: usize,
+    ) -> StunMessage<'a> {
+        let new = StunMessageBuilder::new;
+        let method = match self.random.below(7) {
+            0 => new().binding(),
+            1 => new().allocate(),
+            2 => new().refresh(),
+            3 => new().send(),
+            4 => new().data(),
+            5 => new().create_permission(),
+            _ => new().channel_bind(),
+        };
+        let mut builder = match self.random.below(4) {
+            0 => method.request(),
+            1 => method.indication(),
+            2 => method.success(),
+            _ => method.failure(),
+        };
+        let (username, realm, nonce, data) = texts;
+        for _ in 0..self.random.below(6) {
+            builder = match self.random.below(15) {
+                0 => builder.username(username),
+                1 => builder.error_code(number as u16, realm),
+                2 => builder.channel_number(number as u16),
+                3 => builder.lifetime(number as u32),
+                4 => builder.xor_peer_address(address),
+                5 => builder.data(data),
+                6 => builder.realm(realm),
+                7 => builder.nonce(nonce),
+                8 => builder.xor_relayed_address(address),
+                9 => builder.xor_mapped_address(address),
+                10 => builder.software(nonce),
+                11 => builder.prio(number as u32).use_candidate(),
+                12 => builder.ice_controlled(number as u64),
+                13 => builder.ice_controlling(number as u64),
+                _ => builder.network_cost(number as u16, 7),
+            };
+        }
+        builder.build(id)
+    }
+
+    // ---- sessions
+
+    fn start_again(&mut self) {
+        let (side, random) = (self.side(), self.random.creds());
+        match self.random.below(8) {
+            0 => self.agents[side].ice_restart(creds("near"), true),
+            1 => _ = black_box(self.agents[side].try_ice_restart(random, false)),
+            2 => self.agents[side].recreate_candidate_pairs(),
+            3 => self.agents[side].try_recreate_candidate_pairs().unwrap(),
+            4 => {
+                if let Ok(agent) = IceAgent::try_new(random) {
+                    self.agents[side] = agent;
+                }
+            }
+            5 => _ = black_box((IceCreds::new(), IceCreds::try_new())),
+            _ => self.pass_time(),
+        }
+        self.poll(side);
+    }
+}
+
+/// Calls each accessor of a message, and writes it.
+fn look(m: &StunMessage<'_>, random: &mut Random) {
+    black_box((m.method(), m.class(), m.trans_id(), m.username(), m.mapped_address(), m.prio(), m.use_candidate()));
+    black_box((m.error_code(), m.channel_number(), m.lifetime(), m.xor_peer_address(), m.data().map(<[u8]>::len), m.realm(), m.nonce()));
+    black_box((m.xor_relayed_address(), m.software(), m.ice_controlled(), m.ice_controlling(), m.network_cost(), m.has_integrity()));
+    black_box((m.has_fingerprint(), m.is_signed_by(PASSWORD.as_bytes()), m.verify(b"", no_hmac), format!("{m:?}").len()));
+    black_box((m.is_binding_request(), m.is_successful_binding_response(), m.is_failed_binding_response(), m.is_allocate_request()));
+    black_box((m.is_create_permission_request(), m.is_channel_bind_request(), m.is_refresh_request(), m.is_send_indication()));
+    if let (Some(username), Some((receiver, sender))) = (m.username(), m.split_username()) {
+        assert_eq!(format!("{receiver}:{sender}"), username);
+    }
+    let (size, key) = (random.below(4000), random.bytes(30));
+    let password = (random.once_in(2)).then_some(key.as_slice());
+    let mut buffers = [vec![0; size], vec![0; size]];
+    let lengths = (m.write(password, &mut buffers[0]).ok(), m.to_bytes(password, &mut buffers[1], no_hmac).ok());
+    assert_eq!((lengths.0, &buffers[0]), (lengths.1, &buffers[1]));
+    if let Some(length) = lengths.0 {
+        // a channel number or an error code may be written that cannot be read
+        if let Ok(read) = StunMessage::parse_any(&buffers[0][..length]) {
+            assert_eq!((read.username(), read.data(), read.trans_id()), (m.username(), m.data(), m.trans_id()));
+            assert_eq!(read.split_username(), m.split_username());
+        }
+    }
+}
+
+fn from_environment(name: &str, otherwise: u64) -> u64 {
+    std::env::var(name).map_or(otherwise, |value| value.parse().expect("a number"))
+}
+
+#[test]
+fn random_sessions_end_without_a_panic() {
+    let (first, count) = (from_environment("IS_ICE_SEED", 0), from_environment("IS_ICE_SESSIONS", SESSIONS));
+    let mut seen = [0; 2];
+    for seed in first..first + count {
+        let session = Session::new(seed).run();
+        seen = [seen[0] + session[0], seen[1] + session[1]];
+    }
+    println!("{count} sessions: {} packets were accepted, {} paths were selected", seen[0], seen[1]);
+    assert!(count < 400 || seen[0] > 500 && seen[1] > 30, "{seen:?}");
+}
+
+/// Each public function of the crate is in this file.
+#[test]
+fn no_function_is_left_out() {
+    let folder = std::path::Path::new(env!("CARGO_MANIFEST_DIR"));
+    let driver = std::fs::read_to_string(folder.join("tests/random_calls.rs")).unwrap();
+    for file in std::fs::read_dir(folder.join("src")).unwrap() {
+        let source = std::fs::read_to_string(file.unwrap().path()).unwrap();
+        for line in source.lines().filter_map(|line| line.trim_start().strip_prefix("pub fn ")) {
+            let name = line.split(['(', '<']).next().unwrap();
+            assert!(driver.contains(&format!("{name}(")) || driver.contains(&format!("::{name},")), "{name}");
+        }
+    }
+}
