@@ -5,7 +5,7 @@ from __future__ import annotations
 from random import Random
 from typing import Protocol as Interface_, cast
 
-from is_ice import Candidate, IceAgent, IceAgentEvent, IceCreds, SocketAddress, new_creds
+from is_ice import Candidate, IceAgent, IceAgentEvent, IceCreds, SocketAddress, line_fields, new_creds
 
 from .clock import Clock, nanoseconds
 from .log import Beginning, Log, LoggedAgent
@@ -199,7 +199,7 @@ class Endpoint:
 
     def _take_candidate(self, line: str) -> None:
         self.agent.add_remote_candidate(line)
-        ip = line.split()[4]
+        ip = line_fields(line).address.ip
         if ip not in self._peers:
             self._peers.add(ip)
             for relay in self.relays:

@@ -6,17 +6,8 @@ over UDP sockets.
 """
 
 from .address import Protocol, SocketAddress
-from .agent import (
-    IceAgent,
-    candidate_line,
-    default_local_preference,
-    line_from_json,
-    line_refusal,
-    line_to_json,
-    line_with_ufrag,
-    new_creds,
-)
-from .candidate import AddResult, Candidate, CandidateKind, KindPreferences, TcpType, has_mdns_name
+from .agent import IceAgent, new_creds
+from .candidate import AddResult, Candidate, CandidateFields, CandidateKind, KindPreferences, TcpType
 from .errors import (
     BadAddress,
     BadCandidate,
@@ -49,13 +40,26 @@ from .events import (
     NominatedSend,
     Transmit,
 )
+from .lines import (
+    candidate_fields,
+    candidate_line,
+    default_local_preference,
+    has_mdns_name,
+    line_fields,
+    line_from_json,
+    line_name,
+    line_refusal,
+    line_to_json,
+    line_with_address,
+    line_with_ufrag,
+)
 
 __all__ = [
-    "AddResult", "BadAddress", "BadCandidate", "BadLimit", "BadMessage", "Candidate", "CandidateKind", "CandidatePair",
+    "AddResult", "BadAddress", "BadCandidate", "BadLimit", "BadMessage", "Candidate", "CandidateFields", "CandidateKind", "CandidatePair",
     "CheckState", "CredentialsTooLong", "DiscoveredRecv", "HasAgent", "IceAgent", "IceAgentEvent", "IceAgentStats",
     "IceConnectionState", "IceConnectionStateChange",
     "IceCreds", "IceError", "IceRestart", "KindPreferences", "MessageTooLong", "MtuTooSmall", "NoAgent", "NominatedPair", "NominatedSend",
     "NotUtf8", "OutOfMemory", "PairIdsExhausted", "PriorityTooHigh", "Protocol", "SocketAddress", "TcpType",
-    "TooFewRandomBytes", "Transmit", "Unparsed", "candidate_line", "default_local_preference", "has_mdns_name", "line_from_json",
-    "line_refusal", "line_to_json", "line_with_ufrag", "new_creds",
+    "TooFewRandomBytes", "Transmit", "Unparsed", "candidate_fields", "candidate_line", "default_local_preference", "has_mdns_name",
+    "line_fields", "line_from_json", "line_name", "line_refusal", "line_to_json", "line_with_address", "line_with_ufrag", "new_creds",
 ]

@@ -7,7 +7,7 @@ import os
 from ctypes import POINTER, c_bool, c_char_p, c_int32, c_size_t, c_uint8, c_uint16, c_uint32, c_uint64, c_void_p
 from pathlib import Path
 
-VERSION = 3
+VERSION = 4
 NAME = "libis_ice.so"
 CREDENTIALS_RANDOM = 38
 TIMEOUT_RANDOM = 12
@@ -15,6 +15,7 @@ UFRAG_LENGTH = 16
 PASS_LENGTH = 22
 STUN_REQUEST_LENGTH = 28
 STUN_WRITE_LENGTH = 1228
+FOUNDATION_START = 10
 
 
 class Agent(ctypes.Structure):
@@ -33,6 +34,23 @@ class Candidate(ctypes.Structure):
     """is_ice_candidate."""
 
     _fields_ = [("address", Address), ("base", Address), ("kind", c_uint8), ("protocol", c_uint8), ("tcptype", c_uint8)]
+
+
+class Fields(ctypes.Structure):
+    """is_ice_fields."""
+
+    _fields_ = [
+        ("address", Address),
+        ("local", Address),
+        ("related", Address),
+        ("foundation_length", c_size_t),
+        ("ufrag_length", c_size_t),
+        ("priority", c_uint32),
+        ("component", c_uint16),
+        ("kind", c_uint8),
+        ("protocol", c_uint8),
+        ("tcptype", c_uint8),
+    ]
 
 
 class Packet(ctypes.Structure):
@@ -75,7 +93,15 @@ class Stats(ctypes.Structure):
 class Nominated(ctypes.Structure):
     """is_ice_nominated_pair."""
 
-    _fields_ = [("total_rtt", c_uint64), ("responses", c_uint64), ("rtt", c_uint64), ("has_rtt", c_bool)]
+    _fields_ = [
+        ("source", Address),
+        ("destination", Address),
+        ("total_rtt", c_uint64),
+        ("responses", c_uint64),
+        ("rtt", c_uint64),
+        ("protocol", c_uint8),
+        ("has_rtt", c_bool),
+    ]
 
 
 class Pair(ctypes.Structure):
@@ -168,7 +194,7 @@ class StunTexts(ctypes.Structure):
 
 
 # The sizes of the structs that c/is_ice.h asserts.
-SIZES = {Agent: 16, Address: 28, Candidate: 60, Packet: 72, Event: 68, Status: 32, Stats: 40, Nominated: 32, Pair: 96,
+SIZES = {Agent: 16, Address: 28, Candidate: 60, Fields: 120, Packet: 72, Event: 68, Status: 32, Stats: 40, Nominated: 88, Pair: 96,
          KindPreferences: 8, PreferenceTable: 16, StunTransaction: 12, StunResult: 32, StunNumber: 16, StunMessage: 232,
          StunSpan: 24, StunTexts: 144}
 
@@ -183,6 +209,10 @@ PROTOTYPES: dict[str, list[object]] = {
     "is_ice_line_refusal": [*_BYTES, *_TEXT],
     "is_ice_candidate_refusal": [POINTER(Candidate), *_TEXT],
     "is_ice_candidate_line": [POINTER(Candidate), *_TEXT],
+    "is_ice_line_fields": [*_BYTES, *_TEXT, POINTER(Fields)],
+    "is_ice_candidate_fields": [POINTER(Candidate), *_TEXT, POINTER(Fields)],
+    "is_ice_line_name": [*_BYTES, *_TEXT],
+    "is_ice_line_with_address": [*_BYTES, POINTER(Address), *_TEXT],
     "is_ice_line_with_ufrag": [*_BYTES, *_BYTES, *_TEXT],
     "is_ice_line_to_json": [*_BYTES, *_TEXT],
     "is_ice_line_from_json": [*_BYTES, *_TEXT],
@@ -214,6 +244,8 @@ PROTOTYPES: dict[str, list[object]] = {
     "is_ice_invalidate": [_AGENT, *_BYTES],
     "is_ice_local_candidate": [_AGENT, c_size_t, *_TEXT],
     "is_ice_remote_candidate": [_AGENT, c_size_t, *_TEXT],
+    "is_ice_local_fields": [_AGENT, c_size_t, *_TEXT, POINTER(Fields)],
+    "is_ice_remote_fields": [_AGENT, c_size_t, *_TEXT, POINTER(Fields)],
     "is_ice_handle_packet": [_AGENT, c_uint64, *_PATH, *_BYTES],
     "is_ice_handle_timeout": [_AGENT, c_uint64, *_BYTES],
     "is_ice_accepts_packet": [_AGENT, *_PATH, *_BYTES],
@@ -238,6 +270,8 @@ PROTOTYPES: dict[str, list[object]] = {
     "is_ice_stun_response": [POINTER(StunTransaction), *_BYTES, POINTER(StunResult)],
     "is_ice_stun_text": [c_uint16, *_BYTES, *_TEXT],
     "is_ice_stun_read": [*_BYTES, POINTER(StunMessage)],
+    "is_ice_stun_read_strict": [*_BYTES, POINTER(StunMessage)],
+    "is_ice_stun_username": [*_BYTES, *_TEXT, POINTER(c_size_t)],
     "is_ice_stun_verify": [*_BYTES, *_BYTES],
     "is_ice_stun_write": [POINTER(StunMessage), POINTER(StunTexts), *_BYTES, *_BYTES, *_TEXT],
 }

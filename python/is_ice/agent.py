@@ -2,21 +2,21 @@
 
 from __future__ import annotations
 
-import ctypes
 import os
 import threading
-from collections import deque
 from collections.abc import Callable
-from ctypes import byref, c_size_t, c_uint32, create_string_buffer, string_at
-from functools import cached_property
+from ctypes import byref, c_size_t, create_string_buffer
 from types import TracebackType
 
 from . import _abi
+from ._grammar import checked
+from ._library import bytes_from, library, text_from
 from ._locked import holds_the_lock, one_call_at_a_time
 from ._loop_calls import LoopCalls
+from ._unique import Unique
 from .address import PROTOCOLS, Protocol, SocketAddress, address_of, in_range, socket_of
-from .candidate import AddResult, Candidate, KindPreferences, struct_of, table_of, ufrag_of
-from .errors import BUFFER_TOO_SHORT, BadCandidate, NoAgent, done, error_of
+from .candidate import AddResult, Candidate, CandidateFields, KindPreferences, fields_of, struct_of, table_of
+from .errors import BadCandidate, NoAgent, done, error_of, utf8
 from .events import (
     CandidatePair,
     CheckState,
@@ -31,109 +31,15 @@ from .events import (
     NominatedSend,
     Transmit,
 )
-
-
-# A path that stops responding is removed 29.6 s after the last check that got a response: within the 30 s of RFC 7675, section 5.1, which
-# is when a browser gives it up too. The 3 s and 9 checks of the original end it after 24.5 s.
-_MAX_RTO = 2_900_000_000
-_MAX_RETRANSMITS = 11
-
-
-class _Library:
-    """The shared library, loaded by the first call that needs it."""
-
-    @cached_property
-    def calls(self) -> ctypes.CDLL:
-        """The library with its prototypes."""
-        return _abi.load()
-
-    @cached_property
-    def loop_calls(self) -> ctypes.PyDLL:
-        """The library for the calls that a loop makes all the time."""
-        return _abi.undeclared(self.calls)
-
-
-_library = _Library()
+from .lines import line_refusal
 
 
 def new_creds(random: bytes | None = None) -> IceCreds:
     """Creates credentials from 38 random bytes, by default those of the system. Who predicts them knows the password."""
     random = os.urandom(_abi.CREDENTIALS_RANDOM) if random is None else random
     ufrag, pass_ = create_string_buffer(_abi.UFRAG_LENGTH), create_string_buffer(_abi.PASS_LENGTH)
-    done(_library.calls.is_ice_make_credentials(random, len(random), ufrag, _abi.UFRAG_LENGTH, pass_, _abi.PASS_LENGTH))
+    done(library.calls.is_ice_make_credentials(random, len(random), ufrag, _abi.UFRAG_LENGTH, pass_, _abi.PASS_LENGTH))
     return IceCreds(ufrag.raw.decode(), pass_.raw.decode())
-
-
-def _text(call: Callable[..., int]) -> str | None:
-    """Returns the text that a call writes to a buffer, which grows until it is long enough, or None if there is no text."""
-    size, length = 256, c_size_t()
-    while True:
-        buffer = create_string_buffer(size)
-        code = call(buffer, size, byref(length))
-        if code == BUFFER_TOO_SHORT:
-            size = length.value
-        else:
-            return string_at(buffer, length.value).decode() if done(code) else None
-
-
-def line_refusal(line: str) -> str | None:
-    """Returns why a text is not a candidate, or None if it is one."""
-    text = line.encode()
-    return _text(lambda *into: _library.calls.is_ice_line_refusal(text, len(text), *into))
-
-
-def candidate_line(candidate: Candidate) -> str:
-    """Returns the text of a local candidate that no agent has: with the priority of the first one of its kind, without a fragment."""
-    struct = struct_of(candidate)
-    return _text_or_refusal(lambda *into: _library.calls.is_ice_candidate_line(byref(struct), *into),
-                            lambda *into: _library.calls.is_ice_candidate_refusal(byref(struct), *into))
-
-
-def line_with_ufrag(line: str, ufrag: str) -> str:
-    """Returns the text of a candidate with this username fragment in place of its own: of ice-char (RFC 8839, section 5.4)."""
-    text, name = line.encode(), ufrag.encode()
-    return _text_or_refusal(lambda *into: _library.calls.is_ice_line_with_ufrag(text, len(text), name, len(name), *into),
-                            lambda *into: _library.calls.is_ice_line_refusal(text, len(text), *into))
-
-
-def line_to_json(line: str) -> str:
-    """Returns the JSON in which browsers signal a candidate: the RTCIceCandidateInit of W3C WebRTC.
-
-    `sdpMid` is null and `sdpMLineIndex` is 0. BadCandidate says why the text is not a candidate.
-    """
-    text = line.encode()
-    return _text_or_refusal(lambda *into: _library.calls.is_ice_line_to_json(text, len(text), *into),
-                            lambda *into: _library.calls.is_ice_line_refusal(text, len(text), *into))
-
-
-def line_from_json(json: str) -> str:
-    """Returns the text of the candidate in such JSON, for `IceAgent.add_remote_candidate`.
-
-    A `usernameFragment` that is a string replaces that of the candidate; other members are not read. BadCandidate says why it is not
-    a candidate. The end of candidates, which has an empty `candidate`, is not one.
-    """
-    text = json.encode()
-    return _text_or_refusal(lambda *into: _library.calls.is_ice_line_from_json(text, len(text), *into),
-                            lambda *into: _library.calls.is_ice_json_refusal(text, len(text), *into))
-
-
-def _text_or_refusal(call: Callable[..., int], refusal: Callable[..., int]) -> str:
-    """Returns the text that a call writes. BadCandidate has the explanation that another call writes."""
-    try:
-        return _text(call) or ""
-    except BadCandidate:
-        raise error_of(BadCandidate.code, _text(refusal) or "") from None
-
-
-def default_local_preference(candidate: Candidate | str, same_kind: int) -> int:
-    """Returns the default local preference of a candidate that comes after `same_kind` local ones of its kind and IP version."""
-    preference, before = c_uint32(), in_range(same_kind, 64, "a number of candidates")
-    if isinstance(candidate, Candidate):
-        done(_library.calls.is_ice_candidate_preference(byref(struct_of(candidate)), before, byref(preference)))
-    else:
-        text = candidate.encode()
-        done(_library.calls.is_ice_line_preference(text, len(text), before, byref(preference)))
-    return preference.value
 
 
 def _pair_of(pair: _abi.Pair) -> CandidatePair:
@@ -144,32 +50,31 @@ def _pair_of(pair: _abi.Pair) -> CandidatePair:
 
 
 @one_call_at_a_time
-class IceAgent:
+class IceAgent(Unique):
     """One side of a session. Its names are those of the Rust crate `is`. Times and durations are whole nanoseconds.
 
     Any thread may use it: its calls are made one at a time, and a thread waits for another one's call. It is freed by `close`, at the
-    end of a `with` statement, or when nothing refers to it any more.
+    end of a `with` statement, or when nothing refers to it any more. It cannot be copied or pickled.
     """
 
     def __init__(self, creds: IceCreds | None = None, tie_breaker: int | None = None) -> None:
-        """Creates a controlled agent. By default credentials and tie-breaker come from the system's random source."""
-        self._slot = _abi.Agent()
-        self._at = byref(self._slot)
-        self._lock = threading.RLock()
-        self._c = _library.calls
-        self._loop = LoopCalls(_library.loop_calls, self._at, self._lock)
-        self._events: deque[IceAgentEvent] = deque()  # that `nominated_pair` read before `poll_event`
-        self._selected: NominatedSend | None = None
-        creds = creds or new_creds()
+        """Creates a controlled agent. By default credentials and tie-breaker come from the system's random source.
+
+        ValueError for credentials that RFC 8839 does not allow: see `set_local_credentials`. HasAgent if it is called again.
+        """
+        if not hasattr(self, "_loop"):
+            self._slot = _abi.Agent()
+            self._at = byref(self._slot)
+            self._lock = threading.RLock()
+            self._c = library.calls
+            self._loop = LoopCalls(library.loop_calls, self._at, self._lock)
+        creds = new_creds() if creds is None else checked(creds)
         tie = int.from_bytes(os.urandom(8), "little") if tie_breaker is None else in_range(tie_breaker, 64, "a tie-breaker")
-        ufrag, pass_ = creds.ufrag.encode(), creds.pass_.encode()
-        done(self._c.is_ice_agent_new(self._at, ufrag, len(ufrag), pass_, len(pass_), tie))
-        self.set_max_stun_rto(_MAX_RTO)
-        self.set_max_stun_retransmits(_MAX_RETRANSMITS)
+        with self._lock:
+            self._with_creds(self._c.is_ice_agent_new, creds, tie)
 
     def close(self) -> None:
         """Frees the agent. Every later call raises NoAgent, except for another `close`."""
-        self._events.clear()
         self._c.is_ice_agent_free(self._at)
 
     def __enter__(self) -> IceAgent:
@@ -273,15 +178,19 @@ class IceAgent:
         done(self._c.is_ice_set_preference_table(self._at, byref(table_of(v4, v6))))
 
     def set_local_credentials(self, creds: IceCreds) -> None:
-        """Sets the local credentials without an ICE restart: for use before they are signaled."""
-        self._with_creds(self._c.is_ice_set_local_credentials, creds)
+        """Sets the local credentials without an ICE restart: for use before they are signaled.
+
+        A username fragment has 4 to 256 letters, digits, '+' and '/', and a password 22 to 256 of them (RFC 8839, section 5.4).
+        ValueError for others.
+        """
+        self._with_creds(self._c.is_ice_set_local_credentials, checked(creds))
 
     def set_remote_credentials(self, creds: IceCreds) -> None:
         """Sets the peer's credentials, from signaling. Before this call no check is sent."""
         self._with_creds(self._c.is_ice_set_remote_credentials, creds)
 
-    def _with_creds(self, call: Callable[..., int], creds: IceCreds, *more: bool) -> None:
-        ufrag, pass_ = creds.ufrag.encode(), creds.pass_.encode()
+    def _with_creds(self, call: Callable[..., int], creds: IceCreds, *more: int) -> None:
+        ufrag, pass_ = utf8(creds.ufrag), utf8(creds.pass_)
         done(call(self._at, ufrag, len(ufrag), pass_, len(pass_), *more))
 
     # ---- candidates
@@ -291,34 +200,29 @@ class IceAgent:
         struct, index = struct_of(candidate), c_size_t()
         code = self._c.is_ice_add_local(self._at, byref(struct), byref(index))
         if code == BadCandidate.code:
-            raise error_of(code, _text(lambda *into: self._c.is_ice_candidate_refusal(byref(struct), *into)) or "")
+            raise error_of(code, text_from(lambda *into: self._c.is_ice_candidate_refusal(byref(struct), *into)) or "")
         if not done(code):
             return None
-        return _text(lambda *into: self._c.is_ice_local_candidate(self._at, index, *into))
+        return text_from(lambda *into: self._c.is_ice_local_candidate(self._at, index, *into))
 
     def add_remote_candidate(self, line: str) -> AddResult:
         """Adds a candidate of the peer, by its text ("candidate:.."), and returns whether it was added, known, or why it was ignored.
 
-        BadCandidate says what is wrong with it. A candidate with an mDNS name is a BadCandidate too; `has_mdns_name` says what to do
-        with it.
+        BadCandidate says what is wrong with it. A candidate with an mDNS name is a BadCandidate too; `line_name` says what to do with
+        it.
         """
-        text = line.encode()
+        text = utf8(line)
         code = self._c.is_ice_add_remote(self._at, text, len(text), byref(c_size_t()))
         if code == BadCandidate.code:
             raise error_of(code, line_refusal(line) or "")
-        if done(code):
-            return AddResult.ADDED
-        if line.split()[1] != "1":
-            return AddResult.OTHER_COMPONENT
-        creds, ufrag = self.remote_credentials, ufrag_of(line)
-        is_other = creds is not None and ufrag is not None and ufrag != creds.ufrag
-        return AddResult.OTHER_UFRAG if is_other else AddResult.KNOWN
+        done(code)
+        return AddResult(code)
 
     def invalidate_candidate(self, candidate: Candidate | str) -> bool:
         """Removes a candidate and its pairs, as when an interface is gone. Returns False if there is no such candidate."""
         if isinstance(candidate, Candidate):
             return done(self._c.is_ice_invalidate_local(self._at, byref(struct_of(candidate))))
-        text = candidate.encode()
+        text = utf8(candidate)
         return done(self._c.is_ice_invalidate(self._at, text, len(text)))
 
     def local_candidates(self) -> list[str]:
@@ -331,9 +235,23 @@ class IceAgent:
 
     def _lines(self, call: Callable[..., int]) -> list[str]:
         lines: list[str] = []
-        while (line := _text(lambda *into: call(self._at, len(lines), *into))) is not None:
+        while (line := text_from(lambda *into: call(self._at, len(lines), *into))) is not None:
             lines.append(line)
         return lines
+
+    def local_fields(self) -> list[CandidateFields]:
+        """Returns the fields of the candidates of `local_candidates`."""
+        return self._fields(self._c.is_ice_local_fields)
+
+    def remote_fields(self) -> list[CandidateFields]:
+        """Returns the fields of the candidates of `remote_candidates`: what the agent sends checks to."""
+        return self._fields(self._c.is_ice_remote_fields)
+
+    def _fields(self, call: Callable[..., int]) -> list[CandidateFields]:
+        listed, fields = list[CandidateFields](), _abi.Fields()
+        while (line := bytes_from(lambda *into: call(self._at, len(listed), *into, byref(fields)))) is not None:
+            listed.append(fields_of(line, fields))
+        return listed
 
     # ---- packets, events and timeouts
 
@@ -376,23 +294,22 @@ class IceAgent:
     def poll_event(self) -> IceAgentEvent | None:
         """Returns the next event and removes it from the agent, or None if there is none."""
         with self._lock:
-            return self._events.popleft() if self._events else self._next_event()
-
-    def _next_event(self) -> IceAgentEvent | None:
-        if (event := self._loop.poll_event()) is None:
-            return None
-        if event.kind == 1:
-            return IceRestart(self.local_credentials)
+            if (event := self._loop.poll_event()) is None:
+                return None
+            if event.kind == 1:
+                return IceRestart(self.local_credentials)
         if event.kind == 2:
             return IceConnectionStateChange(IceConnectionState(event.state))
         if event.kind == 3:
             return DiscoveredRecv(PROTOCOLS[event.protocol], socket_of(event.source))
-        self._selected = NominatedSend(PROTOCOLS[event.protocol], socket_of(event.source), socket_of(event.destination))
-        return self._selected
+        return NominatedSend(PROTOCOLS[event.protocol], socket_of(event.source), socket_of(event.destination))
 
     def ice_restart(self, creds: IceCreds, keep_local_candidates: bool) -> None:
-        """Makes an ICE restart with new local credentials. Then set the peer's new credentials and candidates."""
-        self._with_creds(self._c.is_ice_restart, creds, keep_local_candidates)
+        """Makes an ICE restart with new local credentials. Then set the peer's new credentials and candidates.
+
+        ValueError for credentials that RFC 8839 does not allow: see `set_local_credentials`.
+        """
+        self._with_creds(self._c.is_ice_restart, checked(creds), keep_local_candidates)
 
     def recreate_candidate_pairs(self) -> None:
         """Removes all pairs, and forms pairs of all candidates again."""
@@ -447,12 +364,10 @@ class IceAgent:
     def nominated_pair(self) -> NominatedPair | None:
         """Addresses and figures of the selected pair, or None if no pair was selected or it was removed."""
         pair = _abi.Nominated()
-        while event := self._next_event():  # `poll_event` returns them later; the last NominatedSend has the addresses
-            self._events.append(event)
-        if not done(self._c.is_ice_nominated(self._at, byref(pair))) or self._selected is None:
+        if not done(self._c.is_ice_nominated(self._at, byref(pair))):
             return None
-        return NominatedPair(pair.total_rtt, pair.responses, pair.rtt if pair.has_rtt else None, self._selected.source,
-                             self._selected.destination)
+        return NominatedPair(pair.total_rtt, pair.responses, pair.rtt if pair.has_rtt else None, socket_of(pair.source),
+                             socket_of(pair.destination), PROTOCOLS[pair.protocol])
 
     @property
     def pairs(self) -> list[CandidatePair]:
@@ -467,7 +382,7 @@ class IceAgent:
 
         Of several it is one of the greatest priority.
         """
-        pair, text = _abi.Pair(), line.encode()
+        pair, text = _abi.Pair(), utf8(line)
         return _pair_of(pair) if done(self._c.is_ice_find_pair(self._at, text, len(text), byref(pair))) else None
 
     def has_viable_remote_candidate(self, address: SocketAddress) -> bool:
@@ -488,6 +403,6 @@ class IceAgent:
         return self._creds(self._c.is_ice_remote_ufrag, self._c.is_ice_remote_pass)
 
     def _creds(self, ufrag_of: Callable[..., int], pass_of: Callable[..., int]) -> IceCreds | None:
-        ufrag = _text(lambda *into: ufrag_of(self._at, *into))
-        pass_ = _text(lambda *into: pass_of(self._at, *into))
+        ufrag = text_from(lambda *into: ufrag_of(self._at, *into))
+        pass_ = text_from(lambda *into: pass_of(self._at, *into))
         return None if ufrag is None or pass_ is None else IceCreds(ufrag, pass_)

@@ -7,15 +7,16 @@ import enum
 from dataclasses import dataclass
 
 from . import _abi
-from .address import Protocol, SocketAddress, address_of, in_range
+from .address import PROTOCOLS, Protocol, SocketAddress, address_of, in_range, socket_of
 
 
 class CandidateKind(enum.IntEnum):
-    """The kinds of candidates that a caller gathers (RFC 8445, section 5.1.1)."""
+    """The kinds of candidates (RFC 8445, section 5.1.1). The agent discovers peer-reflexive ones: nobody gathers them."""
 
     HOST = 0
     SERVER_REFLEXIVE = 1
     RELAYED = 2
+    PEER_REFLEXIVE = 3
 
 
 class TcpType(enum.IntEnum):
@@ -30,7 +31,7 @@ class TcpType(enum.IntEnum):
 class Candidate:
     """A local candidate. `base` is the local socket of a server-reflexive candidate, the local address of a relayed one.
 
-    Only a protocol over TCP has a `tcptype`; BadAddress is raised for one over UDP.
+    Only a protocol over TCP has a `tcptype`; BadAddress is raised for one over UDP, and for a peer-reflexive candidate.
     """
 
     kind: CandidateKind
@@ -58,6 +59,37 @@ class Candidate:
 
 
 @dataclass(frozen=True)
+class CandidateFields:
+    """A candidate as the library reads it from a text, or lists it. `text` is the candidate attribute as the library prints it.
+
+    `local` is the address of the local socket: 0.0.0.0, port 0, if the candidate was signaled and is no host. None if it has none:
+    `related`, the related address (raddr and rport); `tcptype`; `ufrag`, the username fragment.
+    """
+
+    text: str
+    foundation: str
+    component: int
+    protocol: Protocol
+    priority: int
+    address: SocketAddress
+    kind: CandidateKind
+    local: SocketAddress
+    related: SocketAddress | None
+    tcptype: TcpType | None
+    ufrag: str | None
+
+
+def fields_of(text: bytes, fields: _abi.Fields) -> CandidateFields:
+    """Converts from the library's struct and the text that came with it."""
+    foundation = text[_abi.FOUNDATION_START : _abi.FOUNDATION_START + fields.foundation_length]
+    ufrag = text[len(text) - fields.ufrag_length :]
+    return CandidateFields(
+        text.decode(), foundation.decode(), fields.component, PROTOCOLS[fields.protocol], fields.priority, socket_of(fields.address),
+        CandidateKind(fields.kind), socket_of(fields.local), socket_of(fields.related) if fields.related.family else None,
+        TcpType(fields.tcptype) if fields.tcptype else None, ufrag.decode() or None)
+
+
+@dataclass(frozen=True)
 class KindPreferences:
     """Local preferences by kind, for one IP version: numbers up to 65535 (RFC 8445, section 5.1.2.1)."""
 
@@ -74,31 +106,16 @@ class AddResult(enum.Enum):
     than 1. OTHER_UFRAG: it is of another username fragment than the peer's, as one from before an ICE restart.
     """
 
-    ADDED = enum.auto()
-    KNOWN = enum.auto()
-    OTHER_COMPONENT = enum.auto()
-    OTHER_UFRAG = enum.auto()
+    # the codes of is_ice_add_remote
+    ADDED = 0
+    KNOWN = 1
+    OTHER_COMPONENT = 2
+    OTHER_UFRAG = 3
 
     @property
     def is_ignored(self) -> bool:
         """Whether the candidate was ignored."""
         return self in (AddResult.OTHER_COMPONENT, AddResult.OTHER_UFRAG)
-
-
-def ufrag_of(line: str) -> str | None:
-    """Returns the extension `ufrag` of a candidate, or None if it has none."""
-    words = line.split()
-    return dict(zip(words[8::2], words[9::2])).get("ufrag")
-
-
-def has_mdns_name(line: str) -> bool:
-    """Returns whether a candidate has an mDNS name, as `3f2b8c1e.local`, instead of an address, to hide it from the peer.
-
-    `IceAgent.add_remote_candidate` raises BadCandidate for it. Resolve the name by mDNS and put the address in its place, or leave
-    the candidate out: the agent discovers it as a peer-reflexive candidate, from the peer's checks.
-    """
-    words = line.split()
-    return len(words) > 4 and words[4].lower().endswith(".local")
 
 
 def table_of(v4: KindPreferences, v6: KindPreferences) -> _abi.PreferenceTable:

@@ -18,27 +18,33 @@ from __future__ import annotations
 
 import asyncio
 import enum
-import ipaddress
 import logging
-from collections.abc import Callable, Sequence
+from collections.abc import Callable, Coroutine, Sequence
 from typing import Any, Protocol, Union
 
+from ._grammar import checked, is_foundation
+from ._inbox import Inbox
+from ._unique import Unique
 from .address import SocketAddress
 from .agent import IceAgent
 from .attribute import CandidateAttribute
-from .candidate import Candidate, has_mdns_name
-from .errors import IceError
+from .candidate import AddResult, Candidate, CandidateFields, CandidateKind
+from .errors import HasAgent, IceError, NoAgent
 from .events import IceAgentEvent, IceConnectionState, IceConnectionStateChange, IceCreds, NominatedSend
-from .gather import Allocation, MdnsResolver, ServerAddress, TurnServer, allocate, server_reflexive_candidates, turn_client
+from .gather import Allocation, MdnsResolver, ServerAddress, TurnServer, all_of, allocate, server_reflexive_candidates, turn_client
 from .interfaces import host_addresses
+from .lines import line_fields, line_name, line_with_address
 from .loop import EventHandler, IceLoop
 from .stun_client import StunClient
 
 _log = logging.getLogger(__name__)
 
 _PATIENCE = 30.0  # seconds until `connect` fails
-_CLOSING = 1.0  # seconds for a TURN server to free an allocation
-_QUEUE_LIMIT = 4096  # datagrams that wait for `recv`; later ones are lost, as in a full socket
+_MOST_BYTES = 1 << 20  # of datagrams that wait for `recv`; then the oldest ones are lost
+_MOST_DATAGRAMS = 4096
+_MOST_CANDIDATES = 100
+_MOST_CHARACTERS = 4096  # of a candidate's text
+_LOGGED = 200  # characters of what a peer signaled
 
 
 class TransportPolicy(enum.Enum):
@@ -64,8 +70,12 @@ class _WithSdp(Protocol):
 RemoteCandidate = Union[str, _WithSdp]
 
 
-class Connection:
-    """An ICE connection with one component."""
+class Connection(Unique):
+    """An ICE connection with one component. It cannot be copied or pickled.
+
+    `max_candidates` limits the candidates of each side, to 100 by default: later ones are left out. Mapped addresses and senders that the
+    agent discovers count for its own limit, `set_max_discovered`.
+    """
 
     closed_event: Callable[[], Any] = ConnectionClosed
 
@@ -75,8 +85,11 @@ class Connection:
                  transport_policy: Any = TransportPolicy.ALL, addresses: Sequence[str] | None = None) -> None:
         """`addresses`: the local IP addresses for host candidates, by default those of all interfaces.
 
-        ImportError if there is a TURN server and aioice is not installed. ValueError for more than one component.
+        ImportError if there is a TURN server and aioice is not installed. ValueError for more than one component. HasAgent if it is
+        called again.
         """
+        if hasattr(self, "agent"):
+            raise HasAgent
         if components != 1:
             raise ValueError("a connection has one component")
         self._relay_only = transport_policy.name == "RELAY"  # aioice's policy has this name too
@@ -90,6 +103,7 @@ class Connection:
         self.remote_is_lite = False
         self.remote_username: str | None = None
         self.remote_password: str | None = None
+        self.max_candidates = _MOST_CANDIDATES
         self._use_ipv4, self._use_ipv6, self._addresses = use_ipv4, use_ipv6, addresses
         self.agent = IceAgent()
         self.agent.set_controlling(ice_controlling)
@@ -102,16 +116,17 @@ class Connection:
 
     def _start_state(self) -> None:
         self._allocations: list[Allocation] = []
-        self._local_candidates: list[CandidateAttribute] = []
-        self._remote_candidates: list[CandidateAttribute] = []
-        self._gathering: asyncio.Future[None] | None = None
+        self._gathering: asyncio.Task[None] | None = None
+        self._gathered = self._signaled = 0  # candidates of each side
         self._remote_end = self._connected = self._closed = False
+        self._names: set[asyncio.Task[None]] = set()  # mDNS names that are being resolved
         self._unknown_hosts = 0  # mDNS names that are not resolved: checks of these hosts may come all the same
         self._path: tuple[SocketAddress, SocketAddress] | None = None
         self._found: asyncio.Future[bool] | None = None
         self._event: asyncio.Future[Any] | None = None
-        self._closing: asyncio.Future[None] | None = None
-        self._received: asyncio.Queue[bytes | None] = asyncio.Queue()
+        self._closing: asyncio.Task[None] | None = None  # after consent was lost
+        self._ending: asyncio.Task[None] | None = None
+        self._inbox = Inbox(_MOST_BYTES, _MOST_DATAGRAMS)
 
     # ---- role, credentials and candidates
 
@@ -127,7 +142,7 @@ class Connection:
 
     @property
     def local_username(self) -> str:
-        """The local username fragment, random by default."""
+        """The local username fragment, random by default. ValueError for one that is not in the grammar of RFC 8839."""
         return self._creds.ufrag
 
     @local_username.setter
@@ -136,7 +151,7 @@ class Connection:
 
     @property
     def local_password(self) -> str:
-        """The local password, random by default."""
+        """The local password, random by default. ValueError for one that is not in the grammar of RFC 8839."""
         return self._creds.pass_
 
     @local_password.setter
@@ -149,30 +164,43 @@ class Connection:
 
     @property
     def local_candidates(self) -> list[CandidateAttribute]:
-        """The candidates that were gathered, for signaling."""
-        return self._local_candidates[:]
+        """The candidates that were gathered, for signaling. None after `close`."""
+        if self._closed:
+            return []
+        listed = self.agent.local_fields()
+        return [CandidateAttribute.from_fields(fields) for fields in listed if fields.kind is not CandidateKind.PEER_REFLEXIVE]
 
     @property
     def remote_candidates(self) -> list[CandidateAttribute]:
-        """The peer's candidates that were added, with mDNS names resolved."""
-        return self._remote_candidates[:]
+        """The peer's candidates that the agent has: those that were added, with mDNS names resolved, and those that it discovered.
+
+        None after `close`.
+        """
+        return [] if self._closed else [CandidateAttribute.from_fields(fields) for fields in self.agent.remote_fields()]
 
     def get_default_candidate(self, component: int) -> CandidateAttribute | None:
         """Returns the local candidate of lowest priority, which the peer reaches most likely without ICE, or None."""
-        candidates = [c for c in self._local_candidates if c.component == component]
+        candidates = [c for c in self.local_candidates if c.component == component]
         return min(candidates, key=lambda c: c.priority) if candidates else None
 
     # ---- gathering
 
     async def gather_candidates(self) -> None:
-        """Gathers local candidates. A server that does not respond within 5 s is left out. A second call changes nothing."""
+        """Gathers local candidates. A server that does not respond within 5 s is left out. A second call changes nothing.
+
+        It ends when the connection is closed.
+        """
+        if self._closed:
+            return
         if self._gathering is None:
             self._gathering = asyncio.ensure_future(self._gather())
-        await asyncio.shield(self._gathering)
+        await asyncio.wait({self._gathering})  # whoever is cancelled here leaves it to others
+        if not self._gathering.cancelled():
+            self._gathering.result()
 
     async def _gather(self) -> None:
         bases = []
-        for ip in host_addresses(self._use_ipv4, self._use_ipv6) if self._addresses is None else self._addresses:
+        for ip in self._host_addresses():
             try:
                 bases.append(await self._loop.open(ip))
             except OSError as error:
@@ -180,7 +208,14 @@ class Connection:
         if not self._relay_only:  # otherwise the sockets only serve the STUN server
             for base in bases:
                 self._add_local(Candidate.host(base))
-        await asyncio.gather(self._gather_reflexive(bases), self._gather_relayed())
+        await all_of(self._gather_reflexive(bases), self._gather_relayed())
+
+    def _host_addresses(self) -> Sequence[str]:
+        found = host_addresses(self._use_ipv4, self._use_ipv6) if self._addresses is None else self._addresses
+        room = max(0, self.max_candidates - (self.turn_server is not None))
+        if len(found) > room:
+            _log.warning("host candidates at %d of %d addresses", room, len(found))
+        return found[:room]
 
     async def _gather_reflexive(self, bases: list[SocketAddress]) -> None:
         if self.stun_server:
@@ -199,7 +234,7 @@ class Connection:
         self._allocations.append(allocation)
         candidate = Candidate.relayed(allocation.local, allocation.base)
         self._add_local(candidate)
-        allocation.closed.add_done_callback(lambda _: self._remove_local(candidate))
+        allocation.freed.add_done_callback(lambda _: self._remove_local(candidate))
 
     def _remove_local(self, candidate: Candidate) -> None:
         if not self._closed:
@@ -207,54 +242,70 @@ class Connection:
             self._loop.wake()
 
     def _add_local(self, candidate: Candidate) -> None:
-        if self._closed:
+        room = self.max_candidates - (self.turn_server is not None and candidate.kind is not CandidateKind.RELAYED)
+        if self._closed or self._gathered >= room:
             return
         try:
-            line = self.agent.add_local_candidate(candidate)
+            if self.agent.add_local_candidate(candidate):  # otherwise it is redundant, as a server-reflexive one without a NAT
+                self._gathered += 1
         except IceError as error:
             _log.warning("no candidate at %s: %s", candidate.address, error)
-            return
-        if line:  # otherwise it is redundant, as a server-reflexive one without a NAT
-            self._local_candidates.append(CandidateAttribute.from_sdp(line))
 
     # ---- signaling
 
     async def add_remote_candidate(self, remote_candidate: RemoteCandidate | None) -> None:
-        """Adds a candidate of the peer: a text, or an object with `to_sdp`. None: there are no more. Malformed ones are left out.
+        """Adds a candidate of the peer: a text, or an object with `to_sdp`. None: there are no more. Returns at once.
 
-        An mDNS name is resolved if aioice is installed. Otherwise the candidate is left out, and the agent discovers the address
-        from the peer's checks.
+        Left out are malformed candidates, texts of more than 4096 characters, and what is beyond `max_candidates`. An mDNS name is resolved
+        meanwhile, if aioice is installed: `connect` does not wait for it, and fails for lack of candidates only after it. If nobody
+        responds for the name, the agent discovers the address from the peer's checks.
         """
         if self._remote_end:
             raise ValueError("a candidate after end-of-candidates")
         if remote_candidate is None:
             self._remote_end = True
-            if self._found and not self._found.done() and (self._may_not_connect() or self.agent.state.is_disconnected()):
-                self._finish(False)
+            self._fail_if_nothing_is_left()
+        elif not self._closed:
+            sdp = remote_candidate if isinstance(remote_candidate, str) else remote_candidate.to_sdp()
+            self._take_candidate("candidate:" + sdp.removeprefix("candidate:"))
+
+    def _take_candidate(self, line: str) -> None:
+        if self._signaled >= self.max_candidates or len(line) > _MOST_CHARACTERS:
+            _log.info("left out a candidate of %d characters: there are %d", len(line), self._signaled)
             return
-        sdp = remote_candidate if isinstance(remote_candidate, str) else remote_candidate.to_sdp()
-        line = "candidate:" + sdp.removeprefix("candidate:")
         try:
-            if has_mdns_name(line):
-                line = await self._with_address(line)
-            attribute = CandidateAttribute.from_sdp(line)
-            ipaddress.ip_address(attribute.host)
-            result = self.agent.add_remote_candidate(line)
+            if (name := line_name(line)) is None:
+                self._add_remote(line)
+            else:
+                _checked_fields(line_with_address(line, "0.0.0.0"))
+                self._resolve(line, name)
         except (IceError, ValueError) as error:
-            _log.info("left out %s: %s", line, error)
-            return
-        if not result.is_ignored and attribute not in self._remote_candidates:
-            self._remote_candidates.append(attribute)
+            _leave_out(error)
+
+    def _add_remote(self, line: str) -> None:
+        _checked_fields(line)
+        if self.agent.add_remote_candidate(line) is AddResult.ADDED:
+            self._signaled += 1
         self._loop.wake()
 
-    async def _with_address(self, line: str) -> str:
-        words = line.split()
+    def _resolve(self, line: str, name: str) -> None:
+        self._signaled += 1
         self._unknown_hosts += 1
-        address = await self._mdns.resolve(words[4])
-        if address is None:
-            raise ValueError("the name was not resolved")
+        task = asyncio.ensure_future(self._add_named(line, name))
+        self._names.add(task)
+        task.add_done_callback(self._names.discard)
+
+    async def _add_named(self, line: str, name: str) -> None:
+        ip = await self._mdns.resolve(name)
+        if ip is None:
+            return  # a check of the host may come all the same
+        self._signaled -= 1
         self._unknown_hosts -= 1
-        return " ".join([*words[:4], address, *words[5:]])
+        try:
+            self._add_remote(line_with_address(line, ip))
+        except (IceError, ValueError) as error:
+            _leave_out(error)
+        self._fail_if_nothing_is_left()
 
     # ---- the session
 
@@ -268,14 +319,14 @@ class Connection:
             raise ConnectionError("ICE negotiation failed")
         if self._connected:
             return
+        try:
+            self.agent.set_remote_credentials(checked(IceCreds(self.remote_username, self.remote_password)))
+        except (IceError, ValueError) as error:
+            raise ConnectionError(f"the remote credentials cannot be used: {error}") from error
         if self.remote_is_lite:
             self.agent.set_controlling(True)  # RFC 8445, section 6.1.1
         if self._found is None or self._found.done():
             self._found = asyncio.get_running_loop().create_future()
-        try:
-            self.agent.set_remote_credentials(IceCreds(self.remote_username, self.remote_password))
-        except IceError as error:
-            raise ConnectionError(f"the remote credentials cannot be used: {error}") from error
         self._loop.begin()
         try:
             found = await asyncio.wait_for(asyncio.shield(self._found), _PATIENCE)
@@ -286,7 +337,12 @@ class Connection:
 
     def _may_not_connect(self) -> bool:
         """Whether nothing is left to try: no candidate comes any more, and there is none."""
-        return self._remote_end and not self._remote_candidates and not self._unknown_hosts
+        return self._remote_end and not self._unknown_hosts and not self.agent.remote_candidates()
+
+    def _fail_if_nothing_is_left(self) -> None:
+        if self._found and not self._found.done() and self._remote_end and not self._unknown_hosts:
+            if self._may_not_connect() or self.agent.state.is_disconnected():
+                self._finish(False)
 
     def _on_event(self, event: IceAgentEvent) -> None:
         if isinstance(event, NominatedSend):
@@ -296,7 +352,7 @@ class Connection:
             self._path = None  # consent for it was lost, and there may be another one
         elif isinstance(event, IceConnectionStateChange) and event.state.is_disconnected():
             if self._connected:
-                self._closing = asyncio.ensure_future(self.close())
+                self._closing = asyncio.ensure_future(self._close())  # after this event was reported
             elif self._remote_end and not self._unknown_hosts:
                 self._finish(False)
         if self.on_event:
@@ -306,29 +362,54 @@ class Connection:
         self._stun.receive(source, local, data)
 
     def _on_media(self, source: SocketAddress, local: SocketAddress, data: bytes) -> None:
-        if self._received.qsize() < _QUEUE_LIMIT:
-            self._received.put_nowait(data)
+        self._inbox.put(data)
 
     def _finish(self, found: bool) -> None:
         if self._found and not self._found.done():
             self._found.set_result(found)
 
-    async def close(self) -> None:
-        """Closes the connection. `connect` and `recv` of other tasks fail, and `get_event` returns ConnectionClosed."""
-        if self._closed:
-            return
-        self._controlling = self.agent.controlling
+    def close(self) -> Coroutine[Any, Any, None]:
+        """Closes the connection. `connect`, `recv` and gathering of other tasks end, and `get_event` returns ConnectionClosed.
+
+        Await it, to wait until a TURN server has freed an allocation, for a second. Whoever is cancelled then, or before, does not stop
+        it.
+        """
+        try:
+            asyncio.get_running_loop()
+        except RuntimeError:
+            pass  # it is closed once the loop runs
+        else:
+            self._begin_to_close()
+        return self._close()
+
+    async def _close(self) -> None:
+        await asyncio.wait({self._begin_to_close()})
+
+    def _begin_to_close(self) -> asyncio.Task[None]:
+        if self._ending is None:
+            self._shut()
+            self._ending = asyncio.ensure_future(self._end())
+        return self._ending
+
+    def _shut(self) -> None:
+        try:
+            self._controlling = self.agent.controlling
+        except NoAgent:
+            pass
         self._closed, self._connected, self._path = True, False, None
         self._loop.close()
         self.agent.close()
         self._finish(False)
-        self._received.put_nowait(None)
-        if self._allocations:
-            await asyncio.wait([allocation.closed for allocation in self._allocations], timeout=_CLOSING)
-        await self._mdns.close()
-        self._local_candidates.clear()
+        self._inbox.end()
         if self._event and not self._event.done():
             self._event.set_result(self.closed_event())
+
+    async def _end(self) -> None:
+        tasks = [*self._names, *([self._gathering] if self._gathering else [])]
+        for task in tasks:
+            task.cancel()
+        await asyncio.gather(*tasks, return_exceptions=True)
+        await all_of(self._mdns.close(), *(allocation.close() for allocation in self._allocations))
         await asyncio.sleep(0)  # asyncio closes the sockets
 
     async def get_event(self) -> Any:
@@ -349,11 +430,15 @@ class Connection:
         """Receives a datagram. ConnectionError if the connection is not connected, or is closed."""
         if not self._connected:
             raise ConnectionError("not connected")
-        data = await self._received.get() if self._received.empty() else self._received.get_nowait()
+        data = await self._inbox.get()
         if data is None:
-            self._received.put_nowait(None)  # for other tasks that wait
             raise ConnectionError("the connection was closed")
         return data
+
+    @property
+    def dropped_datagrams(self) -> int:
+        """How many datagrams were lost because nobody read them: 1 MiB or 4096 datagrams wait for `recv`, then the oldest are dropped."""
+        return self._inbox.dropped
 
     async def recvfrom(self) -> tuple[bytes, int]:
         """Receives a datagram, and returns it with its component, which is 1."""
@@ -377,16 +462,26 @@ class Connection:
 
     def set_selected_pair(self, component: int, local_foundation: str, remote_foundation: str) -> None:
         """Uses a path without checks, for a peer without ICE. ValueError if there is no candidate with such a foundation."""
-        local = _with_foundation(self._local_candidates, local_foundation)
-        remote = _with_foundation(self._remote_candidates, remote_foundation)
-        base = SocketAddress(local.host, local.port)
-        if local.type == "srflx" and local.related_address is not None and local.related_port is not None:
-            base = SocketAddress(local.related_address, local.related_port)
-        self._path, self._connected = (base, SocketAddress(remote.host, remote.port)), True
+        local = _with_foundation(self.agent.local_fields(), local_foundation)
+        remote = _with_foundation(self.agent.remote_fields(), remote_foundation)
+        source = local.address if local.kind is CandidateKind.RELAYED else local.local
+        self._path, self._connected = (source, remote.address), True
 
 
-def _with_foundation(candidates: list[CandidateAttribute], foundation: str) -> CandidateAttribute:
+def _with_foundation(candidates: list[CandidateFields], foundation: str) -> CandidateFields:
     for candidate in candidates:
         if candidate.foundation == foundation:
             return candidate
     raise ValueError(f"no candidate has the foundation {foundation}")
+
+
+def _checked_fields(line: str) -> CandidateFields:
+    """Returns the fields of a candidate. ValueError if it is not one, or if its foundation is not in the grammar of RFC 8839."""
+    fields = line_fields(line)
+    if not is_foundation(fields.foundation):
+        raise ValueError(f"the foundation {fields.foundation!r} does not have 1 to 32 letters, digits, '+' and '/'")
+    return fields
+
+
+def _leave_out(error: Exception) -> None:
+    _log.info("left out a candidate: %r", str(error)[:_LOGGED])

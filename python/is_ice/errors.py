@@ -30,8 +30,8 @@ class HasAgent(IceError):
     code, text = -2, "there is an agent already"
 
 
-class NotUtf8(IceError):
-    """A text is not UTF-8."""
+class NotUtf8(IceError, ValueError):
+    """A text is not UTF-8: a `str` has a lone surrogate."""
 
     code, text = -3, "text is not UTF-8"
 
@@ -60,7 +60,7 @@ class OutOfMemory(IceError):
     code, text = -7, "out of memory"
 
 
-class BadCandidate(IceError):
+class BadCandidate(IceError, ValueError):
     """An address that no candidate may have, or a text that is not a candidate. The message says what is wrong."""
 
     code, text = -8, "bad candidate"
@@ -124,7 +124,16 @@ def error_of(code: int, detail: str = "") -> IceError:
 
 
 def done(code: int) -> bool:
-    """Returns True for IS_ICE_OK and False for IS_ICE_NOTHING; raises the exception of any other code."""
+    """Returns True for IS_ICE_OK and False for another code that is no error; raises the exception of an error."""
     if code >= 0:
         return code == OK
     raise error_of(code)
+
+
+def utf8(text: str) -> bytes:
+    """Returns a text for the library. NotUtf8 for a lone surrogate. The exception does not have the text, which may be a password."""
+    try:
+        return text.encode()
+    except UnicodeEncodeError:
+        pass
+    raise NotUtf8

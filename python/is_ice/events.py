@@ -3,7 +3,7 @@
 from __future__ import annotations
 
 import enum
-from dataclasses import dataclass
+from dataclasses import dataclass, field
 from typing import NamedTuple, Union
 
 from .address import Protocol, SocketAddress
@@ -40,10 +40,10 @@ class IceConnectionState(enum.IntEnum):
 
 @dataclass(frozen=True)
 class IceCreds:
-    """A username fragment and a password. Signaling sends them to the peer."""
+    """A username fragment and a password. Signaling sends them to the peer. `repr` and `str` leave the password out."""
 
     ufrag: str
-    pass_: str
+    pass_: str = field(repr=False)
 
 
 @dataclass(frozen=True)
@@ -137,7 +137,7 @@ class CandidatePair:
 class NominatedPair:
     """The selected pair. Times are nanoseconds. `rtt` is the last round-trip time, or None if there is none.
 
-    `source` and `destination` are those of its NominatedSend.
+    `source`, `destination` and `protocol` are those of its NominatedSend.
     """
 
     total_rtt: int
@@ -145,3 +145,4 @@ class NominatedPair:
     rtt: int | None
     source: SocketAddress
     destination: SocketAddress
+    protocol: Protocol

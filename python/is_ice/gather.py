@@ -6,18 +6,44 @@ Also resolves mDNS names by aioice. aioice is optional: without it there are no 
 from __future__ import annotations
 
 import asyncio
-import ipaddress
+import logging
 import socket
-import struct
-from dataclasses import dataclass
-from typing import Any
+import sys
+import types
+from collections import Counter
+from collections.abc import Callable, Coroutine, Generator
+from dataclasses import dataclass, field
+from typing import Any, TypeVar
 
 from .address import SocketAddress
 from .candidate import Candidate
+from .demux import is_stun
+from .errors import Unparsed
 from .loop import IceLoop
+from .stun import StunClass, StunMessage, StunMethod
 from .stun_client import StunClient
 
+_log = logging.getLogger(__name__)
+
+_CLOSING = 1.0  # seconds for a TURN server to free an allocation, and for the socket of mDNS to be opened or closed
+_SENDING = 1024  # datagrams that wait until a TURN server has bound the channel of a peer; later ones are lost
+
 ServerAddress = tuple[str, int]
+T = TypeVar("T")
+
+
+async def all_of(*calls: Coroutine[Any, Any, T]) -> list[T]:
+    """Returns what these calls return, once all have ended. If it is cancelled, it cancels them and waits for them too."""
+    tasks = [asyncio.ensure_future(call) for call in calls]
+    try:
+        if tasks:
+            await asyncio.wait(tasks)
+    except asyncio.CancelledError:
+        for task in tasks:
+            task.cancel()
+        await asyncio.wait(tasks)
+        raise
+    return [task.result() for task in tasks]
 
 
 @dataclass(frozen=True)
@@ -26,7 +52,7 @@ class TurnServer:
 
     address: ServerAddress
     username: str | None = None
-    password: str | None = None
+    password: str | None = field(default=None, repr=False)
     ssl: bool = False
     transport: str = "udp"
 
@@ -51,57 +77,75 @@ async def server_reflexive_candidates(client: StunClient, bases: list[SocketAddr
     loop = asyncio.get_running_loop()
     try:
         found = await loop.getaddrinfo(server[0], server[1], type=socket.SOCK_DGRAM)
-    except OSError:
+    except (OSError, UnicodeError):  # the second one for a name that no host can have
         return []
     servers = {address.version: address for address in reversed([SocketAddress(*told[:2]) for *_, told in found])}
     reachable = [base for base in bases if base.version in servers]
-    seen = await asyncio.gather(*(client.binding(base, servers[base.version]) for base in reachable))
+    seen = await all_of(*(client.binding(base, servers[base.version]) for base in reachable))
     return [Candidate.server_reflexive(address, base) for address, base in zip(seen, reachable) if address]
-
-
-_DATA_INDICATION, _XOR_PEER_ADDRESS, _DATA = 0x0017, 0x0012, 0x0013
 
 
 def data_of(message: bytes) -> tuple[bytes, tuple[str, int]] | None:
     """Returns the datagram of a Data indication and the peer that sent it (RFC 8656, section 11.4), or None for any other message."""
-    if len(message) < 20 or struct.unpack_from("!HH", message) != (_DATA_INDICATION, len(message) - 20):
+    if not is_stun(message):  # media on a channel: an exception would take longer
         return None
-    found: dict[int, bytes] = {}
-    at = 20
-    while at + 4 <= len(message):
-        kind, length = struct.unpack_from("!HH", message, at)
-        found.setdefault(kind, message[at + 4 : at + 4 + length])
-        at += 4 + length + -length % 4
-    peer, data = found.get(_XOR_PEER_ADDRESS, b""), found.get(_DATA)
-    if data is None or at != len(message) or (len(peer), peer[1:2]) not in ((8, b"\1"), (20, b"\2")):
+    try:
+        read = StunMessage(message)
+    except Unparsed:
         return None
-    plain = bytes(byte ^ mask for byte, mask in zip(peer[2:], message[4:6] + message[4:20]))
-    return data, (str(ipaddress.ip_address(plain[2:])), int.from_bytes(plain[:2], "big"))
+    peer, data = read.peer_address, read.value_of_data
+    if (read.method, read.class_) != (StunMethod.DATA, StunClass.INDICATION) or peer is None or data is None:
+        return None
+    return data, (peer.ip, peer.port)
+
+
+class _Ended(Exception):
+    """A task was cancelled."""
+
+
+@types.coroutine
+def _ended_by_an_exception(coroutine: Coroutine[Any, Any, Any]) -> Generator[Any, Any, Any]:
+    """Runs a coroutine that closes its socket after an Exception, but not after CancelledError: it gets `_Ended` in place of that."""
+    resume: Callable[[Any], Any] = coroutine.send
+    told: Any = None
+    try:
+        while True:
+            waited = resume(told)
+            try:
+                told = yield waited
+                resume = coroutine.send
+            except asyncio.CancelledError:
+                resume, told = coroutine.throw, _Ended()
+            except Exception as error:
+                resume, told = coroutine.throw, error
+    except StopIteration as end:
+        return end.value
+    finally:
+        coroutine.close()
 
 
 class Allocation(asyncio.DatagramProtocol):
-    """A TURN allocation: the socket of a relayed candidate."""
+    """A TURN allocation: the socket of a relayed candidate. `freed` is done when the server has freed it, or is out of reach."""
 
     def __init__(self, loop: IceLoop) -> None:
         self._loop = loop
-        self.closed: asyncio.Future[None] = asyncio.get_running_loop().create_future()
+        self._client: Any = None
+        self._tasks: set[asyncio.Future[None]] = set()
+        self._sending: Counter[SocketAddress] = Counter()
+        self.freed: asyncio.Future[None] = asyncio.get_running_loop().create_future()
         self.local = self.base = SocketAddress("", 0)
 
     def connection_made(self, transport: Any) -> None:
         """Adds the allocation to the loop."""
         self.local = SocketAddress(*transport.get_extra_info("sockname")[:2])
         self.base = SocketAddress(*transport.get_extra_info("related_address")[:2])
-        self._take_data_indications(transport)
+        self._client = transport._TurnTransport__inner_protocol
+        self._take_data_indications()
+        self._loop.add_socket(self.local, self._send, self._free)
 
-        def send(destination: SocketAddress, data: bytes) -> None:
-            transport.sendto(data, destination[:2])
-
-        self._loop.add_socket(self.local, send, transport.close)
-
-    def _take_data_indications(self, transport: Any) -> None:
+    def _take_data_indications(self) -> None:
         """Takes what comes from addresses without a channel, as behind a symmetric NAT. aioice's client ignores these messages."""
-        client = transport._TurnTransport__inner_protocol
-        receive = client.datagram_received
+        receive = self._client.datagram_received
 
         def received(message: bytes, addr: tuple[str, int]) -> None:
             if told := data_of(message):
@@ -109,7 +153,31 @@ class Allocation(asyncio.DatagramProtocol):
             else:
                 receive(message, addr)
 
-        client.datagram_received = received
+        self._client.datagram_received = received
+
+    def _send(self, destination: SocketAddress, data: bytes) -> None:
+        if self._sending[destination] < _SENDING:
+            self._sending[destination] += 1
+            self._run(self._client.send_data(data, destination[:2])).add_done_callback(lambda _: self._sent(destination))
+
+    def _sent(self, destination: SocketAddress) -> None:
+        self._sending[destination] -= 1
+
+    def _free(self) -> None:
+        for task in self._tasks:
+            task.cancel()
+        self._run(self._client.delete())
+
+    def _run(self, call: Coroutine[Any, Any, None]) -> asyncio.Future[None]:
+        task = asyncio.ensure_future(call)
+        self._tasks.add(task)
+        task.add_done_callback(self._ran)
+        return task
+
+    def _ran(self, task: asyncio.Future[None]) -> None:
+        self._tasks.discard(task)
+        if not task.cancelled() and (error := task.exception()):
+            _log.info("the TURN server: %r", error)
 
     def datagram_received(self, data: bytes, addr: tuple[str, int]) -> None:
         """Passes on what a peer sent to the relayed address."""
@@ -117,19 +185,47 @@ class Allocation(asyncio.DatagramProtocol):
 
     def connection_lost(self, error: Exception | None) -> None:
         """Reports that the server freed the allocation, or that the connection to it broke."""
-        if not self.closed.done():
-            self.closed.set_result(None)
+        if not self.freed.done():
+            self.freed.set_result(None)
+
+    async def close(self) -> None:
+        """Waits, after the loop was closed, until the server has freed the allocation, for a second at most, and ends all its tasks."""
+        await asyncio.wait({self.freed}, timeout=_CLOSING)
+        tasks = set(self._tasks)
+        for task in tasks:
+            task.cancel()
+        if tasks:
+            await asyncio.wait(tasks)
+        if self._client:
+            self._client.transport.close()
 
 
 async def allocate(loop: IceLoop, server: TurnServer) -> Allocation:
-    """Allocates a relayed address, and adds it to the loop as a socket. OSError if the server does not allocate one."""
-    client = turn_client()
-    stun = _aioice_part("stun")
+    """Allocates a relayed address, and adds it to the loop as a socket. OSError if the server does not allocate one.
+
+    If it is cancelled, it waits for the server for a second: an allocation that is made by then is freed, if the loop is closed.
+    """
+    allocating = asyncio.ensure_future(_allocate(loop, server))
     try:
-        _, allocation = await client.create_turn_endpoint(
+        return await asyncio.shield(allocating)
+    except asyncio.CancelledError:
+        await asyncio.wait({allocating}, timeout=_CLOSING)
+        allocating.cancel()
+        await asyncio.wait({allocating})
+        if not allocating.cancelled() and not allocating.exception():
+            await allocating.result().close()
+        raise
+
+
+async def _allocate(loop: IceLoop, server: TurnServer) -> Allocation:
+    client, stun = turn_client(), _aioice_part("stun")
+    try:
+        _, allocation = await _ended_by_an_exception(client.create_turn_endpoint(
             lambda: Allocation(loop), server_addr=server.address, username=server.username, password=server.password,
-            ssl=server.ssl, transport=server.transport)
-    except stun.TransactionError as error:
+            ssl=server.ssl, transport=server.transport))
+    except _Ended:
+        raise asyncio.CancelledError from None
+    except (stun.TransactionError, UnicodeError) as error:
         raise OSError(f"the TURN server {server.address} allocates no address: {error!r}") from error
     assert isinstance(allocation, Allocation)
     return allocation
@@ -143,22 +239,26 @@ class MdnsResolver:
 
     async def resolve(self, name: str) -> str | None:
         """Returns the IP address of a name, or None if nobody responds, if mDNS cannot be used, or if aioice is not installed."""
-        mdns = _aioice_part("mdns")
+        if "aioice.mdns" in sys.modules:
+            mdns = _aioice_part("mdns")
+        else:  # to import it takes as long as a session takes to connect
+            mdns = await asyncio.to_thread(_aioice_part, "mdns")
         if mdns is None:
             return None
         if self._opened is None:
             self._opened = asyncio.ensure_future(mdns.create_mdns_protocol())
         try:
             address = await (await asyncio.shield(self._opened)).resolve(name)
-        except OSError:
+        except Exception as error:  # no socket, or a name that DNS cannot have, for which dnspython has its own exceptions
+            _log.info("mDNS: %r", error)
             return None
         return None if address is None else str(address)
 
     async def close(self) -> None:
-        """Closes the socket."""
+        """Closes the socket, within two seconds."""
         if self._opened:
             opened, self._opened = self._opened, None
             try:
-                await (await opened).close()
-            except OSError:
-                pass
+                await asyncio.wait_for((await asyncio.wait_for(opened, _CLOSING)).close(), _CLOSING)
+            except Exception as error:
+                _log.info("mDNS: %r", error)

@@ -8,11 +8,12 @@ import time
 from collections import deque
 from collections.abc import Callable
 
+from ._unique import Unique
 from .address import SocketAddress
 from .agent import IceAgent
 from .candidate import Candidate
 from .demux import is_stun, is_stun_request
-from .errors import IceError, NoAgent, Unparsed
+from .errors import HasAgent, IceError, NoAgent, Unparsed
 from .events import IceAgentEvent
 
 # Time starts at 60 s: the agent gives a newly nominated pair a due time 60 s in the past.
@@ -43,8 +44,8 @@ class _Socket(asyncio.DatagramProtocol):
         self._receive(SocketAddress(*addr), self.local, data)
 
 
-class IceLoop:
-    """An agent, its sockets and its timer.
+class IceLoop(Unique):
+    """An agent, its sockets and its timer. It cannot be copied or pickled.
 
     Calls `on_event` with events, `on_media` with datagrams that are not STUN messages, and `on_stun` with STUN messages that are not
     for the agent, such as responses of STUN and TURN servers. The last two get the source, the local address and the bytes. If a
@@ -54,6 +55,8 @@ class IceLoop:
 
     def __init__(self, agent: IceAgent, on_event: EventHandler, on_media: DatagramHandler,
                  on_stun: DatagramHandler | None = None) -> None:
+        if hasattr(self, "agent"):
+            raise HasAgent
         self.agent = agent
         self._on_event, self._on_media, self._on_stun = on_event, on_media, on_stun
         self._start = time.monotonic_ns()

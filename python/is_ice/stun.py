@@ -3,13 +3,13 @@
 from __future__ import annotations
 
 import enum
-from ctypes import byref, c_size_t, create_string_buffer, string_at
+from ctypes import byref, c_size_t, create_string_buffer
 from dataclasses import dataclass
 
 from . import _abi
+from ._library import bytes_from, library
 from .address import SocketAddress, address_of, in_range, socket_of
-from .agent import _library
-from .errors import BUFFER_TOO_SHORT, UNPARSED, done
+from .errors import UNPARSED, done, utf8
 
 TRANSACTION_LENGTH = 12
 
@@ -56,7 +56,7 @@ def _id_of(transaction: bytes) -> _abi.StunTransaction:
 def binding_request(transaction: bytes) -> bytes:
     """Returns a Binding request without credentials: header and FINGERPRINT. The transaction ID is 12 random bytes."""
     buffer, length = create_string_buffer(_abi.STUN_REQUEST_LENGTH), c_size_t()
-    done(_library.calls.is_ice_stun_request(byref(_id_of(transaction)), buffer, len(buffer), byref(length)))
+    done(library.calls.is_ice_stun_request(byref(_id_of(transaction)), buffer, len(buffer), byref(length)))
     return buffer.raw[:length.value]
 
 
@@ -75,7 +75,7 @@ def binding_response(transaction: bytes, data: bytes) -> BindingResponse | None:
     A success response without XOR-MAPPED-ADDRESS is None too, as is a failure without ERROR-CODE. Nothing is verified.
     """
     result = _abi.StunResult()
-    code = _library.calls.is_ice_stun_response(byref(_id_of(transaction)), data, len(data), byref(result))
+    code = library.calls.is_ice_stun_response(byref(_id_of(transaction)), data, len(data), byref(result))
     if code == UNPARSED or not done(code):
         return None
     if result.error_code == 0:
@@ -84,11 +84,7 @@ def binding_response(transaction: bytes, data: bytes) -> BindingResponse | None:
 
 
 def _value(attribute: StunText, data: bytes) -> bytes | None:
-    """The value of an attribute. No value is longer than its message."""
-    buffer, length = create_string_buffer(max(len(data), 1)), c_size_t()
-    code = _library.calls.is_ice_stun_text(int(attribute), data, len(data), buffer, len(buffer), byref(length))
-    assert code != BUFFER_TOO_SHORT
-    return string_at(buffer, length.value) if done(code) else None
+    return bytes_from(lambda *into: library.calls.is_ice_stun_text(int(attribute), data, len(data), *into), max(len(data), 1))
 
 
 def _number(number: _abi.StunNumber) -> int | None:
@@ -114,13 +110,13 @@ def _write(flat: _abi.StunMessage, texts: dict[str, bytes | None], key: bytes | 
     flat.has_integrity = key is not None
     buffer, length = create_string_buffer(_abi.STUN_WRITE_LENGTH + len(joined) + 8), c_size_t()
     key = key or b""
-    done(_library.calls.is_ice_stun_write(
+    done(library.calls.is_ice_stun_write(
         byref(flat), byref(spans), joined, len(joined), key, len(key), buffer, len(buffer), byref(length)))
     return buffer.raw[:length.value]
 
 
 def _bytes_of(text: str | None) -> bytes | None:
-    return None if text is None else text.encode()
+    return None if text is None else utf8(text)
 
 
 def write_message(
@@ -153,14 +149,30 @@ def write_message(
         "nonce": _bytes_of(nonce), "software": _bytes_of(software)}, key)
 
 
+def stun_username(data: bytes) -> tuple[str, str] | None:
+    """Returns the two parts of a message's USERNAME, or None if it has none with a colon. Unparsed if it is not a STUN message.
+
+    In a Binding request they are the username fragments of the receiver and of the sender (RFC 8445, section 7.2.2). So a socket
+    finds its agent in a `dict` by the first one, without asking each agent.
+    """
+    receiver = c_size_t()
+    name = bytes_from(lambda *into: library.calls.is_ice_stun_username(data, len(data), *into, byref(receiver)))
+    return None if name is None else (name[: receiver.value].decode(), name[receiver.value + 1 :].decode())
+
+
 class StunMessage:
     """A STUN message of any method and class. An attribute that it does not have is None."""
 
-    def __init__(self, data: bytes) -> None:
-        """Reads a datagram. Unparsed if it is not a STUN message or has a malformed attribute. Nothing is verified."""
+    def __init__(self, data: bytes, strict: bool = False) -> None:
+        """Reads a datagram. Unparsed if it is not a STUN message or has a malformed attribute. Nothing is verified.
+
+        `strict`: as `IceAgent.handle_packet` reads it. Unparsed also for a Binding request or success response without an attribute
+        that ICE requires.
+        """
         self._flat = _abi.StunMessage()
         self.data = bytes(data)
-        done(_library.calls.is_ice_stun_read(self.data, len(self.data), byref(self._flat)))
+        read = library.calls.is_ice_stun_read_strict if strict else library.calls.is_ice_stun_read
+        done(read(self.data, len(self.data), byref(self._flat)))
 
     @property
     def method(self) -> StunMethod:
@@ -270,4 +282,4 @@ class StunMessage:
 
     def verify(self, key: bytes) -> bool:
         """Returns whether the message has the MESSAGE-INTEGRITY of this key (RFC 8489, section 14.5). In ICE the key is a password."""
-        return done(_library.calls.is_ice_stun_verify(self.data, len(self.data), key, len(key)))
+        return done(library.calls.is_ice_stun_verify(self.data, len(self.data), key, len(key)))

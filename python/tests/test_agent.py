@@ -1,9 +1,10 @@
 """Tests the module with the library: two agents connect, calls fail with their errors, texts and addresses round-trip."""
 
+import copy
 import ctypes
 import inspect
 import os
-import re
+import pickle
 import tempfile
 import threading
 import unittest
@@ -16,6 +17,7 @@ import is_ice
 from is_ice import _abi
 from is_ice._loop_calls import PACKET
 from is_ice.address import PATHS, POINTERS, address_of
+from is_ice.gather import TurnServer
 from is_ice import (
     AddResult,
     BadAddress,
@@ -25,6 +27,7 @@ from is_ice import (
     CheckState,
     CredentialsTooLong,
     DiscoveredRecv,
+    HasAgent,
     IceAgent,
     IceConnectionState,
     IceCreds,
@@ -33,6 +36,7 @@ from is_ice import (
     MtuTooSmall,
     NoAgent,
     NominatedSend,
+    Protocol,
     SocketAddress,
     TooFewRandomBytes,
     Unparsed,
@@ -149,7 +153,7 @@ class Sessions(unittest.TestCase):
         pair = a.nominated_pair
         assert pair is not None
         self.assertEqual(pair.rtt, 0)
-        self.assertEqual((pair.source, pair.destination), (HERE, THERE))
+        self.assertEqual((pair.source, pair.destination, pair.protocol), (HERE, THERE, Protocol.UDP))
         self.assertTrue(a.has_viable_remote_candidate(THERE))
 
     def test_requests_bring_few_candidates(self) -> None:
@@ -183,6 +187,25 @@ class Sessions(unittest.TestCase):
             events.append(event)
         self.assertEqual(events[0], IceRestart(a.local_credentials))
         self.assertIn(THERE, [event.destination for event in events if isinstance(event, NominatedSend)])
+        self.assertEqual(a.nominated_pair, pair)
+
+    def test_a_query_of_the_selected_pair_polls_no_events(self) -> None:
+        """Once as many events wait as `set_max_discovered` allows, by default 32, no further source is reported."""
+        for query in (False, True):
+            a, b = two_agents()
+            a.handle_timeout(BEGINNING)
+            b.handle_timeout(BEGINNING)
+            request = a.poll_transmit()
+            assert request is not None
+            for port in range(2000):
+                source = SocketAddress(f"10.9.{port // 250}.{1 + port % 250}", 4000)
+                b.handle_packet(BEGINNING, source, request.destination, request.contents)
+                if query:
+                    self.assertIsNone(b.nominated_pair)
+            waiting = 0
+            while b.poll_event():
+                waiting += 1
+            self.assertEqual(waiting, 32)
 
     def test_packets_of_a_relayed_candidate_come_from_the_relayed_address(self) -> None:
         relayed = SocketAddress("203.0.113.1", 5000)
@@ -288,6 +311,38 @@ class Errors(unittest.TestCase):
     def test_protocols_have_numbers(self) -> None:
         self.assertRaises(BadAddress, self.agent.handle_packet, BEGINNING, THERE, HERE, b"", 9)
 
+    def test_an_agent_is_neither_copied_nor_pickled(self) -> None:
+        makes: tuple[Callable[[IceAgent], object], ...] = (copy.copy, copy.deepcopy, pickle.dumps)
+        for make in makes:
+            with self.assertRaisesRegex(TypeError, "IceAgent cannot be copied or pickled"):
+                make(self.agent)
+        self.assertEqual(self.agent.state, IceConnectionState.NEW)
+
+    def test_an_object_has_one_agent_at_a_time(self) -> None:
+        creds = self.agent.local_credentials
+        self.assertRaises(HasAgent, self.agent.__init__)  # type: ignore[misc]
+        self.assertEqual(self.agent.local_credentials, creds)
+        self.agent.close()
+        self.agent.__init__()  # type: ignore[misc]
+        self.assertNotEqual(self.agent.local_credentials, creds)
+
+    def test_local_credentials_are_of_the_grammar_of_rfc_8839(self) -> None:
+        """Section 5.4: ice-ufrag is 4*256ice-char, ice-pwd is 22*256ice-char; ice-char is a letter, a digit, '+' or '/'."""
+        good = [("a" * 4, "b" * 22), ("a" * 256, "b" * 22), ("aZ+/", "0" * 256)]
+        bad = [("a" * 3, "b" * 22), ("a" * 257, "b" * 22), ("abcd", "b" * 21), ("abcd", "b" * 257), ("ab d", "b" * 22), ("ab:d", "b" * 22),
+               ("ab-d", "b" * 22), ("abcd\n", "b" * 22), ("abcd", "b" * 22 + "\n"), ("abcé", "b" * 22), ("abc٣", "b" * 22)]
+        for ufrag, pass_ in good:
+            creds = IceCreds(ufrag, pass_)
+            self.assertEqual(IceAgent(creds).local_credentials, creds)
+            self.agent.set_local_credentials(creds)
+            self.agent.ice_restart(creds, True)
+        for ufrag, pass_ in bad:
+            creds = IceCreds(ufrag, pass_)
+            self.assertRaisesRegex(ValueError, "RFC 8839", IceAgent, creds)
+            self.assertRaisesRegex(ValueError, "RFC 8839", self.agent.set_local_credentials, creds)
+            self.assertRaisesRegex(ValueError, "RFC 8839", self.agent.ice_restart, creds, True)
+        self.assertEqual(self.agent.local_credentials, IceCreds(*good[-1]))
+
     def test_a_closed_agent(self) -> None:
         self.agent.close()
         self.agent.close()
@@ -303,6 +358,17 @@ class Values(unittest.TestCase):
         self.assertNotEqual(new_creds(), new_creds())
         with IceAgent(creds) as agent:
             self.assertEqual(agent.local_credentials, creds)
+
+    def test_nothing_that_has_a_password_prints_it(self) -> None:
+        creds = IceCreds("abcd", "secret")
+        agent = IceAgent(IceCreds("abcd", "secret" * 4))
+        agent.handle_timeout(BEGINNING)
+        server = TurnServer(("192.0.2.1", 3478), "user", "secret")
+        for value in (creds, IceRestart(creds), [IceRestart(creds)], agent, agent.poll_event(), server):
+            for text in (repr(value), str(value), f"{value}", "%r" % (value,)):
+                self.assertNotIn("secret", text)
+        self.assertIn("abcd", repr(IceRestart(creds)))
+        self.assertNotEqual(creds, IceCreds("abcd", "other"))
 
     def test_candidates_of_each_kind(self) -> None:
         agent = IceAgent()
@@ -390,10 +456,6 @@ class Values(unittest.TestCase):
                 if not method.startswith("_") and (inspect.isfunction(value) or isinstance(value, property)):
                     self.assertTrue(value.__doc__, f"{name}.{method}")
 
-    def test_structs_have_the_sizes_of_the_header(self) -> None:
-        for struct, size in _abi.SIZES.items():
-            self.assertEqual(ctypes.sizeof(struct), size, struct)
-
     def test_a_packet_is_read_by_its_offsets(self) -> None:
         packet = _abi.Packet(source=address_of(HERE), destination=address_of(THERE), length=3, protocol=2)
         path, length, protocol = PACKET.unpack_from(packet)
@@ -413,14 +475,6 @@ class Values(unittest.TestCase):
             POINTERS[SocketAddress("10.0.0.3", port)]
         POINTERS[HERE]
         self.assertLessEqual(len(POINTERS), 1 << 14)
-
-    def test_the_header_declares_what_is_called(self) -> None:
-        header = Path(__file__).resolve().parents[2] / "c" / "is_ice.h"
-        if not header.exists():
-            self.skipTest("c/is_ice.h does not exist")
-        text = re.sub(r"/\*.*?\*/", "", header.read_text(), flags=re.S)
-        declared = set(re.findall(r"^(?:IS_ICE_CALL|IS_ICE_QUIET_CALL|uint32_t)\s[^;(]*?\b(is_ice_\w+)\([^)]*\);", text, re.M))
-        self.assertEqual(declared, {*_abi.PROTOTYPES, "is_ice_version", "is_ice_agent_free"})
 
     def test_an_agent_that_is_dropped_on_another_thread(self) -> None:
         kept = [IceAgent()]

@@ -3,16 +3,23 @@
 from __future__ import annotations
 
 import asyncio
+import copy
+import gc
+import os
+import pickle
+import socket
 import time
 import unittest
 from collections.abc import Awaitable, Callable
+from typing import Any
 from unittest import mock
 
 import is_ice.connection
-from is_ice import IceConnectionState, IceConnectionStateChange, NominatedSend, Protocol, SocketAddress
+from is_ice import BadCandidate, HasAgent, IceConnectionState, IceConnectionStateChange, NominatedSend, Protocol, SocketAddress
+from is_ice._inbox import Inbox
 from is_ice.attribute import CandidateAttribute
 from is_ice.connection import Connection, ConnectionClosed, TransportPolicy
-from is_ice.gather import MdnsResolver, data_of
+from is_ice.gather import Allocation, MdnsResolver, data_of
 from is_ice.interfaces import host_addresses
 
 from pairs import add_candidates, agent, aioice, check_soon, close, gather, join, talk
@@ -20,6 +27,26 @@ from test_stun_client import SEEN, StunServer
 
 NOBODY = "candidate:1 1 udp 2130706431 127.0.0.1 9 typ host"
 HIDDEN = "candidate:1 1 udp 2130706431 3f2b8c1e-5c1e-4b0a-9f5e-1f2e3d4c5b6a.local {port} typ host"
+
+
+async def nobody(resolver: MdnsResolver, name: str) -> None:
+    """Takes as long as mDNS when nobody responds."""
+    await asyncio.sleep(1)
+
+
+def other_tasks() -> set[asyncio.Task[Any]]:
+    """The tasks of the loop but this one."""
+    return asyncio.all_tasks() - {asyncio.current_task()}
+
+
+async def ended_by_cancelling(call: Awaitable[object], steps: int) -> bool:
+    """Cancels a call after some steps of the loop. Returns whether it was not yet done."""
+    task = asyncio.ensure_future(call)
+    for _ in range(steps):
+        await asyncio.sleep(0)
+    task.cancel()
+    await asyncio.wait({task})
+    return task.cancelled()
 
 
 class Sessions(unittest.IsolatedAsyncioTestCase):
@@ -93,16 +120,52 @@ class Sessions(unittest.IsolatedAsyncioTestCase):
         await gather(a, b)
         resolved = asyncio.get_running_loop().create_future()
         with mock.patch.object(MdnsResolver, "resolve", lambda _, name: resolved):
-            adding = asyncio.ensure_future(a.add_remote_candidate(HIDDEN.format(port=b.local_candidates[0].port)))
-            await asyncio.sleep(0)
+            await a.add_remote_candidate(HIDDEN.format(port=b.local_candidates[0].port))
             await a.add_remote_candidate(None)
             both = asyncio.gather(a.connect(), b.connect())
             await asyncio.sleep(0.01)
             resolved.set_result("127.0.0.1")
-            await adding
         await asyncio.wait_for(both, 2)
         await talk(a, b)
         await close(a, b)
+
+    async def test_names_that_nobody_resolves_delay_nothing(self) -> None:
+        """Ten names of a second each before the candidate with an address, on both sides: at most 0.3 s in all."""
+        with mock.patch.object(MdnsResolver, "resolve", nobody):
+            took = [9.0]
+            while min(took) > 0.3 and len(took) < 10:  # the machine may be busy
+                a, b = agent(True), agent(False)
+                await gather(a, b)
+                start = time.monotonic()
+                for one in (a, b):
+                    for port in range(9000, 9010):
+                        await one.add_remote_candidate(HIDDEN.format(port=port))
+                await add_candidates(a, b)
+                await asyncio.gather(a.connect(), b.connect())
+                took.append(time.monotonic() - start)
+                await talk(a, b)
+                await close(a, b)
+                self.assertEqual(other_tasks(), set())
+            self.assertLess(min(took), 0.3)
+
+    async def test_the_end_of_candidates_waits_for_names(self) -> None:
+        for found, outcome in (("not an address", False), ("127.0.0.1", True)):
+            a, b = agent(True), agent(False)
+            await gather(a, b)
+            resolved = asyncio.get_running_loop().create_future()
+            with mock.patch.object(MdnsResolver, "resolve", lambda _, name: resolved):
+                await a.add_remote_candidate(HIDDEN.format(port=b.local_candidates[0].port))
+                await a.add_remote_candidate(None)
+                connecting = asyncio.ensure_future(a.connect())
+                await asyncio.sleep(0.2)
+                self.assertFalse(connecting.done())
+                resolved.set_result(found)
+                other = asyncio.ensure_future(b.connect())
+                await asyncio.wait({connecting}, timeout=2)
+            self.assertEqual(connecting.done() and connecting.exception() is None, outcome)
+            await close(a, b)
+            await asyncio.wait({other})
+            other.exception()
 
     async def test_a_pair_without_checks(self) -> None:
         a, b = agent(True), agent(False)
@@ -188,7 +251,7 @@ class Failures(unittest.IsolatedAsyncioTestCase):
         for line in ("1 2 udp 1 127.0.0.1 1 typ host", "1 1 udp 1 not.an.address 1 typ host", "1 1 udp 1 127.0.0.1 1 typ odd", "1 1 udp",
                      "1 x udp 1 127.0.0.1 1 typ host", "candidate:2 1 UDP 7 127.0.0.1 7 typ host generation 0 network-cost 999"):
             await a.add_remote_candidate(line)
-        self.assertEqual([c.to_sdp() for c in a.remote_candidates], ["2 1 UDP 7 127.0.0.1 7 typ host generation 0"])
+        self.assertEqual([c.to_sdp() for c in a.remote_candidates], ["2 1 udp 7 127.0.0.1 7 typ host"])
         await a.close()
 
     async def test_consent_is_lost(self) -> None:
@@ -308,6 +371,7 @@ class Gathering(unittest.IsolatedAsyncioTestCase):
                 await b.add_remote_candidate(a.local_candidates[0])
                 for one in (a, b):
                     await one.add_remote_candidate(None)
+                await asyncio.wait(a._names)
                 self.assertEqual(len(a.remote_candidates), 1 if found else 0)
                 await asyncio.wait_for(asyncio.gather(a.connect(), b.connect()), 2)
                 await talk(a, b)
@@ -325,14 +389,289 @@ class Gathering(unittest.IsolatedAsyncioTestCase):
         self.assertFalse([a for a in host_addresses(use_ipv6=False) if SocketAddress(a, 1).version == 6])
 
 
+class Closing(unittest.IsolatedAsyncioTestCase):
+    async def test_a_close_that_is_cancelled(self) -> None:
+        """While a TURN server frees an allocation, and while the socket of mDNS is opened: neither ever happens here."""
+        for what in ("allocation", "mdns"):
+            with self.subTest(what=what):
+                a = agent(True)
+                await a.gather_candidates()
+                if what == "allocation":
+                    a._allocations.append(Allocation(a._loop))
+                else:
+                    a._mdns._opened = asyncio.get_running_loop().create_future()
+                event = asyncio.ensure_future(a.get_event())
+                await asyncio.sleep(0)
+                with self.assertRaises(asyncio.TimeoutError):
+                    await asyncio.wait_for(a.close(), 0.1)
+                self.assertIsInstance(await asyncio.wait_for(event, 1), ConnectionClosed)
+                await asyncio.wait_for(a.close(), 2)
+                self.assertIsNone(await a.get_event())
+                self.assertEqual(other_tasks(), set())
+
+    async def test_calls_that_are_cancelled_at_each_step(self) -> None:
+        open_files = len(os.listdir("/proc/self/fd"))
+        cancelled = 0
+        for steps in range(16):
+            a, b = agent(True), agent(False)
+            cancelled += await ended_by_cancelling(a.gather_candidates(), steps)
+            await join(a, b)
+            received = asyncio.ensure_future(b.recv())
+            await asyncio.sleep(0)
+            received.cancel()
+            await a.send(b"x")
+            self.assertEqual(await asyncio.wait_for(b.recv(), 1), b"x")
+            event = asyncio.ensure_future(a.get_event())
+            await asyncio.sleep(0)
+            cancelled += await ended_by_cancelling(a.close(), steps)
+            self.assertIsInstance(await asyncio.wait_for(event, 1), ConnectionClosed)
+            await close(a, b)
+        for steps in range(16):
+            a, b = agent(True), agent(False)
+            await gather(a, b)
+            await add_candidates(a, b)
+            other = asyncio.ensure_future(b.connect())
+            cancelled += await ended_by_cancelling(a.connect(), steps)
+            await asyncio.wait_for(asyncio.gather(a.connect(), other), 5)
+            await close(a, b)
+            c = agent(True)
+            cancelled += await ended_by_cancelling(c.gather_candidates(), steps)
+            await c.close()
+        self.assertGreater(cancelled, 16)
+        await asyncio.sleep(0.05)
+        gc.collect()
+        self.assertEqual(other_tasks(), set())
+        self.assertLessEqual(len(os.listdir("/proc/self/fd")), open_files + 1)
+
+    async def test_tasks_of_gathering_end(self) -> None:
+        with socket.socket(socket.AF_INET, socket.SOCK_DGRAM) as silent:
+            silent.bind(("127.0.0.1", 0))
+            at = silent.getsockname()
+            for server in ({"stun_server": at}, {"turn_server": at}, {"stun_server": at, "turn_server": at}):
+                if aioice is None and "turn_server" in server:
+                    continue
+                with self.subTest(server=server):
+                    open_files = len(os.listdir("/proc/self/fd"))
+                    a = agent(True, **server)
+                    gathering = asyncio.ensure_future(a.gather_candidates())
+                    await asyncio.sleep(0.1)
+                    self.assertGreater(len(other_tasks()), 1)
+                    await a.close()
+                    await asyncio.wait_for(gathering, 1)  # it returns, since nobody cancelled it
+                    self.assertEqual((other_tasks(), a.local_candidates), (set(), []))
+                    await asyncio.sleep(0.05)
+                    self.assertLessEqual(len(os.listdir("/proc/self/fd")), open_files)
+                    await a.gather_candidates()
+                    self.assertEqual(other_tasks(), set())
+
+    @unittest.skipIf(aioice is None, "aioice is not installed (Debian's python3-aioice)")
+    async def test_an_allocation_is_freed(self) -> None:
+        from turn_server import TurnServer
+        for begun in (False, True):  # closed while the server makes it, and after
+            server = TurnServer()
+            a = agent(True, turn_server=await server.start())
+            gathering = asyncio.ensure_future(a.gather_candidates())
+            if begun:
+                await gathering
+            else:
+                while not a.local_candidates:
+                    await asyncio.sleep(0)
+            await asyncio.wait_for(a.close(), 2)
+            await asyncio.wait_for(gathering, 1)
+            self.assertGreaterEqual(server.freed, 1)
+            self.assertEqual(other_tasks(), set())
+            server.close()
+
+    async def test_an_allocation_that_nobody_frees(self) -> None:
+        if aioice is None:
+            self.skipTest("aioice is not installed (Debian's python3-aioice)")
+        from turn_server import TurnServer
+        server = TurnServer()
+        a = agent(True, turn_server=await server.start())
+        await a.gather_candidates()
+        with mock.patch("is_ice.gather._SENDING", 64):
+            for _ in range(100):  # no channel is bound
+                a._loop.send(a._allocations[0].local, SocketAddress("127.0.0.1", 9), b"x")
+        self.assertEqual(len(a._allocations[0]._tasks), 64)
+        server.close()
+        start = time.monotonic()
+        await a.close()
+        self.assertLess(time.monotonic() - start, 2)
+        await asyncio.sleep(0.05)
+        self.assertEqual(other_tasks(), set())
+
+    async def test_a_close_in_a_handler_and_while_sending(self) -> None:
+        a, b = agent(True), agent(False)
+        await gather(a, b)
+        await add_candidates(a, b)
+        closing: list[asyncio.Future[None]] = []
+        a.on_event = lambda event: closing.append(asyncio.ensure_future(a.close())) if isinstance(event, NominatedSend) else None
+        other = asyncio.ensure_future(b.connect())
+        await asyncio.gather(a.connect(), return_exceptions=True)
+        await asyncio.gather(*closing)
+        await close(a, b)
+        await asyncio.gather(other, return_exceptions=True)
+        self.assertEqual(other_tasks(), set())
+        a, b = agent(True), agent(False)
+        await join(a, b)
+
+        async def pump() -> int:
+            count = 0
+            try:
+                while True:
+                    await a.send(b"z" * 1000)
+                    count += 1
+                    await asyncio.sleep(0)
+            except ConnectionError:
+                return count
+
+        pumps = [asyncio.ensure_future(pump()) for _ in range(3)]
+        await asyncio.sleep(0.05)
+        await a.close()
+        self.assertGreater(min(await asyncio.wait_for(asyncio.gather(*pumps), 1)), 0)
+        await b.close()
+        self.assertEqual(other_tasks(), set())
+
+    def test_a_close_before_the_loop_runs(self) -> None:
+        loop = asyncio.new_event_loop()
+        a = agent(True)
+        loop.run_until_complete(a.gather_candidates())
+        closing = a.close()
+        self.assertEqual(len(a.local_candidates), 1)
+        loop.run_until_complete(closing)
+        self.assertEqual(a.local_candidates, [])
+        loop.close()
+
+    async def test_an_agent_that_the_program_closed(self) -> None:
+        a = agent(True)
+        await a.gather_candidates()
+        a.agent.close()
+        await a.close()
+        self.assertEqual((a.ice_controlling, a.local_candidates, a.remote_candidates), (True, [], []))
+
+    async def test_a_connection_is_neither_copied_nor_begun_again(self) -> None:
+        a = agent(True)
+        await a.gather_candidates()
+        makes: tuple[Callable[[Any], object], ...] = (copy.copy, copy.deepcopy, pickle.dumps)
+        for value in (a, a._loop):
+            for make in makes:
+                self.assertRaisesRegex(TypeError, "cannot be copied", make, value)
+        self.assertRaises(HasAgent, a.__init__, False)  # type: ignore[misc]
+        self.assertRaises(HasAgent, a._loop.__init__, a.agent, print, print)  # type: ignore[misc]
+        self.assertEqual(len(a.local_candidates), 1)
+        await a.close()
+
+
+class Limits(unittest.IsolatedAsyncioTestCase):
+    async def test_what_nobody_reads_is_at_most_a_mebibyte(self) -> None:
+        """Before the connection, from anybody, as when a peer sends early media."""
+        a, b = agent(True), agent(False)
+        await gather(a, b)
+        at = a.local_candidates[0].host, a.local_candidates[0].port
+        with socket.socket(socket.AF_INET, socket.SOCK_DGRAM) as other:
+            for count in range(60):
+                other.sendto(bytes([128 + count]) * 60000, at)
+                await asyncio.sleep(0.001)
+        await asyncio.sleep(0.1)
+        self.assertLessEqual(a._inbox._bytes, 1 << 20)
+        arrived = len(a._inbox._waiting) + a.dropped_datagrams
+        self.assertEqual(len(a._inbox._waiting), min(arrived, (1 << 20) // 60000))
+        await add_candidates(a, b)
+        await asyncio.gather(a.connect(), b.connect())
+        first = await a.recv()  # the oldest of those that were kept
+        self.assertEqual(first, first[:1] * 60000)
+        self.assertGreaterEqual(first[0] - 128, a.dropped_datagrams)
+        await close(a, b)
+        self.assertEqual(a._inbox._bytes, 0)
+
+    async def test_an_inbox(self) -> None:
+        inbox = Inbox(100, 4)
+        for size in (50, 40, 30):
+            inbox.put(bytes(size))
+        self.assertEqual((inbox.dropped, len(await inbox.get() or b"")), (1, 40))
+        for count in range(9):
+            inbox.put(bytes([count]))
+        self.assertEqual((inbox.dropped, [await inbox.get() for _ in range(4)]), (7, [b"\5", b"\6", b"\7", b"\10"]))
+        inbox.put(b"")
+        self.assertEqual(await inbox.get(), b"")
+        readers = [asyncio.ensure_future(inbox.get()) for _ in range(4)]
+        await asyncio.sleep(0)
+        readers[0].cancel()
+        for data in (b"a", b"b"):
+            inbox.put(data)
+        await asyncio.sleep(0.01)
+        self.assertEqual([reader.result() for reader in readers[1:3]], [b"a", b"b"])
+        self.assertFalse(readers[3].done())
+        inbox.put(b"lost")
+        inbox.end()
+        inbox.put(b"late")
+        self.assertIsNone(await inbox.get())
+        self.assertIn(await readers[3], (None, b"lost"))
+
+    async def test_candidates_of_the_peer(self) -> None:
+        for names in (False, True):
+            with self.subTest(names=names), mock.patch.object(MdnsResolver, "resolve", nobody):
+                a = agent(True)
+                await a.gather_candidates()
+                text = HIDDEN if names else NOBODY.replace(" 9 ", " {port} ")
+                start = time.process_time()
+                for port in range(1, 8001):
+                    await a.add_remote_candidate(text.format(port=port))
+                self.assertLess(time.process_time() - start, 2)
+                self.assertEqual((len(a._names), len(a.remote_candidates)), (100, 0) if names else (0, 100))
+                await a.close()
+
+    async def test_the_text_of_a_candidate(self) -> None:
+        a = agent(True)
+        await a.gather_candidates()
+        for length in (4096, 4097):
+            await a.add_remote_candidate(NOBODY.replace(" 9 ", f" {length} ") + " " + "x" * (length - len(NOBODY) - 4))
+        self.assertEqual([candidate.port for candidate in a.remote_candidates], [4096])
+        await a.close()
+
+    async def test_the_limit_is_a_setting(self) -> None:
+        a = agent(True)
+        a.max_candidates = 2
+        await a.gather_candidates()
+        for port in (1, 1, 1, 2, 3):  # a known one does not count
+            await a.add_remote_candidate(NOBODY.replace(" 9 ", f" {port} "))
+        self.assertEqual([candidate.port for candidate in a.remote_candidates], [1, 2])
+        await a.close()
+
+    async def test_local_candidates(self) -> None:
+        server = StunServer()
+        at = await server.start()
+        addresses = [f"127.0.0.{number}" for number in range(1, 8)]
+        a = Connection(True, addresses=addresses, stun_server=at[:2])
+        a.max_candidates = 5
+        await a.gather_candidates()
+        self.assertEqual([candidate.host for candidate in a.local_candidates], addresses[:5])
+        await a.close()
+        server.close()
+
+    @unittest.skipIf(aioice is None, "aioice is not installed (Debian's python3-aioice)")
+    async def test_a_relayed_candidate_has_room(self) -> None:
+        from turn_server import TurnServer
+        server = TurnServer()
+        a = Connection(True, addresses=["127.0.0.1", "127.0.0.2", "127.0.0.3"], turn_server=await server.start())
+        a.max_candidates = 2
+        await a.gather_candidates()
+        self.assertEqual([candidate.type for candidate in a.local_candidates], ["host", "relay"])
+        await a.close()
+        server.close()
+
+
 class Attributes(unittest.TestCase):
     def test_a_candidate_is_read_and_written(self) -> None:
-        text = "1 1 udp 659136 1.2.3.4 31102 typ srflx raddr 10.0.0.1 rport 5 generation 0"
+        text = "1 1 udp 659136 1.2.3.4 31102 typ srflx raddr 10.0.0.1 rport 5"
         self.assertEqual(CandidateAttribute.from_sdp(text).to_sdp(), text)
         self.assertEqual(str(CandidateAttribute.from_sdp("candidate:" + text)), "candidate:" + text)
-        self.assertEqual(CandidateAttribute.from_sdp(text + " ufrag x network-cost 5").to_sdp(), text)
+        self.assertEqual(CandidateAttribute.from_sdp(text + " generation 0 ufrag x network-cost 5").to_sdp(), text)
+        self.assertEqual(CandidateAttribute("1", 1, "udp", 5, "1.2.3.4", 9, "host", generation=0).to_sdp(),
+                         "1 1 udp 5 1.2.3.4 9 typ host generation 0")
         for malformed in ("", "1 1 udp 1 1.2.3.4 1 typ", "1 x udp 1 1.2.3.4 1 typ host"):
             self.assertRaises(ValueError, CandidateAttribute.from_sdp, malformed)
+            self.assertRaises(BadCandidate, CandidateAttribute.from_sdp, malformed)
 
 
 if __name__ == "__main__":

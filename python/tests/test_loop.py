@@ -121,6 +121,20 @@ class Datagrams(unittest.IsolatedAsyncioTestCase):
         a.loop.close()
         b.loop.close()
 
+    async def test_a_check_from_port_0_does_not_end_the_loop(self) -> None:
+        """A datagram may have the source port 0 (RFC 768). A response cannot be sent there."""
+        a, b = await two_sides()
+        for side in (a, b):
+            side.agent.handle_timeout(side.loop.now())
+        request = a.agent.poll_transmit()
+        assert request is not None
+        b.loop.begin()
+        b.loop.receive(SocketAddress("127.0.0.1", 0), local_of(b), request.contents)
+        a.loop.begin()
+        await asyncio.wait_for(asyncio.gather(a.path, b.path), 2)
+        a.loop.close()
+        b.loop.close()
+
     async def test_the_last_16_early_checks_are_kept(self) -> None:
         side = Side(False)
         at = SocketAddress("127.0.0.1", 10)

@@ -2,6 +2,7 @@
 
 import asyncio
 import os
+import socket
 import sys
 import unittest
 from pathlib import Path
@@ -76,6 +77,26 @@ class Peers(unittest.TestCase):
             self.assertIn("peer: /caf\ufffd: unknown command", told)
             self.assertEqual(told.count("peer: a line is too long"), 2)
             self.assertIn("peer: a=\ufffd: not sent", told)
+
+    def test_a_long_foundation_and_a_flood_of_media(self) -> None:
+        async def play() -> tuple[int, str]:
+            peer = await start("controlled")
+            assert peer.stdin is not None and peer.stdout is not None
+            port = int((await peer.stdout.readline()).split()[8])
+            lines = [f"signal abcdefgh abcdefghijklmnopqrstuv candidate:{'a' * 12000} 1 udp 2130706431 127.0.0.1 9 typ host"]
+            peer.stdin.write("\n".join(lines).encode() + b"\n")
+            await asyncio.sleep(0.3)
+            with socket.socket(socket.AF_INET, socket.SOCK_DGRAM) as other:
+                for _ in range(100):
+                    other.sendto(b"A" * 2048, ("127.0.0.1", port))
+            await asyncio.sleep(0.3)
+            peer.stdin.write(b"/pairs\n/quit\n")
+            return await end(peer)
+
+        status, told = asyncio.run(play())
+        self.assertEqual(status, 0, told)
+        self.assertIn("CandidatePair(", told)
+        self.assertNotIn("AAAA", told)
 
     @unittest.skipUnless(C_PEER.exists(), "c/examples/peer.c is not built; IS_ICE_C_PEER names the program")
     def test_with_the_program_in_c(self) -> None:

@@ -2,12 +2,14 @@
 
 from __future__ import annotations
 
+import signal
 import threading
+import time
 import unittest
 from collections.abc import Callable
 from typing import Any
 
-from is_ice import Protocol, SocketAddress
+from is_ice import Candidate, IceAgent, IceCreds, Protocol, SocketAddress, Unparsed
 from is_ice._loop_calls import LoopCalls
 from is_ice.errors import OK
 
@@ -93,6 +95,48 @@ class Reentry(unittest.TestCase):
         self.assertEqual(self.nested(self.calls.poll_timeout), [1, 2])
         self.assertEqual([event.kind for event in self.nested(self.calls.poll_event)], [3, 4])
         self.assertEqual([(p.source.port, p.contents) for p in self.nested(self.calls.poll_transmit)], [(5, b"\5" * 5), (6, b"\6" * 6)])
+
+
+class SignalHandlers(unittest.TestCase):
+    def test_a_signal_handler_passes_a_longer_packet(self) -> None:
+        """Handlers call the agent at any line of a call of the main thread. Each length that is passed is that of its bytes."""
+        agent = IceAgent(IceCreds("abcd", "p" * 22))
+        agent.add_local_candidate(Candidate.host(HERE))
+        agent.handle_timeout(60_000_000_000)
+        passed: list[tuple[int, int]] = []
+        make = agent._loop._new
+
+        def watched() -> Any:
+            own = make()
+            handle_packet = own.handle_packet
+
+            def handle(source: Any, destination: Any, contents: bytes, length: Any) -> Any:
+                passed.append((len(contents), length.value))
+                return handle_packet(source, destination, contents, length)
+
+            own.handle_packet = handle  # type: ignore[assignment]
+            return own
+
+        agent._loop._new = watched  # type: ignore[assignment]
+        agent._loop._spare.clear()
+
+        def interrupt(*_: object) -> None:
+            try:
+                agent.handle_packet(60_000_000_001, THERE, HERE, b"\x80" * 60000)
+            except Unparsed:
+                pass
+
+        self.addCleanup(signal.signal, signal.SIGALRM, signal.signal(signal.SIGALRM, interrupt))
+        self.addCleanup(signal.setitimer, signal.ITIMER_REAL, 0)
+        signal.setitimer(signal.ITIMER_REAL, 0.0005, 0.0005)
+        deadline, count = time.monotonic() + 0.5, 0
+        while time.monotonic() < deadline:
+            count += 1
+            with self.assertRaises(Unparsed):
+                agent.handle_packet(60_000_000_002, SocketAddress(f"10.1.{count >> 8 & 255}.{count & 255}", 7), HERE, b"\x80" * 30)
+        signal.setitimer(signal.ITIMER_REAL, 0)
+        self.assertEqual({length for _, length in passed}, {30, 60000})
+        self.assertEqual([it for it in passed if it[0] != it[1]], [])
 
 
 if __name__ == "__main__":

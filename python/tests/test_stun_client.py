@@ -21,6 +21,7 @@ from is_ice.stun import (
     StunText,
     binding_request,
     binding_response,
+    stun_username,
     write_message,
 )
 from is_ice.stun_client import StunClient
@@ -71,6 +72,30 @@ class Reading(unittest.TestCase):
         self.assertEqual((message.text(StunText.REALM), message.value_of_data), (None, None))
         self.assertTrue(message.verify(PASSWORD))
         self.assertFalse(StunMessage(SAMPLE_REQUEST.replace(b"evtj", b"evtk")).verify(PASSWORD))
+
+    def test_whose_request_it_is(self) -> None:
+        self.assertEqual(stun_username(SAMPLE_REQUEST), ("evtj", "h6vY"))
+        for username, parts in (("a:b", ("a", "b")), ("a:b:c", ("a", "b:c")), (":b", ("", "b")), ("é:ü" * 100, ("é", "ü" + "é:ü" * 99)),
+                                ("a:", None), ("a", None), ("", None), (None, None)):
+            written = write_message(StunMethod.BINDING, StunClass.REQUEST, ID, username=username, key=PASSWORD)
+            self.assertEqual(stun_username(written), parts, username)
+        for other in (SAMPLE_V4, binding_request(ID)):
+            self.assertIsNone(stun_username(other))
+        for other in (b"", b"media", SAMPLE_REQUEST[:-1]):
+            self.assertRaises(Unparsed, stun_username, other)
+
+    def test_a_strict_reading_is_that_of_an_agent(self) -> None:
+        """It needs what ICE requires of Binding requests and success responses (RFC 8445, sections 7.1 and 7.3)."""
+        agent = IceAgent()
+        for message in (SAMPLE_REQUEST, SAMPLE_V4, SAMPLE_V6, failure_to(SAMPLE_REQUEST)):
+            self.assertEqual(StunMessage(message, strict=True).transaction, ID)
+            self.assertFalse(agent.accepts_message(message))
+        for message in (binding_request(ID), response_to(SAMPLE_REQUEST), b"media",
+                        write_message(StunMethod.BINDING, StunClass.REQUEST, ID, username="a:b", key=PASSWORD),
+                        write_message(StunMethod.BINDING, StunClass.REQUEST, ID, username="a:b", priority=1),
+                        write_message(StunMethod.BINDING, StunClass.REQUEST, ID, username="ab", priority=1, key=PASSWORD)):
+            self.assertRaises(Unparsed, StunMessage, message, strict=True)
+            self.assertRaises(Unparsed, agent.accepts_message, message)
 
     def test_a_request_has_a_header_and_a_fingerprint(self) -> None:
         request = binding_request(ID)
