@@ -106,16 +106,11 @@ fn an_error_leaves_the_fields(rt: HostRuntime) {
     let bad = is_ice_line_fields(alloc, b"candidate:1 x", &mut text, &mut length, &mut fields);
     assert!(rt; bad == codes::BAD_CANDIDATE);
     assert!(rt; length == 5);
-    let short = is_ice_line_fields(
-        alloc,
-        REFLEXIVE,
-        &mut text[..PRINTED.len() - 1],
-        &mut length,
-        &mut fields,
-    );
+    let mut brief = [7; 95];
+    let short = is_ice_line_fields(alloc, REFLEXIVE, &mut brief, &mut length, &mut fields);
     assert!(rt; short == codes::BUFFER_TOO_SHORT);
     assert!(rt; length == PRINTED.len());
-    assert!(rt; text[0] == 7);
+    assert!(rt; brief[0] == 7);
     assert!(rt; fields.kind == 99);
     let mut prflx = host(address(1, 1000));
     prflx.kind = 3;
@@ -224,7 +219,8 @@ fn a_line_has_a_name(rt: HostRuntime) {
     assert!(rt; named == codes::OK);
     assert!(rt; length == NAME.len());
     assert!(rt; text.starts_with(NAME));
-    let short = is_ice_line_name(HIDDEN, &mut text[..NAME.len() - 1], &mut length);
+    let mut brief = [0; 41];
+    let short = is_ice_line_name(HIDDEN, &mut brief, &mut length);
     assert!(rt; short == codes::BUFFER_TOO_SHORT);
     let capital = is_ice_line_name(b"candidate:1 1 udp 7 Printer.LoCaL", &mut text, &mut length);
     assert!(rt; capital == codes::OK);
@@ -252,7 +248,8 @@ fn an_address_takes_the_place_of_the_name(rt: HostRuntime) {
     assert!(rt; put == codes::OK);
     assert!(rt; length == 52);
     assert!(rt; text.starts_with(b"candidate:1 1 udp 2122262783 10.0.0.7 54596 typ host"));
-    let short = is_ice_line_with_address(alloc, HIDDEN, &at, &mut text[..51], &mut length);
+    let mut brief = [0; 51];
+    let short = is_ice_line_with_address(alloc, HIDDEN, &at, &mut brief, &mut length);
     assert!(rt; short == codes::BUFFER_TOO_SHORT);
     at.family = 6;
     at.bytes = [0x20, 0x01, 0x0d, 0xb8, 0, 0, 0, 0, 0, 0, 0, 0, 0, 0, 0, 7];
