@@ -76,27 +76,15 @@ static char *word(char **rest, const char *ends)
     return begin;
 }
 
-/* Whether the candidate has an mDNS name, which ends with .local, instead of an address: its fifth word. */
-static bool has_mdns_name(const char *line)
-{
-    static const char suffix[] = ".local";
-    for (int i = 0; i < 4; i++) {
-        line += strcspn(line, " ");
-        line += strspn(line, " ");
-    }
-    size_t length = strcspn(line, " "), end = sizeof suffix - 1;
-    return length > end && strncmp(line + length - end, suffix, end) == 0;
-}
-
 int32_t signal_take_candidate(is_ice_agent *agent, const char *line)
 {
-    if (has_mdns_name(line)) {
+    uint8_t name[LINE], why[LINE];
+    size_t length, added;
+    const uint8_t *text = (const uint8_t *)line;
+    if (is_ice_line_name(text, strlen(line), name, sizeof name, &length) == IS_ICE_OK) {
         fprintf(stderr, "peer: left out a candidate with an mDNS name: %s\n", line);
         return IS_ICE_NOTHING;
     }
-    uint8_t why[LINE];
-    size_t length, added;
-    const uint8_t *text = (const uint8_t *)line;
     int32_t code = is_ice_add_remote(agent, text, strlen(line), &added);
     if (code == IS_ICE_BAD_CANDIDATE && is_ice_line_refusal(text, strlen(line), why, sizeof why, &length) == IS_ICE_OK)
         fprintf(stderr, "peer: %.*s\n", (int)length, (const char *)why);
